@@ -1,4 +1,4 @@
-"""Streams of calls for the benches, with the replies that csid has to give (docs/PROTOCOL.md,
+"""Streams of calls for the benches, with the replies that csid must give (docs/PROTOCOL.md,
 docs/MACHINE.md), which are worked out here: over one
 pool of 2^62 bytes without segments, with the volumes v1, v2 .. of 1 MiB in the order of their numbers, and
 the node n1.
@@ -104,14 +104,14 @@ def delete(number):
 
 
 def capacity(standing):
-    """What is free beside so many volumes."""
+    """What is free next to so many volumes."""
     return call(b"GetCapacity", b""), reply(
         b"\x08" + varint(POOL_BYTES - standing * MIB) + part(2, b"\x08" + varint(GREATEST_BYTES))
     )
 
 
 def page(after, entries, last, published=()):
-    """A page of volumes that all stand, behind the volume of that number, of `last` in all."""
+    """A page of volumes that all stand, after the volume of that number, of `last` in all."""
     token = part(2, b"%d" % after) if after else b""
     first, end = after + 1, min(after + entries, last)
     body = b"".join(

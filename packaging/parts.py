@@ -2,8 +2,8 @@
 Debian's packages of Go's sources.
 
 A crate of the kit names in its README.md the Rust crate that it follows, and has the texts of its licences
-beside it. A Debian package has its
-version in dpkg's records and its licence in its file of copyright. What is not said there is told as unknown.
+next to it. A Debian package has its
+version in dpkg's records and its licence in its file of copyright. What is not said there is reported as unknown.
 """
 import os
 import re

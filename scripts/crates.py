@@ -1,4 +1,4 @@
-"""The crates of the repository, and folders in which one of them is worked on beside others.
+"""The crates of the repository, and folders in which one of them is worked on next to others.
 
 A run of rt keeps every other out of the folders that it reads. So where several are to run side by side, each gets a folder of its own
 with links to the files of the crates that it reads, and to the libraries that were built of them.

@@ -104,7 +104,7 @@ def words_of(text):
 
 
 class Edit:
-    """A wrong body: the texts that it puts in the place of others, by file."""
+    """A wrong body: the texts that it puts instead of others, by file."""
 
     def __init__(self, crate, name, lines, is_in_gate=False):
         self.crate, self.name, self.is_in_gate = crate, name, is_in_gate

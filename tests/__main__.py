@@ -1,4 +1,4 @@
-"""Runs the tests as `python3 -m unittest` does. A test that fails is run once more by itself: a busy machine can hold
+"""Runs the tests as `python3 -m unittest` does. A test that fails is run once more alone: a busy machine can hold
 a process up for longer than a test waits. At the end it says which ones passed then (`second try: NAME`), and what
 was skipped and why: a line for each reason, `left out: REASON (N tests)`.
 

@@ -125,7 +125,7 @@ class Place:
             return done.returncode, done.stdout, done.stderr, file.read().splitlines()
 
     def left(self):
-        """What a build has left beside the crates' files."""
+        """What a build has left next to the crates' files."""
         return sorted(
             "%s/%s" % (os.path.relpath(at, self.folder), it)
             for at, _, names in os.walk(self.path("crates"))
@@ -172,7 +172,7 @@ class BuildsTest(RowTest):
         status, out, _, calls = self.place.run("./build", "csid")
         self.row("a build", (status, out), (0, "crates/csid/out/csid\n"))
         self.row("what rt is called for", sorted(calls), sorted([low, left, right, upper, csid]))
-        self.row("each behind what it stands on", (calls[0], calls[3:]), (low, [upper, csid]))
+        self.row("each after what it stands on", (calls[0], calls[3:]), (low, [upper, csid]))
         self.row("what it leaves", self.place.left(), made)
         calls = self.place.run("./build", "right")[3]
         self.row(
@@ -310,7 +310,7 @@ class BuildsTest(RowTest):
         """Where something stands at the socket's path nothing is begun."""
         self.place.write("a.sock", "mine")
         status, out, error, calls = self.place.run("./run", "serve", "--tables", "v.db", "--socket=a.sock")
-        line = "run: %s: a file stands there already; remove it if no csid serves on it\n"
+        line = "run: %s: a file exists there already; remove it if no csid serves on it\n"
         wanted = (7, "", line % self.place.path("a.sock"), [])
         self.row("a file", (status, out, error, calls), wanted)
         self.row("it stays", os.path.exists(self.place.path("a.sock")), True)

@@ -226,7 +226,7 @@ class CallTest(CsictlTest):
             came = waiting.recv(4096)
         except socket.timeout:
             came = None
-        self.row("serve: who comes behind one that reads no reply waits", came, None)
+        self.row("serve: who comes after one that reads no reply waits", came, None)
         peer.close()
         waiting.settimeout(SECONDS)
         self.row("serve: and is answered when it is gone", waiting.recv(4096), READY)
@@ -284,7 +284,7 @@ class CallTest(CsictlTest):
         shown = "0 OK 0a020801\nready true\n"
         self.row("call: a reply in pieces", ask([READY[:3], READY[3:9], READY[9:]]), (shown, "", 0))
         self.row("call: a reply byte by byte", ask([bytes([byte]) for byte in READY]), (shown, "", 0))
-        self.row("call: more behind the reply", ask([READY + b"\x01\x02\x03"]), (shown, "", 0))
+        self.row("call: more after the reply", ask([READY + b"\x01\x02\x03"]), (shown, "", 0))
         self.row(
             "call: closed without a reply", ask([]), ("", "csictl: %s: closed without a reply\n" % path, 5)
         )

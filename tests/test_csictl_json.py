@@ -212,7 +212,7 @@ WALKS = [
     ),
     ("nothing in JSON", ["--json"], [[ok("")]], '{"entries":[],"nextToken":""}\n', [], "", 0),
     (
-        "a refusal behind a page",
+        "a refusal after a page",
         [],
         [[ok(entry(1) + "120131"), refusal(10, "bad token")]],
         "0 OK %s\nvolume vol-1 1048576 -\nnext 1\n10 ABORTED bad token\n" % (entry(1) + "120131"),
@@ -221,7 +221,7 @@ WALKS = [
         1,
     ),
     (
-        "a refusal behind a page, in JSON",
+        "a refusal after a page, in JSON",
         ["--json"],
         [[ok(entry(1) + "120131"), refusal(10, "bad token")]],
         '{"code":10,"message":"bad token"}\n',

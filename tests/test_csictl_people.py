@@ -612,7 +612,7 @@ class PeopleTest(CsictlTest):
             self.row("refused: " + words[2], self.ask("s", *words), ("", Line("csictl: ", "--size"), 2))
 
     def test_over_csid(self):
-        """The commands over csid, one after the other."""
+        """The commands over csid, in order."""
         server = Server(self.csid, os.path.join(self.folder, "p.sock"))
         row = "ID     SIZE   TOPOLOGY  NODES  POOL\nvol-1  1 MiB  zone=a    %s\n"
         for words, out, status in [

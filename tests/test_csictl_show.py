@@ -91,7 +91,7 @@ SHOW = [
     ),
     ("an end within a reply", ["show"], bytes.fromhex("00000000"), "", "csictl: end of input at byte 4\n", 3),
     (
-        "a malformed reply behind one",
+        "a malformed reply after one",
         ["show", "--method", "Probe"],
         READY + bytes.fromhex("02"),
         "0 OK 0a020801\nready true\n",

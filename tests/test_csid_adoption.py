@@ -155,7 +155,7 @@ SPOILED = [
         volume_fault(1, CAPS),
     ),
     ("capabilities in order", volume(1, caps="x'1a060a001a0208011a060a001a020802'") + NEXT_9, None),
-    ("a byte behind caps", volume(1, caps="x'1a060a001a02080100'") + NEXT_9, volume_fault(1, CAPS)),
+    ("a byte after caps", volume(1, caps="x'1a060a001a02080100'") + NEXT_9, volume_fault(1, CAPS)),
     ("another spelling of caps", volume(1, caps="x'1a061a0208010a00'") + NEXT_9, volume_fault(1, CAPS)),
     ("a mode of 0", volume(1, caps="x'1a040a001a00'") + NEXT_9, volume_fault(1, CAPS)),
     ("no access type", volume(1, caps="x'1a041a020801'") + NEXT_9, volume_fault(1, CAPS)),
@@ -181,7 +181,7 @@ SPOILED = [
     ),
     ("a field before caps", volume(1, caps="x'0a01611a060a001a020801'") + NEXT_9, volume_fault(1, CAPS)),
     (
-        "parameters behind caps",
+        "parameters after caps",
         volume(1, caps="x'1a060a001a02080122060a016b120176'") + NEXT_9,
         volume_fault(1, CAPS),
     ),
@@ -219,7 +219,7 @@ SPOILED = [
     ),
     ("mutable parameters", volume(1, params="x'42060a016b120176'") + NEXT_9, None),
     (
-        "mutable parameters behind others",
+        "mutable parameters after others",
         volume(1, params="x'22060a016b12017642060a016b120177'") + NEXT_9,
         None,
     ),
@@ -247,7 +247,7 @@ SPOILED = [
         attachment_fault(1, "n1", CAP),
     ),
     ("a cap of a mode that is none", A + attachment(1, cap=cell(block(8))), attachment_fault(1, "n1", CAP)),
-    ("a byte behind a cap", A + attachment(1, cap=cell(block(1) + "00")), attachment_fault(1, "n1", CAP)),
+    ("a byte after a cap", A + attachment(1, cap=cell(block(1) + "00")), attachment_fault(1, "n1", CAP)),
     ("a readonly of 2", A + attachment(1, readonly=2), attachment_fault(1, "n1", READONLY)),
     ("a readonly of -1", A + attachment(1, readonly=-1), attachment_fault(1, "n1", READONLY)),
     ("an attachment without a volume", A + attachment(7), attachment_fault(7, "n1", OWNER)),
@@ -349,8 +349,8 @@ SPOILED = [
     ),
 ]
 
-# All rules are broken at once, and mended one after the other from the first: what breaks each, what mends
-# it, and the line before it is mended.
+# All rules are broken at once, and fixed in order from the first: what breaks each, what fixes
+# it, and the line before it is fixed.
 GOOD = volume(1) + volume(2, "'b'") + volume(3, "'c'")
 TURNS = [
     (volume(10, "'k'", caps="'caps'"), "DELETE FROM volumes WHERE number = 10", volume_fault(10, KIND)),
@@ -473,7 +473,7 @@ class AdoptionTest(CsidTest):
         self.row("checked: " + name, tables.check(config), (out, said, status))
 
     def test_constraints(self):
-        """Rows that stand for no State are told by the first rule that they break."""
+        """Rows that represent no State are reported by the first rule that they break."""
         tables = Tables(self.csid, self.folder)
         for name, text, line in SPOILED:
             before = tables.new().script(text).rows()
@@ -507,7 +507,7 @@ class AdoptionTest(CsidTest):
             self.row("reconfigured: " + name, tables.run(frame(PROBE), config), tables.says(line))
         write(config, sample((b"10485760", b"%d" % (200000 * MIB))))
         tables.new().script(MANY % (100000, BLOCK_CAPS) + next_is(200000))
-        # The limit of volumes: a new name is refused, one that stands is answered, and behind a delete there
+        # The limit of volumes: a new name is refused, one that exists is answered, and after a delete there
         # is room for one.
         other = controller("CreateVolume", CREATE_A.replace(b"\x0a\x01a", b"\x0a\x01z"))
         first = controller("CreateVolume", CREATE_A.replace(b"\x0a\x01a", b"\x0a\x02v1"))
@@ -640,7 +640,7 @@ class AdoptionTest(CsidTest):
         modify = controller("ControllerModifyVolume", VOL_1 + bytes.fromhex("1a060a016b120176"))
         self.row("is modified", tables.run(modify), (reply(b""), "", 0))
         rows[0] = rows[0][:5] + (bytes.fromhex("42060a016b120176"),)
-        self.row("the rows behind it", kept(), (rows, attached, [(1, 2, 8)]))
+        self.row("the rows after it", kept(), (rows, attached, [(1, 2, 8)]))
         self.row(
             "is adopted again",
             tables.run(controller("ListVolumes")),

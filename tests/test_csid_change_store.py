@@ -21,7 +21,7 @@ from tests.support.rows import CsidTest
 
 
 MIB = 1 << 20
-# A reply that is not sent: the connection is closed in its place.
+# A reply that is not sent: the connection is closed instead.
 CLOSED = "closed"
 BLOCK = v.hexa("1a060a001a020801")
 MOUNT = v.hexa("1a0c12060a04657874341a020801")
@@ -36,7 +36,7 @@ class PlayedStore(change_stores.ChangeStore):
 
     @property
     def leads(self):
-        """Whether it leads: by turns, one each time that it is asked, and after them as it was told last."""
+        """Whether it leads: by turns, one each time that it is asked, and after them as it was answered last."""
         return self.turns.pop(0) if self.turns else self.is_leading
 
     @leads.setter
@@ -166,7 +166,7 @@ LARGE = v.create(
 )
 UNKNOWN = (
     "csid: LOG: a change was refused by the change store, or nobody knows of it, or there was no memory; from"
-    " then on the connection was told that the store is down\n"
+    " then on the connection was answered that the store is down\n"
 )
 ADDED = commit(v.msg(1, v.num(1, 1), v.txt(2, "a"), v.num(3, MIB), v.txt(4, "p1"), v.msg(5, BLOCK), v.msg(6)))
 
@@ -563,7 +563,7 @@ class LogTest(CsidTest):
 
     def test_failed_changes(self):
         """A change that the log refuses, or of which nobody knows: the call is refused, nothing more is
-        changed over the connection, and the next reads anew.
+        changed over the connection, and the next reads again.
         """
         for name, reply in [
             ("a refusal", v.refusal(8, "etcd has no room")),
@@ -604,7 +604,7 @@ class LogTest(CsidTest):
         )
         server.log.leads = True
         self.row(
-            "behind that its rows are read anew",
+            "after that its rows are read anew",
             (server.ask(v.probe()), server.end()),
             (
                 v.reply(v.hexa("0a020801")),
@@ -649,7 +649,7 @@ class LogTest(CsidTest):
             server.log.hang_up()
             peer.sendall(v.listing())
             rest = received(peer)
-        self.row("the call behind the end is not answered", (first, rest), (v.reply(v.hexa("0a020801")), b""))
+        self.row("the call after the end is not answered", (first, rest), (v.reply(v.hexa("0a020801")), b""))
         came = server.ask(v.listing())
         self.row(
             "the next connection has what the log has then",

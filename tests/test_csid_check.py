@@ -89,7 +89,7 @@ class CheckTest(CsidTest):
         self.row("checked: no memory", tables.check(preexec_fn=small_memory), (b"", NO_MEMORY, 6))
         linked = Tables(self.csid, self.folder, "linked.db")
         os.symlink(tables.path, linked.path)
-        self.row("checked: behind a link", linked.check(), had)
+        self.row("checked: through a link", linked.check(), had)
         self.row("checked: to the byte as it was", tables.files(), kept)
         emptied = Tables(self.csid, self.folder, "emptied.db").new()
         connection = sqlite3.connect(emptied.path, isolation_level=None)
@@ -102,13 +102,13 @@ class CheckTest(CsidTest):
         connection.close()
         spoiled = Tables(self.csid, self.folder, "spoiled.db")
         write(spoiled.path, b"x" * 5000)
-        behind = Tables(self.csid, self.folder, "behind.db")
-        os.symlink(spoiled.path, behind.path)
-        self.row("checked: no database, behind a link", behind.check(), behind.says(NO_DATABASE))
+        through = Tables(self.csid, self.folder, "through.db")
+        os.symlink(spoiled.path, through.path)
+        self.row("checked: no database, through a link", through.check(), through.says(NO_DATABASE))
         write(tables.path + "-journal", b"\x01")
         self.row("checked: beside a journal", tables.check(), tables.says("unable to open database file"))
         self.row(
-            "checked: beside a journal, behind a link",
+            "checked: beside a journal, through a link",
             linked.check(),
             linked.says("unable to open database file"),
         )
@@ -125,7 +125,7 @@ class CheckTest(CsidTest):
         self.row("checked: it stands in the log", len(kept), 2)
         had = (b"volumes 2, attachments 0, next number 4, format 2\n", "", 0)
         self.row("checked: while it is served", tables.check(), had)
-        self.row("checked: while it is served, behind a link", linked.check(), had)
+        self.row("checked: while it is served, through a link", linked.check(), had)
         self.row("checked: file and log to the byte as they were", tables.files(), kept)
         self.row(
             "checked: the server goes on",
@@ -145,7 +145,7 @@ class CheckTest(CsidTest):
             self.row("checked: format 1 to the byte as it was, %d volumes" % count, older.files(), kept)
 
     def test_file_that_changes(self):
-        """A file that changes while it is copied is copied anew, also where it keeps its length; one that
+        """A file that changes while it is copied is copied again, also where it keeps its length; one that
         always does is given up.
         """
         contents = []
@@ -156,7 +156,7 @@ class CheckTest(CsidTest):
 
         def feed(path, versions):
             """Gives pipes what csid reads of them: the head, the journal, the file, and then the log and the
-            file in turn. Each is opened behind the end of another.
+            file in turn. Each is opened after the end of another.
             """
             reads = [("", contents[0][:105]), ("-journal", b""), ("", contents[versions[0]])]
             for version in versions[1:]:

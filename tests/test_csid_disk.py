@@ -112,7 +112,7 @@ class DiskTest(CsidTest):
         self.row("salts are the same", salts[0] == salts[1], False)
 
     def test_replacement(self):
-        """The file is deleted, or another one is put in its place, while csid has it open: it goes on over
+        """The file is deleted, or another one is put instead, while csid has it open: it goes on over
         the old one.
         """
         create, listing = controller("CreateVolume", CREATE_A), controller("ListVolumes")
@@ -273,7 +273,7 @@ class DiskTest(CsidTest):
 
     def test_refused_read(self):
         """A file of which pages are overwritten while a connection has it open. Where reads go to the file, they
-        are refused and that is told once; where volumes are in memory, nothing is noticed.
+        are refused and that is reported once; where volumes are in memory, nothing is noticed.
         """
         config = os.path.join(self.folder, "config.toml")
         write(config, sample((b"10485760", b"%d" % (20000 * MIB))))
@@ -308,7 +308,7 @@ class DiskTest(CsidTest):
             self.row("what was said, %s" % words, server.end()[0], begun + "".join(map(server.line, said)))
 
     def test_order_of_syncs(self):
-        """The reply of a create is written behind a sync that follows the writes of its commit."""
+        """The reply of a create is written after a sync that follows the writes of its commit."""
         strace = shutil.which("strace")
         trace = os.path.join(self.folder, "trace")
         tables = Tables(self.csid, self.folder).new()

@@ -44,7 +44,7 @@ STREAMS = [
     ("the name and the version", frame(INFO), NAMED, "", 0),
     ("two calls in order", frame(INFO) + frame(PROBE), NAMED + READY, "", 0),
     ("a path of no method", frame(b"/x"), UNKNOWN, "", 0),
-    ("a path that goes on behind that of a method", frame(PROBE + b"/"), UNKNOWN, "", 0),
+    ("a path that goes on after that of a method", frame(PROBE + b"/"), UNKNOWN, "", 0),
     ("a path of one byte, the least", frame(b"!"), UNKNOWN, "", 0),
     ("a path of 128 bytes, of the greatest", frame(b"~" * 128), UNKNOWN, "", 0),
     ("an unknown field", frame(PROBE, bytes.fromhex("7801")), READY, "", 0),
@@ -72,14 +72,14 @@ STREAMS = [
     ("the lesser place of two faults", frame(b"/ a", flag=1), *fault("bad path at byte 3")),
 ]
 
-# Faults behind calls: what was answered before stands, the place counts from the start, and nothing after it
+# Faults after calls: what was answered before stands, the place counts from the start, and nothing after it
 # is answered.
-BEHIND = [
-    ("a fault behind a call", frame(PROBE) + frame(b"/ a") + frame(PROBE), READY, "bad path at byte 32"),
-    ("an end behind two calls", frame(PROBE) * 2 + b"\0", READY * 2, "end of input at byte 59"),
+AFTER = [
+    ("a fault after a call", frame(PROBE) + frame(b"/ a") + frame(PROBE), READY, "bad path at byte 32"),
+    ("an end after two calls", frame(PROBE) * 2 + b"\0", READY * 2, "end of input at byte 59"),
 ]
 
-STREAMS += [(name, given, before + fault(text)[0], *fault(text)[1:]) for name, given, before, text in BEHIND]
+STREAMS += [(name, given, before + fault(text)[0], *fault(text)[1:]) for name, given, before, text in AFTER]
 STREAMS += [
     ("calls of volumes", ASKED, ANSWERED, "", 0),
     (
@@ -97,7 +97,7 @@ STREAMS += [
         0,
     ),
     (
-        "a fault behind a create",
+        "a fault after a create",
         controller("CreateVolume", CREATE_A) + b"\0\0",
         reply(VOLUME_1) + fault("bad path length at byte 49")[0],
         *fault("bad path length at byte 49")[1:],
@@ -116,7 +116,7 @@ WORDS = [
     ("an empty word", [b""], "unrecognized subcommand ''"),
     ("a word that is no text", [b"\xff"], "a word is no text"),
     ("two words", [b"one", b"two"], "unrecognized subcommand 'one'"),
-    ("a word behind pipe", [b"pipe", b"x"], "unexpected argument 'x' found"),
+    ("a word after pipe", [b"pipe", b"x"], "unexpected argument 'x' found"),
     ("pipe twice", [b"pipe", b"pipe"], "unexpected argument 'pipe' found"),
     (
         "an option of pipe that is not known",
@@ -239,7 +239,7 @@ WORDS = [
     ("a group without its name", SERVE + [b"--group"], NO_VALUE % "--group <NAME>"),
 ]
 
-# Each row: what it shows, words, what standard output has to hold. Nothing is read.
+# Each row: what it shows, words, what standard output must hold. Nothing is read.
 ASKS = [
     (
         "help",
@@ -286,7 +286,7 @@ ASKS = [
 
 
 def by_turns(csid, pieces, expected):
-    """Sends the pieces one by one; behind each it reads so many bytes as are expected before the next."""
+    """Sends the pieces one by one; after each it reads so many bytes as are expected before the next."""
     process = subprocess.Popen(
         [csid], stdin=subprocess.PIPE, stdout=subprocess.PIPE, stderr=subprocess.PIPE, bufsize=0
     )

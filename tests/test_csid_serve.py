@@ -51,7 +51,7 @@ def access(path):
     return oct(os.stat(path).st_mode & 0o7777)
 
 
-# Names that are numbers, one group of two lines, one without its number, and the number that stands for no
+# Names that are numbers, one group of two lines, one without its number, and the number that represents no
 # group.
 GROUPS = b"7:x:8:\n8:x:9:root\nstaff:x:12:\nstaff:x:13:\nshort:x\nnone:x:4294967295:\n"
 
@@ -102,7 +102,7 @@ class ServeTest(CsidTest):
         self.row(
             "a socket that is taken",
             second.end(),
-            ("csid: %s: a file stands there already\n" % second.path, 7, True),
+            ("csid: %s: a file exists there already\n" % second.path, 7, True),
         )
         self.row("nothing is made", os.listdir(self.folder), [])
 
@@ -205,7 +205,7 @@ class ServeTest(CsidTest):
                     pass
             except (TimeoutError, BrokenPipeError, ConnectionResetError):
                 pass
-            self.row("behind one that takes no reply", server.ask(frame(PROBE)), READY)
+            self.row("after one that takes no reply", server.ask(frame(PROBE)), READY)
         self.row(
             "what was said", server.end()[0], begun + IDLE * 2 + "csid: a write to a connection failed\n"
         )
@@ -225,7 +225,7 @@ class ServeTest(CsidTest):
             held = [peers.enter_context(server.connect()) for _ in range(255)]
             for number, peer in enumerate(held):
                 peer.sendall(parts[number % len(parts)])
-            self.row("behind 255 in part", server.ask(frame(PROBE) * 3), READY * 3)
+            self.row("after 255 in part", server.ask(frame(PROBE) * 3), READY * 3)
             held[254].sendall(frame(PROBE)[len(parts[254 % len(parts)]) :])
             self.row("the last one goes on", held[254].recv(4096), READY)
             held[254].close()
@@ -318,7 +318,7 @@ class ServeTest(CsidTest):
         os.unlink(path)
 
     def test_counts_of_ends(self):
-        """The end of each connection is told: in a line of its own, or as one of a count, where many end in a
+        """The end of each connection is reported: in a line of its own, or as one of a count, where many end in a
         second.
         """
         server = Server(self.csid, self.folder, "--idle", "1")
@@ -448,7 +448,7 @@ class ServeTest(CsidTest):
         with contextlib.ExitStack() as peers:
             for _ in range(200):
                 peers.enter_context(server.connect())
-            self.row("a call behind 200", server.ask(frame(PROBE)), READY)
+            self.row("a call after 200", server.ask(frame(PROBE)), READY)
         said = server.end()[0][len(begun) :]
         told = {it for it in said.splitlines(True) if "more connections ended" not in it}
         self.row(
@@ -496,7 +496,7 @@ class ServeTest(CsidTest):
         live = server.connect()
         live.sendall(frame(PROBE))
         os.kill(server.process.pid, signal.SIGCONT)
-        self.row("a call behind 1,000 that have gone", live.recv(4096), READY)
+        self.row("a call after 1,000 that have gone", live.recv(4096), READY)
         took = time.monotonic() - begin
         self.row("it waits less than 2 s", took < 2, True)
         live.close()

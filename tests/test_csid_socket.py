@@ -30,7 +30,7 @@ from tests.support.rows import CsictlTest
 
 
 # Why a socket cannot be made, or a connection cannot be taken.
-TAKEN = "a file stands there already"
+TAKEN = "a file exists there already"
 TOO_LONG = "path must be shorter than SUN_LEN"
 
 NO_FOLDER = "Not a directory (os error 20)"
@@ -65,7 +65,7 @@ class SocketTest(CsictlTest):
     """The socket of `csid serve`, and who shares a file."""
 
     def test_taken_sockets(self):
-        """Sockets that cannot be made: status 7, the name of the path and why; and what stands at the path
+        """Sockets that cannot be made: status 7, the name of the path and why; and what exists at the path
         stays.
         """
         path = os.path.join(self.folder, "taken.sock")
@@ -214,8 +214,8 @@ class SocketTest(CsictlTest):
         self.row("what the other said", other.end(), (locked, 0))
 
     def test_exchanged_files(self):
-        """Another file is put in the place of the one that a connection has open: the connection goes on, and
-        the next takes what stands there.
+        """Another file is put instead of the one that a connection has open: the connection goes on, and
+        the next takes what is there.
         """
         file, other = os.path.join(self.folder, "kept.db"), os.path.join(self.folder, "other.db")
         listing = call(CONTROLLER + "ListVolumes", "")
@@ -305,7 +305,7 @@ class SocketTest(CsictlTest):
         self.row("kept: sqlite3 has the file", ask("Probe"), closed())
         connection.close()
         self.row("kept: sqlite3 is gone", ask("Probe"), ("0 OK 0a020801\nready true\n", "", 0))
-        # csid closes the file behind its reply: python waits until it has.
+        # csid closes the file after its reply: python waits until it has.
         python("BEGIN IMMEDIATE; COMMIT")
         with open(file, "rb") as whole:
             content = whole.read()

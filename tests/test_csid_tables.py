@@ -150,7 +150,7 @@ class TablesTest(CsidTest):
             self.row("" + name, (tables.run(frame(PROBE)), tables.ask(size)), (answered, [(1024,)]))
         for name, content in [
             ("more than a page", bytes(1025)),
-            ("another byte behind them", bytes(1023) + b"\1"),
+            ("another byte after them", bytes(1023) + b"\1"),
             ("another byte in a part of its first page", page[:14] + b"4" + page[15:18]),
             ("a header of other pages", b"SQLite format 3\0\2\0"),
             ("bytes of 0, and then a part of its first page", bytes(16) + page[16:512]),
@@ -378,7 +378,7 @@ class TablesTest(CsidTest):
         self.row("nothing is made without a configuration", os.path.exists(tables.path), False)
 
     def test_option_existing(self):
-        """With --existing nothing is made where there is nothing, and what stands is served."""
+        """With --existing nothing is made where there is nothing, and what exists is served."""
         held = os.path.join(self.folder, "held")
         os.mkdir(held)
         tables, listing = Tables(self.csid, held), controller("ListVolumes")
@@ -439,7 +439,7 @@ class TablesTest(CsidTest):
             peer.recv(1 << 16)
             server.end()
         server = Server(self.csid, held, "--existing")
-        self.row("behind a stop", server.lines(), server.has(2, 0, 10))
+        self.row("after a stop", server.lines(), server.has(2, 0, 10))
         self.row("it is served", server.ask(listing).count(b"vol-"), 2)
         # The file is away for a while, as a disk that is not mounted.
         away = os.path.join(self.folder, "away")

@@ -405,7 +405,7 @@ class DeployTest(RowTest):
         self.row("what it shows", shown, given)
 
     def test_metrics(self):
-        """Each front tells metrics where they are looked for; the dashboard and the alerts can be read."""
+        """Each front serves metrics where they are looked for; the dashboard and the alerts can be read."""
         unit, nomad = Unit(UNITS[1]), Nomad()
         host, port = value(unit.words(), "--metrics").rsplit(":", 1)
         self.row(
@@ -461,7 +461,7 @@ class DeployTest(RowTest):
             self.row("its severity", rule["labels"]["severity"] in ("critical", "warning"), True)
 
     def test_etcd(self):
-        """What stands over etcd differs from what stands over a file in that alone, and its three programs
+        """What runs over etcd differs from what runs over a file in that alone, and its three programs
         meet at their sockets.
         """
         for where, etcd, self.csid, self.front, (old_csid, old_front) in etcd_commands():
@@ -563,7 +563,7 @@ class DeployTest(RowTest):
         self.check_replica(manifest, other)
 
     def check_first_row(self, manifest, etcd):
-        """No csid-etcd lets the first row be made by itself. The step that makes it does so where it is told
+        """No csid-etcd makes the first row on its own. The step that makes it does so where it is asked
         to, by the name and the etcd that csid-etcd has.
         """
         for where, words in [("the manifest", etcd["command"]), ("the unit", Unit(ETCD_UNIT).words())]:
@@ -619,7 +619,7 @@ class DeployTest(RowTest):
         )
 
     def check_replica(self, manifest, other):
-        """Two pods on two machines are replaced one after the other, whichever of them serves."""
+        """Two pods on two machines are replaced in order, whichever of them serves."""
         self.row("how many there are", manifest.set["replicas"], 2)
         self.row(
             "how they are replaced",
@@ -672,7 +672,7 @@ class DeployTest(RowTest):
             )
 
     def test_privacy(self):
-        """Of what the programs keep and of their sockets nothing is for users beside their own, but the
+        """Of what the programs keep and of their sockets nothing is for users next to their own, but the
         socket of the front for its group.
         """
         for name, mask in [

@@ -70,7 +70,7 @@ class ProgramsTest(ProgramTest):
                 )
 
     def test_first_step(self):
-        """csid never makes a file by itself. The step that does makes the one that csid wants, where it is
+        """csid never makes a file on its own. The step that does makes the one that csid wants, where it is
         told to, and keeps what is in one.
         """
         for where, words, _ in commands():

@@ -1,4 +1,4 @@
-"""The commands of the recipes of docs/OPERATING.md and docs/DEVICES.md, run as they stand there."""
+"""The commands of the recipes of docs/OPERATING.md and docs/DEVICES.md, run as they are there."""
 
 import functools
 import glob
@@ -23,7 +23,7 @@ from tests.support.recipes import (
 
 
 class RecipesTest(RecipeTest):
-    """The commands of the recipes of docs/OPERATING.md, run as they stand there."""
+    """The commands of the recipes of docs/OPERATING.md, run as they are there."""
 
     def test_ways_of_a_copy(self):
         """The ways of a copy."""
@@ -68,7 +68,7 @@ class RecipesTest(RecipeTest):
             self.row("the front is back", place.control.runs("csid-front") is not None, True)
 
     def test_copy_while_stopped(self):
-        """The last change stands in the log alone."""
+        """The last change is in the log alone."""
         with Place(self.csictl, self.csid) as place:
             place.front_calls(create("a"))
             place.must("systemctl start csid-front")
@@ -123,7 +123,7 @@ class RecipesTest(RecipeTest):
             self.row("the next volume", place.call(*create("d")), "0 OK\nvolume vol-41 1048576\n")
 
     def test_lines(self):
-        """A log that stays beside a restored file brings back what the restore was to leave behind."""
+        """A log that stays next to a restored file brings back what the restore was to leave after."""
         with Place(self.csictl, self.csid) as place:
             place.call(*create("a"))
             place.recipe("### A copy of a file that is served")

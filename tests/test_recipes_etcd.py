@@ -1,4 +1,4 @@
-"""The commands of the recipes of docs/ETCD.md, run as they stand there."""
+"""The commands of the recipes of docs/ETCD.md, run as they are there."""
 
 import contextlib
 import functools
@@ -106,7 +106,7 @@ MANIFESTS = ["kubernetes.yaml", "kubernetes-etcd.yaml", "kubernetes-tables.yaml"
 
 
 class EtcdRecipesTest(RecipeTest):
-    """The commands of the recipes of docs/ETCD.md, run as they stand there."""
+    """The commands of the recipes of docs/ETCD.md, run as they are there."""
 
     def test_etcd(self):
         """Volumes of all kinds go from a file to etcd and back, and are the same rows."""
@@ -150,7 +150,7 @@ class EtcdRecipesTest(RecipeTest):
             place.must("systemctl start csid-front csid-etcd")
             holder = etcd.ctl("get", "--prefix", PLUGIN + "/lock/").stdout.split("\n")
             wanted = (
-                "csid-etcd: --import: %s: %s has the lock or waits for it, and has to be stopped before;"
+                "csid-etcd: --import: %s: %s has the lock or waits for it, and must be stopped first;"
                 " nothing was written\n" % (holder[0].partition("/")[2], holder[1])
             )
             self.row("an import while somebody leads", recipe(over, 0, 1), (counts, wanted, 1))

@@ -27,7 +27,7 @@ from tests.support.rows import RowTest
 
 SEEDS, STEPS, WALKS, OFTEN, SECONDS = range(1, 5), 2000, 100, 30, 300
 
-# What has to happen often: what is done, and each refusal.
+# What must happen often: what is done, and each refusal.
 EXPECTED = [
     "created",
     "created again",
@@ -65,7 +65,7 @@ EXPECTED = [
     "a change that the log made, but did not answer",
     "a connection that the log ended",
 ]
-# What a log does of a change, by what is told of it.
+# What a log does of a change, by what is reported of it.
 FAULTS = {
     change_stores.KeptChangeStore.REFUSES: "a change that the log refused",
     change_stores.KeptChangeStore.ENDS: "a change that the log did not make",
@@ -209,7 +209,7 @@ class Walk:
         return came == reply
 
     def step(self):
-        """A request, and what is listed behind it."""
+        """A request, and what is listed after it."""
         listed = self.asks(*self.requests.next()) and self.asks(v.listing(), *self.model.listing(0, "")[:2])
         rule = self.model.breaks()
         if rule:
@@ -228,7 +228,7 @@ class Walk:
                 return False
             standing = {it.number for it in self.model.volumes}
             if what == "bad starting token" or not set(numbers) <= standing or set(numbers) & set(listed):
-                self.faults.append("a page behind %r lists %r" % (token, numbers))
+                self.faults.append("a page after %r lists %r" % (token, numbers))
             listed, token = listed + numbers, then
             for _ in range(self.requests.random.randrange(4) if token else 0):
                 if not self.step():
@@ -285,7 +285,7 @@ class Walk:
         self.server.start()
 
     def run(self):
-        # What is told of pools that have no volumes.
+        # What is reported of pools that have no volumes.
         if not all(self.asks(*self.requests.capacity()) for _ in range(8)):
             return self
         for at in range(STEPS):

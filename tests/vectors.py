@@ -26,7 +26,7 @@ HEAD = """\
 # NAME says what the vector pins.
 #
 # The bytes are made by tests/vectors.py, which has the same rows in words: each call is put together by the
-# Protocol Buffers encoding guide and the tables of docs/PROTOCOL.md, and behind it stands the reply that was
+# Protocol Buffers encoding guide and the tables of docs/PROTOCOL.md, and after it comes the reply that was
 # worked out for it by hand from docs/PROTOCOL.md and docs/MACHINE.md. No output of a program was copied."""
 
 MIB = 1 << 20
@@ -42,7 +42,7 @@ def hexa(digits):
 
 def varint(n, size=1):
     """n with seven bits a byte, the low ones first; in so many bytes at least, where those beyond the
-    shortest spelling hold zeros.
+    shortest encoding hold zeros.
     """
     out = []
     while n or len(out) < size:
@@ -118,7 +118,7 @@ def group(title):
 
 
 def row(name, *steps):
-    """A vector: calls, and behind each its reply; together one stream."""
+    """A vector: calls, and after each its reply; together one stream."""
     assert re.fullmatch("[a-z0-9]+(-[a-z0-9]+)*", name) and name not in NAMES and len(steps) % 2 == 0, name
     NAMES.append(name)
     sides = [b"".join(side).hex() or "-" for side in (steps[::2], steps[1::2])]
@@ -409,10 +409,10 @@ row(
 )
 row("unknown-method", raw("/csi.v1.Controller/CreateSnapshot", ""), text("0c000e", "unknown method"))
 
-group("In plain bytes: malformed messages, and the call behind one")
+group("In plain bytes: malformed messages, and the call after one")
 row("probe-tag-of-zero", raw(PROBE_PATH, "00"), text("030028", "malformed message in the field at byte 0"))
 row(
-    "probe-group-behind-a-field",
+    "probe-group-after-a-field",
     raw(PROBE_PATH, "08010b"),
     text("030028", "malformed message in the field at byte 2"),
 )
@@ -437,7 +437,7 @@ row(
 
 group("In plain bytes: frames that are malformed")
 row(
-    "bad-flag-behind-a-call",
+    "bad-flag-after-a-call",
     PROBE,
     PROBED,
     hexa("0016 2f6373692e76312e4964656e746974792f50726f6265 01 00000000") + PROBE,
@@ -453,7 +453,7 @@ row(
     text("03001b", "message too long at byte 25"),
 )
 row(
-    "end-behind-two-calls",
+    "end-after-two-calls",
     PROBE + PROBE + hexa("0016"),
     PROBED + PROBED + text("030017", "end of input at byte 60"),
 )
@@ -1056,11 +1056,11 @@ row(
 )
 
 group(
-    "Each access mode at a node, and each behind it at that node and at another: of a block device that was"
+    "Each access mode at a node, and each after it at that node and at another: of a block device that was"
     " made with all of them"
 )
 # A line for the mode at the first node, in it a letter for each mode at the second: 'w' where both may be
-# attached to write, 'r' where one of them has to be only read, '-' where they do not stand beside one
+# attached to write, 'r' where one of them must be only read, '-' where they do not stand next to one
 # another.
 TRUE = body("0a10 0a08726561646f6e6c79 120474727565")
 BESIDE = {1: "-------", 2: "-------", 3: "--w----", 4: "---r---", 5: "----w--", 6: "-------", 7: "-------"}
@@ -1162,9 +1162,9 @@ row("path-length-greatest", hexa("ffff"), fault("bad path length at byte 0"))
 row("path-length-zero-and-more", hexa("0000") + probe(), fault("bad path length at byte 0"))
 row("path-of-129-bytes", frame("~" * 129), fault("bad path length at byte 0"))
 row("path-length-before-a-path-byte", frame(" " * 129), fault("bad path length at byte 0"))
-row("path-length-behind-a-call", probe(), READY, hexa("0000"), fault("bad path length at byte 29"))
+row("path-length-after-a-call", probe(), READY, hexa("0000"), fault("bad path length at byte 29"))
 row(
-    "path-length-behind-three-calls",
+    "path-length-after-three-calls",
     probe(),
     READY,
     create(A, BLOCK),
@@ -1187,7 +1187,7 @@ row("path-not-ascii", frame("/é"), fault("bad path at byte 3"))
 row("path-two-bad-bytes", frame("/\t\n"), fault("bad path at byte 3"))
 row("path-bad-before-the-end-of-input", hexa("0016 2f 20"), fault("bad path at byte 3"))
 row(
-    "path-bad-behind-calls",
+    "path-bad-after-calls",
     probe(),
     READY,
     probe(),
@@ -1206,14 +1206,14 @@ row("flag-bad-at-the-end-of-input", probe()[:24] + hexa("01"), fault("bad flag a
 row("path-before-flag", frame("/ a", flag=1), fault("bad path at byte 3"))
 row("flag-before-length", probe()[:24] + hexa("01 ffffffff"), fault("bad flag at byte 24"))
 row(
-    "flag-behind-a-create",
+    "flag-after-a-create",
     create(A, BLOCK),
     MADE,
     frame(PROBE_PATH, flag=1) + probe(),
     fault("bad flag at byte 73"),
 )
 row(
-    "flag-behind-a-refusal",
+    "flag-after-a-refusal",
     controller("CreateSnapshot"),
     UNKNOWN,
     frame(PROBE_PATH, flag=3),
@@ -1236,14 +1236,14 @@ row(
     fault("message too long at byte 4"),
 )
 row(
-    "length-behind-a-call",
+    "length-after-a-call",
     probe(),
     READY,
     probe()[:25] + hexa("00200000") + probe(),
     fault("message too long at byte 54"),
 )
 row(
-    "length-behind-a-malformed-message",
+    "length-after-a-malformed-message",
     probe(hexa("00")),
     malformed(0),
     probe()[:25] + hexa("7fffffff"),
@@ -1251,16 +1251,16 @@ row(
 )
 
 group("Ends of the input within a frame")
-row("end-behind-a-byte-of-255", hexa("ff"), fault("end of input at byte 1"))
-row("end-behind-a-byte-of-1", hexa("01"), fault("end of input at byte 1"))
+row("end-after-a-byte-of-255", hexa("ff"), fault("end of input at byte 1"))
+row("end-after-a-byte-of-1", hexa("01"), fault("end of input at byte 1"))
 row("end-before-a-path-of-128-bytes", hexa("0080"), fault("end of input at byte 2"))
 row("end-in-a-length-of-255s", probe()[:25] + hexa("ffffff"), fault("end of input at byte 28"))
 row("end-in-a-message", probe(num(15, 1))[:-1], fault("end of input at byte 30"))
 row("end-in-the-second-path-length", probe(), READY, probe()[:1], fault("end of input at byte 30"))
-row("end-behind-the-second-path-length", probe(), READY, probe()[:2], fault("end of input at byte 31"))
+row("end-after-the-second-path-length", probe(), READY, probe()[:2], fault("end of input at byte 31"))
 row("end-in-the-second-path", probe(), READY, probe()[:11], fault("end of input at byte 40"))
 row("end-before-the-second-flag", probe(), READY, probe()[:24], fault("end of input at byte 53"))
-row("end-behind-the-second-flag", probe(), READY, probe()[:25], fault("end of input at byte 54"))
+row("end-after-the-second-flag", probe(), READY, probe()[:25], fault("end of input at byte 54"))
 row("end-in-the-second-length", probe(), READY, probe()[:27], fault("end of input at byte 56"))
 row("end-before-the-second-message", probe(), READY, create(A, BLOCK)[:38], fault("end of input at byte 67"))
 row(
@@ -1271,14 +1271,14 @@ row(
     fault("end of input at byte 97"),
 )
 row(
-    "end-behind-a-malformed-message",
+    "end-after-a-malformed-message",
     probe(hexa("00")),
     malformed(0),
     hexa("00"),
     fault("end of input at byte 31"),
 )
 row(
-    "end-behind-calls-of-a-volume",
+    "end-after-calls-of-a-volume",
     create(A, BLOCK),
     MADE,
     delete(VOL_1),
@@ -1337,7 +1337,7 @@ row("wire-type-7", probe(hexa("7f 00")), malformed(0))
 group("Wire: payloads that are malformed")
 row("number-absent", probe(hexa("78")), malformed(0))
 row("number-cut-short", probe(hexa("78 80")), malformed(0))
-row("number-cut-short-behind-nine-bytes", probe(hexa("78 808080808080808080")), malformed(0))
+row("number-cut-short-after-nine-bytes", probe(hexa("78 808080808080808080")), malformed(0))
 row("number-tenth-byte-2", probe(hexa("78 80808080808080808002")), malformed(0))
 row("number-tenth-byte-127", probe(hexa("78 ffffffffffffffffff7f")), malformed(0))
 row("number-of-eleven-bytes", probe(hexa("78 8080808080808080808000")), malformed(0))
@@ -1351,12 +1351,12 @@ row("length-of-2-to-the-32-less-1", probe(hexa("7a ffffffff0f 61")), malformed(0
 row("length-of-2-to-the-63-less-1", probe(hexa("7a ffffffffffffffff7f 61")), malformed(0))
 row("length-of-2-to-the-64-less-1", probe(hexa("7a ffffffffffffffffff01 61")), malformed(0))
 row("length-tenth-byte-2", probe(hexa("7a 80808080808080808002")), malformed(0))
-row("malformed-behind-a-number", probe(num(15, 1), hexa("7b")), malformed(2))
-row("malformed-behind-a-number-of-ten-bytes", probe(num(15, -1), hexa("00")), malformed(11))
-row("malformed-behind-bytes", probe(msg(15, b"abc"), hexa("78")), malformed(5))
-row("malformed-behind-fixed64", probe(fixed64(15), hexa("7a01")), malformed(9))
-row("malformed-behind-fixed32", probe(fixed32(15), hexa("7d 00")), malformed(5))
-row("malformed-behind-many-fields", probe(num(15, 1) * 100, hexa("0f")), malformed(200))
+row("malformed-after-a-number", probe(num(15, 1), hexa("7b")), malformed(2))
+row("malformed-after-a-number-of-ten-bytes", probe(num(15, -1), hexa("00")), malformed(11))
+row("malformed-after-bytes", probe(msg(15, b"abc"), hexa("78")), malformed(5))
+row("malformed-after-fixed64", probe(fixed64(15), hexa("7a01")), malformed(9))
+row("malformed-after-fixed32", probe(fixed32(15), hexa("7d 00")), malformed(5))
+row("malformed-after-many-fields", probe(num(15, 1) * 100, hexa("0f")), malformed(200))
 row(
     "malformed-thrice-and-a-good-call",
     probe(hexa("00")),
@@ -1705,7 +1705,7 @@ row(
 )
 row("mode-packed-is-not-read", ON_ALL, MADE, validated(cap(msg(1), msg(3, msg(1, b"\1")))), MODE_UNKNOWN)
 row(
-    "mode-packed-behind-a-mode",
+    "mode-packed-after-a-mode",
     ON_ALL,
     MADE,
     validated(cap(msg(1), msg(3, num(1, 1), msg(1, b"\5")))),
@@ -1934,7 +1934,7 @@ row(
 group("Texts that are not UTF-8, each occurrence is looked at")
 BAD = hexa("ff")
 row("utf8-name", create(txt(1, BAD), BLOCK), malformed(0))
-row("utf8-name-behind-fields", create(BLOCK, num(15, 1), txt(1, BAD)), malformed(10))
+row("utf8-name-after-fields", create(BLOCK, num(15, 1), txt(1, BAD)), malformed(10))
 row("utf8-name-then-a-better-one", create(BLOCK, txt(1, BAD), A), malformed(8))
 row("utf8-name-then-a-worse-one", create(A, txt(1, BAD), BLOCK), malformed(3))
 row("utf8-first-of-two-bad-fields", create(A, txt(1, BAD), param(BAD, "v")), malformed(3))
@@ -2032,7 +2032,7 @@ for words, digits in (
     ("greatest-two", "dfbf"),
     ("least-three", "e0a080"),
     ("before-surrogates", "ed9fbf"),
-    ("behind-surrogates", "ee8080"),
+    ("after-surrogates", "ee8080"),
     ("greatest-three", "efbfbf"),
     ("least-four", "f0908080"),
     ("greatest-four", "f48fbfbf"),
@@ -2088,7 +2088,7 @@ row(
 row(
     "text-cut-short", create(A, hexa("0a05 6162")), malformed(3), delete(hexa("0a06"), b"vol-1"), malformed(0)
 )
-row("malformed-behind-long-parameters", create(A, BLOCK, param("k", "v" * 4095), hexa("3a")), malformed(4115))
+row("malformed-after-long-parameters", create(A, BLOCK, param("k", "v" * 4095), hexa("3a")), malformed(4115))
 row(
     "embedded-unknown-is-not-looked-into",
     create(A, cap(msg(1), msg(9, hexa("0b")), MODE_1), msg(9, hexa("0b"))),
@@ -3622,12 +3622,12 @@ for words, other in (
     ("plus", "vol-+1"),
     ("minus", "vol--1"),
     ("space-before", " vol-1"),
-    ("space-behind", "vol-1 "),
+    ("space-after", "vol-1 "),
     ("space-within", "vol- 1"),
-    ("zero-byte-behind", "vol-1\0"),
+    ("zero-byte-after", "vol-1\0"),
     ("point", "vol-1.0"),
     ("hexadecimal", "vol-0x1"),
-    ("letter-behind", "vol-1a"),
+    ("letter-after", "vol-1a"),
     ("other-digits", "vol-\u0661"),
     ("wide-digit", "vol-\uff11"),
     ("two-dashes", "vol-1-1"),
@@ -3798,7 +3798,7 @@ row(
 )
 SINGLE, MULTI = cap(block(4)), cap(block(5))
 row(
-    "publish-single-writer-behind-a-reader",
+    "publish-single-writer-after-a-reader",
     create(A, SINGLE),
     MADE,
     publish(VOL_1, N1, SINGLE, READONLY),
@@ -4236,9 +4236,9 @@ row(
     listing(most(1), start("1")),
     page(SECOND)
 )
-row("list-behind-the-first", *TWO, listing(start("1")), page(SECOND), listing(start("2")), page())
+row("list-after-the-first", *TWO, listing(start("1")), page(SECOND), listing(start("2")), page())
 row(
-    "list-behind-a-deleted-volume",
+    "list-after-a-deleted-volume",
     *TWO,
     listing(most(1)),
     page(FIRST, then="1"),
@@ -4333,7 +4333,7 @@ for words, token in (
     ("plus", "+1"),
     ("minus", "-1"),
     ("space-before", " 1"),
-    ("space-behind", "1 "),
+    ("space-after", "1 "),
     ("point", "1.0"),
     ("letters", "one"),
     ("id", "vol-1"),

@@ -26,7 +26,7 @@ class CallReader {
  public:
   explicit CallReader(int descriptor) : descriptor_(descriptor) {}
 
-  // The next call, whose bytes stay until the one after it; none where the input ended behind a whole frame.
+  // The next call, whose bytes stay until the one after it; none where the input ended after a whole frame.
   // Throws FrameFault, and std::system_error where a read failed.
   std::optional<Call> Next();
 

@@ -29,12 +29,12 @@ type (
 	}
 )
 
-// plan is one transaction: what it supposes and does, and what is read in its place where it supposes wrongly.
+// plan is one transaction: what it supposes and does, and what is read instead where it supposes wrongly.
 type plan struct {
 	supposes []clientv3.Cmp
 	does     []clientv3.Op
 	reads    []clientv3.Op
-	// why tells of what was read which supposition is wrong; empty where none is.
+	// why says, by what was read, which supposition is wrong; empty where none is.
 	why func(read []*pb.RangeResponse) string
 }
 
@@ -59,10 +59,10 @@ func (c *addVolume) plan(_ context.Context, t *term) (plan, error) {
 		return plan{}, errNumber
 	}
 	key := t.keys.volume(c.number)
-	before, behind := meta{firstMeta.format, c.number}, meta{firstMeta.format, c.number + 1}
+	before, after := meta{firstMeta.format, c.number}, meta{firstMeta.format, c.number + 1}
 	return plan{
-		supposes: []clientv3.Cmp{isAbsent(key), clientv3.Compare(clientv3.Value(t.keys.meta()), "=", string(before.spelled()))},
-		does:     []clientv3.Op{clientv3.OpPut(key, string(c.spelled())), clientv3.OpPut(t.keys.meta(), string(behind.spelled()))},
+		supposes: []clientv3.Cmp{isAbsent(key), clientv3.Compare(clientv3.Value(t.keys.meta()), "=", string(before.encoded()))},
+		does:     []clientv3.Op{clientv3.OpPut(key, string(c.encoded())), clientv3.OpPut(t.keys.meta(), string(after.encoded()))},
 		reads:    []clientv3.Op{hasKey(key), clientv3.OpGet(t.keys.meta())},
 		why: func(read []*pb.RangeResponse) string {
 			if len(read[0].Kvs) > 0 {
@@ -71,8 +71,8 @@ func (c *addVolume) plan(_ context.Context, t *term) (plan, error) {
 			if len(read[1].Kvs) == 0 {
 				return "meta is not there"
 			}
-			if value := string(read[1].Kvs[0].Value); value != string(before.spelled()) {
-				return "meta is " + value + ", and not " + string(before.spelled())
+			if value := string(read[1].Kvs[0].Value); value != string(before.encoded()) {
+				return "meta is " + value + ", and not " + string(before.encoded())
 			}
 			return ""
 		},
@@ -82,9 +82,9 @@ func (c *addVolume) plan(_ context.Context, t *term) (plan, error) {
 func (c *removeVolume) plan(_ context.Context, t *term) (plan, error) {
 	key, attachments := t.keys.volume(c.number), t.keys.attachmentsOf(c.number)
 	return plan{
-		supposes: []clientv3.Cmp{noneOf(attachments, behind(attachments))},
+		supposes: []clientv3.Cmp{noneOf(attachments, rangeEnd(attachments))},
 		does:     []clientv3.Op{clientv3.OpDelete(key)},
-		reads:    []clientv3.Op{hasKey(attachments, clientv3.WithRange(behind(attachments)))},
+		reads:    []clientv3.Op{hasKey(attachments, clientv3.WithRange(rangeEnd(attachments)))},
 		why: func(read []*pb.RangeResponse) string {
 			if len(read[0].Kvs) > 0 {
 				return t.keys.shown(string(read[0].Kvs[0].Key)) + " is there"
@@ -98,7 +98,7 @@ func (c *attach) plan(_ context.Context, t *term) (plan, error) {
 	volume, key := t.keys.volume(c.number), t.keys.attachment(c.number, c.node)
 	return plan{
 		supposes: []clientv3.Cmp{isThere(volume), isAbsent(key)},
-		does:     []clientv3.Op{clientv3.OpPut(key, string(c.spelled()))},
+		does:     []clientv3.Op{clientv3.OpPut(key, string(c.encoded()))},
 		reads:    []clientv3.Op{hasKey(volume), hasKey(key)},
 		why: func(read []*pb.RangeResponse) string {
 			if len(read[0].Kvs) == 0 {
@@ -118,7 +118,7 @@ func (c *detach) plan(_ context.Context, t *term) (plan, error) {
 
 func (c *detachAll) plan(_ context.Context, t *term) (plan, error) {
 	all := t.keys.attachmentsOf(c.number)
-	return plan{does: []clientv3.Op{clientv3.OpDelete(all, clientv3.WithRange(behind(all)))}}, nil
+	return plan{does: []clientv3.Op{clientv3.OpDelete(all, clientv3.WithRange(rangeEnd(all)))}}, nil
 }
 
 // plan reads the row, whose other columns stay, and supposes that it is the same still when it is put.
@@ -146,14 +146,14 @@ func (c *setMutable) plan(ctx context.Context, t *term) (plan, error) {
 	revision := read.Kvs[0].ModRevision
 	return plan{
 		supposes: []clientv3.Cmp{clientv3.Compare(clientv3.ModRevision(key), "=", revision)},
-		does:     []clientv3.Op{clientv3.OpPut(key, string(row.spelled()))},
+		does:     []clientv3.Op{clientv3.OpPut(key, string(row.encoded()))},
 		reads:    []clientv3.Op{hasKey(key)},
 		why: func(read []*pb.RangeResponse) string {
 			if len(read[0].Kvs) == 0 {
 				return t.keys.shown(key) + " is not there any more"
 			}
 			if read[0].Kvs[0].ModRevision != revision {
-				return t.keys.shown(key) + " was changed meanwhile"
+				return t.keys.shown(key) + " was changed in the meantime"
 			}
 			return ""
 		},
@@ -169,9 +169,9 @@ func (makeMeta) plan(_ context.Context, t *term) (plan, error) { return t.keys.f
 func (k keys) firstRow() plan {
 	all, locks := k.all(), k.locks()
 	return plan{
-		supposes: []clientv3.Cmp{noneOf(all, locks), noneOf(behind(locks), behind(all))},
-		does:     []clientv3.Op{clientv3.OpPut(k.meta(), string(firstMeta.spelled()))},
-		reads:    []clientv3.Op{hasKey(all, clientv3.WithRange(locks)), hasKey(behind(locks), clientv3.WithRange(behind(all)))},
+		supposes: []clientv3.Cmp{noneOf(all, locks), noneOf(rangeEnd(locks), rangeEnd(all))},
+		does:     []clientv3.Op{clientv3.OpPut(k.meta(), string(firstMeta.encoded()))},
+		reads:    []clientv3.Op{hasKey(all, clientv3.WithRange(locks)), hasKey(rangeEnd(locks), clientv3.WithRange(rangeEnd(all)))},
 		why: func(read []*pb.RangeResponse) string {
 			for _, part := range read {
 				if len(part.Kvs) > 0 {

@@ -30,8 +30,8 @@ func (j *judging) Txn(_ context.Context, asked *pb.TxnRequest) (*pb.TxnResponse,
 	return done, nil
 }
 
-// The first row is made, and an import begun, only where nothing stands below the name of the plugin, whatever its key is: a key of the lock does not
-// hinder the first row, and does hinder an import. Keys beside those of the plugin hinder neither.
+// The first row is made, and an import begun, only where nothing is below the name of the plugin, whatever its key is: a key of the lock does not
+// hinder the first row, and does hinder an import. Keys next to those of the plugin hinder neither.
 func TestFirstOfAll(t *testing.T) {
 	const name = "example.fomaheti"
 	rows := []struct {
@@ -55,7 +55,7 @@ func TestFirstOfAll(t *testing.T) {
 			t.Errorf("%q: the first row: %v, %v", row.key, done, err)
 		}
 		i := &importing{client: client, keys: sampleKeys, timeout: 5 * time.Second}
-		if err := i.write([]line{{sampleKeys.meta(), firstMeta.spelled()}}); (err == nil) != row.isImport {
+		if err := i.write([]line{{sampleKeys.meta(), firstMeta.encoded()}}); (err == nil) != row.isImport {
 			t.Errorf("%q: an import: %v", row.key, err)
 		}
 	}

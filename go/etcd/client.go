@@ -41,7 +41,7 @@ func connect(asked options) (*clientv3.Client, error) {
 		Username:             asked.user,
 		Password:             password,
 		MaxCallSendMsgSize:   maxRequestBytes,
-		// With windows that are told, grpc does not measure the connection by a ping behind each answer.
+		// With windows that are set, grpc does not measure the connection by a ping after each answer.
 		DialOptions: []grpc.DialOption{grpc.WithChainUnaryInterceptor(sendOnce), grpc.WithDisableRetry(),
 			grpc.WithInitialWindowSize(answerWindow), grpc.WithInitialConnWindowSize(answerWindow)},
 		LogConfig: &zap.Config{Level: zap.NewAtomicLevelAt(zap.FatalLevel), Encoding: "json", EncoderConfig: zap.NewProductionEncoderConfig()},

@@ -14,7 +14,7 @@ import (
 	"testing"
 )
 
-// The password is the first line of its file, as it stands.
+// The password is the first line of its file, as it is.
 func TestPassword(t *testing.T) {
 	path := filepath.Join(t.TempDir(), "password")
 	rows := []struct{ text, want, why string }{

@@ -32,7 +32,7 @@ func (a attachment) statement() string {
 	return fmt.Sprintf("INSERT INTO attachments VALUES (%d,%s,X'%x',%d);", a.number, quoted(a.node), a.cap, readonly)
 }
 
-// quoted is a text as SQL has it. One with control characters is told by its bytes: sqlite3 reads SQL line by line, takes a carriage return from
+// quoted is a text as SQL has it. One with control characters is written by its bytes: sqlite3 reads SQL line by line, takes a carriage return from
 // the end of a line, and ends a text at a zero.
 func quoted(text string) string {
 	for i := 0; i < len(text); i++ {
@@ -45,7 +45,7 @@ func quoted(text string) string {
 
 var (
 	errNoMeta    = errors.New("meta is not there: nothing was made there yet, or an import was not ended")
-	errCompacted = errors.New("etcd compacted the revision of this reading: begin anew")
+	errCompacted = errors.New("etcd compacted the revision of this reading: start again")
 )
 
 // reading reads rows at one revision, without the lock: that of the first answer.
@@ -126,7 +126,7 @@ func (r *reading) print(k keys, out io.Writer) (found counts, err error) {
 func (r *reading) each(k keys, take func(tableRow) error) error {
 	limit := int64(fewRows)
 	for from := k.all(); from != ""; {
-		read, err := r.get(from, clientv3.WithRange(behind(k.all())), clientv3.WithLimit(limit))
+		read, err := r.get(from, clientv3.WithRange(rangeEnd(k.all())), clientv3.WithLimit(limit))
 		if err != nil {
 			return err
 		}

@@ -17,8 +17,8 @@ import (
 	"fomaheti/frames"
 )
 
-// A transaction of an import has at most so many rows, and ends behind so many bytes. etcd takes 128 operations and 1.5 MiB where no option of its
-// own says otherwise; a key stands in a transaction three times.
+// A transaction of an import has at most so many rows, and ends after so many bytes. etcd takes 128 operations and 1.5 MiB where no option of its
+// own says otherwise; a key is in a transaction three times.
 const (
 	mostImported   = 64
 	enoughImported = 1 << 20
@@ -37,7 +37,7 @@ var (
 	errMissing = errors.New("the last line is not meta: it is missing, or what comes in was cut off")
 )
 
-// readLines reads rows, a line each: the key without the name of the plugin, a tab, and the value as it stands in etcd. All are judged. The last
+// readLines reads rows, a line each: the key without the name of the plugin, a tab, and the value as it is in etcd. All are judged. The last
 // one is meta, so that lines which are missing at the end are noticed.
 func readLines(in io.Reader, k keys) (rows []line, found counts, err error) {
 	from, at := bufio.NewReaderSize(in, 1<<20), map[string]int{}
@@ -88,7 +88,7 @@ func readLine(text []byte, k keys) (line, tableRow, error) {
 	return row, read, err
 }
 
-// importRows puts the rows of standard input into etcd, where nothing stands below the name of the plugin, and nobody leads or waits.
+// importRows puts the rows of standard input into etcd, where there is nothing below the name of the plugin, and nobody leads or waits.
 func importRows(asked options, in io.Reader, out io.Writer) error {
 	k := keys{asked.name}
 	rows, found, err := readLines(in, k)
@@ -137,14 +137,14 @@ type importing struct {
 	begun   int64
 }
 
-// look finds out whether etcd answers, and whether anything stands there. Each transaction supposes that again.
+// look finds out whether etcd answers, and whether anything is there. Each transaction supposes that again.
 func (i *importing) look() error {
 	r, k := &reading{client: i.client, timeout: i.timeout}, i.keys
-	held, err := r.get(k.locks(), clientv3.WithRange(behind(k.locks())), clientv3.WithLimit(1))
+	held, err := r.get(k.locks(), clientv3.WithRange(rangeEnd(k.locks())), clientv3.WithLimit(1))
 	if err != nil {
 		return err
 	}
-	there, err := r.get(k.all(), clientv3.WithRange(behind(k.all())), clientv3.WithKeysOnly(), clientv3.WithLimit(1))
+	there, err := r.get(k.all(), clientv3.WithRange(rangeEnd(k.all())), clientv3.WithKeysOnly(), clientv3.WithLimit(1))
 	if err != nil {
 		return err
 	}
@@ -154,7 +154,7 @@ func (i *importing) look() error {
 // found refuses where a key of the lock, or any other, was found.
 func (i *importing) found(held, there []*mvccpb.KeyValue) error {
 	for _, lock := range held {
-		return fmt.Errorf("%s: %s has the lock or waits for it, and has to be stopped before", i.keys.shown(string(lock.Key)), frames.Text(string(lock.Value)))
+		return fmt.Errorf("%s: %s has the lock or waits for it, and must be stopped first", i.keys.shown(string(lock.Key)), frames.Text(string(lock.Value)))
 	}
 	for _, row := range there {
 		return fmt.Errorf("%s: it is there already", i.keys.shown(string(row.Key)))
@@ -163,18 +163,18 @@ func (i *importing) found(held, there []*mvccpb.KeyValue) error {
 }
 
 // write makes one transaction. The first one supposes that there is no key at all below the name of the plugin, so of two imports at most one gets
-// beyond it. Each later one supposes that the first key is still there as it was made: so none that is late is made behind the taking away of all.
+// beyond it. Each later one supposes that the first key is still there as it was made: so none that is late is made after all were removed.
 func (i *importing) write(rows []line) error {
 	k := i.keys
 	var supposes []clientv3.Cmp
 	var does []clientv3.Op
 	// The first key that is there, and the lock, whose value says who has it.
-	reads := []clientv3.Op{clientv3.OpGet(k.locks(), clientv3.WithRange(behind(k.locks())), clientv3.WithLimit(1))}
+	reads := []clientv3.Op{clientv3.OpGet(k.locks(), clientv3.WithRange(rangeEnd(k.locks())), clientv3.WithLimit(1))}
 	if i.written == 0 {
-		supposes = append(supposes, noneOf(k.all(), behind(k.all())))
-		reads = append(reads, hasKey(k.all(), clientv3.WithRange(behind(k.all()))))
+		supposes = append(supposes, noneOf(k.all(), rangeEnd(k.all())))
+		reads = append(reads, hasKey(k.all(), clientv3.WithRange(rangeEnd(k.all()))))
 	} else {
-		supposes = append(supposes, noneOf(k.locks(), behind(k.locks())), clientv3.Compare(clientv3.CreateRevision(i.first), "=", i.begun))
+		supposes = append(supposes, noneOf(k.locks(), rangeEnd(k.locks())), clientv3.Compare(clientv3.CreateRevision(i.first), "=", i.begun))
 	}
 	for _, row := range rows {
 		supposes = append(supposes, isAbsent(row.key))
@@ -201,7 +201,7 @@ func (i *importing) write(rows []line) error {
 	return nil
 }
 
-// supposedWrongly tells why a transaction was not made.
+// supposedWrongly says why a transaction was not made.
 func (i *importing) supposedWrongly(read []*pb.ResponseOp) error {
 	var there []*mvccpb.KeyValue
 	for _, part := range read[1:] {
@@ -210,7 +210,7 @@ func (i *importing) supposedWrongly(read []*pb.ResponseOp) error {
 	if err := i.found(read[0].GetResponseRange().Kvs, there); err != nil {
 		return err
 	}
-	return fmt.Errorf("%s: it was taken away meanwhile", i.keys.shown(i.first))
+	return fmt.Errorf("%s: it was removed in the meantime", i.keys.shown(i.first))
 }
 
 // stopped says what an import has left that was not ended.
@@ -218,9 +218,9 @@ func (i *importing) stopped(err error, all int) error {
 	_, isOpen := err.(open)
 	switch {
 	case isOpen:
-		return fmt.Errorf("%w; %d of %d rows were written before: take away what stands there, and begin anew", err, i.written, all)
+		return fmt.Errorf("%w; %d of %d rows were written before: remove what is there, and start again", err, i.written, all)
 	case i.written == 0:
 		return fmt.Errorf("%w; nothing was written", err)
 	}
-	return fmt.Errorf("%w; %d of %d rows were written: take them away, and begin anew", err, i.written, all)
+	return fmt.Errorf("%w; %d of %d rows were written: remove them, and start again", err, i.written, all)
 }

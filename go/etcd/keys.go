@@ -19,7 +19,7 @@ const numberDigits = 20
 // maxNumber is the greatest number that a row can have, as in the tables of SQLite.
 const maxNumber = math.MaxInt64
 
-// keys spells the keys of etcd that belong to a plugin: all that begin with its name and a slash.
+// keys writes the keys of etcd that belong to a plugin: all that begin with its name and a slash.
 type keys struct{ name string }
 
 func (k keys) all() string         { return k.name + "/" }
@@ -40,16 +40,16 @@ func (k keys) attachmentsOf(number uint64) string {
 	return fmt.Sprintf("%s%0*d/", k.attachments(), numberDigits, number)
 }
 
-// attachment ends with the node's id as it stands, whatever it has.
+// attachment ends with the node's id as it is, whatever it has.
 func (k keys) attachment(number uint64, node string) string {
 	return k.attachmentsOf(number) + node
 }
 
-// shown is a key without the name of the plugin, as it stands in a text.
+// shown is a key without the name of the plugin, as it is in a text.
 func (k keys) shown(key string) string { return frames.Text(strings.TrimPrefix(key, k.all())) }
 
-// behind is the end of the range of all keys that begin with these bytes, of which the last is not 0xFF.
-func behind(prefix string) string {
+// rangeEnd is the end of the range of all keys that begin with these bytes, of which the last is not 0xFF.
+func rangeEnd(prefix string) string {
 	end := []byte(prefix)
 	end[len(end)-1]++
 	return string(end)
@@ -87,7 +87,7 @@ func (k keys) attachmentParts(key string) (number uint64, node string, err error
 
 var errUnknownKey = errors.New("no row has such a key")
 
-// row judges what stands at a key below the name of the plugin, and gives the row that it is. Keys of the lock are no rows.
+// row judges what is at a key below the name of the plugin, and gives the row that it is. Keys of the lock are no rows.
 func (k keys) row(key string, value []byte) (tableRow, error) {
 	switch {
 	case key == k.meta():

@@ -13,8 +13,8 @@ func TestKeys(t *testing.T) {
 		{k.volume(1<<64 - 1), "example.fomaheti/volumes/18446744073709551615"},
 		{k.attachment(7, "a/b"), "example.fomaheti/attachments/00000000000000000007/a/b"},
 		{k.attachment(0, ""), "example.fomaheti/attachments/00000000000000000000/"},
-		{behind(k.all()), "example.fomaheti0"},
-		{behind(k.attachmentsOf(7)), "example.fomaheti/attachments/000000000000000000070"},
+		{rangeEnd(k.all()), "example.fomaheti0"},
+		{rangeEnd(k.attachmentsOf(7)), "example.fomaheti/attachments/000000000000000000070"},
 		{next("a"), "a\x00"},
 		{k.shown(k.attachment(7, "né\n")), `attachments/00000000000000000007/n\xc3\xa9\x0a`},
 	}
@@ -53,6 +53,6 @@ func TestReadKeys(t *testing.T) {
 		}
 	}
 	if _, err := k.volumeNumber(k.volumes() + "00000000000000000007/"); err != errKeyNumber {
-		t.Errorf("a volume's key with more behind it: %v", err)
+		t.Errorf("a volume's key with more after it: %v", err)
 	}
 }

@@ -12,7 +12,7 @@ import (
 	"google.golang.org/grpc"
 )
 
-// lease is a lease of etcd that is kept alive. It is over, by the clock of this process, as long behind the last request to keep it as etcd keeps
+// lease is a lease of etcd that is kept alive. It is over, by the clock of this process, as long after the last request to keep it as etcd keeps
 // it: etcd counts from when it got that request, which was later. So an answer that waited while this process was stopped does not count for long.
 type lease struct {
 	client *clientv3.Client
@@ -38,7 +38,7 @@ const clockPause = time.Second
 
 var errLeaseOver = errors.New("its lease is over")
 
-// grantLease gets a lease, and tells the revision that etcd has.
+// grantLease gets a lease, and returns the revision that etcd has.
 func grantLease(ctx context.Context, client *clientv3.Client, seconds int64) (*lease, int64, error) {
 	asked := sinceBoot()
 	got, err := client.Grant(ctx, seconds)
@@ -50,7 +50,7 @@ func grantLease(ctx context.Context, client *clientv3.Client, seconds int64) (*l
 	return l, got.ResponseHeader.Revision, nil
 }
 
-// isAlive tells whether the lease stands, by the clock of this process.
+// isAlive reports whether the lease is alive, by the clock of this process.
 func (l *lease) isAlive() bool { return l.left() > 0 }
 
 func (l *lease) left() time.Duration {
@@ -66,7 +66,7 @@ func (l *lease) extend(asked time.Duration) {
 	l.until = asked + l.length
 }
 
-// keep keeps the lease alive until it is lost or the context ends, and tells how that was. Two things run side by side, so that the end is seen
+// keep keeps the lease alive until it is lost or the context ends, and returns how that was. Two things run side by side, so that the end is seen
 // in time whatever etcd's client does.
 func (l *lease) keep(ctx context.Context) error {
 	ctx, cancel := context.WithCancel(ctx)

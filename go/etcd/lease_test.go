@@ -20,7 +20,7 @@ import (
 type lender struct {
 	pb.KVServer
 	pb.LeaseServer
-	// How long the lease is told to be, in seconds, and how long each answer takes.
+	// How long the lease is reported to be, in seconds, and how long each answer takes.
 	length int64
 	late   time.Duration
 	// When each request came, by sinceBoot; and how many of one stream are answered.
@@ -81,7 +81,7 @@ func TestLeaseCounts(t *testing.T) {
 		t.Fatalf("%+v, %d, %v", l, revision, err)
 	}
 	if latest := <-server.came + l.length; l.until > latest {
-		t.Errorf("it counts from %v behind the request", l.until-latest)
+		t.Errorf("it counts from %v after the request", l.until-latest)
 	}
 	l.until = sinceBoot() + time.Minute
 	ctx, cancel := context.WithCancel(context.Background())
@@ -96,7 +96,7 @@ func TestLeaseCounts(t *testing.T) {
 	cancel()
 	<-ended
 	if l.until > latest {
-		t.Errorf("kept, it counts from %v behind the request", l.until-latest)
+		t.Errorf("kept, it counts from %v after the request", l.until-latest)
 	}
 }
 
@@ -144,7 +144,7 @@ func TestLeaseOverAfterSleep(t *testing.T) {
 	}
 }
 
-// A lease is kept four times in its length: a request comes a quarter of it behind the answer before, and not twice as late.
+// A lease is kept four times in its length: a request comes a quarter of it after the answer before, and not twice as late.
 func TestRenewedInTime(t *testing.T) {
 	const length = 6 * time.Second
 	server := &lender{length: 600, came: make(chan time.Duration, 99), answered: 99}
@@ -154,7 +154,7 @@ func TestRenewedInTime(t *testing.T) {
 	go func() { ended <- l.renew(ctx) }()
 	first := <-server.came
 	if took := <-server.came - first; took < length/5 || took > length/2 {
-		t.Errorf("it was kept again behind %v", took)
+		t.Errorf("it was kept again after %v", took)
 	}
 	cancel()
 	<-ended
@@ -194,7 +194,7 @@ func TestLateLease(t *testing.T) {
 			select {
 			case <-server.came:
 			case <-time.After(10 * time.Second):
-				t.Fatalf("behind %d answers: %d requests", answered, i)
+				t.Fatalf("after %d answers: %d requests", answered, i)
 			}
 		}
 		cancel()

@@ -60,27 +60,27 @@ type candidate struct {
 // begin is before the first look at etcd.
 func (c *candidate) begin() { c.state.set(nil, refuse("waiting for the lock: etcd was not asked yet")) }
 
-// run stands for the lock until the context ends.
+// run campaigns for the lock until the context ends.
 func (c *candidate) run(ctx context.Context) {
 	for ctx.Err() == nil {
-		if err := c.stand(ctx); ctx.Err() == nil {
+		if err := c.campaign(ctx); ctx.Err() == nil {
 			c.waits(err)
 		}
 		pause(ctx, waitingPause)
 	}
 }
 
-// tell says a line, unless it is the last one again.
-func (c *candidate) tell(line string) {
+// say writes a line, unless it is the last one again.
+func (c *candidate) say(line string) {
 	if line != c.said {
 		c.say("%s", frames.Text(line))
 		c.said = line
 	}
 }
 
-// stand gets a lease, queues up by a key, and leads when it is its turn. It ends when the lease or the key is lost, or with an error where it got
+// campaign gets a lease, queues up by a key, and leads when it is its turn. It ends when the lease or the key is lost, or with an error where it got
 // no lease. Certificates and the password are read each time.
-func (c *candidate) stand(ending context.Context) error {
+func (c *candidate) campaign(ending context.Context) error {
 	client, err := connect(c.asked)
 	if err != nil {
 		return err
@@ -122,7 +122,7 @@ func (c *candidate) stand(ending context.Context) error {
 	return nil
 }
 
-// giveBack ends the leases of terms that are over, with the keys that stand by them, so that nobody waits until they end by themselves. A key that was put
+// giveBack ends the leases of terms that are over, with the keys that are attached to them, so that nobody waits until they end on their own. A key that was put
 // by hand without its lease would stay for ever, so keys are deleted too. A lease for which etcd does not answer, as while it elects a leader, is ended
 // before the next term.
 func (c *candidate) giveBack(client *clientv3.Client) {
@@ -141,10 +141,10 @@ func (c *candidate) giveBack(client *clientv3.Client) {
 	c.leases = left
 }
 
-// Why a term is over, beside that its lease is.
+// Why a term is over, other than that its lease is.
 var (
 	errKeyGone = errors.New("its key is gone")
-	errEnding  = errors.New("it was told to end")
+	errEnding  = errors.New("it was asked to end")
 )
 
 // hold puts the key, and looks who holds the lock until the term ends.
@@ -164,18 +164,18 @@ func (c *candidate) hold(t *term) error {
 		case err != nil && !isLeading:
 			c.waits(err)
 		case err != nil:
-			// The lease tells whether this program leads still.
+			// The lease reports whether this program leads still.
 		case isLeading && (queue.own != t.created || queue.first != t.created), isPut && queue.own == 0:
 			return errKeyGone
 		case queue.own == 0:
 		case queue.own != queue.first:
-			c.tell(fmt.Sprintf("waits for the lock, which %s holds", queue.holder))
+			c.say(fmt.Sprintf("waits for the lock, which %s holds", queue.holder))
 			c.state.set(nil, refuse("waiting for the lock, which %s holds", queue.holder))
 		default:
 			isLeading = c.lead(t, queue, isLeading)
 		}
 		if isLeading {
-			// Calls go to the members in turn: of a steady beat one could always come to a member that does not answer, and this one never.
+			// Calls go to the members in turn: in a steady rhythm one could always reach a member that does not answer, and this one never.
 			pause(t.ctx, leadingPause/2+time.Duration(rand.Int63n(int64(leadingPause))))
 		} else {
 			pause(t.ctx, waitingPause)
@@ -187,7 +187,7 @@ func (c *candidate) hold(t *term) error {
 // waits says why there is no lock, where there is an error.
 func (c *candidate) waits(err error) {
 	if err != nil {
-		c.tell(fmt.Sprintf("no lock: %v", err))
+		c.say(fmt.Sprintf("no lock: %v", err))
 		c.state.set(nil, refuse("waiting for the lock: %v", err))
 	}
 }
@@ -201,7 +201,7 @@ func (c *candidate) lead(t *term, queue queue, isLeading bool) bool {
 	if !isLeading {
 		t.created, t.put, t.seen = queue.own, queue.ownPut, queue.revision
 		c.state.set(t, refusal{})
-		c.tell(fmt.Sprintf("leads, from revision %d on, by the key %s", queue.revision, c.keys.shown(t.key)))
+		c.say(fmt.Sprintf("leads, from revision %d on, by the key %s", queue.revision, c.keys.shown(t.key)))
 		go t.watch(queue.revision)
 	}
 	return true
@@ -212,11 +212,11 @@ func (c *candidate) stop(why string, answer refusal) {
 	before, _ := c.state.current()
 	c.state.set(nil, answer)
 	if before == nil {
-		c.tell("no lock: " + why)
+		c.say("no lock: " + why)
 		return
 	}
 	c.drop()
-	c.tell("leads no more: " + why)
+	c.say("leads no more: " + why)
 }
 
 // putKey puts the key of this program, where it is not there yet.
@@ -244,7 +244,7 @@ func (t *term) queue() (queue, error) {
 	order := clientv3.WithSort(clientv3.SortByCreateRevision, clientv3.SortAscend)
 	var read *clientv3.GetResponse
 	err := t.tries(t.ctx, func(ctx context.Context) (err error) {
-		read, err = t.client.Get(ctx, t.keys.locks(), clientv3.WithRange(behind(t.keys.locks())), order)
+		read, err = t.client.Get(ctx, t.keys.locks(), clientv3.WithRange(rangeEnd(t.keys.locks())), order)
 		return err
 	})
 	if err != nil {

@@ -12,7 +12,7 @@ import (
 	"go.etcd.io/etcd/mvcc/mvccpb"
 )
 
-// Who leads and sees an older snapshot closes the connection of csid and refuses its calls, whatever is seen behind that. A line that would be the one
+// Who leads and sees an older snapshot closes the connection of csid and refuses its calls, whatever is seen after that. A line that would be the one
 // before is not said again.
 func TestOlderWhileLeading(t *testing.T) {
 	const older = "etcd is at revision 90, and 110 was answered: it was restored from an older snapshot, and volumes may be missing; --accept-older goes on"

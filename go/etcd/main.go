@@ -72,7 +72,7 @@ func run(lines *log.Logger) int {
 		lines.Printf("--revision: %v", err)
 		return failed
 	}
-	// Calls come one after the other: a further processor would have to be woken for each step of one.
+	// Calls come in order: a further processor would have to be woken for each step of one.
 	if os.Getenv("GOMAXPROCS") == "" {
 		runtime.GOMAXPROCS(1)
 	}

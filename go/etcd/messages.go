@@ -25,7 +25,7 @@ type field struct {
 	bytes  []byte
 }
 
-// readFields hands the fields of a message on, one after the other. Groups are malformed.
+// readFields hands the fields of a message on, in order. Groups are malformed.
 func readFields(message []byte, take func(field) error) error {
 	for len(message) > 0 {
 		number, kind, size := protowire.ConsumeTag(message)

@@ -44,17 +44,17 @@ func checkFormat(row meta) error {
 func once(asked options, lines *log.Logger) int {
 	switch {
 	case asked.isNew:
-		return told("--new", makeNew(asked, os.Stdout), lines)
+		return report("--new", makeNew(asked, os.Stdout), lines)
 	case asked.isExport:
-		return told("--export", export(asked, os.Stdout, lines), lines)
+		return report("--export", export(asked, os.Stdout, lines), lines)
 	case asked.isList:
-		return told("--list", list(asked, os.Stdout), lines)
+		return report("--list", list(asked, os.Stdout), lines)
 	default:
-		return told("--import", importRows(asked, os.Stdin, os.Stdout), lines)
+		return report("--import", importRows(asked, os.Stdin, os.Stdout), lines)
 	}
 }
 
-func told(how string, err error, lines *log.Logger) int {
+func report(how string, err error, lines *log.Logger) int {
 	if err != nil {
 		lines.Printf("%s: %v", how, err)
 		return failed
@@ -84,15 +84,15 @@ func makeNew(asked options, to io.Writer) error {
 	if answer.Succeeded {
 		return printed(to, fmt.Sprintf("made: %v", counts{meta: firstMeta}))
 	}
-	stands := answer.Responses[0].GetResponseRange().Kvs
-	if len(stands) == 0 {
+	found := answer.Responses[0].GetResponseRange().Kvs
+	if len(found) == 0 {
 		return errNotEnded
 	}
-	row, err := readMeta(stands[0].Value)
+	row, err := readMeta(found[0].Value)
 	if err != nil {
 		return broken(k, k.meta(), err)
 	}
-	return printed(to, fmt.Sprintf("stands: next number %d, format %d", row.next, row.format))
+	return printed(to, fmt.Sprintf("exists: next number %d, format %d", row.next, row.format))
 }
 
 // printed writes one line.

@@ -37,7 +37,7 @@ func TestLines(t *testing.T) {
 }
 
 func TestBadLines(t *testing.T) {
-	const volumeForm = `volumes/00000000000000000007: its value is not spelled {"name":TEXT,"bytes":NUMBER,"pool":TEXT,"caps":HEX,"params":HEX}`
+	const volumeForm = `volumes/00000000000000000007: its value is not of the form {"name":TEXT,"bytes":NUMBER,"pool":TEXT,"caps":HEX,"params":HEX}`
 	missing := "the last line is not meta: it is missing, or what comes in was cut off"
 	rows := []struct{ lines, want string }{
 		{"", missing}, {volumeLine, missing},
@@ -49,9 +49,9 @@ func TestBadLines(t *testing.T) {
 		{metaLine + "\n", "line 2: meta is not the last line"},
 		{volumeLine + attachmentLine + volumeLine + metaLine, "line 3: volumes/00000000000000000007: line 1 has this key too"},
 		{strings.Replace(metaLine, "2", "1", 1), "meta: its format is 1, and that of rows in etcd 2"},
-		{strings.Replace(metaLine, "}", " }", 1), `line 1: meta: its value is not spelled {"format_no":NUMBER,"next_number":NUMBER}`},
+		{strings.Replace(metaLine, "}", " }", 1), `line 1: meta: its value is not of the form {"format_no":NUMBER,"next_number":NUMBER}`},
 		{strings.Replace(metaLine, "9", "9223372036854775808", 1), "line 1: meta: a number of its value is above 9223372036854775807"},
-		{strings.Replace(metaLine, "\n", "\r\n", 1), `line 1: meta: its value is not spelled {"format_no":NUMBER,"next_number":NUMBER}`},
+		{strings.Replace(metaLine, "\n", "\r\n", 1), `line 1: meta: its value is not of the form {"format_no":NUMBER,"next_number":NUMBER}`},
 		{volumeLine + "volumes/8\t{}\n", "line 2: volumes/8: its key has no number of 20 digits"},
 		{"volumes/09223372036854775808\t{}\n", "line 1: volumes/09223372036854775808: the number of its key is above 9223372036854775807"},
 		{strings.Replace(volumeLine, `"a"`, `"\b"`, 1), "line 1: " + volumeForm},
@@ -137,10 +137,10 @@ func TestImportNotKnown(t *testing.T) {
 		written int
 		want    string
 	}{
-		{err, 0, why + "; 0 of 2 rows were written before: take away what stands there, and begin anew"},
-		{err, 1, why + "; 1 of 2 rows were written before: take away what stands there, and begin anew"},
+		{err, 0, why + "; 0 of 2 rows were written before: remove what is there, and start again"},
+		{err, 1, why + "; 1 of 2 rows were written before: remove what is there, and start again"},
 		{errors.New("a"), 0, "a; nothing was written"},
-		{errors.New("a"), 1, "a; 1 of 2 rows were written: take them away, and begin anew"},
+		{errors.New("a"), 1, "a; 1 of 2 rows were written: remove them, and start again"},
 	}
 	for _, row := range ends {
 		i.written = row.written
@@ -150,15 +150,15 @@ func TestImportNotKnown(t *testing.T) {
 	}
 }
 
-// Rows are exported once each, all at the revision of the first answer, whatever is written meanwhile; and where that was compacted, no more of them.
+// Rows are exported once each, all at the revision of the first answer, whatever is written in the meantime; and where that was compacted, no more of them.
 func TestExportedOnce(t *testing.T) {
 	const count = 1000
 	server := &written{rows: map[string]string{sampleKeys.meta(): `{"format_no":2,"next_number":1001}`}}
 	for n := uint64(1); n <= count; n++ {
-		server.rows[sampleKeys.volume(n)] = string(volume{name: "a", pool: "p"}.spelled())
+		server.rows[sampleKeys.volume(n)] = string(volume{name: "a", pool: "p"}.encoded())
 	}
 	for _, row := range closest() {
-		server.rows[sampleKeys.attachment(row.number, row.node)] = string(row.spelled())
+		server.rows[sampleKeys.attachment(row.number, row.node)] = string(row.encoded())
 	}
 	r := &reading{client: startServer(t, server, 1), timeout: 5 * time.Second}
 	var out strings.Builder

@@ -117,7 +117,7 @@ var (
 	servingFlags = map[string]bool{"listen": true, "lease": true, "id": true, "revision": true, "accept-older": true, "existing": true}
 )
 
-// isOnce tells whether something is done once.
+// isOnce reports whether something is done once.
 func (asked options) isOnce() bool {
 	return asked.isNew || asked.isExport || asked.isImport || asked.isList
 }

@@ -31,8 +31,8 @@ type open struct{ err error }
 
 func (o open) Error() string { return "it is not known whether it was made: " + o.err.Error() }
 
-// certainRefusals are the errors of etcd that it tells only of a transaction that it has not made. They come before it proposes the transaction to
-// its members, or in place of making it. ErrNoSpace is not among them: a member tells it also of a transaction that it has made, where the room
+// certainRefusals are the errors of etcd that it returns only of a transaction that it has not made. They come before it proposes the transaction to
+// its members, or instead of making it. ErrNoSpace is not among them: a member returns it also of a transaction that it has made, where the room
 // was used up by others since it was proposed (quotaApplierV3 of etcd 3.4 and later).
 var certainRefusals = map[error]codes.Code{
 	rpctypes.ErrRequestTooLarge:  codes.ResourceExhausted,
@@ -82,8 +82,8 @@ func sentOnce(ctx context.Context) context.Context {
 	return context.WithValue(ctx, attemptKey{}, &attempt{})
 }
 
-// sendOnce stands between etcd's client, which sends again, and the connection. A call that is to be sent once goes on a second time only where
-// the first one was refused for its token, and etcd's client got a new one meanwhile.
+// sendOnce is between etcd's client, which sends again, and the connection. A call that is to be sent once goes on a second time only where
+// the first one was refused for its token, and etcd's client got a new one in the meantime.
 func sendOnce(ctx context.Context, method string, request, reply interface{}, connection *grpc.ClientConn, send grpc.UnaryInvoker, options ...grpc.CallOption) error {
 	last, isOnce := ctx.Value(attemptKey{}).(*attempt)
 	if !isOnce {
@@ -96,7 +96,7 @@ func sendOnce(ctx context.Context, method string, request, reply interface{}, co
 	return last.err
 }
 
-// isOfToken tells whether etcd refused a call before it looked at more than its token.
+// isOfToken reports whether etcd refused a call before it looked at more than its token.
 func isOfToken(err error) bool {
 	switch rpctypes.Error(err) {
 	case rpctypes.ErrUserEmpty, rpctypes.ErrInvalidAuthToken, rpctypes.ErrAuthOldRevision:

@@ -66,7 +66,7 @@ func (m *moody) start(t *testing.T, options ...grpc.DialOption) *clientv3.Client
 	return startServer(t, m, 1, options...)
 }
 
-// listening starts an etcd, and tells where it answers.
+// listening starts an etcd, and says where it answers.
 func listening(t *testing.T, kv pb.KVServer) (address string) {
 	t.Helper()
 	listener, err := net.Listen("tcp", "127.0.0.1:0")

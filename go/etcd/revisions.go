@@ -17,7 +17,7 @@ const savePause = time.Second
 // revisions remembers the greatest revision of etcd that something was answered for. One that is lower comes of a snapshot that was restored, in
 // which volumes may be missing that were answered.
 type revisions struct {
-	// The file where it stands; there is none if the path is empty.
+	// The file where it is; there is none if the path is empty.
 	path     string
 	mutex    sync.Mutex
 	greatest int64
@@ -26,11 +26,11 @@ type revisions struct {
 	older error
 	// What the file has.
 	saved string
-	// Told once there is a lower one: that is written at once.
+	// Closed once there is a lower one: that is written at once.
 	noticed chan struct{}
 }
 
-// openRevisions reads the file. Where an older etcd is accepted, what it has is forgotten, and written anew.
+// openRevisions reads the file. Where an older etcd is accepted, what it has is forgotten, and written again.
 func openRevisions(path string, acceptOlder bool) (*revisions, error) {
 	r := &revisions{path: path, noticed: make(chan struct{}, 1)}
 	if path == "" || acceptOlder {
@@ -51,7 +51,7 @@ func openRevisions(path string, acceptOlder bool) (*revisions, error) {
 	return r, nil
 }
 
-// The file is a line: the greatest revision, and behind a space the lower one that was seen, where one was. So a refusal lasts over a stop, also where
+// The file is a line: the greatest revision, and after a space the lower one that was seen, where one was. So a refusal lasts over a stop, also where
 // etcd's revision was raised since, as the key of the lock does each time that it is put.
 func (r *revisions) text() string {
 	if r.older != nil {
@@ -60,7 +60,7 @@ func (r *revisions) text() string {
 	return fmt.Sprintf("%d\n", r.greatest)
 }
 
-// read takes what the file has, and tells whether it is such a line.
+// read takes what the file has, and reports whether it is such a line.
 func (r *revisions) read(text string) bool {
 	greatest, lower, isOlder := strings.Cut(strings.TrimSuffix(text, "\n"), " ")
 	is := true
@@ -86,7 +86,7 @@ func (r *revisions) least() int64 {
 	return r.greatest
 }
 
-// check refuses where etcd is at a lower revision than the least when it was asked, and from then on: others may raise it meanwhile.
+// check refuses where etcd is at a lower revision than the least when it was asked, and from then on: others may raise it in the meantime.
 func (r *revisions) check(least, revision int64) error {
 	r.mutex.Lock()
 	defer r.mutex.Unlock()
@@ -114,7 +114,7 @@ func (r *revisions) answered(revision int64) {
 	}
 }
 
-// keep writes the file now and then, and at once where an older etcd was seen, until it is told to end, and then a last time. A failure is told once, until it is over.
+// keep writes the file now and then, and at once where an older etcd was seen, until it is asked to end, and then a last time. A failure is reported once, until it is over.
 func (r *revisions) keep(end <-chan struct{}, say func(format string, parts ...interface{})) {
 	isFailing := false
 	for isEnding := false; !isEnding; {
@@ -132,7 +132,7 @@ func (r *revisions) keep(end <-chan struct{}, say func(format string, parts ...i
 	}
 }
 
-// save writes the file where it is behind, so that a stop leaves the old one or the new one.
+// save writes the file where it is out of date, so that a stop leaves the old one or the new one.
 func (r *revisions) save() error {
 	r.mutex.Lock()
 	text := r.text()

@@ -7,7 +7,7 @@ import (
 	"time"
 )
 
-// The greatest revision stands in the file over a stop, and a lower one is refused from then on.
+// The greatest revision is in the file over a stop, and a lower one is refused from then on.
 func TestRevisions(t *testing.T) {
 	path := filepath.Join(t.TempDir(), "revision")
 	first, err := openRevisions(path, false)
@@ -51,7 +51,7 @@ func TestRevisions(t *testing.T) {
 	if again, err := openRevisions(path, false); err != nil || again.saved != "112 111\n" {
 		t.Errorf("the file of a refusal: %v", err)
 	} else if err := again.check(again.least(), 200); err == nil || err.Error() != want {
-		t.Errorf("behind a stop: %v", err)
+		t.Errorf("after a stop: %v", err)
 	}
 	third, err := openRevisions(path, true)
 	if err != nil || third.check(third.least(), 50) != nil {
@@ -62,14 +62,14 @@ func TestRevisions(t *testing.T) {
 		t.Fatal(err)
 	}
 	if accepted, err := openRevisions(path, false); err != nil || accepted.check(accepted.least(), 1) != nil {
-		t.Errorf("behind --accept-older, and nothing else: %v", err)
+		t.Errorf("after --accept-older, and nothing else: %v", err)
 	}
 	third.answered(50)
 	if err := third.save(); err != nil {
 		t.Fatal(err)
 	}
 	if fourth, err := openRevisions(path, false); err != nil || fourth.greatest != 50 || fourth.check(fourth.least(), 49) == nil {
-		t.Errorf("behind --accept-older: %v", err)
+		t.Errorf("after --accept-older: %v", err)
 	}
 }
 
@@ -116,7 +116,7 @@ func TestBadRevisionFile(t *testing.T) {
 	}
 }
 
-// A file that could not be written is written later, also where nothing was answered meanwhile; and it is replaced as a whole, so that a stop leaves the
+// A file that could not be written is written later, also where nothing was answered in the meantime; and it is replaced as a whole, so that a stop leaves the
 // old one or the new one.
 func TestSaveAgain(t *testing.T) {
 	folder := filepath.Join(t.TempDir(), "none")
@@ -177,7 +177,7 @@ func TestNotWrittenWhole(t *testing.T) {
 	}
 }
 
-// Each time that the file cannot be written any more is told, once.
+// Each time that the file cannot be written any more is reported, once.
 func TestFailuresAreTold(t *testing.T) {
 	folder := filepath.Join(t.TempDir(), "none")
 	r := &revisions{path: filepath.Join(folder, "revision"), noticed: make(chan struct{})}
@@ -200,7 +200,7 @@ func TestFailuresAreTold(t *testing.T) {
 			t.Fatal(err)
 		}
 		r.answered(int64(i) + 1)
-		// What is noticed is taken when nothing is written: the second one behind the writing of the first.
+		// What is noticed is taken when nothing is written: the second one after the writing of the first.
 		r.noticed <- struct{}{}
 		r.noticed <- struct{}{}
 		if lines != step.want {
@@ -211,7 +211,7 @@ func TestFailuresAreTold(t *testing.T) {
 	<-ended
 }
 
-// The file is written at the end, and a failure is told once.
+// The file is written at the end, and a failure is reported once.
 func TestKeepRevisions(t *testing.T) {
 	folder := filepath.Join(t.TempDir(), "none")
 	r := &revisions{path: filepath.Join(folder, "revision")}

@@ -33,8 +33,8 @@ type attachment struct {
 
 // tableRow is a row of one of the tables.
 type tableRow interface {
-	// spelled is its value in etcd, message its message, and field the number of the fields of a page that have such messages.
-	spelled() []byte
+	// encoded is its value in etcd, message its message, and field the number of the fields of a page that have such messages.
+	encoded() []byte
 	message() []byte
 	field() protowire.Number
 	// statement is the SQL that brings it into tables.
@@ -45,18 +45,18 @@ func (meta) field() protowire.Number       { return 1 }
 func (volume) field() protowire.Number     { return 2 }
 func (attachment) field() protowire.Number { return 3 }
 
-func (m meta) spelled() []byte {
+func (m meta) encoded() []byte {
 	return []byte(fmt.Sprintf(`{"format_no":%d,"next_number":%d}`, m.format, m.next))
 }
 
-func (v volume) spelled() []byte {
+func (v volume) encoded() []byte {
 	value := appendText([]byte(`{"name":`), v.name)
 	value = strconv.AppendUint(append(value, `,"bytes":`...), v.bytes, 10)
 	value = appendText(append(value, `,"pool":`...), v.pool)
 	return append(value, fmt.Sprintf(`,"caps":"%x","params":"%x"}`, v.caps, v.params)...)
 }
 
-func (a attachment) spelled() []byte {
+func (a attachment) encoded() []byte {
 	readonly := 0
 	if a.isReadonly {
 		readonly = 1
@@ -64,7 +64,7 @@ func (a attachment) spelled() []byte {
 	return []byte(fmt.Sprintf(`{"cap":"%x","readonly":%d}`, a.cap, readonly))
 }
 
-// appendText puts a text behind other bytes as JSON has it: as it stands but for the characters that have to be escaped. encoding/json escapes
+// appendText puts a text after other bytes as JSON has it: as it is but for the characters that must be escaped. encoding/json escapes
 // others too.
 func appendText(value []byte, text string) []byte {
 	value = append(value, '"')
@@ -92,13 +92,13 @@ var (
 	errNotText        = errors.New("its value is not UTF-8")
 	errRange          = errors.New("a number of its value is above 9223372036854775807")
 	errReadonly       = errors.New("its readonly is not 0 or 1")
-	errMetaForm       = errors.New(`its value is not spelled {"format_no":NUMBER,"next_number":NUMBER}`)
-	errVolumeForm     = errors.New(`its value is not spelled {"name":TEXT,"bytes":NUMBER,"pool":TEXT,"caps":HEX,"params":HEX}`)
-	errAttachmentForm = errors.New(`its value is not spelled {"cap":HEX,"readonly":0 or 1}`)
+	errMetaForm       = errors.New(`its value is not of the form {"format_no":NUMBER,"next_number":NUMBER}`)
+	errVolumeForm     = errors.New(`its value is not of the form {"name":TEXT,"bytes":NUMBER,"pool":TEXT,"caps":HEX,"params":HEX}`)
+	errAttachmentForm = errors.New(`its value is not of the form {"cap":HEX,"readonly":0 or 1}`)
 )
 
-// readObject reads the members of a value. What encoding/json takes beside the one spelling of a row, as members twice, in other letters or in
-// another order, is found by who spells the row again.
+// readObject reads the members of a value. What encoding/json accepts other than the one encoding of a row, as members twice, in other letters or in
+// another order, is found by encoding the row again.
 func readObject(value []byte, into interface{}, form error) error {
 	if !utf8.Valid(value) {
 		return errNotText
@@ -118,7 +118,7 @@ func readMeta(value []byte) (meta, error) {
 		return meta{}, err
 	}
 	row := meta{said.Format, said.Next}
-	if !bytes.Equal(row.spelled(), value) {
+	if !bytes.Equal(row.encoded(), value) {
 		return meta{}, errMetaForm
 	}
 	if row.format > maxNumber || row.next > maxNumber {
@@ -141,7 +141,7 @@ func readVolume(number uint64, value []byte) (volume, error) {
 	caps, capsErr := hex.DecodeString(said.Caps)
 	params, paramsErr := hex.DecodeString(said.Params)
 	row := volume{number, said.Name, said.Bytes, said.Pool, caps, params}
-	if capsErr != nil || paramsErr != nil || !bytes.Equal(row.spelled(), value) {
+	if capsErr != nil || paramsErr != nil || !bytes.Equal(row.encoded(), value) {
 		return volume{}, errVolumeForm
 	}
 	if row.bytes > maxNumber {
@@ -163,7 +163,7 @@ func readAttachment(number uint64, node string, value []byte) (attachment, error
 	}
 	cap, err := hex.DecodeString(said.Cap)
 	row := attachment{number, node, cap, said.Readonly == 1}
-	if err != nil || !bytes.Equal(row.spelled(), value) {
+	if err != nil || !bytes.Equal(row.encoded(), value) {
 		return attachment{}, errAttachmentForm
 	}
 	return row, nil
@@ -195,7 +195,7 @@ func splitParams(params []byte) (parameters, mutable []byte, is bool) {
 	return parameters, mutable, true
 }
 
-// skipField is what stands behind a field whose tag is one byte, and whose wire type is that of lengths.
+// skipField is what is after a field whose tag is one byte, and whose wire type is that of lengths.
 func skipField(fields []byte) (rest []byte, is bool) {
 	size := protowire.ConsumeFieldValue(1, protowire.BytesType, fields[1:])
 	if size < 0 {
@@ -204,7 +204,7 @@ func skipField(fields []byte) (rest []byte, is bool) {
 	return fields[1+size:], true
 }
 
-// layMutable puts mutable parameters in place of those that a row has.
+// layMutable puts mutable parameters instead of those that a row has.
 func layMutable(params, mutable []byte) (laid []byte, is bool) {
 	parameters, _, is := splitParams(params)
 	if !is {
@@ -213,7 +213,7 @@ func layMutable(params, mutable []byte) (laid []byte, is bool) {
 	return append(append([]byte{}, parameters...), mutable...), true
 }
 
-// isMutable tells whether bytes are fields of mutable parameters, or none.
+// isMutable reports whether bytes are fields of mutable parameters, or none.
 func isMutable(params []byte) bool {
 	parameters, _, is := splitParams(params)
 	return is && len(parameters) == 0

@@ -10,7 +10,7 @@ import (
 
 var fromHex = fixtures.FromHex
 
-// Rows with values written by hand are spelled as they stand here, and read as the rows again.
+// Rows with values written by hand are encoded as they are here, and read as the rows again.
 func TestSpelling(t *testing.T) {
 	block := fromHex(t, "1a060a001a020801")
 	metas := []struct {
@@ -22,8 +22,8 @@ func TestSpelling(t *testing.T) {
 	}
 	for _, row := range metas {
 		got, err := readMeta([]byte(row.value))
-		if string(row.row.spelled()) != row.value || err != nil || got != row.row {
-			t.Errorf("%s: %s, %v, %v", row.value, row.row.spelled(), got, err)
+		if string(row.row.encoded()) != row.value || err != nil || got != row.row {
+			t.Errorf("%s: %s, %v, %v", row.value, row.row.encoded(), got, err)
 		}
 	}
 	volumes := []struct {
@@ -38,8 +38,8 @@ func TestSpelling(t *testing.T) {
 	}
 	for _, row := range volumes {
 		got, err := readVolume(row.row.number, []byte(row.value))
-		if string(row.row.spelled()) != row.value || err != nil || !bytes.Equal(got.message(), row.row.message()) {
-			t.Errorf("%s: %s, %v, %v", row.value, row.row.spelled(), got, err)
+		if string(row.row.encoded()) != row.value || err != nil || !bytes.Equal(got.message(), row.row.message()) {
+			t.Errorf("%s: %s, %v, %v", row.value, row.row.encoded(), got, err)
 		}
 	}
 	attachments := []struct {
@@ -51,8 +51,8 @@ func TestSpelling(t *testing.T) {
 	}
 	for _, row := range attachments {
 		got, err := readAttachment(row.row.number, row.row.node, []byte(row.value))
-		if string(row.row.spelled()) != row.value || err != nil || !bytes.Equal(got.message(), row.row.message()) {
-			t.Errorf("%s: %s, %v, %v", row.value, row.row.spelled(), got, err)
+		if string(row.row.encoded()) != row.value || err != nil || !bytes.Equal(got.message(), row.row.message()) {
+			t.Errorf("%s: %s, %v, %v", row.value, row.row.encoded(), got, err)
 		}
 	}
 }

@@ -19,10 +19,10 @@ const (
 	replacedTime = time.Second
 )
 
-// server answers the calls of csid: of the newest connection alone, one after the other.
+// server answers the calls of csid: of the newest connection alone, in order.
 type server struct {
 	state *leadership
-	// Whether rows have to be there: none is made first.
+	// Whether rows must be there: none is made first.
 	isExisting bool
 	say        func(format string, parts ...interface{})
 	mutex      sync.Mutex
@@ -40,7 +40,7 @@ type connection struct {
 	walk     *walk
 }
 
-// take serves a connection in place of the one before.
+// take serves a connection instead of the one before.
 func (s *server) take(conn net.Conn) {
 	c := &connection{Conn: conn, replaced: make(chan struct{}), ended: make(chan struct{})}
 	s.mutex.Lock()
@@ -129,7 +129,7 @@ func (s *server) answer(c *connection, request frames.Request) (frames.Reply, er
 	if term == nil {
 		return refused(why), nil
 	}
-	// The calls of a term come one after the other, and so does what is read ahead.
+	// The calls of a term come in order, and so does what is read ahead.
 	c.walk.settle()
 	body, err := s.do(c, term, request)
 	if term.isOver() {

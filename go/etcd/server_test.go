@@ -40,7 +40,7 @@ func TestReplyNotTaken(t *testing.T) {
 	second.SetReadDeadline(begin.Add(replyTime))
 	reply, err := frames.NewReplies(second).Next()
 	if took := time.Since(begin); err != nil || reply.Text != "waiting" || took > replyTime/2 {
-		t.Errorf("%v, %v, behind %v", reply, err, took)
+		t.Errorf("%v, %v, after %v", reply, err, took)
 	}
 }
 
@@ -83,7 +83,7 @@ func TestReplyBehindReplacement(t *testing.T) {
 	c.replace()
 	begin := time.Now()
 	if err, took := c.reply(frames.Reply{Text: "a"}), time.Since(begin); err == nil || took > replyTime/2 {
-		t.Errorf("%v, behind %v", err, took)
+		t.Errorf("%v, after %v", err, took)
 	}
 }
 
@@ -121,7 +121,7 @@ func (l *unready) Accept() (net.Conn, error) {
 	return nil, failure
 }
 
-// Where there are no files left for a connection the next one is taken once there are; any other failure is told.
+// Where there are no files left for a connection the next one is taken once there are; any other failure is reported.
 func TestAccept(t *testing.T) {
 	full := &net.OpError{Op: "accept", Err: syscall.EMFILE}
 	rows := []struct {
@@ -141,7 +141,7 @@ func TestAccept(t *testing.T) {
 	}
 }
 
-// busy is an etcd whose second reading waits until it is let go. It tells of that one, and of each change.
+// busy is an etcd whose second reading waits until it is let go. It reports that one, and of each change.
 type busy struct {
 	written
 	letGo chan struct{}
@@ -164,12 +164,12 @@ func (b *busy) Txn(ctx context.Context, asked *pb.TxnRequest) (*pb.TxnResponse, 
 	return b.written.Txn(ctx, asked)
 }
 
-// A change waits until no rows are read ahead, also those that another connection has asked for: the calls of a term come one after the other.
+// A change waits until no rows are read ahead, also those that another connection has asked for: the calls of a term come in order.
 func TestReadAhead(t *testing.T) {
 	for _, isAnother := range []bool{false, true} {
 		etcd := &busy{written: written{rows: map[string]string{}}, letGo: make(chan struct{}), came: make(chan string, 9)}
 		for n := uint64(1); n <= 4; n++ {
-			etcd.rows[sampleKeys.volume(n)] = string(sized(t, n, 1<<20).spelled())
+			etcd.rows[sampleKeys.volume(n)] = string(sized(t, n, 1<<20).encoded())
 		}
 		ctx, cancel := context.WithCancel(context.Background())
 		t.Cleanup(cancel)

@@ -11,7 +11,7 @@ import (
 	"google.golang.org/grpc/codes"
 )
 
-// term is a time in which this program leads. Its calls come one after the other.
+// term is a time in which this program leads. Its calls come in order.
 type term struct {
 	client    *clientv3.Client
 	keys      keys
@@ -21,7 +21,7 @@ type term struct {
 	// Ends with the term.
 	ctx context.Context
 	end context.CancelFunc
-	// The key of the lock, what stands there, and the revision of its making.
+	// The key of the lock, what is there, and the revision of its making.
 	key     string
 	id      string
 	created int64
@@ -35,7 +35,7 @@ type term struct {
 	gone chan struct{}
 }
 
-// isOver tells whether this program may have lost the lock, by its own clock.
+// isOver reports whether this program may have lost the lock, by its own clock.
 func (t *term) isOver() bool { return t.ctx.Err() != nil || !t.lease.isAlive() }
 
 // errOver is the end of a term in the middle of a call.
@@ -90,10 +90,10 @@ func (t *term) get(ctx context.Context, key string, more ...clientv3.OpOption) (
 	return read, nil
 }
 
-// readError is what an error of reading is answered with. A reading changes nothing, but of an error that is not known nothing is told either.
+// readError is what an error of reading is answered with. A reading changes nothing, but of an error that is not known nothing is reported either.
 func readError(err error) error {
 	if err == rpctypes.ErrCompacted {
-		return refuse("etcd compacted the revision of this walk over the rows: begin anew")
+		return refuse("etcd compacted the revision of this walk over the rows: start again")
 	}
 	if why, is := certain(err); is {
 		return why
@@ -127,7 +127,7 @@ func (t *term) commit(ctx context.Context, asked change) error {
 }
 
 // fence sees to it that no earlier transaction is made any more, where the outcome of one is open: it may still be on its way within etcd, and be
-// made behind what csid reads next. The key of the lock is put again, which makes what that transaction supposes wrong.
+// made after what csid reads next. The key of the lock is put again, which makes what that transaction supposes wrong.
 func (t *term) fence(ctx context.Context) error {
 	if !t.isOpen {
 		return nil
@@ -223,7 +223,7 @@ func (t *term) watch(seen int64) {
 	}
 }
 
-// holds supposes that this program leads, and that no fence came behind the transaction.
+// holds supposes that this program leads, and that no fence came after the transaction.
 func (t *term) holds() clientv3.Cmp { return clientv3.Compare(clientv3.ModRevision(t.key), "=", t.put) }
 
 // transact makes a transaction while this program holds the lock, and gives what it read.
@@ -284,7 +284,7 @@ func (t *term) look(ctx context.Context, reads ...clientv3.Op) (done *clientv3.T
 	return done, nil
 }
 
-// supposedWrongly tells what a transaction that was not made has supposed wrongly.
+// supposedWrongly says what a transaction that was not made has supposed wrongly.
 func (t *term) supposedWrongly(done *clientv3.TxnResponse, asked plan) error {
 	read := make([]*pb.RangeResponse, len(done.Responses))
 	for i, part := range done.Responses {
@@ -306,7 +306,7 @@ func (t *term) supposedWrongly(done *clientv3.TxnResponse, asked plan) error {
 }
 
 // withoutSpace finds out whether a transaction was made of which etcd says that it has no space for it. Its outcome was decided when etcd said so,
-// so what it puts tells: where that is not newer than what was seen before, it was not made.
+// so what it puts shows: where that is not newer than what was seen before, it was not made.
 func (t *term) withoutSpace(ctx context.Context, asked plan) error {
 	before := t.seen
 	for _, op := range asked.does {

@@ -19,7 +19,7 @@ import (
 	"google.golang.org/grpc/status"
 )
 
-// scripted is an etcd that answers transactions one after the other by what a test says, and a reading by one key.
+// scripted is an etcd that answers transactions in order by what a test says, and a reading by one key.
 type scripted struct {
 	pb.KVServer
 	mutex   sync.Mutex
@@ -86,7 +86,7 @@ func (s *scripted) begin(t *testing.T) *term {
 		key: "k", created: 10, put: 10, seen: 100}
 }
 
-// What a change is answered for each answer of etcd, and whether a fence has to come before the next one.
+// What a change is answered for each answer of etcd, and whether a fence must come before the next one.
 func TestOutcomes(t *testing.T) {
 	held := &mvccpb.KeyValue{Key: []byte("k"), CreateRevision: 10, ModRevision: 10}
 	rows := []struct {
@@ -136,7 +136,7 @@ func TestOutcomes(t *testing.T) {
 }
 
 // A change of which etcd says that it has no space is refused only where what it puts was read, and is not newer than what was seen before, at revision
-// 100. What it takes away leaves nothing that tells whether it was made.
+// 100. What it takes away leaves nothing that reports whether it was made.
 func TestWithoutSpace(t *testing.T) {
 	puts, takes := &attach{attachment{7, "n", nil, false}}, &detach{7, "n"}
 	rows := []struct {
@@ -202,7 +202,7 @@ func TestOlder(t *testing.T) {
 	}
 }
 
-// A walk begins with a look that supposes the lock, behind a fence where one is due: what another program that leads has changed is not read as the newest.
+// A walk begins with a look that supposes the lock, after a fence where one is due: what another program that leads has changed is not read as the newest.
 func TestLook(t *testing.T) {
 	server := &scripted{answers: []answer{{err: rpctypes.ErrGRPCTimeout}, {is: true, revision: 150}, {revision: 151, read: []*mvccpb.KeyValue{nil}}}}
 	held := server.begin(t)
@@ -215,7 +215,7 @@ func TestLook(t *testing.T) {
 	}
 }
 
-// hasty is an etcd at revision 200 that answers when another answer, of revision 300, has come meanwhile.
+// hasty is an etcd at revision 200 that answers when another answer, of revision 300, has come in the meantime.
 type hasty struct {
 	pb.KVServer
 	revisions *revisions
@@ -231,7 +231,7 @@ func (h *hasty) Txn(context.Context, *pb.TxnRequest) (*pb.TxnResponse, error) {
 	return &pb.TxnResponse{Header: &pb.ResponseHeader{Revision: 200}, Succeeded: true}, nil
 }
 
-// What was asked for before another answer came may be older than that, and is no older snapshot: who looks after the lock asks beside the calls.
+// What was asked for before another answer came may be older than that, and is no older snapshot: who looks after the lock asks next to the calls.
 func TestAskedBefore(t *testing.T) {
 	ctx := context.Background()
 	asks := map[string]func(t *term) error{
@@ -342,7 +342,7 @@ func TestTries(t *testing.T) {
 			return row.err
 		})
 		if err != row.err || count != row.count || all > time.Minute {
-			t.Errorf("%d members, %v: %v behind %d tries that may take %v", row.members, row.err, err, count, all)
+			t.Errorf("%d members, %v: %v after %d tries that may take %v", row.members, row.err, err, count, all)
 		}
 	}
 }

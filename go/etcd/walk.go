@@ -12,7 +12,7 @@ import (
 	"fomaheti/frames"
 )
 
-// A page ends behind so many bytes, or before a row with which it would have more than most.
+// A page ends after so many bytes, or before a row with which it would have more than most.
 const (
 	enoughPage = 1 << 20
 	mostPage   = 3 << 20
@@ -29,19 +29,19 @@ const (
 type walk struct {
 	term     *term
 	revision int64
-	// Whether its volumes are behind it.
+	// Whether it is past its volumes.
 	isAtAttachments bool
 	// The least key that is still to come.
 	from  string
 	pages int
 	// How many rows are read next.
 	limit int64
-	// What has to be said for the next page, and that page once it is read. Nothing of it is there behind the last one.
+	// What must be said for the next page, and that page once it is read. Nothing of it is there after the last one.
 	token []byte
 	ahead chan page
 }
 
-// page is the body of a page, what has to be said for the next one (nothing, where it is the last), or why it could not be read.
+// page is the body of a page, what must be said for the next one (nothing, where it is the last), or why it could not be read.
 type page struct {
 	body  []byte
 	token []byte
@@ -78,11 +78,11 @@ func newWalk(ctx context.Context, t *term) (*walk, []byte, error) {
 func (k keys) unknown() (reads []clientv3.Op) {
 	begin := k.all()
 	for _, known := range []struct{ begin, end string }{
-		{k.attachments(), behind(k.attachments())},
-		{k.locks(), behind(k.locks())},
+		{k.attachments(), rangeEnd(k.attachments())},
+		{k.locks(), rangeEnd(k.locks())},
 		{k.meta(), next(k.meta())},
-		{k.volumes(), behind(k.volumes())},
-		{behind(k.all()), ""},
+		{k.volumes(), rangeEnd(k.volumes())},
+		{rangeEnd(k.all()), ""},
 	} {
 		reads = append(reads, hasKey(begin, clientv3.WithRange(known.begin)))
 		begin = known.end
@@ -98,7 +98,7 @@ func (w *walk) first(ctx context.Context, begin []byte) ([]byte, error) {
 // next gives the next page.
 func (w *walk) next(ctx context.Context) ([]byte, error) { return w.give(ctx, <-w.ahead) }
 
-// give gives a page, and begins to read the one behind it: csid puts the rows of a page into its tables meanwhile. Nothing else is asked of the term until
+// give gives a page, and begins to read the one after it: csid puts the rows of a page into its tables in the meantime. Nothing else is asked of the term until
 // that is read (settle).
 func (w *walk) give(ctx context.Context, given page) ([]byte, error) {
 	w.token, w.ahead = given.token, nil
@@ -116,7 +116,7 @@ func (w *walk) settle() {
 	}
 }
 
-// read puts rows behind what a page begins with, until there are enough or none is left.
+// read puts rows after what a page begins with, until there are enough or none is left.
 func (w *walk) read(ctx context.Context, body []byte) page {
 	for isFull := false; !isFull; {
 		var err error
@@ -136,13 +136,13 @@ func (w *walk) read(ctx context.Context, body []byte) page {
 	return page{body: appendBytes(body, 4, token), token: token}
 }
 
-// rows puts the next rows behind a page. Where no row of this kind is left, it is at none.
+// rows puts the next rows after a page. Where no row of this kind is left, it is at none.
 func (w *walk) rows(ctx context.Context, page []byte) (longer []byte, isFull bool, err error) {
 	all := w.term.keys.volumes()
 	if w.isAtAttachments {
 		all = w.term.keys.attachments()
 	}
-	read, err := w.term.get(ctx, w.from, clientv3.WithRange(behind(all)), clientv3.WithRev(w.revision), clientv3.WithLimit(w.limit))
+	read, err := w.term.get(ctx, w.from, clientv3.WithRange(rangeEnd(all)), clientv3.WithRev(w.revision), clientv3.WithLimit(w.limit))
 	if err != nil {
 		return nil, false, err
 	}
@@ -195,7 +195,7 @@ func (w *walk) row(found *mvccpb.KeyValue) ([]byte, error) {
 
 var errToken = refusal{codes.InvalidArgument, frames.Text("the token is not the last one that this connection was given")}
 
-// isNext tells whether the walk goes on with this token.
+// isNext reports whether the walk goes on with this token.
 func (w *walk) isNext(token []byte) bool {
 	return w != nil && w.token != nil && bytes.Equal(w.token, token)
 }

@@ -73,7 +73,7 @@ func (w *written) read(asked *pb.RangeRequest, header *pb.ResponseHeader) *pb.Ra
 	return read
 }
 
-// wantsOneRevision wants that the first reading was one of the newest, and each one behind it of the revision of its answer.
+// wantsOneRevision wants that the first reading was one of the newest, and each one after it of the revision of its answer.
 func (w *written) wantsOneRevision(t *testing.T) {
 	t.Helper()
 	for i, revision := range w.asked {
@@ -102,7 +102,7 @@ func sized(t *testing.T, number uint64, size int) volume {
 func TestLongestRow(t *testing.T) {
 	for size, want := range map[int]error{3 << 20: nil, 3<<20 + 1: errLong} {
 		row := sized(t, 7, size)
-		if _, field, err := sampleKeys.rowInPage(sampleKeys.volume(7), row.spelled()); err != want || (err == nil && len(field) != size) {
+		if _, field, err := sampleKeys.rowInPage(sampleKeys.volume(7), row.encoded()); err != want || (err == nil && len(field) != size) {
 			t.Errorf("%d bytes: a field of %d, %v", size, len(field), err)
 		}
 	}
@@ -120,16 +120,16 @@ func closest() (rows []attachment) {
 // last byte. What was read counts as answered.
 func TestPages(t *testing.T) {
 	for size, count := range map[int]uint64{1 << 19: 10, 1 << 20: 8} {
-		server := &written{rows: map[string]string{sampleKeys.meta(): string(firstMeta.spelled())}}
+		server := &written{rows: map[string]string{sampleKeys.meta(): string(firstMeta.encoded())}}
 		var want []byte
 		want = appendBytes(want, 1, firstMeta.message())
 		for n := uint64(1); n <= count; n++ {
 			row := sized(t, n, size)
-			server.rows[sampleKeys.volume(n)] = string(row.spelled())
+			server.rows[sampleKeys.volume(n)] = string(row.encoded())
 			want = appendBytes(want, row.field(), row.message())
 		}
 		for _, row := range closest() {
-			server.rows[sampleKeys.attachment(row.number, row.node)] = string(row.spelled())
+			server.rows[sampleKeys.attachment(row.number, row.node)] = string(row.encoded())
 			want = appendBytes(want, row.field(), row.message())
 		}
 		ctx := context.Background()
@@ -144,13 +144,13 @@ func TestPages(t *testing.T) {
 			if held.revisions.least() != firstRevision {
 				t.Errorf("rows of %d bytes: answered %d", size, held.revisions.least())
 			}
-			// What has to be said for the next page stands behind the rows.
+			// What must be said for the next page is after the rows.
 			token = c.walk.token
-			behind := appendBytes(nil, 4, token)
-			if !bytes.HasSuffix(page, behind) {
+			last := appendBytes(nil, 4, token)
+			if !bytes.HasSuffix(page, last) {
 				t.Fatalf("rows of %d bytes: a page without its token", size)
 			}
-			got = append(got, bytes.TrimSuffix(page, behind)...)
+			got = append(got, bytes.TrimSuffix(page, last)...)
 		}
 		if !bytes.Equal(got, want) {
 			t.Errorf("rows of %d bytes: all pages have %d, wanted %d", size, len(got), len(want))
@@ -164,7 +164,7 @@ func TestPages(t *testing.T) {
 func TestTokens(t *testing.T) {
 	server := &written{rows: map[string]string{}}
 	for n := uint64(1); n <= 8; n++ {
-		server.rows[sampleKeys.volume(n)] = string(sized(t, n, 1<<20).spelled())
+		server.rows[sampleKeys.volume(n)] = string(sized(t, n, 1<<20).encoded())
 	}
 	held := &term{client: startServer(t, server, 1), keys: sampleKeys, lease: &lease{}, revisions: &revisions{}, timeout: 10 * time.Second, ctx: context.Background(), key: "k"}
 	later := *held
@@ -205,7 +205,7 @@ func TestTokens(t *testing.T) {
 	}
 	for _, token := range [][]byte{second, first} {
 		if err := reads(held, token); err != errToken {
-			t.Errorf("behind a page that could not be read, with the token %s: %v", token, err)
+			t.Errorf("last a page that could not be read, with the token %s: %v", token, err)
 		}
 	}
 }

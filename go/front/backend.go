@@ -16,7 +16,7 @@ import (
 // How soon it is seen that a caller gave up while csid has its call. A deadline is seen at once.
 const cancelTime = 5 * time.Millisecond
 
-// backend hands calls to csid, one after the other over one connection, since csid serves one connection at a time.
+// backend hands calls to csid, one by one over one connection, since csid serves one connection at a time.
 type backend struct {
 	path string
 	// How long a reply may take once its caller gave the call up.
@@ -134,7 +134,7 @@ func (b *backend) takeTurn(ctx context.Context) error {
 }
 
 // ready sees to a connection on which nothing is on its way: the one that is kept, or a new one. A call that came before a connection
-// failed is told of that, so those who wait need not fail one after the other.
+// failed is called with that, so those who wait need not fail one by one.
 func (b *backend) ready(ctx context.Context, came time.Time) (isOld bool, err error) {
 	if err := ended(ctx); err != nil {
 		return false, err

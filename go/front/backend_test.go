@@ -22,7 +22,7 @@ const shortCall = 2 + 4 + 1 + 4
 
 var notFound = []byte{5, 0, 0, 0, 0, 0, 0, 0}
 
-// csid serves connections one after the other, each by a function, and counts them.
+// csid serves connections in order, each by a function, and counts them.
 func csid(t *testing.T, serve func(net.Conn)) (path string, connections *int32) {
 	t.Helper()
 	listener, path := listening(t)
@@ -233,7 +233,7 @@ func TestCallThatIsNeverSent(t *testing.T) {
 	}
 }
 
-// The pause grows as well with each connection that cannot be made, and a call that came before is told of that one.
+// The pause grows as well with each connection that cannot be made, and a call that came before is answered with that failure.
 func TestConnectionsThatCannotBeMade(t *testing.T) {
 	_, path := listening(t)
 	b := newBackend(path+".absent", time.Minute)
@@ -275,7 +275,7 @@ func TestLateReplyIsASignOfLife(t *testing.T) {
 	}
 }
 
-// A call that nobody else waits beside is sent, however near its deadline is.
+// A call is sent where nobody else waits, however near its deadline is.
 func TestLoneCallWithAShortDeadline(t *testing.T) {
 	path, _ := csid(t, answering(notFound))
 	b := newBackend(path, time.Minute)
@@ -283,7 +283,7 @@ func TestLoneCallWithAShortDeadline(t *testing.T) {
 	wants(t, b, codes.NotFound)
 }
 
-// holdsUpNobody looks that the pause is the least one, and that a call that came so early is told of no failure.
+// holdsUpNobody looks that the pause is the least one, and that a call that came so early is answered with no failure.
 func holdsUpNobody(t *testing.T, b *backend, came time.Time) {
 	t.Helper()
 	if b.pace.pause != leastPause {
@@ -294,7 +294,7 @@ func holdsUpNobody(t *testing.T, b *backend, came time.Time) {
 	}
 }
 
-// A reply ends what a failure began: the pause is the least one again, and a call that came before both is told of neither.
+// A reply ends what a failure began: the pause is the least one again, and a call that came before both is answered with neither.
 func TestReplyBehindAFailure(t *testing.T) {
 	path, _ := csid(t, answering([]byte{13, 0, 0, 0, 0, 0, 0, 0}))
 	b := newBackend(path, time.Minute)
@@ -338,7 +338,7 @@ func TestRefusedChange(t *testing.T) {
 	}
 }
 
-// However many call, few connections are made to a csid that closes each; all calls are told of it, and none waits for the others.
+// However many call, few connections are made to a csid that closes each; all calls are answered with it, and none waits for the others.
 func TestFewConnections(t *testing.T) {
 	path, connections := csid(t, func(net.Conn) {})
 	b := newBackend(path, time.Minute)
@@ -373,7 +373,7 @@ func TestFewConnections(t *testing.T) {
 	t.Logf("%d connections, %d calls", atomic.LoadInt32(connections), told)
 }
 
-// Where a connection stood for the least pause and served, the next one is made at once, and a pause behind failures is over with a reply.
+// Where a connection lasted the least pause and served, the next one is made at once, and a pause after failures is over with a reply.
 func TestPauses(t *testing.T) {
 	p := pace{pause: leastPause}
 	wait := func() time.Duration {
@@ -389,24 +389,24 @@ func TestPauses(t *testing.T) {
 	p.failed()
 	begin := time.Now()
 	if got := wait(); got < 150*time.Millisecond {
-		t.Errorf("behind a failure: %v", got)
+		t.Errorf("after a failure: %v", got)
 	}
 	if got := p.last.Sub(begin); got < 150*time.Millisecond {
-		t.Errorf("the next pause begins %v behind the beginning of this one", got)
+		t.Errorf("the next pause begins %v after the beginning of this one", got)
 	}
 	for i := 0; i < 10; i++ {
 		p.failed()
 	}
 	if p.pause != time.Second {
-		t.Errorf("behind many failures: %v", p.pause)
+		t.Errorf("after many failures: %v", p.pause)
 	}
 	p.served()
 	if p.pause != 100*time.Millisecond {
-		t.Errorf("the pause behind a reply: %v", p.pause)
+		t.Errorf("the pause after a reply: %v", p.pause)
 	}
 	time.Sleep(leastPause)
 	if got := wait(); got != 0 {
-		t.Errorf("behind a reply: %v", got)
+		t.Errorf("after a reply: %v", got)
 	}
 	ctx, cancel := context.WithCancel(context.Background())
 	cancel()
@@ -443,7 +443,7 @@ func TestShortDeadlines(t *testing.T) {
 		all.Wait()
 		return served
 	}
-	// Another program that runs meanwhile can take the time of either second, so one of three tries has to do.
+	// Another program that runs in the meantime can take the time of either second, so one of three tries must do.
 	patient, hasty := int32(0), int32(0)
 	for try := 0; try < 3 && (try == 0 || hasty < patient/2); try++ {
 		patient, hasty = rate(time.Minute), rate(12*time.Millisecond)

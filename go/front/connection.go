@@ -11,7 +11,7 @@ import (
 	"fomaheti/frames"
 )
 
-// A connection that was used a shorter time ago than this is not looked at before the next call: where csid closed it meanwhile, the call itself finds that out.
+// A connection that was used a shorter time ago than this is not looked at before the next call: where csid closed it in the meantime, the call itself finds that out.
 const idleTime = time.Millisecond
 
 // errUnanswered is the end of a connection where a reply should begin. csid says on its own standard error why it closes one.
@@ -70,7 +70,7 @@ func (c *connection) looksQuiet() bool {
 	return err == nil && quiet
 }
 
-// outcome is what a call came to so far. Where there is an error its connection has to be closed, unless the call is still on its way. isUndone says that csid
+// outcome is what a call came to so far. Where there is an error its connection must be closed, unless the call is still on its way. isUndone says that csid
 // cannot have done the call, since it closed the connection before it had all of it.
 type outcome struct {
 	answer   frames.Reply

@@ -132,7 +132,7 @@ func TestInterruptedCall(t *testing.T) {
 	}
 }
 
-// What is called undone may be sent again, so it has to be so that csid cannot have had all of it.
+// What is called undone may be sent again, so it must be so that csid cannot have had all of it.
 func TestUndoneCall(t *testing.T) {
 	conn, other := pair(t)
 	other.Close()
@@ -161,7 +161,7 @@ func awaitBytes(conn net.Conn, count int) {
 	})
 }
 
-// However csid closes a connection in place of a reply, it is told as that; an end within a reply is another thing.
+// However csid closes a connection instead of a reply, it is reported as that; an end within a reply is another thing.
 func TestClosedConnection(t *testing.T) {
 	const callBytes = 11
 	rows := []struct {
@@ -171,9 +171,9 @@ func TestClosedConnection(t *testing.T) {
 		want     error
 		isUndone bool
 	}{
-		{"an end, behind all of the call", callBytes, "", errUnanswered, false},
+		{"an end, after all of the call", callBytes, "", errUnanswered, false},
 		{"a reset, after nothing", 0, "", errUnanswered, true},
-		{"a reset, behind a part", 1, "", errUnanswered, true},
+		{"a reset, after a part", 1, "", errUnanswered, true},
 		{"a reset, after all but a byte", callBytes - 1, "", errUnanswered, true},
 		{"an end within the reply", callBytes, "05 0001", io.ErrUnexpectedEOF, false},
 		{"a reset within the reply", 1, "05 0001", io.ErrUnexpectedEOF, false},

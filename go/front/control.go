@@ -132,7 +132,7 @@ func (c *control) wait() {
 	}
 }
 
-// answerAll answers the calls of a connection, one after the other, until it ends or has one that gets no reply. A fault of the envelope is answered as
+// answerAll answers the calls of a connection, in order, until it ends or has one that gets no reply. A fault of the envelope is answered as
 // csid answers it, and nothing of it goes to csid.
 func (c *control) answerAll(conn *net.UnixConn) {
 	requests := frames.NewRequests(conn)

@@ -61,7 +61,7 @@ func dial(t *testing.T, path string) *net.UnixConn {
 
 const shortFrame = "0004 2f612f62 00 00000000"
 
-// Calls of one connection are answered one after the other, also by one that ends its writing at once, with the bytes that csid answers.
+// Calls of one connection are answered in order, also by one that ends its writing at once, with the bytes that csid answers.
 func TestControlCalls(t *testing.T) {
 	path, _ := csid(t, answering(fromHex(t, "09 0002 4142 00 00000000")))
 	c, socket, log := controlled(t, path)

@@ -10,7 +10,7 @@ import (
 	"google.golang.org/grpc/codes"
 )
 
-// told is each series name that a front tells, with its labels.
+// told is each series name that a front says, with its labels.
 func told(t *testing.T) map[string]map[string]bool {
 	t.Helper()
 	h := replying(t, "00 0000 00 00000005 0880808007")

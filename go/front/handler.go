@@ -48,7 +48,7 @@ type handler struct {
 	// Whether the health service of gRPC is answered, and whether each change is logged.
 	hasHealth  bool
 	logChanges bool
-	// Whether the front has --standby, and whether it waits for csid. Why it does is told then, so what is asked meanwhile has no lines.
+	// Whether the front has --standby, and whether it waits for csid. Why it does is reported then, so what is asked in the meantime has no lines.
 	standsBy  bool
 	isWaiting atomic.Bool
 }
@@ -130,7 +130,7 @@ func (h *handler) respond(ctx context.Context, path string, message []byte) ([]b
 	return h.ask(ctx, path, message)
 }
 
-// ask hands a call to csid, and gives the body of the reply, or what an orchestrator is told.
+// ask hands a call to csid, and gives the body of the reply, or what an orchestrator is answered.
 func (h *handler) ask(ctx context.Context, path string, message []byte) ([]byte, error) {
 	answer, err := h.reply(ctx, path, message)
 	if err != nil {
@@ -154,12 +154,12 @@ func (h *handler) reply(ctx context.Context, path string, message []byte) (frame
 	return answer, err
 }
 
-// isOpen tells whether it is open after a reply whether a change was made.
+// isOpen reports whether it is open after a reply whether a change was made.
 func isOpen(answer frames.Reply) bool {
 	return answer.Code == codes.Internal && openReasons[answer.Text]
 }
 
-// openReasons are the texts of status 13 behind which it is open whether a change was made. An orchestrator is then told UNAVAILABLE:
+// openReasons are the texts of status 13 after which it is open whether a change was made. An orchestrator is then answered UNAVAILABLE:
 // sidecars take INTERNAL for a final answer, after which they believe that none was.
 var openReasons = map[string]bool{"out of memory": true, "store refused": true, "store is down": true}
 

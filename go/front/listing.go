@@ -25,7 +25,7 @@ const (
 	maxPages   = maxVolumes / 100 * 10
 )
 
-// listing is what all volumes take, by one walk over the pages of ListVolumes. Volumes that come or go meanwhile are in it or not.
+// listing is what all volumes take, by one walk over the pages of ListVolumes. Volumes that come or go in the meantime are in it or not.
 type listing struct {
 	endedAt time.Time
 	volumes int
@@ -39,7 +39,7 @@ type poolUse struct {
 	bytes   int64
 }
 
-// listings lists all volumes again and again, and reports as metrics what the last whole listing has beside what the configuration has room for.
+// listings lists all volumes again and again, and reports as metrics what the last whole listing has next to what the configuration has room for.
 type listings struct {
 	handler *handler
 	config  *configuration

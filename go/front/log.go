@@ -28,7 +28,7 @@ const (
 	levelError = "error"
 )
 
-// logger tells an operator what he should know, a line each: as text, or as one JSON object.
+// logger writes what an operator should know, a line each: as text, or as one JSON object.
 type logger struct {
 	lines  *log.Logger
 	isJSON bool
@@ -65,7 +65,7 @@ func newLogger(out io.Writer, format string) *logger {
 	return &logger{lines: log.New(out, "front: ", 0)}
 }
 
-// newLog is the log of the program. No line waits for whoever reads it, also none that a package writes by itself: gRPC its errors, and any other what it
+// newLog is the log of the program. No line waits for whoever reads it, also none that a package writes on its own: gRPC its errors, and any other what it
 // has for Go's own log.
 func newLog(out io.Writer, format string) *logger {
 	queue := logqueue.New(out, func(count uint64) string {
@@ -81,7 +81,7 @@ func newLog(out io.Writer, format string) *logger {
 	return l
 }
 
-func (l *logger) tell(text string, line entry) {
+func (l *logger) write(text string, line entry) {
 	if l.isJSON {
 		line.Time = time.Now().UTC()
 		if object, err := json.Marshal(line); err == nil {
@@ -91,43 +91,43 @@ func (l *logger) tell(text string, line entry) {
 	l.lines.Print(text)
 }
 
-// fails tells why the front ends.
+// fails says why the front ends.
 func (l *logger) fails(err error) {
-	l.tell(err.Error(), entry{Level: levelError, Message: "the front ends", Error: err.Error()})
+	l.write(err.Error(), entry{Level: levelError, Message: "the front ends", Error: err.Error()})
 }
 
 func (l *logger) cutOff() {
 	const text = "ended, and cut calls off"
-	l.tell(text, entry{Level: levelError, Message: text})
+	l.write(text, entry{Level: levelError, Message: text})
 }
 
-// listens tells where metrics are told.
+// listens says where metrics are reported.
 func (l *logger) listens(address string) {
-	l.tell("metrics at "+address, entry{Level: levelInfo, Message: "metrics", Address: address})
+	l.write("metrics at "+address, entry{Level: levelInfo, Message: "metrics", Address: address})
 }
 
 // drops reports how many lines were dropped.
 func (l *logger) drops(count uint64) {
-	l.tell(logqueue.Report(count), entry{Level: levelWarn, Message: "lines dropped", Dropped: count})
+	l.write(logqueue.Report(count), entry{Level: levelWarn, Message: "lines dropped", Dropped: count})
 }
 
-// waits tells why there is no socket yet, and isReady that it is made now.
+// waits says why there is no socket yet, and isReady that it is made now.
 func (l *logger) waits(why string) {
-	l.tell("waits for csid: "+why, entry{Level: levelInfo, Message: "waits for csid", Reason: why})
+	l.write("waits for csid: "+why, entry{Level: levelInfo, Message: "waits for csid", Reason: why})
 }
 
 func (l *logger) isReady() {
 	const text = "csid is ready"
-	l.tell(text, entry{Level: levelInfo, Message: text})
+	l.write(text, entry{Level: levelInfo, Message: text})
 }
 
-// refuses tells of a call that was refused, and about which volume it was where that is logged. Nothing else of its message goes into the log: it may have
+// refuses reports a call that was refused, and about which volume it was where that is logged. Nothing else of its message goes into the log: it may have
 // secrets.
 func (l *logger) refuses(socket, path string, asked *change, why *status.Status, took time.Duration) {
 	l.ends(entry{Level: levelWarn, Message: "call refused", Socket: socket}, path, asked, why, took)
 }
 
-// changes tells of a change that was made.
+// changes reports a change that was made.
 func (l *logger) changes(socket, path string, asked *change, took time.Duration) {
 	l.ends(entry{Level: levelInfo, Message: "change", Socket: socket}, path, asked, status.New(codes.OK, ""), took)
 }
@@ -135,12 +135,12 @@ func (l *logger) changes(socket, path string, asked *change, took time.Duration)
 func (l *logger) ends(line entry, path string, asked *change, why *status.Status, took time.Duration) {
 	line.endedCall, line.change = &endedCall{shownPath(path), why.Code(), why.Message(), took.Milliseconds()}, asked
 	call := line.endedCall
-	l.tell(fmt.Sprintf("%s%s %d %q %d ms%s", via(line.Socket), call.Path, call.Code, call.Text, call.Milliseconds, asked.words()), line)
+	l.write(fmt.Sprintf("%s%s %d %q %d ms%s", via(line.Socket), call.Path, call.Code, call.Text, call.Milliseconds, asked.words()), line)
 }
 
-// malformed tells of a frame over a socket that is no call.
+// malformed reports a frame over a socket that is no call.
 func (l *logger) malformed(socket string, fault error) {
-	l.tell(via(socket)+fault.Error(), entry{Level: levelWarn, Message: "malformed call", Socket: socket, Error: fault.Error()})
+	l.write(via(socket)+fault.Error(), entry{Level: levelWarn, Message: "malformed call", Socket: socket, Error: fault.Error()})
 }
 
 // via is how a line of text begins that is about a call over a socket.
@@ -159,6 +159,6 @@ type saying struct {
 
 func (s saying) Write(line []byte) (int, error) {
 	text := strings.TrimSuffix(string(line), "\n")
-	s.tell(text, entry{Level: levelWarn, Message: s.who, Error: text})
+	s.write(text, entry{Level: levelWarn, Message: s.who, Error: text})
 	return len(line), nil
 }

@@ -15,7 +15,7 @@ import (
 	"google.golang.org/grpc/status"
 )
 
-// What packages write by themselves are lines of the front, and the last lines are written at its end.
+// What packages write on their own are lines of the front, and the last lines are written at its end.
 func TestLinesOfPackages(t *testing.T) {
 	defer log.SetFlags(log.Flags())
 	defer log.SetOutput(log.Writer())

@@ -16,7 +16,7 @@ import (
 const maxReceived = 16
 
 // How long a message may take while other calls wait for theirs to be received. Where no message at all came for stillTime since one waits, all that are
-// received have clients that stand still: then it may take lookTime.
+// received have clients that hang: then it may take lookTime.
 const (
 	placeTime = 5 * time.Second
 	stillTime = time.Second
@@ -189,7 +189,7 @@ func (m *messages) came() {
 	m.stillSince = time.Now()
 }
 
-// isLate tells whether a message that began to be received then holds up others.
+// isLate reports whether a message that began to be received then holds up others.
 func (m *messages) isLate(begin time.Time) bool {
 	m.mutex.Lock()
 	defer m.mutex.Unlock()

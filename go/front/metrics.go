@@ -53,7 +53,7 @@ func newMetrics() *metrics {
 	return m
 }
 
-// begin tells each counter that can be foreseen as 0: where one begins at 1, Prometheus sees no increase.
+// begin reports each counter that can be foreseen as 0: where one begins at 1, Prometheus sees no increase.
 func (m *metrics) begin() {
 	m.series = map[string]*series{}
 	for method := range methods {
@@ -85,7 +85,7 @@ func (m *metrics) ended(path string, code codes.Code, took time.Duration) {
 	m.seconds.WithLabelValues(method).Observe(took.Seconds())
 }
 
-// newRegistry has all that is told at /metrics; of pools and nodes nothing where there are no listings.
+// newRegistry has all that is reported at /metrics; of pools and nodes nothing where there are no listings.
 func newRegistry(h *handler, topologies []topology, listings *listings) *prometheus.Registry {
 	registry := prometheus.NewRegistry()
 	registry.MustRegister(
@@ -155,23 +155,23 @@ func newCsidCollector(h *handler, topologies []topology) *csidCollector {
 	}
 }
 
-func (c *csidCollector) Describe(told chan<- *prometheus.Desc) {
-	told <- c.up
-	told <- c.capacity
+func (c *csidCollector) Describe(out chan<- *prometheus.Desc) {
+	out <- c.up
+	out <- c.capacity
 }
 
-// Collect tells nothing of a topology of which csid tells nothing: the log says why.
-func (c *csidCollector) Collect(told chan<- prometheus.Metric) {
+// Collect reports nothing of a topology of which csid reports nothing: the log says why.
+func (c *csidCollector) Collect(out chan<- prometheus.Metric) {
 	ctx, cancel := context.WithTimeout(context.Background(), questionTime)
 	defer cancel()
 	if c.handler.isReady(ctx) != nil {
-		told <- prometheus.MustNewConstMetric(c.up, prometheus.GaugeValue, 0)
+		out <- prometheus.MustNewConstMetric(c.up, prometheus.GaugeValue, 0)
 		return
 	}
-	told <- prometheus.MustNewConstMetric(c.up, prometheus.GaugeValue, 1)
+	out <- prometheus.MustNewConstMetric(c.up, prometheus.GaugeValue, 1)
 	for _, topology := range c.topologies {
 		if bytes, err := c.handler.capacity(ctx, topology); err == nil {
-			told <- prometheus.MustNewConstMetric(c.capacity, prometheus.GaugeValue, float64(bytes), topology.name)
+			out <- prometheus.MustNewConstMetric(c.capacity, prometheus.GaugeValue, float64(bytes), topology.name)
 		}
 	}
 }

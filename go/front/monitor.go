@@ -32,7 +32,7 @@ func newMonitor(h *handler, topologies []topology, listings *listings) http.Hand
 	return mux
 }
 
-// startMonitor begins to answer at --metrics, if there is one. An end of it is told as a failure, since nothing ends it but the end of
+// startMonitor begins to answer at --metrics, if there is one. An end of it is reported as a failure, since nothing ends it but the end of
 // the front.
 func startMonitor(h *handler, asked options, failed chan<- error) error {
 	if asked.metrics == "" {
@@ -58,7 +58,7 @@ func startMonitor(h *handler, asked options, failed chan<- error) error {
 	return nil
 }
 
-// healthz tells whether a Probe through csid succeeds, or why not.
+// healthz reports whether a Probe through csid succeeds, or why not.
 func (h *handler) healthz(answer http.ResponseWriter, request *http.Request) {
 	if err := h.isReadySoon(request.Context(), questionTime); err != nil {
 		http.Error(answer, status.Convert(err).Message(), http.StatusServiceUnavailable)

@@ -5,7 +5,7 @@ import (
 	"time"
 )
 
-// csid opens and judges its whole file for each connection, also for one that was left meanwhile. So connections begin a pause apart at
+// csid opens and judges its whole file for each connection, also for one that was left in the meantime. So connections begin a pause apart at
 // least, and it doubles with each that gave no reply.
 const (
 	leastPause    = 100 * time.Millisecond
@@ -34,7 +34,7 @@ func (p *pace) wait(ctx context.Context) error {
 	}
 }
 
-// served notes that a reply came over the last connection: where it stood for the least pause, the next one need not wait.
+// served notes that a reply came over the last connection: where it lasted the least pause, the next one need not wait.
 func (p *pace) served() {
 	p.pause = leastPause
 }

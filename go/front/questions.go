@@ -21,7 +21,7 @@ var errNoMessage = status.Error(codes.Unavailable, "csid: malformed reply: bad m
 
 // topology is what GetCapacity is asked for: it sums up the pools that serve it.
 type topology struct {
-	// As the command line has it: KEY=VALUE, and more of them behind commas.
+	// As the command line has it: KEY=VALUE, and more of them after commas.
 	name string
 	// The message of GetCapacity for it.
 	message []byte
@@ -30,7 +30,7 @@ type topology struct {
 // everywhere is the topology that all pools serve.
 var everywhere topology
 
-// readTopology reads segments, and spells the message: a field 3, in which each segment is a field 1 of key 1 and value 2.
+// readTopology reads segments, and encodes the message: a field 3, in which each segment is a field 1 of key 1 and value 2.
 func readTopology(name string) (topology, error) {
 	if !utf8.ValidString(name) {
 		return topology{}, errors.New("it is not UTF-8")
@@ -70,7 +70,7 @@ func (h *handler) question(ctx context.Context, path string, message []byte, kin
 	return value, is, err
 }
 
-// isReady asks csid by Probe, and tells why it is not. Where the answer says neither, it is ready (CSI, "Probe").
+// isReady asks csid by Probe, and says why it is not. Where the answer says neither, it is ready (CSI, "Probe").
 func (h *handler) isReady(ctx context.Context) error {
 	wrapped, is, err := h.question(ctx, probe, nil, protowire.BytesType)
 	if err != nil || !is {

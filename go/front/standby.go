@@ -70,11 +70,11 @@ func (l *life) silence() time.Duration {
 	return time.Since(l.shown)
 }
 
-// await asks csid by Probe until it is ready, or the context ends. Why it waits is told once, and again where the reason is another one.
+// await asks csid by Probe until it is ready, or the context ends. Why it waits is reported once, and again where the reason is another one.
 func (h *handler) await(ctx context.Context) {
 	h.isWaiting.Store(true)
 	defer h.isWaiting.Store(false)
-	for told := ""; ; {
+	for shown := ""; ; {
 		next := time.After(askingPause)
 		err := h.isReadySoon(ctx, questionTime)
 		if ctx.Err() != nil {
@@ -84,9 +84,9 @@ func (h *handler) await(ctx context.Context) {
 			h.log.isReady()
 			return
 		}
-		if why := reason(err); why != told {
+		if why := reason(err); why != shown {
 			h.log.waits(why)
-			told = why
+			shown = why
 		}
 		select {
 		case <-next:
@@ -96,8 +96,8 @@ func (h *handler) await(ctx context.Context) {
 	}
 }
 
-// watch waits until nothing was answered by csid for so long, and tells why. Each reply counts, so that a Probe is asked only where none came for a
-// third of that time, and one that waits behind other calls ends nothing while they are answered.
+// watch waits until nothing was answered by csid for so long, and says why. Each reply counts, so that a Probe is asked only where none came for a
+// third of that time, and one that waits after other calls ends nothing while they are answered.
 func (h *handler) watch(limit time.Duration) error {
 	for why := ""; ; {
 		if pause := limit/3 - h.backend.life.silence(); pause > 0 {
@@ -108,7 +108,7 @@ func (h *handler) watch(limit time.Duration) error {
 		next := time.After(least(askingPause, limit/3))
 		left := limit - h.backend.life.silence()
 		if left < limit/10 {
-			// A front that stood still itself asks once more before it believes that csid does.
+			// A front that hung itself asks once more before it believes that csid does.
 			left = limit / 10
 		}
 		err := h.isReadySoon(context.Background(), left)
@@ -130,18 +130,18 @@ func (h *handler) isReadySoon(ctx context.Context, length time.Duration) error {
 	return h.isReady(ctx)
 }
 
-// livez tells whether csid does anything. One that cannot serve, since another has the lock, closes each connection, and that is as it should be; a
-// Probe that waits behind calls that are answered is no fault either.
+// livez reports whether csid does anything. One that cannot serve, since another has the lock, closes each connection, and that is as it should be; a
+// Probe that waits after calls that are answered is no fault either.
 func (h *handler) livez(answer http.ResponseWriter, request *http.Request) {
 	err := h.isReadySoon(request.Context(), questionTime)
 	if status.Code(err) == codes.DeadlineExceeded && h.backend.life.silence() >= questionTime {
-		http.Error(answer, "csid stands still", http.StatusServiceUnavailable)
+		http.Error(answer, "csid hangs", http.StatusServiceUnavailable)
 		return
 	}
 	fmt.Fprintln(answer, "ok")
 }
 
-// reason is why csid answered no Probe, behind words that name csid already.
+// reason is why csid answered no Probe, after words that name csid already.
 func reason(err error) string { return strings.TrimPrefix(status.Convert(err).Message(), "csid: ") }
 
 func least(one, other time.Duration) time.Duration {

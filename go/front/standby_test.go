@@ -96,7 +96,7 @@ func TestWatchOverClosedConnections(t *testing.T) {
 	if want := "nothing was answered by csid for 300ms: the connection was closed unanswered: see the log of csid"; err == nil || err.Error() != want {
 		t.Errorf("%v, wanted %s", err, want)
 	}
-	// Seven Probes, each a third of the limit behind the one before, and then none.
+	// Seven Probes, each a third of the limit after the one before, and then none.
 	if spent, least := time.Since(begin), 7*limit/3+limit; spent < least || spent > 2*least {
 		t.Errorf("it was over after %v", spent)
 	}
@@ -105,7 +105,7 @@ func TestWatchOverClosedConnections(t *testing.T) {
 	}
 }
 
-// A front that stood still itself, so that it heard nothing for longer than the bound, asks before it believes that csid does.
+// A front that hung itself, so that it heard nothing for longer than the bound, asks before it believes that csid does.
 func TestWatchBehindAStandstill(t *testing.T) {
 	const limit = time.Minute
 	h := replying(t, "00 0000 00 00000000")
@@ -164,8 +164,8 @@ func answerOnce(conn net.Conn, reply []byte) bool {
 	return true
 }
 
-// A csid that closes connections is alive, and so is one that is not there: its supervisor knows. One that stands still is not, and no front without
-// --standby tells any of it.
+// A csid that closes connections is alive, and so is one that is not there: its supervisor knows. One that hangs is not, and no front without
+// --standby says any of it.
 func TestLiveness(t *testing.T) {
 	closing, _ := csid(t, func(net.Conn) {})
 	still := func(conn net.Conn) { conn.Read(make([]byte, 1)); time.Sleep(time.Second) }
@@ -179,7 +179,7 @@ func TestLiveness(t *testing.T) {
 	}{
 		{"closing", closing, true, http.StatusOK, "ok\n"},
 		{"absent", closing + ".absent", true, http.StatusOK, "ok\n"},
-		{"mute", mute, true, http.StatusServiceUnavailable, "csid stands still\n"},
+		{"mute", mute, true, http.StatusServiceUnavailable, "csid hangs\n"},
 		{"busy", busy, true, http.StatusOK, "ok\n"},
 		{"without --standby", closing, false, http.StatusNotFound, "404 page not found\n"},
 	}
@@ -198,7 +198,7 @@ func TestLiveness(t *testing.T) {
 	}
 }
 
-// While the front waits, what refuses its questions is told by the line of that, and behind it each has a line again.
+// While the front waits, what refuses its questions is reported by the line of that, and after it each has a line again.
 func TestLinesWhileItWaits(t *testing.T) {
 	path, _ := csid(t, func(net.Conn) {})
 	var said strings.Builder

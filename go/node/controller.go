@@ -42,8 +42,8 @@ func dial(socket string) (controller, error) {
 	return controller{conn}, err
 }
 
-// size is the bytes of a volume, as the controller has them. A page of ListVolumes that begins behind the number before its own begins with
-// the volume, where it stands (docs/MACHINE.md, "A walk over pages").
+// size is the bytes of a volume, as the controller has them. A page of ListVolumes that begins after the number before its own begins with
+// the volume, where it exists (docs/MACHINE.md, "A walk over pages").
 func (c controller) size(ctx context.Context, id string) (int64, error) {
 	parts := volumeID.FindStringSubmatch(id)
 	if parts == nil {

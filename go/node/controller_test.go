@@ -83,7 +83,7 @@ func newController(t *testing.T, socket string) controller {
 	return c
 }
 
-// folder is a folder of the test's own. Its path is short, since that of a socket has to be.
+// folder is a folder of the test's own. Its path is short, since that of a socket must be.
 func folder(t *testing.T) string {
 	t.Helper()
 	path, err := os.MkdirTemp("", "node")
@@ -155,7 +155,7 @@ func TestControllerThatStartsLater(t *testing.T) {
 	}
 }
 
-// A controller that refuses, or lists what is no volume, is told of as it is.
+// A controller that refuses, or lists what is no volume, is reported as it is.
 func TestControllersThatFail(t *testing.T) {
 	rows := []struct {
 		list func(*listRequest) (*listResponse, error)

@@ -135,7 +135,7 @@ func checkSame(staging, target string, readOnly bool) error {
 }
 
 // publishBlock puts the device at a path. A bind mount that is read-only does not keep anybody from writing to a device, so the device
-// itself has to be.
+// itself must be.
 func publishBlock(device, target string, readOnly bool) error {
 	if readOnly {
 		said, err := os.ReadFile(filepath.Join("/sys/block", filepath.Base(device), "ro"))
@@ -258,7 +258,7 @@ func format(device string) error {
 	return err
 }
 
-// isMounted tells whether a path is in the file system of a device, isDevice whether it is the device.
+// isMounted reports whether a path is in the file system of a device, isDevice whether it is the device.
 func isMounted(device, path string) (bool, error) {
 	of, at, err := numbers(device, path)
 	return at.Dev == of.Rdev && err == nil, err

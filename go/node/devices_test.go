@@ -109,7 +109,7 @@ func TestMountedVolume(t *testing.T) {
 		stageRow(strings.Replace(ofMount, "ext4", "xfs", 1)).answers(`node-plugin: InvalidArgument: volume_capability: the file system "xfs" is not ext4`))
 }
 
-// A volume is published read-only beside being written, and is that way again only if it is asked so again.
+// A volume is published read-only next to being written, and is that way again only if it is asked so again.
 func TestReadOnlyMount(t *testing.T) {
 	t.Parallel()
 	s := newDeviceSession(t)

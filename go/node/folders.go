@@ -28,7 +28,7 @@ func (folders) supports(use *capability, readOnly bool) error {
 
 func (folders) create(data string, _ int64) error { return os.Mkdir(data, 0o755) }
 
-// linkIn is the link in a staging path, which has to stay a folder.
+// linkIn is the link in a staging path, which must stay a folder.
 func linkIn(staging string) string { return filepath.Join(staging, "volume") }
 
 func (folders) stage(data, staging string, _ *capability, _ bool) error {
@@ -85,7 +85,7 @@ func unlink(data, path string) error {
 	return os.Remove(path)
 }
 
-// leadsTo tells whether a path is a link to a volume's data.
+// leadsTo reports whether a path is a link to a volume's data.
 func leadsTo(path, data string) (bool, error) {
 	file, err := os.Lstat(path)
 	if errors.Is(err, os.ErrNotExist) || errors.Is(err, syscall.ENOTDIR) {

@@ -14,7 +14,7 @@ func (message) Reset()         {}
 func (message) String() string { return "" }
 func (message) ProtoMessage()  {}
 
-// codec writes and reads these messages. It stands in the place of gRPC's own, which wants messages that a generator made.
+// codec writes and reads these messages. It replaces gRPC's own, which wants messages that a generator made.
 type codec struct{}
 
 func (codec) Marshal(v interface{}) ([]byte, error) {

@@ -67,7 +67,7 @@ func (asked *serveOptions) addTopology(pairs string) error {
 	return nil
 }
 
-// parse reads options, and wants at most so many words behind them.
+// parse reads options, and wants at most so many words after them.
 func parse(flags *flag.FlagSet, words []string, most int, shown io.Writer) error {
 	flags.SetOutput(io.Discard)
 	flags.Usage = func() {}
@@ -87,7 +87,7 @@ func parse(flags *flag.FlagSet, words []string, most int, shown io.Writer) error
 	return nil
 }
 
-// option is an option that has to be there, by its name and value.
+// option is an option that must be there, by its name and value.
 type option struct{ name, value string }
 
 func present(options ...option) error {

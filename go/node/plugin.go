@@ -29,7 +29,7 @@ const (
 
 // storage keeps the data of volumes, and puts them at paths. What is done already is done again without a change.
 type storage interface {
-	// suffix is what the name of a volume's data has behind the volume's id.
+	// suffix is what the name of a volume's data has after the volume's id.
 	suffix() string
 	// supports refuses a use of a volume that there cannot be.
 	supports(use *capability, readOnly bool) error
@@ -49,7 +49,7 @@ type plugin struct {
 	pools      pools
 	storage    storage
 	controller controller
-	// Calls go one after the other.
+	// Calls are made one at a time.
 	mutex sync.Mutex
 }
 

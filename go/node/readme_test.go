@@ -9,7 +9,7 @@ import (
 	"testing"
 )
 
-// step is a command of a page, and what is shown behind it.
+// step is a command of a page, and what is shown after it.
 type step struct{ command, shown string }
 
 // sessionOf is the commands of a page, in their order.
@@ -35,7 +35,7 @@ func sessionOf(t *testing.T, page string) (steps []step) {
 	return steps
 }
 
-// pattern is what is shown as an expression, in which two points stand for anything.
+// pattern is what is shown as an expression, in which two points match anything.
 func pattern(shown string) *regexp.Regexp {
 	return regexp.MustCompile(`(?s)^` + strings.ReplaceAll(regexp.QuoteMeta(shown), `\.\.`, `.*`) + `$`)
 }

@@ -93,7 +93,7 @@ func (s *session) startNode(t *testing.T) {
 
 func (s *session) at(name string) string { return filepath.Join(s.folder, name) }
 
-// call makes a call, in whose message AT/ stands for the folder, and gives what is shown.
+// call makes a call, in whose message AT/ means the folder, and gives what is shown.
 func (s *session) call(socket, method, message string) string {
 	var shown, log strings.Builder
 	run([]string{"call", "--socket", s.at(socket), method, strings.ReplaceAll(message, "AT/", s.folder+"/")}, &shown, &log)
@@ -128,7 +128,7 @@ const (
 	noVolume         = "node-plugin: NotFound: volume not found"
 )
 
-// attached is how an orchestrator comes to a volume of 4 MiB at this node.
+// attached is how an orchestrator gets a volume of 4 MiB at this node.
 func attachedRows(as string) []row {
 	return []row{
 		{controllerSocket, "CreateVolume", `{"name":"a","capacity_range":{"required_bytes":4194304},"volume_capabilities":[` + as + `]}`,
@@ -278,7 +278,7 @@ func TestRefusals(t *testing.T) {
 	}
 }
 
-// What stands at a path already is left as it is.
+// What is at a path already is left as it is.
 func TestOtherFilesAtPaths(t *testing.T) {
 	t.Parallel()
 	s := newSession(t, "--without-devices")
@@ -329,7 +329,7 @@ func TestSocket(t *testing.T) {
 	s.finds(t, "node.sock")
 }
 
-// endsAtOnce wants a plugin to end as ever where it is told to in the moment in which its socket comes.
+// endsAtOnce wants a plugin to end as ever where it is asked to in the moment in which its socket comes.
 func (s *session) endsAtOnce(t *testing.T) {
 	t.Helper()
 	for i := 0; i < 20; i++ {

@@ -12,7 +12,7 @@ import (
 
 var dataName = regexp.MustCompile(`^(vol-[1-9][0-9]*)\.(img|img\.new|d)$`)
 
-// sweep shows the data in the folders of pools whose volumes the controller does not list any more, and removes them where it is told to.
+// sweep shows the data in the folders of pools whose volumes the controller does not list any more, and removes them where it is asked to.
 func sweep(words []string, shown io.Writer) error {
 	found := pools{}
 	flags := flag.NewFlagSet("sweep", flag.ContinueOnError)

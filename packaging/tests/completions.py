@@ -1,4 +1,4 @@
-"""The completions: what bash offers behind some words, and that the options are those that the programs list.
+"""The completions: what bash offers after some words, and that the options are those that the programs list.
 """
 import os
 import re
@@ -8,7 +8,7 @@ import tempfile
 from sources import TOP, read
 from tests.helps import COMMON, options_of, values_of
 
-# Completes the last of the words that it is given behind the file of completions.
+# Completes the last of the words that it is given after the file of completions.
 COMPLETE = """
 source "$1"
 shift
@@ -127,7 +127,7 @@ def word_rows():
         for name in ("volumes.db", "config.toml"):
             open(os.path.join(folder, name), "x").close()
         for line, wanted in ROWS:
-            yield "behind %r" % line, offered(line.split(" "), folder), (wanted.split(), "")
+            yield "after %r" % line, offered(line.split(" "), folder), (wanted.split(), "")
 
 
 def option_rows(programs):
@@ -140,7 +140,7 @@ def option_rows(programs):
 
 
 def value_rows(programs):
-    """Behind an option that has a value the value comes, and no option; behind one of a file or a socket,
+    """After an option that has a value the value comes, and no option; after one of a file or a socket,
     files do.
     """
     with tempfile.TemporaryDirectory() as folder:
@@ -155,7 +155,7 @@ def value_rows(programs):
                     )
                     for option in values
                 }
-                yield "behind the options of %s %s" % (name, command), found, {
+                yield "after the options of %s %s" % (name, command), found, {
                     option: ([], value in ("FILE", "PATH")) for option, value in values.items()
                 }
 

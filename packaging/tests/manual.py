@@ -94,7 +94,7 @@ SECTIONS = {
         "SEE ALSO",
     ],
 }
-# What stands in a page as roff, worked out by hand from docs/ and deploy/.
+# What is in a page as roff, worked out by hand from docs/ and deploy/.
 TEXTS = [
     ("csid.1", '.TH CSID 1 2001-09-09 "csid VERSION" "User Commands"\n'),
     ("csid.1", ".SH NAME\ncsid \\- storage-plugin controller for the Container Storage Interface\n"),
@@ -222,7 +222,7 @@ def option_rows(pages, programs):
 
 
 def piece_rows():
-    """Each piece as the page of the protocol has it behind its first heading."""
+    """Each piece as the page of the protocol has it after its first heading."""
     for piece, wanted in PIECES:
         with tempfile.TemporaryDirectory() as folder:
             manual = copied(

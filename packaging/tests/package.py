@@ -267,7 +267,7 @@ def lintian_rows(package):
 
 
 def called(system, *words):
-    """What csictl shows of a call behind its first line."""
+    """What csictl shows of a call after its first line."""
     status, out, error = system.inside(
         "/usr/bin/csictl", "call", "--socket", "/" + CSID_SOCKET, "--method", *words
     )
@@ -319,10 +319,10 @@ def upgrade_rows(system, package, folder):
     before, config = system.tables(), read(system.path(CONFIG)) + "# mine\n"
     system.write(CONFIG, config, 0o644)
     yield "an upgrade", system.dpkg("--install", later(package, folder)), (0, "", UPDATED + RESTARTED)
-    yield "the tables behind it", system.tables(), before
-    yield "the configuration behind it", read(system.path(CONFIG)), config
+    yield "the tables after it", system.tables(), before
+    yield "the configuration after it", read(system.path(CONFIG)), config
     with system.started("csid.service", CSID_SOCKET):
-        yield "the volumes behind it", called(system, "ListVolumes"), (0, VOLUME + " -", "")
+        yield "the volumes after it", called(system, "ListVolumes"), (0, VOLUME + " -", "")
 
 
 def remove_rows(system, package):
@@ -357,9 +357,9 @@ def etcd_rows(system, package, folder):
         UPDATED + RESTARTED_ETCD,
     )
     yield "a remove over csid-etcd", system.dpkg("--remove", "csid"), (0, "", STOPPED_ETCD)
-    yield "its unit behind it", read(system.path(ETCD_UNIT)), example
+    yield "its unit after it", read(system.path(ETCD_UNIT)), example
     os.unlink(system.path(ETCD_UNIT))
-    yield "an install behind it", system.dpkg("--install", package), (0, "", UPDATED + RESTARTED)
+    yield "an install after it", system.dpkg("--install", package), (0, "", UPDATED + RESTARTED)
 
 
 def install_rows(programs, package):

@@ -1,4 +1,4 @@
-"""A release: what stands in its folder, in its tar.gz and in its list of parts, and what ./release refuses to
+"""A release: what is in its folder, in its tar.gz and in its list of parts, and what ./release refuses to
 begin with.
 """
 import hashlib
@@ -35,7 +35,7 @@ REFUSED = [
     ([CSID, CSICTL, FRONT], "go/go", BUILD % (FRONT, "go/front/build")),
     ([CSID, CSICTL, FRONT], "VERSION", BUILD % (FRONT, "go/front/build")),
 ]
-# The same of csid-etcd, where the sources of etcd's client are here. The front was built again behind what is
+# The same of csid-etcd, where the sources of etcd's client are here. The front was built again after what is
 # newer.
 REFUSED_ETCD = [
     ([CSID, CSICTL, FRONT], None, BUILD % (ETCD, "go/etcd/build")),
@@ -76,7 +76,7 @@ def folder_rows(folder, name, package):
 
 
 def files_of(programs):
-    """What a release has beside licences: the programs, their pages of manual and completions, and what is
+    """What a release has next to licences: the programs, their pages of manual and completions, and what is
     committed of README.md, docs/ and deploy/, but for docs/theorems, which is about the sources.
     """
     parts = ["README.md", "VERSION", "docs", "deploy", ":!docs/theorems"]
@@ -203,7 +203,7 @@ def clone(folder):
 
 
 def touch(path, seconds):
-    """Makes a file where there is none, and gives it a date so many seconds behind that of the clone."""
+    """Makes a file where there is none, and gives it a date so many seconds after that of the clone."""
     os.makedirs(os.path.dirname(path), exist_ok=True)
     with open(path, "a"):
         pass
@@ -249,7 +249,7 @@ def refusal_rows(is_etcd):
 
 
 def refused(top, programs, newer, again):
-    """What ./release ends with where these programs were built, one source was changed behind that, and some
+    """What ./release ends with where these programs were built, one source was changed after that, and some
     programs were built again.
     """
     for path in programs:
@@ -262,7 +262,7 @@ def refused(top, programs, newer, again):
     return done
 
 
-# Programs in the place of those of packaging/ in a clone: what they do is of no account here.
+# Programs instead of those of packaging/ in a clone: what they do is of no account here.
 PLAYED = {
     "licences": "mkdir -p ${*: -1}",
     "deb": 'echo >"$2/csid_$(cat VERSION)_$(dpkg --print-architecture).deb"',

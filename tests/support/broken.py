@@ -75,7 +75,7 @@ class Breaker:
         return self.bytes(message) if how < 9 else message
 
     def stream(self):
-        """Frames one after the other, of which messages are broken, and then the whole."""
+        """Frames in order, of which messages are broken, and then the whole."""
         frames = []
         for _ in range(self.one_of(1, 1, 2, 5)):
             path, message = self.one_of(*self.corpus)
@@ -145,14 +145,14 @@ def replies_in(stream):
 
 
 def is_ok(reply):
-    """Whether bytes are one reply that says OK; None where more stands behind one."""
+    """Whether bytes are one reply that says OK; None where more follows one."""
     size = 8 + int.from_bytes(reply[4:8], "big")
     if len(reply) < 8 or reply[:4] != bytes(4) or not size <= min(len(reply), 8 + 4 * MIB):
         return False
     return True if len(reply) == size else None
 
 
-# HTTP/2 and gRPC, as far as a client has to write them: no header is compressed.
+# HTTP/2 and gRPC, as far as a client must write them: no header is compressed.
 
 
 def h2(kind, flags, stream, payload=b""):

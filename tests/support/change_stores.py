@@ -1,4 +1,4 @@
-"""Change stores behind a socket, as `csid serve --log` asks them (docs/PROTOCOL.md, "The change store"): what
+"""Change stores at a socket, as `csid serve --log` asks them (docs/PROTOCOL.md, "The change store"): what
 every one does, and one that keeps rows.
 """
 import os
@@ -25,7 +25,7 @@ def wait(happens, seconds=SECONDS, pause=0.005):
 
 
 class ChangeStore:
-    """A log on a socket, which leads until it is told otherwise. Each connection is answered by a thread of
+    """A log on a socket, which leads until it is set otherwise. Each connection is answered by a thread of
     its own.
     """
 
@@ -89,7 +89,7 @@ def next_frame(stream):
         return None
 
 
-# Rows, as a log tells them and is told them.
+# Rows, as a log writes them and is sent them.
 
 
 def meta(number, format_no=2):
@@ -135,7 +135,7 @@ def fields(message):
 class KeptChangeStore(ChangeStore):
     """A log that keeps rows, as csid-etcd does in etcd, but in this process. The next change fails as `fault`
     says: it is refused, the connection
-    ends before it is made, or it ends behind it."""
+    ends before it is made, or it ends after it."""
 
     REFUSES, ENDS, LOSES = "refuses", "ends", "loses"
 

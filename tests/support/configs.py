@@ -42,7 +42,7 @@ NODES = SAMPLE[SAMPLE.index(b"[[node]]") :]
 SEGMENTS = b'segments = { zone = "a" }'
 
 
-# Further pools and nodes, behind those of the sample.
+# Further pools and nodes, after those of the sample.
 def pools(count):
     return b"".join(b'[[pool]]\nname = "q%d"\nbytes = 1048576\n' % number for number in range(count))
 
@@ -51,7 +51,7 @@ def nodes(count):
     return b"".join(b'[[node]]\nid = "m%d"\nmax_volumes = 1\n' % number for number in range(count))
 
 
-# Each row: what it shows, a configuration, the line on standard error behind the path. Nothing is answered.
+# Each row: what it shows, a configuration, the line on standard error after the path. Nothing is answered.
 NO_COUNT = "is no number from 0 to 2^63 - 1"
 NO_NAME = "it is not 1 to 63 ASCII letters, digits, '-' and '.', the first and the last a letter or digit"
 NO_POOL_NAME = "the name is not 1 to 63 ASCII letters, digits, '-', '_' and '.'"

@@ -15,7 +15,7 @@ VERSION = open(os.path.join(TOP, "VERSION")).read().strip()
 
 
 class Line:
-    """A text of one line that begins so, and has each of these parts behind that."""
+    """A text of one line that begins so, and has each of these parts after that."""
 
     def __init__(self, begin, *parts):
         self.begin, self.parts = begin, parts
@@ -29,7 +29,7 @@ class Line:
         )
 
     def __repr__(self):
-        return "a line %r.. with %s" % (self.begin, ", ".join(map(repr, self.parts)) or "something behind it")
+        return "a line %r.. with %s" % (self.begin, ", ".join(map(repr, self.parts)) or "something after it")
 
 
 class Shown:
@@ -84,7 +84,7 @@ def small_memory():
 
 
 class Server:
-    """csid on a socket of its own, over a file beside it."""
+    """csid on a socket of its own, over a file next to it."""
 
     def __init__(self, csid, path, *words, tables=None, shell=None, **how):
         self.path, self.tables = path, path + ".db" if tables is None else tables
@@ -144,7 +144,7 @@ class Server:
         """What it said, but for what the file had at the start, and its status."""
         self.process.wait(timeout=SECONDS)
         os.unlink(self.path)
-        held = "(?m)^csid: %s: (no tables stood there, and new ones were made|volumes .*)\n" % re.escape(
+        held = "(?m)^csid: %s: (no tables were there, and new ones were made|volumes .*)\n" % re.escape(
             self.tables
         )
         return re.sub(held, "", self.lines()), self.process.returncode

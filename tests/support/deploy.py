@@ -20,7 +20,7 @@ UNITS = ["csid.service", "csid-front.service"]
 FIRST = "csid-new.service"
 # What the operator changes of the options.
 DEFAULTS = "csid.default"
-# Two replicas over etcd: the unit beside these, what differs in them, and the manifest.
+# Two replicas over etcd: the unit next to these, what differs in them, and the manifest.
 ETCD_UNIT = "csid-etcd.service"
 DIFFERENCES = {"csid.service": "etcd.d/csid.conf", "csid-front.service": "etcd.d/csid-front.conf"}
 MANIFEST, ETCD_MANIFEST = "kubernetes.yaml", "kubernetes-etcd.yaml"
@@ -79,7 +79,7 @@ class Unit:
         return dict(word.split("=", 1) for word in words)
 
     def words(self):
-        """The words that it starts; a variable that is a word stands for as many as its value has."""
+        """The words that it starts; a variable that is a word gives as many as its value has."""
         given, words = self.variables(), []
         for word in shlex.split(self.all("ExecStart")[0]):
             words += given[word[1:]].split() if word.startswith("$") else [word]
@@ -145,7 +145,7 @@ class Kubernetes:
 
 
 def plain(command):
-    """The words of a program that is started by tini, and maybe a shell behind that."""
+    """The words of a program that is started by tini, and maybe a shell after that."""
     words = command[command.index("--") + 1 :] if command[0] == "tini" else command
     if words[:2] == ["sh", "-c"]:
         words = shlex.split(words[2].rsplit("exec ", 1)[1])
@@ -174,7 +174,7 @@ def commands():
 
 
 def shell(command):
-    """The words that a shell is given behind tini."""
+    """The words that a shell is given after tini."""
     return command[command.index("sh") + 2]
 
 

@@ -37,7 +37,7 @@ NO_MEMORY = "csid: out of memory\n"
 # An unknown field of 1,048,576 bytes in all: its tag, a length of three bytes, and so many bytes.
 LONGEST = bytes.fromhex("7a fcff3f") + b"x" * 1048572
 
-# Calls of volumes. What a message is made of stands in docs/PROTOCOL.md, 'Messages'.
+# Calls of volumes. What a message is made of is in docs/PROTOCOL.md, 'Messages'.
 CREATE_A = bytes.fromhex("0a0161 1a06 0a00 1a020801")
 CREATE_B = bytes.fromhex("0a0162 1205 088080c001 1a06 0a00 1a020801 3a0d 0a0b 0a09 0a047a6f6e65 120162")
 VOL_1 = bytes.fromhex("0a05") + b"vol-1"

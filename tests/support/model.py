@@ -219,7 +219,7 @@ class Requests:
         return self.random.choice(values)
 
     def id(self):
-        """The id of a volume that stands, mostly, or of another, or a text that is none."""
+        """The id of a volume that exists, mostly, or of another, or a text that is none."""
         number = self.one_of(*[it.number for it in self.model.volumes] or [self.model.next])
         return self.one_of(
             "vol-0%d" % number,

@@ -100,7 +100,7 @@ def next_call(calls):
 
 
 class Pages(PlayedServer):
-    """A server that answers the calls of each connection one after the other. At CLOSED it closes the connection
+    """A server that answers the calls of each connection in order. At CLOSED it closes the connection
     instead.
     """
 

@@ -130,7 +130,7 @@ def as_nobody():
 
 
 def fill(folder):
-    """Leaves no byte on the disk of a folder; what stands there is taken away to make room."""
+    """Leaves no byte on the disk of a folder; what is there is taken away to make room."""
     path = os.path.join(folder, "filler")
     try:
         with open(path, "wb", buffering=0) as file:

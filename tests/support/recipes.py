@@ -1,5 +1,5 @@
 #!/usr/bin/env python3
-"""The folder in which recipes are run, and what stands there for systemctl, kubectl and the front."""
+"""The folder in which recipes are run, and what is there for systemctl, kubectl and the front."""
 
 import contextlib
 import functools
@@ -48,7 +48,7 @@ def blocks(heading, name="OPERATING.md"):
 
 
 def stands(text):
-    """A text, which has to stand in the page word for word."""
+    """A text, which must be in the page word for word."""
     assert text in page(), "it does not stand in the page: " + text
     return text
 
@@ -233,7 +233,7 @@ class Cluster(Control):
             file.write(self.object("configmap")["data"]["config.toml"])
 
     def begin_units(self, *units):
-        """No two may serve at once, and none beside the pod that holds the claim."""
+        """No two may serve at once, and none next to the pod that holds the claim."""
         assert not os.listdir(self.pods), "a pod is there: %s" % os.listdir(self.pods)
         open(self.pods + "csid-0", "x").close()
         for unit in units:
@@ -255,7 +255,7 @@ class Cluster(Control):
         )
 
     def end_units(self):
-        """csid is ended within a connection, so what was changed last stands in the log of its file alone."""
+        """csid is ended within a connection, so what was changed last is in the log of its file alone."""
         time.sleep(0.5)
         self.stop("csid-front")
         frames = os.path.join(self.top, "frames")
@@ -279,7 +279,7 @@ class Cluster(Control):
         wait(lambda: os.path.exists(self.pods + name) == is_there)
 
     def exec(self, *words):
-        """A command beside the claim; it has an input where it is asked for one."""
+        """A command next to the claim; it has an input where it is asked for one."""
         *options, pod = words[: words.index("--")]
         assert os.path.exists(self.pods + pod), pod
         sys.exit(
@@ -409,7 +409,7 @@ class Place:
         return self.shell(blocks("## Copies and restores")[0] + blocks(heading, page)[number], **variables)
 
     def in_folder(self, command):
-        """What a command says that stands in the page, in the folder of the file."""
+        """What a command says that is in the page, in the folder of the file."""
         return self.shell(blocks("## Copies and restores")[0] + stands(command))
 
     def check(self):

@@ -11,7 +11,7 @@ import tempfile
 from tests.support.processes import SECONDS, wait
 
 
-NEW = "no tables stood there, and new ones were made"
+NEW = "no tables were there, and new ones were made"
 MISSING = "there is no such file, and none is made"
 WITHOUT = "it has no tables, and none are made"
 NO_COPY = "there was no memory for a copy of the volumes: each read of the connection goes to the file"
@@ -20,7 +20,7 @@ EMPTIED = (
     " belongs to, or move the WAL away to begin with no volumes"
 )
 DOWN = (
-    "a change was refused, by the database or for memory; from then on the connection was told that the store"
+    "a change was refused, by the database or for memory; from then on the connection was answered that the store"
     " is down"
 )
 IDLE = "csid: a connection that sent nothing was closed\n"
@@ -30,7 +30,7 @@ CROWDED = "csid: a connection that had sent no call was closed, as too many wait
 
 
 class Server:
-    """csid on a socket beside its file; what it says goes to a file."""
+    """csid on a socket next to its file; what it says goes to a file."""
 
     def __init__(self, csid, folder, *words, tables=None, **how):
         self.path, self.tables = os.path.join(folder, "csid.sock"), tables or os.path.join(

@@ -7,7 +7,7 @@ from tests.support.frames import READY
 from tests.support.processes import run
 
 
-# Rows of volumes and attachments, as docs/TABLES.md spells them: a block device with mode 1, one with mode 5,
+# Rows of volumes and attachments, as docs/TABLES.md encodes them: a block device with mode 1, one with mode 5,
 # and no parameters.
 BLOCK_CAPS = "x'1a060a001a020801'"
 SHARED_CAPS = "x'1a060a001a020805'"
@@ -136,7 +136,7 @@ class Tables:
         return run([self.csid, "--check-tables", self.path] + (["--config", config] if config else []), **how)
 
     def files(self):
-        """The bytes of the file, and of all that stands beside it."""
+        """The bytes of the file, and of all that exists next to it."""
         found = {}
         for name in sorted(os.listdir(os.path.dirname(self.path))):
             if name.startswith(os.path.basename(self.path)):

@@ -1,4 +1,4 @@
-"""Parts of tests/faults in which nothing is broken but what programs stand on: the disk, signals, clocks."""
+"""Parts of tests/faults in which nothing is broken but what programs run on: the disk, signals, clocks."""
 import ctypes
 import json
 import os
@@ -224,7 +224,7 @@ def makes(run, record, disk, waits):
 
 
 def disk(run):
-    """Each call that was answered OK is there behind each trouble of the disk, and service is back within 2 s
+    """Each call that was answered OK is there after each trouble of the disk, and service is back within 2 s
     of its end.
     """
     it, record, lines = Disk(run), Record(run), 0
@@ -255,14 +255,14 @@ def disk(run):
         for end in reversed(ends):
             end()
         run.check(
-            "service is back behind %r: %r"
+            "service is back after %r: %r"
             % ([trouble.__name__ for trouble in troubles], it.csid.lines()[-2:]),
             wait(it.is_back, 2, 0.05),
         )
         makes(run, record, it, waits)
         client = Frames(it.csid.socket)
         record.compare(
-            "what is listed behind %r" % [trouble.__name__ for trouble in troubles], listed(client.ask) or []
+            "what is listed after %r" % [trouble.__name__ for trouble in troubles], listed(client.ask) or []
         )
         client.close()
         said = [line.replace(it.file, "DB") for line in it.csid.lines()]
@@ -365,7 +365,7 @@ class Stack:
             mine = [of for of, name in list(self.record.standing.items()) if name.startswith("c%d-" % number)]
 
     def sends(self, source):
-        """A signal to one of the four; what is stopped goes on, in time or behind the end of its lease."""
+        """A signal to one of the four; what is stopped goes on, in time or after the end of its lease."""
         victim, how = source.choice(self.all), source.choice(SIGNALS)
         if victim.has_ended():
             return
@@ -381,9 +381,9 @@ class Stack:
             wait(victim.has_ended, 2)
 
     def keeps_no_longer(self, source):
-        """csid-etcd is killed or stopped: the key of its lock is gone behind its lease, and where it goes on
+        """csid-etcd is killed or stopped: the key of its lock is gone after its lease, and where it goes on
         it does not say that it leads without one.
-        An etcd that begins anew counts each lease anew, so that is behind it."""
+        An etcd that begins again counts each lease again, so that is after it."""
         self.run.seen["the lock is lost"] += 1
         time.sleep(max(0, self.etcd.begun + LEASE + 2 - time.monotonic()))
         self.keeper.process.send_signal(source.choice((signal.SIGSTOP, signal.SIGSTOP, signal.SIGKILL)))
@@ -403,7 +403,7 @@ class Stack:
             )
 
     def revive(self):
-        """Starts again what has ended, and lets go on what stands still."""
+        """Starts again what has ended, and lets go on what hangs."""
         for it in self.all:
             it.revive()
             it.process.send_signal(signal.SIGCONT)
@@ -460,7 +460,7 @@ def signals(run, clocks=None):
 
 
 def clock(run):
-    """Each start has a monotonic clock and one of the time since the boot that are years before or behind
+    """Each start has a monotonic clock and one of the time since the boot that are years before or after
     those of the others.
     """
     print(

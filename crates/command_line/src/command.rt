@@ -12,7 +12,7 @@ use std::env;
 use std::io::{self, ErrorKind};
 use thiserror::Error;
 
-/// Why a program is not told what to do. Its `Display` is the line that is said.
+/// Why the arguments do not say what to do. Its `Display` is the line that is printed.
 #[derive(Debug, Drop, Error)]
 pub enum ArgumentsFault {
     /// An argument is not UTF-8.
@@ -32,7 +32,7 @@ pub enum ArgumentsFault {
 impl ArgumentsFault {
     /// Arguments that are refused, with this line; want of memory, where there was none for it.
     pub fn refused(line: Result<String, AllocError>) -> ArgumentsFault
-        ensures told { IfOk line (λ text. result ≡ Refused text) }
+        ensures refused { IfOk line (λ text. result ≡ Refused text) }
         ensures memory { IfErr line (λ _. result ≡ NoMemory) }
     {
         match line {
@@ -94,7 +94,7 @@ fn refusal_line(alloc: Global, error: &ClapError) -> Result<String, AllocError> 
     Ok(line)
 }
 
-// Prints help or the version, if the arguments ask for that; else they are refused.
+// Prints help or the version, if the arguments ask for that; otherwise they are refused.
 fn end(rt: &HostRuntime, error: &ClapError) -> Result<(), ArgumentsFault> {
     match error.kind() {
         ClapKind::OutOfMemory => Err(ArgumentsFault::NoMemory),

@@ -3,7 +3,7 @@
 use std::alloc::{AllocError, Global};
 use std::fmt::{self, Display};
 
-/// What there is to say of a file or of something else, after its name. Its `Display` is `NAME: WHAT`.
+/// What is said of a file or of something else, after its name. Its `Display` is `NAME: WHAT`.
 #[derive(Debug, Drop)]
 pub struct Named<N, W> {
     /// The name, as a path.

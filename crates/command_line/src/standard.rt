@@ -9,7 +9,7 @@ use std::os::fd::AsRawFd;
 // The numbers of the three are those below.
 const NEXT: i32 = 3;
 
-// A folder in the place of the first of the three that is closed: nothing can be read from it or
+// A folder instead of the first of the three that is closed: nothing can be read from it or
 // written to it, as it is of what is closed.
 fn in_place(rt: &HostRuntime) -> Option<File>
     ensures { IfSome result (λ file. file_raw_fd file <ℤ pos 3) }

@@ -50,7 +50,7 @@ module _ {S : Type 0} (g : Ghosts S) (conn one two : Held S) (limit : one ≡ re
         unlimited = survives.limit;
       }
 
--- what is committed behind it stays
+-- what is committed after it stays
 still_kept : {S : Type 0} {g : Ghosts S} {conn two : Held S} → IsSettled g conn two → (back : Held S) → (HasCleanDisk (state g back) → HasCleanDisk (state g two)) → (HasCleanDisk (state g back) → KeepsCommit (state g two) (state g back))
     → HasCleanDisk (state g back) → KeepsCommit (state g conn) (state g back)
 still_kept settled back before keeps clean = record {

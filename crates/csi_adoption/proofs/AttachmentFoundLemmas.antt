@@ -69,7 +69,7 @@ all_listed P (y ∷ xs) x all (inr later) = all_listed P xs x all.1 later
 spare : CapKey
 spare = record { kind = Block; mode = 0 }
 
--- the attachment that a row behind its rowid says
+-- the attachment that a row after its rowid says
 said : Row → AttachmentKey × Attachment
 said x = (
   (unwrap_or (as_number (column x 1)) 0, unwrap_or (as_text (column x 2)) []),

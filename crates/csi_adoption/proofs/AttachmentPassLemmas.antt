@@ -61,7 +61,7 @@ all_or_not test rows none = go (list_all test rows) refl
     go false is = absurd (none is)
 
 module _ (config : Config) (format : ℕ) (s : State) (db : Trees) (rows_are : IsRowsOf format s db) (good : IsInvariant config s) where
-  -- ---- what a row stands for
+  -- ---- what a row represents
 
   entry_of : (r : Row) → Has (db 3) r → (e : AttachmentKey × Attachment) × Has (entries s.attachments) e × (seen_attachment r ≡ attachment_entry e)
   entry_of r has = shown_by attachment_entry seen_attachment (entries s.attachments) (db 3) rows_are.attachments r has

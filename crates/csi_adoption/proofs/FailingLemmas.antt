@@ -1,4 +1,4 @@
--- Why adoption fails, one call behind another.
+-- Why adoption fails, one call after another.
 use Rattle.std.proofs.Common.{◌≡◌, ◌∙◌, inl, inr, refl, sym, ap, subst, arith, ℕ, pos, not, ◌||◌, int_lt, Bool, true, false, true≢false, List, [], map, Option, None, Some, ℤ, Result, Ok, Err, IfErr, IsErrAnd, IsSome, IsTrue, cond}
 use Rattle.sqlite.proofs.Callers.{unchanged_then}
 use Rattle.sqlite.specs.Effect.{Database}
@@ -38,7 +38,7 @@ use Rattle.csi_adoption.specs.declared.meta.MetaRows.{MetaRows}
 use Rattle.csi_adoption.specs.declared.meta.MetaRows.TheVariants as meta
 use Rattle.csi_adoption.proofs.FaultLemmas.{error_fails}
 
--- ---- what an error is told as
+-- ---- what an error is reported as
 
 of_failure : (P : Error → Type 0) (e : Error) → P e → OfStore P (failure_of e)
 of_failure P e p = go (wants_memory e) refl
@@ -65,7 +65,7 @@ pub if_err : {X E : Type 0} (P : E → Type 0) (r : Result X E) (e : E) → IsEr
 if_err P (Ok x) e is p = absurd is
 if_err P (Err y) e is p = subst P (sym is) p
 
--- a failure of the database tells nothing of rows
+-- a failure of the database says nothing of rows
 pub failure_told : {X : Type 0} (P : Type 0) (r : Result X AdoptFault) (e : Error) → IsErrAnd r (λ x. x ≡ failure_of e) → IfErr r (λ fault. is_failure fault ≡ false → P)
 failure_told P r e is = if_err (λ fault. is_failure fault ≡ false → P) r (failure_of e) is (λ known. absurd (true≢false (sym (error_fails e) ∙ known)))
 
@@ -116,7 +116,7 @@ module _ {S : Type 0} (g : Ghosts S) where
   schema_before : {is : Schema} (a b : Held S) → IsUnchanged (state g a) (state g b) → (state g b).now.schema ≡ is → (state g a).now.schema ≡ is
   schema_before a b same has = sym (ap (λ (d : Database). d.schema) same.0.now_is) ∙ has
 
-  -- what is refused behind a scan is refused before it
+  -- what is refused after a scan is refused before it
   same_refuses : (a b : Held S) (e : Error) → IsUnchanged (state g a) (state g b) → (state g b).step_limit ≡ (state g a).step_limit → Refuses g b e → Refuses g a e
   same_refuses a b e same limit (too_many why) = too_many (why.0, (why.1.0, why.1.1, why.1.2, unchanged_then (state g a) (state g b) (state g why.1.1) same why.1.3, why.1.4, why.1.5))
   same_refuses a b e same limit (unrisen is_open is why) = unrisen same.0.was_open is (subst HasUnrisen (ap (λ (d : Database). d.trees) same.0.now_is) why)
@@ -130,7 +130,7 @@ module _ {S : Type 0} (g : Ghosts S) where
   cause_before a b c e same left (fails.at_limit is some) = fails.at_limit is (subst IsSome left.limit some)
   cause_before a b c e same left (fails.as_refused why) = fails.as_refused (same_refuses a b e same left.limit why)
 
-  -- behind a scan
+  -- after a scan
   pub cause_behind : {X E : Type 0} {P : Trees → Type 0} (a b c : Held S) (x : X) (e : Error) → Scans g a b {E = E} (Ok x) → Survives (state g b) (state g c) P → HasCause g b c e → HasCause g a c e
   cause_behind a b c x e one two cause clean = cause_before a b c e (one.same (omega (arith, clean, two.clean))) one.survives (cause clean)
 
@@ -199,7 +199,7 @@ module _ {S : Type 0} (g : Ghosts S) where
       go e clean opened undone left other (fails.at_limit is some) = absurd (true≢false (sym (subst IsSome left.limit some)))
       go e clean opened undone left other (fails.as_refused why) = let is_open = open_of e why in as_refused (undone.was_open is_open, two, left.limit, undone.now is_open, why)
 
-  -- what was told as an error of the database
+  -- what was answered as an error of the database
   pub told_behind : {X : Type 0} (a b : Held S) (r : Result X AdoptFault) (e : Error) → IsErrAnd r (λ x. x ≡ failure_of e) → HasCause g a b e → JudgingFails g a b r
   told_behind a b r e is cause = if_err (OfStore (HasCause g a b)) r (failure_of e) is (of_failure (HasCause g a b) e cause)
 

@@ -1,4 +1,4 @@
--- Checks one after the other, each of which ends them by its fault.
+-- Checks in order, each of which ends them by its fault.
 use Rattle.std.proofs.Common.{◌≡◌, inl, inr, refl, Bool, true, false, List, [], ◌∷◌, Option, Some, None, Result, Ok, Err, IsErrAnd, ap, cond}
 use Rattle.sqlite.specs.declared.error.Error.{Error}
 use Rattle.csi_constraints.specs.Folds.{HasSome}

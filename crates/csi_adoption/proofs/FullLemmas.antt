@@ -1,4 +1,4 @@
--- Where the list or its sums have come to an end none is full.
+-- Where the list or its sums have end none is full.
 use Rattle.std.proofs.Common.{◌≡◌, ◌⊎◌, inl, inr, refl, ap, ℕ, List, [], ◌∷◌, None}
 use Rattle.csi_constraints.specs.declared.sums.TextSum.{TextSum}
 use Rattle.csi_adoption.specs.Faults.{first_full}

@@ -86,7 +86,7 @@ all_roomy room sum (x ∷ xs) all = neither (nat_lt (room x) (sum x)) x (first_f
 
 -- ---- the next number
 
--- a number of 1 to 2^62, or else 0
+-- a number of 1 to 2^62, or otherwise 0
 abbrev pub IsValid : ℤ → ℕ → Type 0
 IsValid next n = (next ≡ pos n) × (n ≤ MAX_NUMBER)
 

@@ -20,14 +20,14 @@ use Rattle.csi_adoption.specs.declared.meta.Meta.{Meta}
 use Rattle.csi_adoption.proofs.JudgingLemmas.{all_roomy, all_unnamed, few_rows, is_next, rows_few, no_next_fault, none_both, none_first, none_full, none_named, unmapped}
 use Rattle.csi_adoption.proofs.SumLemmas.{room_kept, room_told}
 
--- what every constraint of the rows behind meta asks
+-- what every constraint of the rows after meta asks
 pub record RowsPass (config : Config) (m : Meta) (volume_rows attachment_rows owner_rows place_rows : List Row) : Type 0 where
   pub volumes : VolumesPass config m volume_rows
   pub attachments : AttachmentsPass config attachment_rows
   pub owned : list_all is_owned owner_rows ≡ true
   pub beside : NoneApart place_rows
 
--- sums that a u64 tells, where no pool and no node can have 2^64 - 1
+-- sums that a u64 has, where no pool and no node can have 2^64 - 1
 pub record IsSmall (config : Config) : Type 0 where
   pub pools : AllByRecursion (λ p. p.bytes < 2 ^ 64 - 1) config.pools
   pub nodes : AllByRecursion (λ m. m.max_volumes < 2 ^ 64 - 1) config.nodes

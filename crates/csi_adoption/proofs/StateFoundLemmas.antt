@@ -241,7 +241,7 @@ module _ (config : Config) (small : IsSmall config) (volumes_pass : VolumesDoPas
       some_none : (e : AdoptFault) → Path (Option AdoptFault) (Some e) None → ⊥
       some_none e h = absurd (cc)
 
--- ---- sums of a configuration are told
+-- ---- sums of a configuration are reported
 
 all_of : {X : Type 0} (P : X → Type 0) (xs : List X) → ((x : X) → Has xs x → P x) → AllByRecursion P xs
 all_of P [] all = tt

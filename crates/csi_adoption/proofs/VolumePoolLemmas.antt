@@ -1,4 +1,4 @@
--- What is told of the pools is what their volumes are and have, and no volume has a pool that the configuration has not.
+-- What is reported of the pools is what their volumes are and have, and no volume has a pool that the configuration has not.
 use Rattle.std.proofs.Common.{◌≡◌, ◌∙◌, refl, sym, ap, Bool, true, false, true≢false, cond, ℕ, List, [], ◌∷◌, map, filter, length, sum, None, Some, IsSome, ◌⊎◌, inl, inr, ap₂, ◌-◌, ◌^◌, ◌<◌}
 use Rattle.std.specs.Cmp.{nat_cmp_total}
 use Rattle.std.specs.FinMap.{entries, nat_cmp-IsAntisymmetric}
@@ -45,7 +45,7 @@ none_elsewhere config m rows found pool none =
 abbrev total_told : List Pool → List Row → List ℕ → Total
 total_told pools rows = total_in pools (map (λ p. sum_after 3 p.name One 0 rows) pools) (map (λ p. sum_after 3 p.name (Number 2) 0 rows) pools)
 
--- what is told of a name is told of a pool that has it, or no pool has it
+-- what is reported of a name is reported of a pool that has it, or no pool has it
 told_of : (pools : List Pool) (rows : List Row) (name : List ℕ)
     → ((p : Pool) × Has pools p × (p.name ≡ name) × (total_told pools rows name ≡ the_total (sum_after 3 p.name One 0 rows) (sum_after 3 p.name (Number 2) 0 rows)))
     ⊎ ((pool_named pools name ≡ None) × (total_told pools rows name ≡ zero_total))

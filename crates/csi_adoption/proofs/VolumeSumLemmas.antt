@@ -1,4 +1,4 @@
--- What is told of a pool's rows is so of its volumes.
+-- What is reported of a pool's rows is so of its volumes.
 use Rattle.std.proofs.Common.{◌≡◌, inl, inr, refl, ap, subst, ℕ, ◌-◌, ◌^◌, ◌≤◌, ◌<◌, cond, List, [], ◌∷◌, map, length, sum, sum_by, is_eq, arith}
 use Rattle.std.specs.Cmp.Lexicographic.{slice_cmp}
 use Rattle.std.specs.List.{AllByRecursion}
@@ -42,7 +42,7 @@ sum_of (e ∷ es) pool =
     let there = sum_by-cons (added_by 3 pool (Number 2)) (volume_entry e) (map volume_entry es) in
     omega (arith, here, there, one_test e.1.pool pool e.1.bytes, sum_of es pool)
 
--- what is told of a pool of the configuration is so of rows that pass
+-- what is reported of a pool of the configuration is so of rows that pass
 pub pool_told : (config : Config) (m : Meta) (rows : List Row) → VolumesPass config m rows → (p : Pool) → Has config.pools p → p.bytes < 2 ^ 64 - 1
     → (sum_after 3 p.name One 0 rows ≡ sum_by (added_by 3 p.name One) rows) × (sum_after 3 p.name (Number 2) 0 rows ≡ sum_by (added_by 3 p.name (Number 2)) rows)
 pool_told config m rows pass p has low =

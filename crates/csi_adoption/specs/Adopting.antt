@@ -30,7 +30,7 @@ use Rattle.csi_adoption.specs.Judging.{total_in, IsFaultOf}
 abbrev pub IsStateOf : Database → State → Type 0
 IsStateOf db s = ((db.schema ≡ schema) × IsEitherRows s db.trees) ⊎ ((db.schema ≡ no_schema) × (s ≡ first_state 1))
 
--- a State of the rows, which meets every constraint, and its totals as the sums of the scan tell them
+-- a State of the rows, which meets every constraint, and its totals as the sums of the scan have them
 pub record FoundState (config : Config) (db : Trees) (seen : VolumesSeen) : Type 0 where
   pub known : IsFormat seen.format
   pub state : State
@@ -44,7 +44,7 @@ pub record IsFound (config : Config) (db : Database) (format : ℕ) (totals : To
   pub schema_is : db.schema ≡ schema
   pub found : IsSound schema db.trees → IsFormat format × (s : State) × IsRowsIn format s db.trees × IsInvariant config s × AreTotals totals s
 
--- Tables that were taken: they stand for the State that they stood for, which meets every constraint, and are
+-- Tables that were taken: they represent the State that they represented, which meets every constraint, and are
 -- of the latest format.
 pub record IsTaken (config : Config) (old new : sql.State) (totals : Totals) : Type 0 where
   pub was_open : IsTrue old.is_open
@@ -54,7 +54,7 @@ pub record IsTaken (config : Config) (old new : sql.State) (totals : Totals) : T
   pub settled : old.now ≡ old.committed → new.now ≡ new.committed
   pub found : IsSound schema old.now.trees → (s : State) × IsEitherRows s old.now.trees × IsRows s new.now.trees × IsInvariant config s × AreTotals totals s
 
--- a stop may leave tables of the latest format in place of those of the first one, of the same State, which
+-- a stop may leave tables of the latest format instead of those of the first one, of the same State, which
 -- meets every constraint
 pub record LeavesLatest (config : Config) (old : sql.State) (db : Trees) : Type 0 where
   pub was_open : IsTrue old.is_open
@@ -98,10 +98,10 @@ module _ {S : Type 0} (g : Ghosts S) (config : Config) (conn : Held S) where
         ⊎ ((s : State) × (committed.schema ≡ schema) × IsFirstRows s committed.trees × IsRows s db × IsInvariant config s × (is_failure fault ≡ true))
     -- the fault is the first one of what was committed, unless something failed
     pub first : HasCleanDisk (state g back) → IsTrue (state g back).is_open → is_failure fault ≡ false → IsFaultOf config committed fault
-    -- other tables are told, whatever fails
+    -- other tables are reported, whatever fails
     pub other : HasCleanDisk (state g back) → IsTrue (state g back).is_open → committed.schema ≢ schema → committed.schema ≢ no_schema
         → fault ≡ Foreign foreign.Schema
-    -- where the connection is shut no row is judged; other tables are told there of what it shows
+    -- where the connection is shut no row is judged; other tables are reported there of what it shows
     pub shut : HasCleanDisk (state g back) → (state g back).is_open ≡ false → IsOfShut (state g back).now.schema fault
     -- a database without a table is refused only if something failed
     pub blank : HasCleanDisk (state g back) → IsTrue (state g back).is_open → committed.schema ≡ no_schema → is_failure fault ≡ true

@@ -42,7 +42,7 @@ pub data Refuses {S : Type 0} (g : Ghosts S) (old : Held S) (e : Error) : Type 0
   -- the row of meta in new tables
   tables : (state g old).now.schema ≡ no_schema → RefusesTables (state g old) e → Refuses g old e
 
--- of an error of the database that is told as such, which no want of memory is
+-- of an error of the database that is reported as such, which no want of memory is
 abbrev pub OfStore : (Error → Type 0) → AdoptFault → Type 0
 OfStore P (Store e) = (wants_memory e ≡ false) × P e
 OfStore P _ = ⊤
@@ -60,7 +60,7 @@ module _ {S : Type 0} (g : Ghosts S) (old new : Held S) where
   abbrev pub JudgingFails : {X : Type 0} → Result X AdoptFault → Type 0
   JudgingFails r = IfErr r (OfStore HasCause)
 
--- on a connection that is shut no row is judged: what is told but a failure is that it has other tables
+-- on a connection that is shut no row is judged: what is reported but a failure is that it has other tables
 abbrev pub IsOfShut : Schema → AdoptFault → Type 0
 IsOfShut seen fault = is_failure fault ≡ false → (fault ≡ Foreign foreign.Schema) × (seen ≢ schema)
 

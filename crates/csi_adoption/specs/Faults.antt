@@ -39,7 +39,7 @@ volume_kinds_fault found = option_map (λ name. Foreign (foreign.Volume (number_
 abbrev pub attachment_kinds_fault : Option RowName → Option AdoptFault
 attachment_kinds_fault found = option_map (λ name. Foreign (foreign.Attachment (number_of name))) found
 
--- the first that holds less than the sum beside it
+-- the first that holds less than the sum next to it
 abbrev pub first_full : {X : Type 0} → (X → ℕ) → List X → List ℕ → Option X
 first_full room [] sums = None
 first_full room (x ∷ xs) [] = None
@@ -86,7 +86,7 @@ code_faults volumes attachments =
     ∷ attachment_fault attachment_constraint.Cap attachments.cap ∷ attachment_fault attachment_constraint.Readonly attachments.readonly
     ∷ attachment_fault attachment_constraint.Node attachments.node ∷ [])
 
--- a volume stands and has the capability
+-- a volume exists and has the capability
 abbrev pub owner_fault : Option RowName → Option AdoptFault
 owner_fault unowned = attachment_fault attachment_constraint.Owner unowned
 
@@ -94,7 +94,7 @@ abbrev pub count_faults : Config → Option RowName → AttachmentsFound → Vol
 count_faults config apart attachments volumes =
     first_fault (attachment_fault attachment_constraint.Beside apart ∷ node_fault config.nodes attachments.node_volumes ∷ count_fault volumes.rows ∷ [])
 
--- those that the rows of volumes and of attachments tell by themselves
+-- those of the rows of volumes and of attachments, each alone
 abbrev pub table_faults : Config → ℕ → VolumesFound → AttachmentsFound → Option AdoptFault
 table_faults config next volumes attachments = first_fault
     (kinds_faults volumes attachments ∷ number_faults next volumes ∷ size_faults config volumes ∷ code_faults volumes attachments ∷ [])
@@ -123,7 +123,7 @@ abbrev pub wants_memory : Error → Bool
 wants_memory (SqliteFailure OutOfMemory) = true
 wants_memory _ = false
 
--- what an error of the database is told as
+-- what an error of the database is reported as
 abbrev pub failure_of : Error → AdoptFault
 failure_of error = if wants_memory error then NoMemory else Store error
 

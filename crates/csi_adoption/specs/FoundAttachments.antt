@@ -1,4 +1,4 @@
--- The attachments that rows stand for, beside the volumes that other rows stand for.
+-- The attachments that rows represent, next to the volumes that other rows represent.
 use Rattle.std.specs.Prelude.{◌≡◌, ℕ, ◌≤◌, true, List, Some, IsSome, IsPermutation, length, map, filter, bytes_eq}
 use Rattle.std.specs.FinMap.{FinMap, entries, get}
 use Rattle.std.specs.List.{AllByRecursion, list_all}
@@ -26,7 +26,7 @@ use Rattle.csi_sql.specs.Effects.{AreKeyed}
 use Rattle.csi_tables.specs.Holding.{attachment_entry, volume_entry, IsPlaced, IsRowsOf, IsStored}
 use Rattle.csi_adoption.specs.Passing.{AttachmentsAreKnown, AttachmentsPass}
 
--- an attachment that may stand at a number and a node, beside the volumes
+-- an attachment that may be at a number and a node, next to the volumes
 pub record StandsAmong (config : Config) (volumes : FinMap nat_cmp Volume) (n : ℕ) (node : Text) (a : Attachment) : Type 0 where
   pub at : a.node ≡ node
   pub known : IsSome (node_of config node)
@@ -34,7 +34,7 @@ pub record StandsAmong (config : Config) (volumes : FinMap nat_cmp Volume) (n : 
   pub stands : get volumes n ≡ Some volume
   pub cap : has_key volume.caps (Some a.cap) ≡ true
 
--- attachments that the rows of their table stand for, as a State with the volumes may have them
+-- attachments that the rows of their table represent, as a State with the volumes may have them
 pub record FoundAttachments (config : Config) (volumes : FinMap nat_cmp Volume) (db : Trees) : Type 0 where
   pub attachments : FinMap attachment_key_cmp Attachment
   pub listed : IsPermutation (map attachment_entry (entries attachments)) (map seen_attachment (db 3))
@@ -48,7 +48,7 @@ pub record FoundAttachments (config : Config) (volumes : FinMap nat_cmp Volume) 
 
 -- ---- laws
 
--- tables that pass every constraint have attachments, where the rows of volumes stand for these volumes
+-- tables that pass every constraint have attachments, where the rows of volumes represent these volumes
 abbrev pub AttachmentsAreFound : Type 0
 AttachmentsAreFound =
     (config : Config) (next : ℕ) (db : Trees) (volumes : FinMap nat_cmp Volume) (volumes_in_order rows owned places : List Row)

@@ -59,7 +59,7 @@ with_rows seen (r ∷ rows) = with_rows (with_row seen r) rows
 abbrev pub no_meta : {X : Type 0} → Result X AdoptFault
 no_meta = Err (Foreign foreign.Meta)
 
--- a next number of 1 to 2^62, and else 0
+-- a next number of 1 to 2^62, and otherwise 0
 abbrev pub valid_next : ℤ → ℕ
 valid_next (pos n) = if nat_le n MAX_NUMBER then n else 0
 valid_next (negsuc n) = 0
@@ -189,20 +189,20 @@ abbrev pub volumes_unless : TablesSeen → Result (Unit {0}) AdoptFault → Resu
 volumes_unless tables (Ok fine) = Ok tables.volumes
 volumes_unless tables (Err e) = Err e
 
--- where the rows of each table by themselves break no constraint, and this is what meta tells
+-- where the rows of each table alone break no constraint, and this is what meta says
 abbrev pub JudgesJoined : Config → Trees → Meta → TablesSeen → Result (Unit {0}) AdoptFault → Type 0
 JudgesJoined config db m tables result = TablesAreSeen config m db tables
     → table_faults config m.next (told_volumes tables.volumes) (told_attachments tables.attachments) ≡ None
     → (rows : List Row) → IsPermutation (map seen_meta (db 0)) rows → meta_judged (with_rows meta.None rows) ≡ Ok m
     → JudgesRows config db (volumes_unless tables result)
 
--- where this was seen of the tables, and this is what meta tells
+-- where this was seen of the tables, and this is what meta says
 abbrev pub JudgesSeen : Config → Trees → Meta → TablesSeen → Result (Unit {0}) AdoptFault → Type 0
 JudgesSeen config db m tables result = TablesAreSeen config m db tables
     → (rows : List Row) → IsPermutation (map seen_meta (db 0)) rows → meta_judged (with_rows meta.None rows) ≡ Ok m
     → JudgesRows config db (volumes_unless tables result)
 
--- where this is what meta tells
+-- where this is what meta says
 abbrev pub JudgesBehind : Config → Trees → Meta → Result VolumesSeen AdoptFault → Type 0
 JudgesBehind config db m result = (rows : List Row) → IsPermutation (map seen_meta (db 0)) rows → meta_judged (with_rows meta.None rows) ≡ Ok m
     → JudgesRows config db result

@@ -41,7 +41,7 @@ PassesMeta =
     (config : Config) (format : ℕ) (s : State) (db : Trees) → IsRowsOf format s db → IsInvariant config s → (meta : List Row)
     → IsPermutation (map seen_meta (db 0)) meta → meta ≡ meta_row format s.next ∷ []
 
--- what is told of a pool is so of rows of volumes that pass
+-- what is reported of a pool is so of rows of volumes that pass
 abbrev pub TellsPools : Type 0
 TellsPools =
     (config : Config) (m : Meta) (rows : List Row) → VolumesPass config m rows → (p : Pool) → Has config.pools p → p.bytes < 2 ^ 64 - 1
@@ -54,7 +54,7 @@ HasNoOtherPool =
     (config : Config) (m : Meta) (rows : List Row) (found : FoundVolumes config m rows) (pool : List ℕ)
     → pool_named config.pools pool ≡ None → sizes_of found.volumes pool ≡ []
 
--- what is told of the pools is what is found of them
+-- what is reported of the pools is what is found of them
 abbrev pub FindsTotals : Type 0
 FindsTotals =
     (config : Config) (m : Meta) (rows : List Row) → VolumesPass config m rows → ((p : Pool) → Has config.pools p → p.bytes < 2 ^ 64 - 1)
@@ -62,12 +62,12 @@ FindsTotals =
     → total_in config.pools (in_volumes config m rows).pool_volumes (in_volumes config m rows).pool_bytes name
     ≡ the_total (length (sizes_of found.volumes name)) (sum (sizes_of found.volumes name))
 
--- a count that is told up to 2^64 - 1 is the count
+-- a count that is reported up to 2^64 - 1 is the count
 abbrev pub TellsCounts : Type 0
 TellsCounts =
     (at : ℕ) (text : List ℕ) (rows : List Row) → length rows ≤ 2 ^ 64 - 1 → sum_after at text One 0 rows ≡ sum_by (added_by at text One) rows
 
--- a bound below that number holds of a sum that is told so exactly where it holds of the sum
+-- a bound below that number holds of a sum that is reported so exactly where it holds of the sum
 abbrev pub TellsRooms : Type 0
 TellsRooms =
     (at : ℕ) (text : List ℕ) (weight : Weight) (rows : List Row) (most : ℕ) → most < 2 ^ 64 - 1

@@ -1,4 +1,4 @@
--- What scans over the tables have to show for adoption.
+-- What scans over the tables must show for adoption.
 use Rattle.std.specs.Prelude.{◌≡◌, ◌≤◌, true, List, None, IfSome, IsPermutation, [], ◌∷◌, length, map, sum_by}
 use Rattle.std.specs.List.{AllByRecursion, list_all}
 use Rattle.sqlite.specs.Order.{Row}
@@ -37,7 +37,7 @@ pub record VolumesAreKnown (rows : List Row) : Type 0 where
   pub caps : AllByRecursion (λ r. IfSome (keys_at 4 r) FitCaps) rows
   pub params : AllByRecursion (λ r. IfSome (params_at 5 r) (λ ms. FitParams ms.0 ms.1)) rows
 
--- the rows of attachments, behind their rowids, meet each constraint of their own
+-- the rows of attachments, after their rowids, meet each constraint of their own
 pub record AttachmentsPass (config : Config) (rows : List Row) : Type 0 where
   pub kinds : list_all has_attachment_kinds rows ≡ true
   pub caps : list_all has_cap rows ≡ true

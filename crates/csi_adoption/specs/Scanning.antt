@@ -13,6 +13,6 @@ module _ {S : Type 0} (g : Ghosts S) (old new : Held S) where
     pub kept : HasCleanDisk (state g new) → KeepsCommit (state g old) (state g new)
     pub survives : Survives (state g old) (state g new) (λ _. ⊥)
 
-  -- there are such rows of which the answer tells
+  -- there are such rows, and the answer is theirs
   abbrev pub SeenBy : {X E : Type 0} → Result X E → (Trees → List Row → Type 0) → (List Row → X → Type 0) → Type 0
   SeenBy result What Told = HasCleanDisk (state g new) → IfOk result (λ seen. (rows : List Row) × What (state g old).now.trees rows × Told rows seen)

@@ -87,7 +87,7 @@ fn see_tables<S: Alter>(
     })
 }
 
-// Judges attachments beside their volumes and beside one another, once each table is judged by itself: each
+// Judges attachments with their volumes and with one another, once each table is judged alone: each
 // is known to be at a node of the configuration then, so those of a volume are few.
 fn judge_joined<S: Alter>(
     alloc: Global,
@@ -142,8 +142,8 @@ fn judge_seen<S: Alter>(
     judge_joined(alloc, conn, config, tables)
 }
 
-// Judges the rows behind that of meta by the constraints in their order. What is seen of the tables is large,
-// and so is lent to what may fail.
+// Judges the rows after that of meta by the constraints in their order. What is seen of the tables is large,
+// and so is passed by reference to what may fail.
 fn judge_behind<S: Alter>(
     alloc: Global,
     conn: &mut IdleConnection<S>,
@@ -192,7 +192,7 @@ fn judge_rows<S: Alter>(
     judge_behind(alloc, conn, config, meta)
 }
 
-// What the laws of the rows tell: rows that break no constraint are those of a State that meets every
+// What the laws of the rows say: rows that break no constraint are those of a State that meets every
 // constraint, and the rows of such a State break none.
 #[inline(always)]
 fn rows_tell(config: &Config)
@@ -325,10 +325,10 @@ fn roll_back<S: Alter>(conn: &mut Connection<S>)
 /// Takes the tables that a database has, and gives a keeper over them; a database that has no table
 /// gets new ones, with no volume and 1 as the next number.
 ///
-/// What was committed is judged: the tables have to be exactly those that are made here, each value of
-/// the kind of its column, and the rows have to meet every constraint of the configuration (docs/TABLES.md,
+/// What was committed is judged: the tables must be exactly those that are made here, each value of
+/// the kind of its column, and the rows must meet every constraint of the configuration (docs/TABLES.md,
 /// "What is judged when a file is opened"). After `Ok` there is one State whose rows were committed; it
-/// meets the constraints, the keeper has it, and a stop leaves it and nothing else. Rows are looked at one by
+/// meets the constraints, the keeper has it, and a stop leaves it and nothing else. Rows are read one by
 /// one and none is kept, so memory does not grow with them. A limit on the connection's steps is taken
 /// away.
 ///
@@ -336,7 +336,7 @@ fn roll_back<S: Alter>(conn: &mut Connection<S>)
 ///
 /// The first constraint that is broken, with the row that a scan finds first; or that the database or memory
 /// failed, which says nothing of the rows: those of a State that meets every constraint are refused for
-/// nothing else. That the database failed has a cause, of which its error tells: its disk, a fault that shut
+/// nothing else. That the database failed has a cause, which its error names: its disk, a fault that shut
 /// the connection, or that it refuses what is asked. What was committed stays, and the connection is given
 /// back.
 ///

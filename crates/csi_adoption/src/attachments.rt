@@ -24,7 +24,7 @@ use csi_sql::{Fold, IdleConnection};
 use sqlite::{Alter, Error, ErrorCode, Row};
 use std::alloc::{AllocError, Global};
 
-// What is found of each row of attachments after its rowid. The rowids have to rise.
+// What is found of each row of attachments after its rowid. The rowids must rise.
 #[derive(Drop)]
 struct AttachmentsFold<'a> {
     kinds: FirstBroken<InfallibleTest<HasAttachmentKinds>>,
@@ -112,7 +112,7 @@ pub(crate) fn see_attachments<S: Alter>(
     Ok(seen)
 }
 
-/// The first attachment whose volume does not stand, or has not its capability.
+/// The first attachment whose volume does not exist, or does not have its capability.
 pub(crate) fn see_owners<S: Alter>(
     alloc: Global,
     conn: &mut IdleConnection<S>,
@@ -132,7 +132,7 @@ pub(crate) fn see_owners<S: Alter>(
     Ok(fold.found)
 }
 
-/// The first attachment that cannot stand beside another of its volume.
+/// The first attachment that cannot coexist with another of its volume.
 pub(crate) fn see_apart<S: Alter>(
     alloc: Global,
     conn: &mut IdleConnection<S>,

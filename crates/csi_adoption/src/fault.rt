@@ -21,7 +21,7 @@ pub enum Foreign {
     /// A value in a row of volumes is not of its column's kind.
     #[error("volume {number}: a value is not of the kind of its column")]
     Volume {
-        /// The volume's number, as it stands in the row.
+        /// The volume's number, as it is in the row.
         number: i64,
     },
     /// A value in a row of attachments is not of its column's kind.

@@ -16,7 +16,7 @@ use csi_sql::{FIRST_FORMAT, Fold, IdleConnection, LATEST_FORMAT};
 use csi_types::MAX_NUMBER;
 use sqlite::{Alter, Error, Row};
 
-/// What the row of meta tells.
+/// What the row of meta says.
 #[derive(Clone, Copy)]
 pub(crate) struct Meta {
     /// The format of the tables, the first or the latest.
@@ -25,7 +25,7 @@ pub(crate) struct Meta {
     pub(crate) next: u64,
 }
 
-/// The integers in a row of meta; `None` where another value stands.
+/// The integers in a row of meta; `None` where there is another value.
 #[derive(Clone, Copy)]
 pub(crate) struct MetaRow {
     pub(crate) key: Option<i64>,
@@ -71,7 +71,7 @@ impl Fold for MetaFold {
     }
 }
 
-// The next number, if it is 1 to 2^62; else 0, below which no number is.
+// The next number, if it is 1 to 2^62; otherwise 0, below which no number is.
 fn valid_next(next: i64) -> u64
     ensures { result ≡ valid_next next }
 {
@@ -107,7 +107,7 @@ fn judge_integers(key: i64, format: i64, next: i64) -> Result<Meta, AdoptFault>
     })
 }
 
-/// What the row of meta tells, where there is just one, of a format that is known.
+/// What the row of meta says, where there is just one, of a format that is known.
 pub(crate) fn judge_meta(rows: MetaRows) -> Result<Meta, AdoptFault>
     ensures { result ≡ meta_judged rows }
 {

@@ -40,7 +40,7 @@ fn check_codes(
     check_attachment(alloc, &attachments.node, AttachmentConstraint::Node)
 }
 
-/// The first fault of what was seen of each table alone, by the next number that meta tells (0 where it is
+/// The first fault of what was seen of each table alone, by the next number that meta has (0 where it is
 /// none).
 ///
 /// # Errors
@@ -72,7 +72,7 @@ fn check_count(rows: u64) -> Result<(), AdoptFault>
 }
 
 /// The first fault of the attachments of a volume and of a node, and of all volumes, where this attachment
-/// was found first that cannot stand beside another.
+/// was found first that cannot coexist with another.
 ///
 /// # Errors
 ///

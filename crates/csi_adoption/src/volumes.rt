@@ -27,7 +27,7 @@ use csi_types::copy_text;
 use sqlite::{Alter, Error, ErrorCode, Row};
 use std::alloc::{AllocError, Global};
 
-// What is found of each row of volumes, whose numbers have to rise.
+// What is found of each row of volumes, whose numbers must rise.
 #[derive(Drop)]
 struct VolumesFold<'a> {
     kinds: FirstBroken<InfallibleTest<HasVolumeKinds>>,

@@ -89,7 +89,7 @@ module _ (shorter : (bytes rest : List ℕ) (e : WireField) → field_at bytes �
       let same = same_field bytes h.0 page.0 h.1 page.1 h.2 page.2 in
       goes_behind done items h.1 rest h.4 (subst (λ b. BeginsWith items b []) same.1 page.4)
 
-  -- no item is spelled where one should be
+  -- no item is encoded where one should be
   pub no_page : (done : List PageItem) (bytes rest : List ℕ) → BeginsWith done bytes rest → rest ≢ [] → ((e : WireField) (more : List ℕ) → field_at rest ≡ Ok (e, more) → (item : PageItem) → IsItem e item → ⊥) → (items : List PageItem) → IsPage bytes items → ⊥
   no_page done bytes rest h some none items page = let it = goes_behind done items bytes rest h page in from it.0 it.1
     where

@@ -78,7 +78,7 @@ path_of Lead = codes "/fomaheti.log.v1.Log/Lead"
 abbrev pub commit_frame : Change → List ℕ
 commit_frame change = frame (record { path = path_of Commit; message = change_bytes change })
 
--- a page of the rows is to be told, the first one or the one of a token
+-- a page of the rows is asked for, the first one or the one of a token
 abbrev pub token_bytes : List ℕ → List ℕ
 token_bytes token = spelling (bytes_field 1 token)
 
@@ -95,7 +95,7 @@ lead_frame = frame (record { path = path_of Lead; message = [] })
 
 -- ---- a reply
 
--- Whether the change was made: status 0 alone says so. All else is a refusal, also where nobody knows.
+-- Whether the change was made: status 0 alone says so. Anything else is a refusal, also where nobody knows.
 abbrev pub answer_of : Received → Result (Unit {0}) StoreFault
 answer_of (Reply r) = if r.status == 0 then Ok tt else Err Refused
 answer_of Nothing = Err Refused

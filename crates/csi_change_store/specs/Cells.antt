@@ -26,10 +26,10 @@ pub record HasColumns (kinds : List Kind) (cells : Cells) (es : List WireField) 
   pub numbers : (k : ℕ) → slice_get kinds k ≡ Some Integer → number_of cells k ≡ number_at k es
   pub bytes : (k : ℕ) → slice_get kinds k ≡ Some Bytes → bytes_of cells k ≡ bytes_at k es
 
--- the payload spells these columns
+-- the payload encodes these columns
 abbrev pub IsReadAs : List Kind → List ℕ → Cells → Type 0
 IsReadAs kinds payload cells = (es : List WireField) × AreFields es payload × AreCells kinds es × HasColumns kinds cells es
 
--- the payload spells no columns
+-- the payload encodes no columns
 abbrev pub IsUnread : List Kind → List ℕ → Type 0
 IsUnread kinds payload = (es : List WireField) → AreFields es payload → AreCells kinds es → ⊥

@@ -1,4 +1,4 @@
--- What a page of rows spells: docs/PROTOCOL.md, "The change store" (own). Its fields are read in order; field
+-- What a page of rows encodes: docs/PROTOCOL.md, "The change store" (own). Its fields are read in order; field
 -- 1 is the row of meta, 2 a row of volumes, 3 one of attachments, 4 the token of the next page.
 use Rattle.std.specs.Prelude.{◌≡◌, ℕ, ◌<◌, ◌^◌, ◌==◌, Bool, true, false, List, [], ◌∷◌, Option, Some, None, Ok, IsUtf8, slice_get, unwrap_or, nat_lt}
 use Rattle.std.specs.Prelude.{if◌then◌else◌}
@@ -103,13 +103,13 @@ volume_of es = record {
 abbrev pub attachment_of : List WireField → AttachmentColumns
 attachment_of es = record { number = number_at 1 es; node = bytes_at 2 es; cap = bytes_at 3 es; readonly = number_at 4 es }
 
--- the payload spells the row
+-- the payload encodes the row
 abbrev pub IsSpelled : {Columns : Type 0} → List Kind → (List WireField → Columns) → List ℕ → Columns → Type 0
 IsSpelled kinds columns_of payload columns = (es : List WireField) × AreFields es payload × AreCells kinds es × (columns ≡ columns_of es)
 
 -- ---- pages
 
--- what one field of a page spells
+-- what one field of a page encodes
 pub data PageItem : Type 0 where
   Meta : MetaColumns → PageItem
   Volume : VolumeColumns → PageItem
@@ -129,7 +129,7 @@ abbrev pub BeginsWith : List PageItem → List ℕ → List ℕ → Type 0
 BeginsWith [] bytes rest = bytes ≡ rest
 BeginsWith (item ∷ items) bytes rest = (e : WireField) × (more : List ℕ) × (field_at bytes ≡ Ok (e, more)) × IsItem e item × BeginsWith items more rest
 
--- the body of a reply spells these items
+-- the body of a reply encodes these items
 abbrev pub IsPage : List ℕ → List PageItem → Type 0
 IsPage body items = BeginsWith items body []
 
@@ -180,7 +180,7 @@ node_of Skipped = None
 abbrev pub AreTyped : List PageItem → Type 0
 AreTyped items = AllByRecursion IsTyped items
 
--- ---- what is noted of the items besides their rows
+-- ---- what is noted of the items in addition to their rows
 
 pub record Notes : Type 0 where
   -- the token of the next page, which is empty after the last one

@@ -1,4 +1,4 @@
--- What contracts see of a change store behind a connection.
+-- What contracts see of a change store at the other end of a connection.
 use Rattle.std.specs.Prelude.{◌≡◌, ◌⊎◌, ◌<◌, ℕ, Option, List, Result, Err, length, ⊤, false}
 use Rattle.std.specs.Io.KnownBytes.{Appends}
 use Rattle.envelope.specs.declared.limits.TheConstants.{MAX_MESSAGE_BYTES}

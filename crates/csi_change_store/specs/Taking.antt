@@ -132,7 +132,7 @@ FailsWith refuses old new NoMemory = Unit {0}
 abbrev pub IsRefusedAs : PageItem → State → Option ℕ → Error → Type 0
 IsRefusedAs item s number e = (volume_number item ≡ number) × RefusesItem item s e
 
--- a field of the page that spells such an item, after fields that spell others
+-- a field of the page that encodes such an item, after fields that encode others
 pub record IsFaultIn (body : List ℕ) (Bad : PageItem → Type 0) : Type 0 where
   pub before : List PageItem
   pub item : PageItem
@@ -140,7 +140,7 @@ pub record IsFaultIn (body : List ℕ) (Bad : PageItem → Type 0) : Type 0 wher
   pub begins : BeginsWith (before ++ item ∷ []) body rest
   pub bad : Bad item
 
--- why a page is not taken: it spells no items, or one of them is such that the tables cannot take it
+-- why a page is not taken: it encodes no items, or one of them is such that the tables cannot take it
 abbrev pub IsPageFault : List ℕ → RowsFault → Type 0
 IsPageFault body Malformed = (items : List PageItem) → IsPage body items → ⊥
 IsPageFault body (Untyped number) = IsFaultIn body (λ item. (volume_number item ≡ Some number) × (HasTexts item → ⊥))
@@ -158,7 +158,7 @@ module _ {S : Type 0} (g : Ghosts S) (old new : Held S) where
         → IfErr r (FailsWith (IsRefusedAs item (state g old)) (state g old) (state g new))
     pub nothing : CommitsNothing g old new
 
-  -- The items that the page spells are put, all of them and in their order, and noted; or one is not for a
+  -- The items that the page encodes are put, all of them and in their order, and noted; or one is not for a
   -- cause.
   pub record TakesPage (body : List ℕ) (before after : Notes) (r : Result (Unit {0}) RowsFault) : Type 0 where
     pub ok : OnOk r ((items : List PageItem) × IsPage body items × AreTyped items × (after ≡ noted items before) × ExtendsFrom g old new (PutsAll items))

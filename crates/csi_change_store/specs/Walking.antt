@@ -65,7 +65,7 @@ abbrev pub HasNextPage : List (List PageItem) → Notes → Type 0
 HasNextPage [] notes = Unit {0}
 HasNextPage (items ∷ pages) notes = notes.token ≢ []
 
--- the exchanges that give these pages, one after the other
+-- the exchanges that give these pages, in order
 abbrev pub Walks : {P : Type 0} → (P → P → List ℕ → Received → Type 0) → List (List PageItem) → Notes → P → P → Notes → Type 0
 Walks {P = P} exchanged [] notes old new after = (new ≡ old) × (after ≡ notes)
 Walks {P = P} exchanged (items ∷ pages) notes old new after =

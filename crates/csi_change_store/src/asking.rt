@@ -11,7 +11,7 @@ use envelope::{MAX_MESSAGE_BYTES, put_request};
 use pbwire::put_bytes;
 use std::alloc::{AllocError, Global};
 
-// What stands in a message before a long token: a tag of one byte, and a length of three.
+// What comes in a message before a long token: a tag of one byte, and a length of three.
 const TOKEN_HEAD_BYTES: usize = 1 + 3;
 
 /// The most bytes of a token that a message holds.
@@ -62,8 +62,8 @@ pub(crate) fn frame_of(
     Ok(frame)
 }
 
-/// The frame that asks for a page of the rows: the first one where the token is empty, else the one of the
-/// token, which the page before has given.
+/// The frame that asks for a page of the rows: the first one where the token is empty, otherwise the one
+/// of the token, which the page before has given.
 ///
 /// # Errors
 ///

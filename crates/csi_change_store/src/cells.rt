@@ -94,7 +94,7 @@ impl<'a> Cells<'a> {
     }
 }
 
-/// The columns of a row, if the payload spells one: each field of a column fits it.
+/// The columns of a row, if the payload encodes one: each field of a column fits it.
 pub(crate) fn read_cells<'a>(kinds: &[Kind], payload: &'a [u8]) -> Option<Cells<'a>>
     requires { length kinds.now ≤ 7 }
     ensures read { IfSome result (λ cells. IsReadAs kinds.now payload.now cells) }

@@ -1,4 +1,4 @@
-//! What one field of a page spells.
+//! What one field of a page encodes.
 
 ghost use Rattle.std.specs.Prelude.{◌≡◌, ◌≤◌, IfErr, IfOk, IsUtf8, length};
 ghost use Rattle.pbwire.specs.Reading.{wire_field_of};
@@ -45,7 +45,7 @@ pub(crate) struct AttachmentRow<'a> {
     pub(crate) readonly: bool,
 }
 
-/// What one field of a page spells.
+/// What one field of a page encodes.
 #[derive(Clone, Copy)]
 pub(crate) enum Item<'a> {
     /// The row of `meta`: its format, and the next number.
@@ -141,7 +141,7 @@ fn meta_of<'a>(payload: &'a [u8]) -> Result<Item<'a>, RowsFault>
     Ok(Item::Meta(cells.number(1), cells.number(2)))
 }
 
-/// What a field of a page spells, as far as the tables can take it.
+/// What a field of a page encodes, as far as the tables can hold it.
 pub(crate) fn item_of<'a>(alloc: Global, field: Field<'a>) -> Result<Item<'a>, RowsFault>
     ensures item { IfOk result (λ item. IsItem (wire_field_of field.entry) (seen_item item)) }
     ensures typed { IfOk result (λ item. IsTyped (seen_item item)) }

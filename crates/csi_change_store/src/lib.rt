@@ -6,11 +6,11 @@
 //! `specs/Asking.antt` says which frame asks for which change, and which reply says that it was made. So what
 //! is believed of the other end is one clause, that of [`Peer::exchange`]: it makes the change of a frame as
 //! it says in the reply. [`Channel`] is a peer over any reader and writer. No contract can say that the other
-//! end tells the truth: of a channel nothing is promised from its first exchange on (its `doubt`), but what
+//! end is truthful: of a channel nothing is promised from its first exchange on (its `doubt`), but what
 //! it wrote and read.
 //!
 //! [`read_rows`] makes tables and puts all rows of a peer into them, page by page ([`read_pages`],
-//! [`put_page`]). `specs/Pages.antt` says what the body of a reply spells, `specs/Taking.antt` what its rows
+//! [`put_page`]). `specs/Pages.antt` says what the body of a reply encodes, `specs/Taking.antt` what its rows
 //! make of the tables, `specs/Walking.antt` which exchanges give all pages, and `specs/Giving.antt` which
 //! State has such rows.
 //!

@@ -16,7 +16,7 @@ use pbwire::laws::spelled;
 use sqlite::{Alter, Transaction};
 use std::alloc::Global;
 
-/// What is noted of pages besides their rows.
+/// What is noted of pages in addition to their rows.
 #[derive(Drop)]
 pub struct Notes {
     /// The token of the next page. It is empty after the last one.
@@ -105,7 +105,7 @@ fn put_item<S: Alter>(tx: &mut Transaction<'_, S>, item: &Item<'_>) -> Result<()
     }
 }
 
-// Notes what an item says besides its row.
+// Notes what an item says in addition to its row.
 fn note_item(notes: &mut Notes, item: &Item<'_>) -> Result<(), RowsFault>
     ensures noted { OnOk result (seen_notes notes.new
         ≡ with_item (seen_item item.now) (seen_notes notes.old)) }

@@ -1,4 +1,4 @@
-//! A change store behind a connection.
+//! A change store at the other end of a connection.
 
 ghost use Rattle.std.specs.Prelude.{◌≡◌, Err, IsTrue, OnErr, false};
 ghost use Rattle.csi_keeper.specs.Keeper.{Changes};

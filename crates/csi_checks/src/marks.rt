@@ -1,7 +1,7 @@
 //! Marks that a peer cannot choose.
 //!
 //! The hasher of a list begins with the digest of the whole list. So another list has other marks,
-//! and a peer can only try lists, of which each has marks as if they were drawn anew.
+//! and a peer can only try lists, and the marks of each are as if drawn again.
 
 use csi_types::{Map, Text};
 use sha2::{Digest, Sha256};

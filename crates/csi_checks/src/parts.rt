@@ -15,7 +15,7 @@ use std::slice::from_ref;
 pub(crate) struct Parts<'a> {
     pub(crate) name: Option<&'a Text>,
     pub(crate) capabilities: &'a [Capability],
-    /// One has to be given.
+    /// One must be given.
     pub(crate) wants_capability: bool,
     /// A volume is to be made for them.
     pub(crate) is_create: bool,
@@ -26,11 +26,11 @@ pub(crate) struct Parts<'a> {
     pub(crate) first_map: &'a [Map],
     pub(crate) second_map: &'a [Map],
     pub(crate) third_map: &'a [Map],
-    /// A map that has to have an entry.
+    /// A map that must have an entry.
     pub(crate) required_maps: &'a [Map],
     pub(crate) volume_ids: &'a [Text],
     pub(crate) node_ids: &'a [Text],
-    /// A node id that has to be given.
+    /// A node id that must be given.
     pub(crate) required_node_ids: &'a [Text],
     pub(crate) tokens: &'a [Text],
     pub(crate) most_entries: &'a [i32],

@@ -1,4 +1,4 @@
-//! Where a topology may stand in a list.
+//! Where a topology may be in a list.
 //!
 //! Comparing each topology of one list with each of another takes too long for the longest lists
 //! that a peer can send. So their places are noted in a table by their marks. The table proposes

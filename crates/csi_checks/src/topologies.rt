@@ -73,7 +73,7 @@ fn is_any_outside_many(list: &[Map], topologies: &[Map]) -> bool
     is_any_outside(&table, begun, list, topologies)
 }
 
-// Notes where topologies stand, one place for those that are equal.
+// Notes where topologies are, one place for those that are equal.
 fn note_all(table: &mut [u32], begun: DefaultHasher, list: &[Map])
     requires list { All (λ m. has_alike_keys m ≡ false) list.now }
 {
@@ -85,7 +85,7 @@ fn note_all(table: &mut [u32], begun: DefaultHasher, list: &[Map])
     }
 }
 
-// Whether one of the topologies is none of the list. The table proposes where they may stand.
+// Whether one of the topologies is none of the list. The table proposes where they may be.
 fn is_any_outside(table: &[u32], begun: DefaultHasher, list: &[Map], topologies: &[Map]) -> bool
     requires list { All (λ m. has_alike_keys m ≡ false) list.now }
     requires all { All (λ m. has_alike_keys m ≡ false) topologies.now }

@@ -110,7 +110,7 @@ fed_fault method read old new rest n a b refused f h fed one is =
       prompt_in method read rest old a b refused h one,
     )
 
--- of the reply that is whole this was written, behind all replies before it
+-- of the reply that is whole this was written, after all replies before it
 wrote_last : (method : Option Method) (read : List ℕ) (old new : ReplyFramerState) (rest : List ℕ) (n : ℕ) (a b c : Option (List ℕ)) (refused : Bool) (r : ReplyBytes) (last : List ℕ) → (h : Live method read old a b refused) → ReplyFed old new rest n → new.held ≡ reply r
     → Appends b c last → Wrote method (read ++ rest) a c h.replies (reply r ++ drop n rest) last
 wrote_last method read old new rest n a b c refused r last h fed is k =
@@ -187,7 +187,7 @@ ended_at method read Was AtEnd a b ReadFailed f h = h
 ended_at method read Was AtEnd a b WriteFailed f h = h
 ended_at method read Was AtEnd a b NoMemory f h = h
 
--- the input ends behind a reply
+-- the input ends after a reply
 end_clean : (method : Option Method) (read : List ℕ) (s : ReplyFramerState) (a b : Option (List ℕ)) (refused : Bool) → Live method read s a b refused → s.held ≡ [] → Ended method read ⊤ a b (Done refused)
 end_clean method read s a b refused h e = (
   h.replies,

@@ -34,7 +34,7 @@ unanswered_count r = one_if (is_unanswered r)
 abbrev pub answered_count : Received → ℕ
 answered_count r = one_if (not (is_unanswered r))
 
--- So many exchanges with the frame were made, one after the other, and each was unanswered.
+-- So many exchanges with the frame were made, in order, and each was unanswered.
 abbrev pub AreUnanswered : {L : Type 0} → (L → L → List ℕ → Received → Type 0) → L → L → List ℕ → ℕ → Type 0
 AreUnanswered exchanged first now frame zero = now ≡ first
 AreUnanswered {L} exchanged first now frame (suc n) =

@@ -9,7 +9,7 @@ use Rattle.csi_types.specs.declared.volume.Entry.{Entry}
 use Rattle.csi_types.specs.declared.volume.VolumeInfo.{VolumeInfo}
 use Rattle.csi_client.specs.Escape.{escaped}
 
--- of each, one after the other
+-- of each, in order
 abbrev pub each : {A : Type 0} → (A → List ℕ) → List A → List ℕ
 each f [] = []
 each f (x ∷ xs) = f x ++ each f xs
@@ -41,7 +41,7 @@ abbrev pub confirmed_line : Option Confirmed → List ℕ → List ℕ
 confirmed_line None message = codes "not confirmed " ++ escaped message ++ codes "\n"
 confirmed_line (Some c) message = codes "confirmed\n"
 
--- behind a first one, each with a comma before it
+-- after a first one, each with a comma before it
 abbrev pub further : List (List ℕ) → List ℕ
 further nodes = each (λ n. codes "," ++ escaped n) nodes
 

@@ -19,12 +19,12 @@ reply_of r = record { status = r.status; text = r.text.items; body = r.body.item
 abbrev pub HasFault : List ℕ → Type 0 → ReplyFault → Type 0
 HasFault bytes AtEnd f = FaultAt bytes f.why f.at × (f.why ≡ EndOfInput → AtEnd)
 
--- The bytes begin with this reply, and behind it are fewer than a piece has: no piece is read behind the one
+-- The bytes begin with this reply, and after it are fewer than a piece has: no piece is read after the one
 -- in which it ends.
 abbrev pub BeginsWith : List ℕ → ReplyBytes → Type 0
 BeginsWith read r = (more : List ℕ) × IsReply r × (read ≡ reply r ++ more) × (length more < PIECE_BYTES)
 
--- No piece is read behind the one in which it shows what the bytes are: those before their last piece may yet
+-- No piece is read after the one in which it shows what the bytes are: those before their last piece may yet
 -- become a reply.
 pub record IsPrompt (read : List ℕ) : Type 0 where
   pub before : List ℕ

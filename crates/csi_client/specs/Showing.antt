@@ -45,7 +45,7 @@ pub record IsShown (method : Option Method) (r : ReplyBytes) (lines : List ℕ) 
 abbrev pub AreLinesOf : Option Method → ReplyBytes → List ℕ → Type 0
 AreLinesOf method r lines = IsShown method r lines ⊎ (IsBad method r × (lines ≡ first_line code.Ok r))
 
--- of each reply, one after the other
+-- of each reply, in order
 abbrev pub AreShown : Option Method → List ReplyBytes → List ℕ → Type 0
 AreShown method [] lines = lines ≡ []
 AreShown method (r ∷ rs) lines = (first : List ℕ) × (more : List ℕ) × IsShown method r first × AreShown method rs more × (lines ≡ first ++ more)

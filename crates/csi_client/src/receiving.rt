@@ -61,7 +61,7 @@ pub enum Received {
     Reply(ReceivedReply),
     /// The input ended before its first byte.
     Nothing,
-    /// No reply stands first in the input.
+    /// No reply comes first in the input.
     Malformed(ReplyFault),
     /// A read failed before the first reply was whole.
     Failed,

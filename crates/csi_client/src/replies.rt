@@ -87,8 +87,8 @@ fn put_response(alloc: Global, out: &mut Vec<u8>, response: &Response) -> Result
     out.extend_from_slice(said.as_slice())
 }
 
-// Appends what a response says that was read. It is lent, so that what owns one does nothing else that may
-// fail.
+// Appends what a response says that was read. It is borrowed, so that what owns one does nothing else that
+// may fail.
 fn put_decoded(
     alloc: Global,
     out: &mut Vec<u8>,

@@ -27,12 +27,12 @@ const MAX_READS: u64 = 1 << 32;
 /// How a run of [`show_all`] ended.
 #[derive(Clone, Copy, Debug, PartialEq, Eq)]
 pub enum ShowEnd {
-    /// The input ended behind a whole reply, and all were shown. Whether one of them was a refusal:
+    /// The input ended after a whole reply, and all were shown. Whether one of them was a refusal:
     /// a status other than 0.
     Done(bool),
     /// The stream has this fault. All replies before it were shown.
     Malformed(ReplyFault),
-    /// The body of a reply is no response of the method. Its first line was shown, behind all
+    /// The body of a reply is no response of the method. Its first line was shown, after all
     /// replies before it.
     BadBody,
     /// A read failed, or 2^32 reads were made. The replies that were read whole were shown.

@@ -1,4 +1,4 @@
--- The spelling of a capability means it.
+-- The encoding of a capability means it.
 use Rattle.std.proofs.Common.{◌≡◌, ℤ, true, Option, refl}
 use Rattle.csi_types.specs.declared.capability.Access.{Access}
 use Rattle.csi_types.specs.declared.capability.Access.TheVariants as variants

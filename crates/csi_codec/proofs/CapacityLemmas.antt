@@ -1,4 +1,4 @@
--- The spelling of a capacity range means it.
+-- The encoding of a capacity range means it.
 use Rattle.std.proofs.Common.{refl}
 use Rattle.pbmessage.specs.Schema.{AnyPayload, Good}
 use Rattle.csi_codec.specs.messages.Capacity.{range_in, canon_range, FitsRange}

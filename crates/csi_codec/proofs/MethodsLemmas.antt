@@ -1,4 +1,4 @@
--- The spelling of each request and each response means it.
+-- The encoding of each request and each response means it.
 use Rattle.std.proofs.Common.{true, refl, ◌≡◌}
 use Rattle.pbmessage.specs.Schema.{AnyPayload, Good}
 use Rattle.pbmessage.specs.Canon.{Start, rises}

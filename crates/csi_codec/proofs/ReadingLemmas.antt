@@ -27,7 +27,7 @@ use Rattle.pbmessage.specs.facts.Offsets.{Stops, not_both, refused, same_offset}
 abbrev Answers : Bool → Type 0 → Type 0
 Answers b P = (b ≡ true → P) × (P → b ≡ true)
 
--- good fields were read, and behind them stands no good field
+-- good fields were read, and after them stands no good field
 record Scanned (good : WireField → Type 0) (bytes : List ℕ) (s : Scan) : Type 0 where
   pub reads : Reads s.0 bytes s.1
   pub each : AllByRecursion good s.0
@@ -110,7 +110,7 @@ passes_answers l (MessageAt n inner others) k p =
 
 -- ---- one outcome
 
--- of two things that are never both so, what holds of the outcome tells it
+-- of two things that are never both so, what holds of the outcome says it
 pub read_ok : {V : Type 0} {Is : V → Type 0} {No : ℕ → Type 0} (r : Result V ℕ) (v : V) → ((v w : V) → Is v → Is w → v ≡ w) → ((at : ℕ) → No at → (v : V) → Is v → ⊥) → MatchResult r Is No → Is v → r ≡ Ok v
 read_ok (Ok w) v one none found is = ap (λ x. Ok x) (one w v found is)
 read_ok (Err at) v one none found is = absurd (none at found v is)

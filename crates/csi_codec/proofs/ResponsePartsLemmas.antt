@@ -1,4 +1,4 @@
--- The spelling of responses of several fields means it.
+-- The encoding of responses of several fields means it.
 use Rattle.std.proofs.Common.{refl}
 use Rattle.pbmessage.specs.Schema.{Good}
 use Rattle.pbmessage.specs.facts.Laws.{SpellingLaws}

@@ -1,4 +1,4 @@
--- The spelling of messages of one field means it.
+-- The encoding of messages of one field means it.
 use Rattle.std.proofs.Common.{refl}
 use Rattle.pbmessage.specs.Schema.{Schema, AnyPayload, Good}
 use Rattle.pbmessage.specs.Views.{Views}

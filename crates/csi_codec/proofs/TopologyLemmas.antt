@@ -1,4 +1,4 @@
--- The spelling of topologies means it.
+-- The encoding of topologies means it.
 use Rattle.std.proofs.Common.{refl}
 use Rattle.pbmessage.specs.Schema.{Good}
 use Rattle.pbmessage.specs.Canon.{FitsMap}

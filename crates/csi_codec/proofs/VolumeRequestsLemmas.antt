@@ -1,4 +1,4 @@
--- The spelling of the requests on volumes means it.
+-- The encoding of the requests on volumes means it.
 use Rattle.std.proofs.Common.{refl}
 use Rattle.pbmessage.specs.Schema.{Good}
 use Rattle.pbmessage.specs.facts.Laws.{SpellingLaws}

@@ -119,7 +119,7 @@ abbrev pub RefusesRequest : Method → List ℕ → DecodeFault → Type 0
 RefusesRequest m bytes (fault.Malformed at) = IsNoRequest m bytes at
 RefusesRequest m bytes fault.NoMemory = IsGoodRequest m bytes
 
--- the one spelling of the request
+-- the one encoding of the request
 unfoldable pub request_bytes : Request → List ℕ
 request_bytes r = bytes_of (canon_request r)
 
@@ -224,6 +224,6 @@ abbrev pub RefusesResponse : Method → List ℕ → DecodeFault → Type 0
 RefusesResponse m bytes (fault.Malformed at) = IsNoResponse m bytes at
 RefusesResponse m bytes fault.NoMemory = IsGoodResponse m bytes
 
--- the one spelling of the response
+-- the one encoding of the response
 unfoldable pub response_bytes : Response → List ℕ
 response_bytes r = bytes_of (canon_response r)

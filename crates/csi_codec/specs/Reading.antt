@@ -1,5 +1,5 @@
 -- What the bytes of a message mean, as a function: its fields are read from the left for as long as they are
--- good. A law ties it to the relations of `Methods`, which speak of what bytes spell and of no order of
+-- good. A law ties it to the relations of `Methods`, which speak of what bytes encode and of no order of
 -- reading.
 use Rattle.std.specs.Prelude.{◌≡◌, ℕ, zero, suc, ◌-◌, Bool, true, List, [], ◌∷◌, length, Result, Ok, Err, MatchResult, ◌==◌, if◌then◌else◌}
 use Rattle.std.specs.Option.{option_map_or}
@@ -21,11 +21,11 @@ use Rattle.csi_codec.specs.Methods.{request_schema, request_in, MeansRequest, Is
 
 -- ---- the prefix of fields that pass a test
 
--- the fields that were read, and the bytes behind them
+-- the fields that were read, and the bytes after them
 abbrev pub Scan : Type 0
 Scan = List WireField × List ℕ
 
--- a field that passes stands before the others; one that does not, and bytes that are no field, end the scan
+-- a field that passes comes before the others; one that does not, and bytes that are no field, end the scan
 abbrev pub scan_from : (WireField → Bool) → (List ℕ → Scan) → List ℕ → Result (WireField × List ℕ) WireWhy → Scan
 scan_from passes others bytes (Ok x) = if passes x.0 then (x.0 ∷ (others x.1).0, (others x.1).1) else ([], bytes)
 scan_from passes others bytes (Err why) = ([], bytes)
@@ -52,14 +52,14 @@ passes (MessageAt n inner others) k p = if k == n then is_whole (scan (passes_fi
 
 -- ---- messages
 
--- the value of the fields where all of the bytes were read, and else the length of the prefix that was
+-- the value of the fields where all of the bytes were read, and otherwise the length of the prefix that was
 abbrev pub value_or_offset : {V : Type 0} → (Views → V) → ℕ → Scan → Result V ℕ
 value_or_offset of len s = if is_whole s then Ok (value_of of s.0) else Err (len - length s.1)
 
 unfoldable pub read_message : {V : Type 0} → Schema → (Views → V) → List ℕ → Result V ℕ
 read_message schema of bytes = value_or_offset of (length bytes) (scan (passes_field (passes schema)) (length bytes) bytes)
 
--- the request of this method that the bytes mean, or else the offset at which they are refused
+-- the request of this method that the bytes mean, or otherwise the offset at which they are refused
 unfoldable pub read_request : Method → List ℕ → Result Request ℕ
 read_request m bytes = read_message (request_schema m) (request_in m) bytes
 

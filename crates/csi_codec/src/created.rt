@@ -1,4 +1,4 @@
-//! The response of CreateVolume, written by parts that are lent.
+//! The response of CreateVolume, written from borrowed parts.
 
 ghost use Rattle.std.specs.Prelude.{◌≡◌, ◌++◌, OnOk, OnErr, Some};
 ghost use Rattle.csi_types.specs.declared.responses.Response.TheVariants as response;
@@ -14,7 +14,7 @@ use csi_types::Map;
 use pbmessage::{Written, put_joined, put_message, put_signed, put_single, whole_or_none};
 use std::alloc::AllocError;
 
-/// A volume that was made, or that stands as it is asked for, of which nothing is copied (CSI specification,
+/// A volume that was made, or that exists as it is asked for; nothing of it is copied (CSI specification,
 /// `CreateVolumeResponse.volume`).
 #[derive(Drop)]
 pub struct CreatedVolume<'a> {

@@ -1,4 +1,4 @@
-//! Entries of a listing, written by parts that are lent.
+//! Entries of a listing, written from borrowed parts.
 
 ghost use Rattle.std.specs.Prelude.{◌≡◌, ◌++◌, ◌∷◌, [], OnErr, OnOk};
 ghost use Rattle.csi_types.specs.declared.responses.Response.TheVariants as response;
@@ -80,7 +80,7 @@ impl Written<Csi> for ListedEntry<'_> {
 }
 
 /// Appends an entry of a listing: the response of this one entry and of no token. A listing is its entries,
-/// each appended behind the one before it, and then its token.
+/// each appended after the one before it, and then its token.
 ///
 /// # Errors
 ///

@@ -79,7 +79,7 @@ fn decode_by_method(alloc: Global, method: Method, bytes: &[u8]) -> Result<Reque
     }
 }
 
-// Appends the spelling. Where memory is refused a part of it may stand there.
+// Appends the encoding. Where memory is refused a part of it may be there.
 #[tactic(auto, unfolding(crate::specs::Methods::request_bytes, crate::specs::Methods::FitsRequest))]
 fn write_request(request: &Request, out: &mut Vec<u8>) -> Result<(), AllocError>
     ensures ok { OnOk result (out.new.items ≡ out.old.items ++ request_bytes request.now) }

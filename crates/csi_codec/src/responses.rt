@@ -76,7 +76,7 @@ fn decode_by_method(alloc: Global, method: Method, bytes: &[u8]) -> Result<Respo
     }
 }
 
-// Appends the spelling. Where memory is refused a part of it may stand there.
+// Appends the encoding. Where memory is refused a part of it may be there.
 #[tactic(auto, unfolding(crate::specs::Methods::response_bytes, crate::specs::Methods::FitsResponse))]
 fn write_response(response: &Response, out: &mut Vec<u8>) -> Result<(), AllocError>
     ensures ok { OnOk result (out.new.items ≡ out.old.items ++ response_bytes response.now) }

@@ -68,7 +68,7 @@ is_bad_id id = is_empty id || longer_than MAX_NODE_ID_BYTES id || list_any is_ba
 abbrev pub all_bytes : List Pool → ℕ
 all_bytes pools = sum_by (λ p. p.bytes) pools
 
--- the place of the first item that breaks a rule, of a kind for which it is known when one does behind some
+-- the place of the first item that breaks a rule, of a kind for which it is known when one does after some
 -- earlier ones
 abbrev pub place_broken : {T R : Type 0} → (R → List T → T → Bool) → R → List T → Option ℕ
 place_broken breaks rule items = position (λ e. breaks rule (take e.0 items) e.1) (enumerate_from 0 items)
@@ -84,7 +84,7 @@ breaks_segment KeyTooLong e = longer_than MAX_TEXT_BYTES e.0
 breaks_segment ValueTooLong e = longer_than MAX_TEXT_BYTES e.1
 breaks_segment rule e = false
 
--- a pool, behind some earlier ones, breaks a rule
+-- a pool, after some earlier ones, breaks a rule
 abbrev pub breaks_pool : PoolRule → List Pool → Pool → Bool
 breaks_pool Name earlier p = not (is_pool_name p.name)
 breaks_pool NameTwice earlier p = list_any (λ q. same_text q.name p.name) earlier
@@ -102,7 +102,7 @@ name_of pool = pool.name
 abbrev pub pool_fault : PoolRule → List Pool → Option ConfigFault
 pool_fault rule pools = first_broken breaks_pool name_of Fault.Pool rule pools
 
--- a node, behind some earlier ones, breaks a rule
+-- a node, after some earlier ones, breaks a rule
 abbrev pub breaks_node : NodeRule → List Node → Node → Bool
 breaks_node Id earlier n = is_bad_id n.id
 breaks_node IdTwice earlier n = list_any (λ m. same_text m.id n.id) earlier

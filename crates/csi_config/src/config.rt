@@ -11,7 +11,7 @@ use crate::sizes::{Sizes, check_sizes};
 use csi_types::Items;
 
 /// A configuration, which has none of the faults of [`ConfigFault`]: so it was made by [`Config::new`],
-/// or whoever made it has proved as much.
+/// or its maker has proved as much.
 #[derive(Debug)]
 pub struct Config {
     /// Who the plugin is.

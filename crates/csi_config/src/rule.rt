@@ -1,29 +1,29 @@
-//! Rules that each item of a list has to meet, and the first item that breaks one.
+//! Rules that each item of a list must meet, and the first item that breaks one.
 
 ghost use Rattle.std.specs.Prelude.{◌≡◌, ◌<◌, take, None, OnOk, IfOk, IfErr, IfSome, Some, length};
 ghost use Rattle.csi_config.specs.Faults.{first_broken, place_broken};
 
 use crate::fault::ConfigFault;
 
-/// What stands in a list of a configuration, and has a name by which a fault tells of it.
+/// An item in a list of a configuration. It has a name, which a fault says.
 pub(crate) trait Ruled: Drop {
     ghost use Rattle.std.specs.Prelude.{ℕ, Bool, List};
     ghost use Rattle.csi_config.specs.declared.fault.ConfigFault.{ConfigFault};
 
     type Rule: Copy;
 
-    // An item, behind some earlier ones, breaks a rule; its name; the fault by a name and the rule.
+    // An item, after some earlier ones, breaks a rule; its name; the fault by a name and the rule.
     ghost breaks_rule: { Self.Rule → List Self → Self → Bool };
 
     ghost name_of: { Self → List ℕ };
 
     ghost fault_of: { List ℕ → Self.Rule → ConfigFault };
 
-    /// Whether an item, which stands behind the first `count`, breaks a rule.
+    /// Whether an item, which comes after the first `count`, breaks a rule.
     fn breaks(rule: Self::Rule, items: &[Self], count: usize, item: &Self) -> bool
         ensures { result ≡ breaks_rule rule (take count items.now) item.now };
 
-    /// The fault that tells of the item.
+    /// The fault that names the item.
     fn fault(self, rule: Self::Rule) -> ConfigFault
         ensures { result ≡ fault_of (name_of self) rule };
 }

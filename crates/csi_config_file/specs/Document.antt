@@ -38,7 +38,7 @@ abbrev pub bind : {X Y : Type 0} → Read X → (X → Read Y) → Read Y
 bind (Ok x) f = f x
 bind (Err e) f = Err e
 
--- the value of a key that has to be there
+-- the value of a key that must be there
 abbrev pub value_at : Section → Members → Key → Read Data
 value_at s ms k = ok_or (get_member (key_text k) ms) (error.Key s k rule.Missing)
 
@@ -53,7 +53,7 @@ whole (negsuc n) = None
 abbrev pub count_at : Section → Members → Key → Read ℕ
 count_at s ms k = bind (value_at s ms k) (λ d. ok_or (option_and_then whole (as_integer d)) (error.Key s k rule.Count))
 
--- a map with the texts of a table besides, where all of its values are texts
+-- a map with the texts of a table added, where all of its values are texts
 abbrev pub with_texts : TextMap → Members → Option TextMap
 with_texts m no_members = Some m
 with_texts m (member k d ms) = option_and_then (λ t. with_texts (insert m k t) ms) (as_str d)
@@ -94,7 +94,7 @@ pool_at n d = bind (table_in key.Pool d) (pool_in (section.Pool n))
 abbrev pub node_at : ℕ → Data → Read Node
 node_at n d = bind (table_in key.Node d) (node_in (section.Node n))
 
--- the pools, of which there has to be an array, by their numbers from 1
+-- the pools, of which there must be an array, by their numbers from 1
 abbrev pub pools_in : Members → Read (List Pool)
 pools_in ms = bind (value_at section.Top ms key.Pool) (λ d. bind (array_in key.Pool d) (each pool_at 1))
 

@@ -406,7 +406,7 @@ fn config(alloc: Global, table: &Table) -> Result<Config, ConfigError>
     Config::new(plugin, sizes, pools, nodes).map_err(ConfigError::Fault)
 }
 
-// The line, from 1, that a place stands in.
+// The line, from 1, that a place is in.
 fn line_of(before: &[u8]) -> usize {
     before
         .iter()

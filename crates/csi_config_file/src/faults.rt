@@ -14,7 +14,7 @@ const FAULTLESS_SIZES: Sizes = Sizes {
     greatest_bytes: GRANULE_BYTES,
 };
 
-// What tells of a pool or a node whose name or id is not read: its number, as of its section.
+// What a fault calls a pool or a node whose name or id is not read: its number, as in its section.
 fn number_text(alloc: Global, number: usize) -> Result<Text, AllocError> {
     Ok(Text::from_string(format!(in alloc; "{number}")?))
 }
@@ -218,17 +218,17 @@ impl Faults {
     ) -> Result<(), AllocError> {
         let id = self.keep(keys.text(self.alloc, Key::Id))?;
         let max_volumes = self.keep(keys.count(Key::MaxVolumes))?;
-        let told = match &id {
+        let shown = match &id {
             Some(id) => id.copy(self.alloc)?,
             None => number_text(self.alloc, number)?,
         };
         self.judge_node(Node {
-            id: told.copy(self.alloc)?,
+            id: shown.copy(self.alloc)?,
             max_volumes: 1,
         })?;
         if max_volumes.is_some_and(|most| most == 0 || most > MAX_VOLUMES) {
             let rule = NodeRule::Volumes;
-            self.push(ConfigFault::Node { id: told, rule })?;
+            self.push(ConfigFault::Node { id: shown, rule })?;
         }
         if let Some(id) = id {
             if !ids.insert(id.copy(self.alloc)?)? {

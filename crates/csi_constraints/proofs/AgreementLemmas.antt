@@ -1,4 +1,4 @@
--- A row that stands for a value passes a constraint exactly where the value does.
+-- A row that represents a value passes a constraint exactly where the value does.
 use Rattle.std.proofs.Common.{◌≡◌, ◌∙◌, refl, sym, ap, ap₂, ℕ, pos, not, ◌≤◌, ◌<◌, nat_le, nat_lt, List, [], ◌∷◌, find, Bool, true, false, cond, ◌&&◌, ◌||◌, Option, Some, None, IsSome, IsUtf8, arith}
 use Rattle.std.specs.Bool.{Decides}
 use Rattle.std.specs.List.{list_any}

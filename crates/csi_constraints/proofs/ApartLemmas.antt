@@ -1,4 +1,4 @@
--- One attachment that stands for all of its volume, over one row more.
+-- One attachment that represents all of its volume, over one row more.
 use Rattle.std.proofs.Common.{◌≡◌, ◌∙◌, refl, sym, ap, ap₂, ℕ, ℤ, int_lt, ◌==◌, ◌&&◌, ◌||◌, not, Bool, true, false, true≢false, cond, List, [], ◌∷◌, ◌++◌, Option, Some, None, eq-eqb, eqb-true, inl}
 use Rattle.std.specs.List.{AllByRecursion, list_any}
 use Rattle.std.specs.Option.{is_some, option_map, option_or}
@@ -23,7 +23,7 @@ use Rattle.csi_constraints.specs.declared.apart.LastAttachment.{LastAttachment}
 use Rattle.csi_constraints.specs.declared.named.RowName.{RowName}
 use Rattle.csi_constraints.specs.facts.Aparts.{none_of}
 
--- ---- which attachments stand for others
+-- ---- which attachments represent others
 
 or_first : (a b : Bool) → a ≡ true → (a || b) ≡ true
 or_first true b e = refl
@@ -66,7 +66,7 @@ unflipped : (b : Bool) → not b ≡ false → b ≡ true
 unflipped true e = refl
 unflipped false e = sym e
 
--- one that is written stands for those that can stand beside it
+-- one that is written represents those that can coexist with it
 written_leads : (a b : Option Attachment) → are_beside a b ≡ true → is_written a ≡ true → Leads a b
 written_leads None b e w c h = absurd (cc)
 written_leads (Some x) None e w c h = absurd (cc)
@@ -74,7 +74,7 @@ written_leads (Some x) (Some y) e w None h = absurd (cc)
 written_leads (Some x) (Some y) e w (Some z) h =
     coexist_more x y z (same_mode x y e) (λ r. or_later y.readonly z.readonly (or_second x.readonly z.readonly (flipped x.readonly w) r)) h
 
--- and any stands for one that is only read
+-- and any represents one that is only read
 read_led : (a b : Option Attachment) → are_beside a b ≡ true → is_written a ≡ false → Leads b a
 read_led None b e w c h = absurd (cc)
 read_led (Some x) None e w c h = absurd (cc)
@@ -169,7 +169,7 @@ no_number rows r none = none_of (λ e. are_apart e r) rows (all_from (λ e. are_
     ap (λ o. are_some_and int_eq (as_integer (column e 0)) o && not (are_beside (attached_at 2 3 e) (attached_at 2 3 r))) none
     ∙ ap (λ b. b && not (are_beside (attached_at 2 3 e) (attached_at 2 3 r))) (none_given int_eq (as_integer (column e 0)))))
 
--- and what stands for those so far does
+-- and what represents those so far does
 pub led_without : (last : Option LastAttachment) (rows : List Row) (r : Row) → as_integer (column r 0) ≡ None → AreCovered last rows → AreCovered last (rows ++ r ∷ [])
 led_without None rows r none led = all-append (λ x. as_integer (column x 0) ≡ None) rows (r ∷ []) led (none, tt)
 led_without (Some l) rows r none led = record {
@@ -235,7 +235,7 @@ module _ (rows : List Row) (r : Row) (next : LastAttachment) (number : as_intege
       some_from (λ e. are_apart e r) rows led.row led.has
       (apart_by led.row (Some l.number) true led.of parts.0 ∙ ap not (ap (λ a. are_beside a next.attachment) led.is ∙ parts.1))
 
-  -- ---- what stands for one row more
+  -- ---- what represents one row more
 
   leads_itself : Leads next.attachment (attached_at 2 3 r)
   leads_itself c h = ap (λ a. are_beside a c) says ∙ h

@@ -48,7 +48,7 @@ each_back (k ∷ ks) all =
     let p = parts (is_supported_key k) (list_all is_supported_key ks) all in
     ap (λ o. in_front o (each_key (map capability_of ks))) (key_back k p.0) ∙ ap (in_front (Some k)) (each_back ks p.1)
 
--- and else no others
+-- and otherwise no others
 pub each_same : (ks js : List CapKey) → each_key (map capability_of ks) ≡ Some js → js ≡ ks
 each_same [] js e = let same : [] ≡ js = cc in sym same
 each_same (k ∷ ks) js e = go (each_same ks) (key_of (capability_of k)) refl (each_key (map capability_of ks)) refl e

@@ -1,4 +1,4 @@
--- A row that stands for a volume or for an attachment passes a constraint exactly where the State may have
+-- A row that represents a volume or an attachment passes a constraint exactly where the State may have
 -- it.
 use Rattle.std.specs.Prelude.{◌≡◌, ℕ, ◌≤◌, ◌<◌, true, false, not, List, [], ◌∷◌, ◌++◌, None, Some, IsSome, IsUtf8}
 use Rattle.std.specs.Bool.{Decides}
@@ -30,7 +30,7 @@ use Rattle.csi_constraints.specs.Joins.{is_owned}
 use Rattle.csi_constraints.specs.Kinds.{has_attachment_kinds, has_volume_kinds}
 use Rattle.csi_constraints.specs.Volumes.{is_in_pools, is_named, is_numbered, is_sized}
 
--- an attachment's row behind its rowid
+-- an attachment's row after its rowid
 abbrev pub keyed_entry : Value → AttachmentKey × Attachment → Row
 keyed_entry rowid e = rowid ∷ attachment_entry e
 
@@ -53,7 +53,7 @@ pub record AttachmentAgrees (config : Config) (rowid : Value) (e : AttachmentKey
   pub node : Decides (is_at_node config.nodes (keyed_entry rowid e)) (IsSome (node_of config e.0.1))
   pub cap : FitCaps (e.1.cap ∷ []) → Decides (has_cap (keyed_entry rowid e)) (is_supported_key e.1.cap ≡ true)
 
--- an attachment's row with the caps of a volume behind it
+-- an attachment's row with the caps of a volume after it
 abbrev pub owned_entry : AttachmentKey × Attachment → List CapKey → Row
 owned_entry e «keys» = attachment_entry e ++ Blob (caps_bytes «keys») ∷ []
 

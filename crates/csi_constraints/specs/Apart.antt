@@ -1,4 +1,4 @@
--- Which attachments of one volume cannot stand at two nodes, over rows of attachments: number, node, cap and
+-- Which attachments of one volume cannot exist at two nodes, over rows of attachments: number, node, cap and
 -- readonly.
 use Rattle.std.specs.Prelude.{◌≡◌, int_lt, Bool, true, false, ◌&&◌, ◌||◌, not, if◌then◌else◌, List, [], ◌∷◌, ◌++◌, Option, None, Some}
 use Rattle.std.specs.List.{AllByRecursion, list_any}
@@ -22,11 +22,11 @@ use Rattle.csi_constraints.specs.declared.named.RowName.{RowName}
 abbrev pub are_of_one : Row → Row → Bool
 are_of_one a b = are_some_and int_eq (as_integer (column a 0)) (as_integer (column b 0))
 
--- there are two attachments, and they can stand at two nodes
+-- there are two attachments, and they can exist at two nodes
 abbrev pub are_beside : Option Attachment → Option Attachment → Bool
 are_beside a b = are_some_and coexist a b
 
--- two rows are of one volume, and cannot stand at two nodes
+-- two rows are of one volume, and cannot exist at two nodes
 abbrev pub are_apart : Row → Row → Bool
 are_apart a b = are_of_one a b && not (are_beside (attached_at 2 3 a) (attached_at 2 3 b))
 
@@ -34,7 +34,7 @@ are_apart a b = are_of_one a b && not (are_beside (attached_at 2 3 a) (attached_
 abbrev pub NoneApart : List Row → Type 0
 NoneApart rows = IsAscending (λ a b. are_apart a b ≡ false) rows
 
--- the first row that is apart from one before it, behind earlier ones
+-- the first row that is apart from one before it, after earlier ones
 abbrev pub first_apart : List Row → List Row → Option Row
 first_apart earlier [] = None
 first_apart earlier (r ∷ rows) = if list_any (λ e. are_apart e r) earlier then Some r else first_apart (earlier ++ r ∷ []) rows
@@ -43,13 +43,13 @@ first_apart earlier (r ∷ rows) = if list_any (λ e. are_apart e r) earlier the
 abbrev pub apart_named : List Row → Option RowName
 apart_named rows = option_map (name_of 0 1) (first_apart [] rows)
 
--- ---- one that stands for all of its volume
+-- ---- one that represents all of its volume
 
 -- the number of the later row is below that of the earlier one
 abbrev pub falls : Row → Row → Bool
 falls a b = are_some_and (λ m n. int_lt n m) (as_integer (column a 0)) (as_integer (column b 0))
 
--- the numbers do not fall, so that those of one volume come one after the other
+-- the numbers do not fall, so that those of one volume come in order
 abbrev pub DoNotFall : List Row → Type 0
 DoNotFall rows = IsAscending (λ a b. falls a b ≡ false) rows
 
@@ -57,7 +57,7 @@ DoNotFall rows = IsAscending (λ a b. falls a b ≡ false) rows
 abbrev pub last_attachment_at : Row → Option LastAttachment
 last_attachment_at r = option_map (λ n. record { number = n; attachment = attached_at 2 3 r }) (as_integer (column r 0))
 
--- the next one can stand beside all of its volume
+-- the next one can coexist with all of its volume
 abbrev pub admits : Option LastAttachment → LastAttachment → Bool
 admits None next = true
 admits (Some led) next = not (int_eq led.number next.number) || are_beside led.attachment next.attachment
@@ -65,16 +65,16 @@ admits (Some led) next = not (int_eq led.number next.number) || are_beside led.a
 abbrev pub is_written : Option Attachment → Bool
 is_written a = is_some_and (λ x. not x.readonly) a
 
--- it stands for the next one too: one that is written does, of the same volume
+-- it represents the next one too: one that is written does, of the same volume
 abbrev pub covers : Option LastAttachment → LastAttachment → Bool
 covers None next = false
 covers (Some led) next = int_eq led.number next.number && is_written led.attachment
 
--- what can stand beside the one can stand beside the other
+-- what can coexist with the one can coexist with the other
 abbrev pub Leads : Option Attachment → Option Attachment → Type 0
 Leads a b = (c : Option Attachment) → are_beside a c ≡ true → are_beside b c ≡ true
 
--- it is of the last volume of the rows, is that of a row, and stands for each of its volume
+-- it is of the last volume of the rows, is that of a row, and represents each of its volume
 pub record IsLed (led : LastAttachment) (rows : List Row) : Type 0 where
   pub last : AllByRecursion (λ r. is_some_and (int_lt led.number) (as_integer (column r 0)) ≡ false) rows
   pub leads : AllByRecursion (λ r. as_integer (column r 0) ≡ Some led.number → Leads led.attachment (attached_at 2 3 r)) rows

@@ -67,7 +67,7 @@ params_in bytes = if_passes (λ ms. bytes_eq (params_bytes ms.0 ms.1) bytes) (op
 abbrev pub is_before : CapKey → CapKey → Bool
 is_before a b = is_lt (key_cmp a b)
 
--- each key is before those behind it
+-- each key is before those after it
 abbrev pub rise : List CapKey → Bool
 rise [] = true
 rise (k ∷ ks) = list_all (is_before k) ks && rise ks

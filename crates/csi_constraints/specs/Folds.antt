@@ -41,7 +41,7 @@ is_text text _ = false
 abbrev pub added_by : ℕ → List ℕ → Weight → Row → ℕ
 added_by at text weight row = if is_text text (column row at) then weight_of weight row else 0
 
--- a sum behind the rows, or 2^64 - 1 where it is more
+-- a sum after the rows, or 2^64 - 1 where it is more
 abbrev pub sum_after : ℕ → List ℕ → Weight → ℕ → List Row → ℕ
 sum_after at text weight sum rows = min (sum + sum_by (added_by at text weight) rows) (2 ^ 64 - 1)
 
@@ -84,7 +84,7 @@ abbrev pub IsLast : List Value → Option ℤ → Type 0
 IsLast values None = values ≡ []
 IsLast values (Some n) = (front : List Value) × (values ≡ front ++ Int n ∷ [])
 
--- a test of the rise that was good or not, and what it is behind the rows
+-- a test of the rise that was good or not, and what it is after the rows
 pub record Rises (at : ℕ) (was : Bool) (last : Option ℤ) (rows : List Row) (good : Bool) (next : Option ℤ) : Type 0 where
   pub good_is : IsTrue good ↔ (IsTrue was × IsRising at last rows)
   pub last_is : IsTrue good → IsLast (values_from at last rows) next

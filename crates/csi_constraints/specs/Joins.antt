@@ -8,12 +8,12 @@ use Rattle.csi_sql.specs.Cells.{as_flag}
 use Rattle.csi_constraints.specs.Coded.{key_at, keys_at}
 use Rattle.csi_constraints.specs.Values.{are_some_and}
 
--- number, node, cap and readonly, and the caps of the volume: the volume stands, and the capability is one of
+-- number, node, cap and readonly, and the caps of the volume: the volume exists, and the capability is one of
 -- its own
 abbrev pub is_owned : Row → Bool
 is_owned row = are_some_and (λ key ks. has_key ks (Some key)) (key_at 2 row) (keys_at 4 row)
 
--- an attachment of which no node is told
+-- an attachment without a node
 abbrev pub attached : CapKey → Bool → Attachment
 attached key readonly = record { node = []; cap = key; readonly = readonly }
 
@@ -22,6 +22,6 @@ attached_with (Some key) (Some readonly) = Some (attached key readonly)
 attached_with (Some key) None = None
 attached_with None readonly = None
 
--- the attachment whose cap and readonly stand in two cells
+-- the attachment whose cap and readonly are in two cells
 abbrev pub attached_at : ℕ → ℕ → Row → Option Attachment
 attached_at cap readonly row = attached_with (key_at cap row) (as_flag (column row readonly))

@@ -1,4 +1,4 @@
--- Which kind of value stands in each column.
+-- Which kind of value is in each column.
 use Rattle.std.specs.Prelude.{Bool, true, false, ◌&&◌}
 use Rattle.std.specs.Str.{is_utf8}
 use Rattle.sqlite.specs.Order.{Row, column}
@@ -24,7 +24,7 @@ has_volume_kinds row =
     is_integer (column row 0) && is_text (column row 1) && is_integer (column row 2) && is_text (column row 3) && is_blob (column row 4)
     && is_blob (column row 5)
 
--- behind the rowid the number is an integer, the node is a text, the cap is bytes, and readonly is an integer
+-- after the rowid the number is an integer, the node is a text, the cap is bytes, and readonly is an integer
 abbrev pub has_attachment_kinds : Row → Bool
 has_attachment_kinds row =
     is_integer (column row 1) && is_text (column row 2) && is_blob (column row 3) && is_integer (column row 4)

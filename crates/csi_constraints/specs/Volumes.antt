@@ -1,4 +1,4 @@
--- The constraints of a row of volumes that its numbers and texts tell: number, name, bytes, pool, caps,
+-- The constraints of a row of volumes on its numbers and texts: number, name, bytes, pool, caps,
 -- params.
 use Rattle.std.specs.Prelude.{ℕ, nat_lt, nat_le, ◌&&◌, Bool, List}
 use Rattle.std.specs.List.{list_any}

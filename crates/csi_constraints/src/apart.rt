@@ -1,4 +1,4 @@
-//! The constraint of attachments of one volume, by one that stands for all of them.
+//! The constraint of attachments of one volume, by one that represents all of them.
 
 ghost use Rattle.std.specs.Prelude.{◌≡◌, None, IfOk, IsSome, OnErr};
 ghost use Rattle.sqlite.specs.Order.{column};
@@ -15,7 +15,7 @@ use csi_sql::Fold;
 use sqlite::{Error, Row};
 use std::alloc::Global;
 
-/// An attachment that stands for those of its volume so far: what can stand beside it can stand beside
+/// An attachment that represents those of its volume so far: what can coexist with it can coexist with
 /// each of them.
 #[derive(Drop)]
 pub struct LastAttachment {
@@ -56,7 +56,7 @@ fn is_written(attachment: &Option<Attachment>) -> bool
     }
 }
 
-// Whether an attachment can stand beside all of its volume so far.
+// Whether an attachment can coexist with all of its volume so far.
 fn admits(last: &Option<LastAttachment>, next: &LastAttachment) -> bool
     ensures { result ≡ admits last.now next.now }
 {
@@ -66,7 +66,7 @@ fn admits(last: &Option<LastAttachment>, next: &LastAttachment) -> bool
     }
 }
 
-// Whether the one that stands for those so far stands for the next one too, which it admits.
+// Whether the one that represents those so far represents the next one too, which it admits.
 fn covers(last: &Option<LastAttachment>, next: &LastAttachment) -> bool
     ensures { result ≡ covers last.now next.now }
 {
@@ -76,16 +76,16 @@ fn covers(last: &Option<LastAttachment>, next: &LastAttachment) -> bool
     }
 }
 
-/// The first attachment that cannot stand beside one before it of the same volume, over rows whose
+/// The first attachment that cannot coexist with one before it of the same volume, over rows whose
 /// numbers do not fall (`scan_places`).
 ///
 /// One attachment is kept for all of a volume: one that is written, where there is one, as what can
-/// stand beside it can stand beside those that are only read.
+/// coexist with it can coexist with those that are only read.
 #[derive(Drop)]
 pub struct FirstApart {
     /// What holds the capabilities while they are looked at, and the text of the row.
     pub alloc: Global,
-    /// What stands for the last volume; `None` where no row had a number so far. It begins as `None`.
+    /// What represents the last volume; `None` where no row had a number so far. It begins as `None`.
     pub last: Option<LastAttachment>,
     /// The first row that breaks the constraint; `None` where none has so far. It begins as `None`.
     pub found: Option<RowName>,

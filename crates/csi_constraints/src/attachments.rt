@@ -1,4 +1,4 @@
-//! The constraints of a row of attachments that its texts and truths tell.
+//! The constraints of a row of attachments on its texts and its truth value.
 
 ghost use Rattle.std.specs.Prelude.{◌≡◌};
 ghost use Rattle.csi_constraints.specs.Attachments.{has_flag, is_at_node, is_node};

@@ -36,13 +36,13 @@ pub enum AttachmentConstraint {
     /// `readonly` is 0 or 1.
     #[error("its readonly is not 0 or 1")]
     Readonly,
-    /// The volume stands, and has the capability.
+    /// The volume exists, and has the capability.
     #[error("no volume of its number has its capability")]
     Owner,
     /// The node is one of the configuration.
     #[error("its node is not one of the configuration")]
     Node,
-    /// It can stand beside each other attachment of its volume.
+    /// It can coexist with each other attachment of its volume.
     #[error("the volume is attached at another node too, and the two cannot have it together")]
     Beside,
 }
@@ -56,7 +56,7 @@ pub enum BrokenConstraint {
     /// A volume breaks a constraint.
     #[error("volume {number}: {constraint}")]
     Volume {
-        /// The volume's number, as it stands in the row.
+        /// The volume's number, as it is in the row.
         number: i64,
         /// The constraint.
         constraint: VolumeConstraint,
@@ -70,7 +70,7 @@ pub enum BrokenConstraint {
     /// An attachment breaks a constraint.
     #[error("volume {number} at node {node}: {constraint}")]
     Attachment {
-        /// The volume's number, as it stands in the row.
+        /// The volume's number, as it is in the row.
         number: i64,
         /// The node's id.
         node: Text,

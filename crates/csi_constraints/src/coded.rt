@@ -79,7 +79,7 @@ impl RowTrial for HasCaps {
 pub struct HasParams {
     /// What holds the parameters while they are looked at.
     pub alloc: Global,
-    /// The format of the tables, as `meta` tells it.
+    /// The format of the tables, as `meta` has it.
     pub format: u32,
 }
 

@@ -11,7 +11,7 @@ use csi_types::Text;
 use sqlite::{Error, Row};
 use std::alloc::Global;
 
-/// The attachment whose cap and readonly stand in two cells.
+/// The attachment whose cap and readonly are in two cells.
 pub(crate) fn attached_at(
     alloc: Global,
     row: &Row,

@@ -24,7 +24,7 @@ impl RowTest for HasVolumeKinds {
     }
 }
 
-/// Behind the rowid, the number of a row of attachments is an integer, its node is a text in UTF-8, its
+/// After the rowid, the number of a row of attachments is an integer, its node is a text in UTF-8, its
 /// cap is bytes, and readonly is an integer.
 #[derive(Clone, Copy)]
 pub struct HasAttachmentKinds;

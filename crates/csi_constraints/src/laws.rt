@@ -1,4 +1,4 @@
-//! Laws of the constraints: a row that stands for a value passes a constraint exactly where a State may have
+//! Laws of the constraints: a row that represents a value passes a constraint exactly where a State may have
 //! the value.
 
 ghost use Rattle.std.specs.Prelude.{ℕ, List};
@@ -29,7 +29,7 @@ pub fn volumes()
     read_back();
 }
 
-/// The constraints of a row of attachments are those of the attachment that stands at the number and the
+/// The constraints of a row of attachments are those of the attachment at the number and the
 /// node.
 pub fn attachments()
     ensures { (config : Config) (rowid : Value) (e : AttachmentKey × Attachment)

@@ -24,7 +24,7 @@ use std::alloc::Global;
 /// The caps of a volume, and the keys that they say.
 #[derive(Drop)]
 pub struct KnownCaps {
-    /// The bytes, as they stand in the row.
+    /// The bytes, as they are in the row.
     pub bytes: Vec<u8>,
     /// The keys; `None` where the bytes say none.
     pub caps: Option<Items<CapKey>>,
@@ -42,7 +42,7 @@ impl KnownCaps {
     }
 }
 
-/// The first attachment whose volume does not stand, or has not its capability (`scan_owners`).
+/// The first attachment whose volume does not exist, or does not have its capability (`scan_owners`).
 ///
 /// The keys of the caps that were read last are kept, and read again only where other caps come: once a
 /// volume, where its attachments follow one another.
@@ -90,7 +90,7 @@ fn have_key(last: &Option<KnownCaps>, key: &CapKey) -> bool
     }
 }
 
-// Whether the volume of an attachment stands and has its capability.
+// Whether the volume of an attachment exists and has its capability.
 fn is_owned(alloc: Global, last: &mut Option<KnownCaps>, row: &Row) -> Result<bool, Error>
     ensures known { AreCached last.old → AreCached last.new }
     ensures exact { AreCached last.old → IfOk result (λ owned. owned ≡ is_owned row.now) }

@@ -1,4 +1,4 @@
-//! A test of each row by itself, without memory and with it.
+//! A test of each row alone, without memory and with it.
 
 ghost use Rattle.std.specs.Prelude.{◌≡◌, Bool, IfOk, IsTrue, OnErr};
 ghost use Rattle.sqlite.specs.Order.{Row as Values};
@@ -6,7 +6,7 @@ ghost use Rattle.csi_sql.specs.Folding.{FailsForMemory};
 
 use sqlite::{Error, Row};
 
-/// A test of a row by itself.
+/// A test of a row alone.
 pub trait RowTest {
     /// Whether a row passes.
     ghost accepts: { Self → Values → Bool };
@@ -16,7 +16,7 @@ pub trait RowTest {
         ensures { result ≡ accepts self.now row.now };
 }
 
-/// A test of a row by itself that takes memory.
+/// A test of a row alone that takes memory.
 pub trait RowTrial {
     /// Whether a row passes.
     ghost accepts: { Self → Values → Bool };

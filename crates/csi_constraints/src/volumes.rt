@@ -1,4 +1,4 @@
-//! The constraints of a row of volumes that its numbers and texts tell.
+//! The constraints of a row of volumes on its numbers and texts.
 
 ghost use Rattle.std.specs.Prelude.{◌≡◌};
 ghost use Rattle.csi_constraints.specs.Volumes.{is_in_pools, is_name, is_named, is_numbered, is_pool, is_sized};

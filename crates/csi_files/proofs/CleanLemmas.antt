@@ -1,4 +1,4 @@
--- A disk that told the truth to the end of a run told it from its opening on.
+-- A disk that was truthful to the end of a run told it from its opening on.
 use Rattle.std.proofs.Common.{◌≡◌, ℕ, Bool, List, Option, subst, arith}
 use Rattle.sqlite_disk.specs.declared.Disk.{Ghosts}
 use Rattle.sqlite_wal.specs.Reads.{AreClean}

@@ -1,4 +1,4 @@
--- Runs over files, one after the other, are sessions of calls.
+-- Runs over files, in order, are sessions of calls.
 use Rattle.std.proofs.Common.{◌≡◌, List, [], ◌∷◌, ◌++◌, Option, ℕ, map, inl, inr, refl, sym, subst, subst₂}
 use Rattle.std.proofs.Math.Logic.{∥∥₁_elim, ∥∥₁_map, ∥∥₁_prop}
 use Rattle.sqlite_disk.specs.declared.Disk.{Ghosts}
@@ -14,13 +14,16 @@ use Rattle.csi_types.specs.declared.requests.Request.{Request}
 use Rattle.csi_config.specs.declared.config.Config.{Config}
 use Rattle.csi_keeper.specs.Invariant.{IsInvariant}
 use Rattle.csi_keeper.specs.State.{State}
+use Rattle.csi_machine.specs.Numbers.{NumbersRise}
 use Rattle.csi_machine.specs.Retry.{AreTriesOf, after_once, all_tries, told_once}
+use Rattle.csi_machine.specs.facts.Numbers.{numbers_go_on, numbers_stay}
 use Rattle.csi_server.specs.Machine.{Event, state_after}
 use Rattle.csi_server.specs.Requests.{told}
-use Rattle.csi_server.specs.Tries.{Exchange, IsLifeOfCalls, heard_of, tries_of}
+use Rattle.csi_server.specs.Tries.{Exchange, IsLifeOfCalls, events_of, heard_of, tries_of}
+use Rattle.csi_server.specs.Volumes.{IsPending, volumes}
 use Rattle.csi_files.specs.Files.{HasState}
 use Rattle.csi_files.specs.Leaving.{files_of}
-use Rattle.csi_files.specs.Lives.{AreAtRest, GoesOn, IsLifeOfFiles, IsRunOver, IsUnread, LivesOnce, RunsGoOn}
+use Rattle.csi_files.specs.Lives.{AreAtRest, GoesOn, IsLifeOfFiles, IsRunOver, IsUnread, LivesOnce, NumbersOnce, RunsGoOn}
 use Rattle.csi_files.specs.Serving.{IsStateAfter}
 use Rattle.csi_files.specs.Starting.{EndsClean, IsLeftUnmade, IsNotStarted, MayStart}
 use Rattle.csi_files.specs.declared.serving.NotServed.{NotServed}
@@ -57,6 +60,30 @@ lives_once config retry was last s requests sessions may invariant tries life =
     ∥∥₁_map (lived config sessions was last s may invariant life) (λ it.
     let once = retry s it.left requests sessions it.heard invariant tries it.life in
     (subst (GoesOn was last s) once.1 it.goes, subst₂ (λ heard t. IsLifeOfCalls config s sessions heard t) once.0 once.1 it.life))
+
+-- ---- numbers over such a life
+
+module _ (config : Config) (run : (s : State) (events : List Event) → IsInvariant config s → NumbersRise s (state_after (volumes config) s events))
+    (pending : (s : State) (events : List Event) (t : State) → IsInvariant config s → IsPending config s events t → NumbersRise s t) where
+  left_rises : (s : State) (events : List Event) (t : State) → IsInvariant config s → IsStateAfter config s events t → NumbersRise s t
+  left_rises s events t inv left = elim left.is as (λ _. NumbersRise s t) [
+    | inl is ↦ subst (NumbersRise s) (sym is) (run s events inv)
+    | inr owed ↦ pending s events t inv owed
+  ]
+
+  all_rise : (sessions : List (List Exchange)) (was last : Image) (s : State) → MayStart was s → IsInvariant config s → IsLifeOfFiles config was sessions last
+      → ∥ ((t : State) × GoesOn was last s t × NumbersRise s t) ∥₁
+  all_rise [] was last s may inv same = ∣ (s, same_contents was last s same may, numbers_stay s) ∣₁
+  all_rise (session ∷ sessions) was last s may inv (next, it, more) =
+      ∥∥₁_elim (it s may inv) ∥∥₁_prop (λ found.
+      ∥∥₁_map (all_rise sessions next last found.0 found.1.may found.2.invariant more) (λ rest. (
+        rest.0,
+        record { may = rest.1.may; has = λ has. rest.1.has (found.1.has has) },
+        numbers_go_on config s found.0 rest.0 inv (left_rises s (events_of session) found.0 inv found.2) rest.2,
+      )))
+
+  pub numbers_once : NumbersOnce config
+  numbers_once was last s sessions may inv life = all_rise sessions was last s may inv life
 
 -- ---- from a run to a run of a life
 

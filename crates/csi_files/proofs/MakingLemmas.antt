@@ -144,7 +144,7 @@ module _ {D : Type 0} (g : Ghosts D) (before mid : Files D) (log : OnlyReads g b
     crash = λ clean whole left may. elim (it.crash clean (λ torn. whole (subst IsTorn same_image torn)) left may) [ inl was ↦ inl (looked_at.crash left was) | inr other ↦ inr other ];
   }
 
--- a page that is being made is told by its log from one that an earlier release was stopped in
+-- a page that is being made is distinguished by its log from one that an earlier release was stopped in
 pub not_torn : (image : Image) → IsUnmade image → ¬ IsTorn image
 not_torn image (inl empty) torn = omega (arith, empty, torn.1.some)
 not_torn image (inr blank) torn = elim blank.1.1 [ inl short ↦ omega (arith, short, torn.1.some) | inr begun ↦ omega (arith, begun.0, torn.0) ]

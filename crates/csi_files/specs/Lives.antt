@@ -1,4 +1,4 @@
--- Runs over two files, one after the other, with a stop after each.
+-- Runs over two files, in order, with a stop after each.
 use Rattle.std.specs.Prelude.{◌≡◌, false, Option, List, [], ◌∷◌, map, ℕ, ⊤}
 use Rattle.std.specs.Io.KnownBytes.{IsAtEnd}
 use Rattle.sqlite_disk.specs.declared.Disk as disk
@@ -13,6 +13,7 @@ use Rattle.csi_types.specs.declared.requests.Request.{Request}
 use Rattle.csi_config.specs.declared.config.Config.{Config}
 use Rattle.csi_keeper.specs.Invariant.{IsInvariant}
 use Rattle.csi_keeper.specs.State.{State}
+use Rattle.csi_machine.specs.Numbers.{NumbersRise}
 use Rattle.csi_machine.specs.Retry.{AreTriesOf, after_once, all_tries, told_once}
 use Rattle.csi_server.specs.Machine.{Event}
 use Rattle.csi_server.specs.Requests.{told}
@@ -45,8 +46,8 @@ abbrev pub IsLifeOfFiles : Config → Image → List (List Exchange) → Image �
 IsLifeOfFiles config was [] last = was ≡ last
 IsLifeOfFiles config was (session ∷ sessions) last = (next : Image) × IsRunOver config was session next × IsLifeOfFiles config next sessions last
 
--- A lone client that repeats each of its calls until it hears the reply: what it hears, and the State of the
--- files in the end, are those of its requests taken once each.
+-- A client that repeats each of its calls until it hears the reply, while others change nothing: what it hears,
+-- and the State of the files in the end, are those of its requests taken once each.
 abbrev pub LivesOnce : Config → Type 0
 LivesOnce config =
     (was last : Image) (s : State) (requests : List Request) (sessions : List (List Exchange)) → MayStart was s → IsInvariant config s
@@ -54,6 +55,13 @@ LivesOnce config =
     → IsLifeOfFiles config was sessions last
     → ∥ (GoesOn was last s (after_once config s requests)
     × IsLifeOfCalls config s sessions (map told (told_once config s requests)) (after_once config s requests)) ∥₁
+
+-- The files in the end start a run as a State to which the numbers of volumes went on, whatever the calls were.
+abbrev pub NumbersOnce : Config → Type 0
+NumbersOnce config =
+    (was last : Image) (s : State) (sessions : List (List Exchange)) → MayStart was s → IsInvariant config s
+    → IsLifeOfFiles config was sessions last
+    → ∥ ((t : State) × GoesOn was last s t × NumbersRise s t) ∥₁
 
 -- ---- what `serve_made` says of a run makes it a run of such a life
 
@@ -81,7 +89,7 @@ module _ {D : Type 0} {g : disk.Ghosts D} where
   IsUnread (NotClosed served error store) = ⊥
 
 module _ {D : Type 0} (g : disk.Ghosts D) (config : Config) (before : Files D) (unread left held holds : Option (List ℕ)) where
-  -- What the clauses `after` and `not_served` of `serve_made` say, of a disk that told the truth: each
+  -- What the clauses `after` and `not_served` of `serve_made` say, of a disk that was truthful: each
   -- outcome of a crash is one that a run leaves. Of files that were not opened it is said where no database
   -- was made in files that were at rest.
   pub record AreRuns : Type 0 where

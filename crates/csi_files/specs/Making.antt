@@ -18,7 +18,7 @@ use Rattle.csi_files.specs.declared.making.NotLaidOut.TheVariants.{Failed}
 use Rattle.csi_files.specs.declared.making.TheConstants.{HEAD, WAL_WITH_FRAME_BYTES, PAGE_BYTES}
 
 -- no database is made yet: the database file is empty, or has what a stop left of its first page, of which
--- the WAL then tells
+-- the WAL then says
 abbrev pub IsUnmade : Image → Type 0
 IsUnmade = IsBlankFile PAGE_BYTES
 

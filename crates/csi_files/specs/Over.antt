@@ -53,7 +53,7 @@ module _ {S : Type 0} (g : Ghosts S) (config : Config) (conn : Held S) where
     pub quiet : IsQuiet (tables_model g first) (tables_model g last)
     pub back_is : back ≡ connection_of g last
 
-  -- why no calls were served over a connection, whose database had to have tables or not
+  -- why no calls were served over a connection, whose database was required to have tables or not
   abbrev pub IsUnserved : Bool → Unserved S → Type 0
   IsUnserved is_existing (Blank back) = (back ≡ conn) × (conn.schema ≡ no_schema) × IsTrue is_existing
   IsUnserved is_existing (NotAdopted fault back) = IsUnadopted g config conn fault back

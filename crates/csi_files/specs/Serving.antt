@@ -163,7 +163,7 @@ module _ {D : Type 0} (g : disk.Ghosts D) where
   AllServed P (Err (Left served now)) = P served
   AllServed P (Err (NotClosed served error store)) = P served
 
-  -- files without a table are refused where they had to have some, and nowhere else
+  -- files without a table are refused where they were required to have some, and nowhere else
   abbrev pub IsAsked : Bool → Result (Closed D) (NotServed D g) → Type 0
   IsAsked is_existing (Ok closed) = IsTrue is_existing → closed.served.is_new ≡ false
   IsAsked is_existing (Err (NotOpened error rest)) = ⊤

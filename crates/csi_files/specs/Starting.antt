@@ -83,7 +83,7 @@ module _ {D : Type 0} (g : disk.Ghosts D) where
   KeepsStart before after = AreClean g after.log after.db → (s : State) → MayStartAgain before s → MayStartAgain after s
 
 module _ {D : Type 0} {g : disk.Ghosts D} where
-  -- the disk told the truth to the end, of files that were opened
+  -- the disk was truthful to the end, of files that were opened
   abbrev pub EndsClean : NotServed D g → Type 0
   EndsClean (NotOpened error rest) = ⊥
   EndsClean (Blank now) = AreClean g now.log now.db

@@ -1,10 +1,10 @@
-//! What the next run finds in files, and what many runs come to.
+//! What the next run finds in files, and what many runs leave.
 
 ghost use Rattle.csi_files.specs.Again.{AreFoundAgain};
-ghost use Rattle.csi_files.specs.Lives.{LivesOnce, RunsGoOn};
+ghost use Rattle.csi_files.specs.Lives.{LivesOnce, NumbersOnce, RunsGoOn};
 
 use csi_config::Config;
-use csi_server::laws::retry;
+use csi_server::laws::{numbers, retry};
 use csi_tables::laws::one_state;
 use sqlite_disk::Disk;
 
@@ -26,9 +26,9 @@ pub fn went_on<D: Disk>(config: &Config)
     ensures { RunsGoOn D.Disk config.now }
 {}
 
-/// Run after run over two files, with a stop after each: a lone client that repeats each of its calls until
-/// it hears the reply hears the replies to its requests taken once each, and the files have the State after
-/// them.
+/// Run after run over two files, with a stop after each: a client that repeats each of its calls until it
+/// hears the reply hears the replies to its requests taken once each, and the files have the State after
+/// them. Other clients make only calls that change nothing.
 ///
 /// The first run may be over files that hold no database yet. A run may end in any way that [`went_on`]
 /// does not leave out, its calls may be refused inside and its replies be lost, and the next run is over any
@@ -37,4 +37,15 @@ pub fn lived(config: &Config)
     ensures { LivesOnce config.now }
 {
     retry(config);
+}
+
+/// Run after run over two files, with a stop after each and any calls in each, gives no number twice: the next
+/// number is no smaller in the end, a number whose volume was deleted has none, and nothing of a volume that
+/// keeps its number has changed but its mutable parameters. So an id never names another volume.
+///
+/// The runs are as of [`lived`].
+pub fn numbered(config: &Config)
+    ensures { NumbersOnce config.now }
+{
+    numbers(config);
 }

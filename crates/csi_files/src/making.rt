@@ -28,7 +28,7 @@ const PAGE_BYTES: usize = 1024;
 pub const WAL_WITH_FRAME_BYTES: usize = 32 + 24 + 512;
 
 // How the first page began that earlier releases wrote, which a stop could tear: its header, and a leaf of no
-// cells. All else of it is 0.
+// cells. All other bytes are 0.
 const HEAD: [u8; 108] = *b"SQLite format 3\0\
     \x04\x00\x02\x02\x00\x40\x20\x20\0\0\0\0\0\0\0\x01\
     \0\0\0\0\0\0\0\0\0\0\0\0\0\0\0\x04\
@@ -253,7 +253,7 @@ fn failed(error: io::Error) -> NotLaidOut
 }
 
 /// Makes an empty database of files that hold none yet: new files, and what a stop left of an earlier call.
-/// Other files stay as they are. Wherever it stops, the next call makes it.
+/// Other files stay as they are. After a stop at any place, the next call makes it.
 ///
 /// A first page that an earlier release was stopped in, bytes of 0 or its beginning without a WAL, is cleared
 /// first.

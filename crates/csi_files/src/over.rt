@@ -22,7 +22,8 @@ use sqlite_schema::schema::Schema;
 use std::alloc::Global;
 use std::io::{Read, Write};
 
-/// Is told what is done before the first call is answered, and why calls were refused after the last one.
+/// Is called with what is done before the first call is answered, and with why calls were refused after
+/// the last one.
 pub trait Observer {
     /// The database had no table, and new ones were made.
     fn made(&self);
@@ -65,7 +66,7 @@ pub struct Served {
 
 /// Why no calls were served over a connection, and the connection.
 pub(crate) enum Unserved<S: Alter> {
-    /// The database has no table, and had to have some.
+    /// The database has no table, and was required to have some.
     Blank(Connection<S>),
     /// Its tables were not adopted.
     NotAdopted(AdoptFault, Connection<S>),

@@ -56,8 +56,8 @@ fn files_at<S: Start>(rt: &HostRuntime, path: &str, start: S) -> Result<Files<Fi
     }
 }
 
-// How files are opened: with a seed drawn at random, by which the frames of a new WAL are told from those of
-// an old one.
+// How files are opened: with a seed drawn at random, which distinguishes the frames of a new WAL from
+// those of an old one.
 fn opening(rt: &HostRuntime) -> Result<Options, Error>
     ensures { IfErr result IsNoFile }
 {
@@ -68,7 +68,7 @@ fn opening(rt: &HostRuntime) -> Result<Options, Error>
 }
 
 /// Serves the volume machine over the database file at a path and its WAL, as [`serve_made`] does over files.
-/// `start` stands for what the files held; the clauses hold for whatever that was.
+/// `start` is what the files held; the clauses hold for any such bytes.
 ///
 /// That these are the files at the path, and that nobody else writes to them, is trusted, as in
 /// `sqlite_std_file::open`.

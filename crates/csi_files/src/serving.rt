@@ -39,7 +39,8 @@ pub struct Closed<D: Disk> {
 pub enum NotServed<D: Disk> {
     /// The files were not opened: why, and what is left of them. No call was read.
     NotOpened(Error, Leftover<D>),
-    /// They have no table, and had to have some: the files, which keep what they had. No call was read.
+    /// They have no table, and were required to have some: the files, which keep what they had. No call
+    /// was read.
     Blank(Files<D>),
     /// Their tables were not adopted: why, and the files, which keep what they had. No call was read.
     NotAdopted(AdoptFault, Files<D>),
@@ -121,7 +122,7 @@ fn finish<D: Disk + Drop>(
 /// copy of the volumes, reads are answered from the file. A change is committed to the file before it is
 /// answered.
 ///
-/// The clauses hold for whatever the files held as they were opened (`Opens`).
+/// The clauses hold for any bytes that the files held as they were opened (`Opens`).
 ///
 /// # Errors
 ///

@@ -1,4 +1,4 @@
--- What a listing tells of a page, by what is read of it.
+-- What a listing says of a page, by what is read of it.
 use Rattle.std.proofs.Common.{◌≡◌, ◌∙◌, arith, ℕ, List, Ok}
 use Rattle.csi_keeper.specs.Keeper.{Reads}
 use Rattle.csi_keeper.specs.Listing.{IsPageWithNodes, listed_each, listing}

@@ -1,4 +1,4 @@
--- Which attachments of one volume can stand at two nodes (CSI specification, 'CreateVolume',
+-- Which attachments of one volume can exist at two nodes (CSI specification, 'CreateVolume',
 -- VolumeCapability.AccessMode).
 use Rattle.std.specs.Prelude.{ℕ, ◌==◌, ◌&&◌, ◌||◌, Bool}
 use Rattle.csi_keeper.specs.declared.volume.Attachment.{Attachment}

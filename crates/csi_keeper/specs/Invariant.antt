@@ -1,4 +1,4 @@
--- What is so of each State that the machine comes to.
+-- What is so of each State that the machine reaches.
 use Rattle.std.specs.Prelude.{◌≡◌, ℕ, ◌<◌, ◌≤◌, true, List, Some, None, IsSome, length, sum}
 use Rattle.std.specs.FinMap.{get, len}
 use Rattle.std.specs.List.{list_all}
@@ -25,7 +25,7 @@ pub record AreKeys (keys : List CapKey) : Type 0 where
   pub some : 1 ≤ length keys
   pub supported : list_all is_supported_key keys ≡ true
 
--- a volume that stands under a number
+-- a volume that exists under a number
 pub record IsVolume (config : Config) (next n : ℕ) (v : Volume) : Type 0 where
   pub number : v.number ≡ n
   pub given : (1 ≤ n) × (n < next)
@@ -36,7 +36,7 @@ pub record IsVolume (config : Config) (next n : ℕ) (v : Volume) : Type 0 where
   pub params : map_bytes v.params ≤ MAX_MAP_BYTES
   pub mutable : map_bytes v.mutable ≤ MAX_MAP_BYTES
 
--- an attachment that stands at a number and a node
+-- an attachment at a number and a node
 pub record IsAttached (config : Config) (s : State) (n : ℕ) (node : Text) (a : Attachment) : Type 0 where
   pub at : a.node ≡ node
   pub known : IsSome (node_of config node)

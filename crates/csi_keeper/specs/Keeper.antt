@@ -49,14 +49,14 @@ Changes old new change (Err Refused) = Fails old new change
 Changes old new change (Err Down) = IsQuiet old new
 
 -- A read: what it answers is so of each State, nothing moves, a refusal is counted, and that the keeper is
--- down is told where it is, and nowhere else.
+-- down is reported where it is, and nowhere else.
 pub record Reads {X : Type 0} (old new : Model State) (result : Result X StoreFault) (IsSo : State → X → Type 0) : Type 0 where
   pub value : IfOk result (λ x. Tells old new (λ s. IsSo s x))
   pub quiet : IsQuiet old new
   pub count : new.refusals ≡ count_after old.refusals result
   pub down : (result ≡ Err Down) ↔ IsTrue old.is_down
 
--- A change: it is made or fails, a refusal is counted, and that the keeper is down is told where it is, and
+-- A change: it is made or fails, a refusal is counted, and that the keeper is down is reported where it is, and
 -- nowhere else.
 pub record Applies {X : Type 0} (old new : Model State) (change : Change) (result : Result X StoreFault) : Type 0 where
   pub changes : Changes old new change result

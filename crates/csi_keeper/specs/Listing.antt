@@ -1,4 +1,4 @@
--- What a listing tells of volumes.
+-- What a listing says of volumes.
 use Rattle.std.specs.Prelude.{◌≡◌, ℕ, List, [], ◌∷◌, map}
 use Rattle.csi_keeper.specs.declared.listed.Listed.{Listed}
 use Rattle.csi_keeper.specs.declared.listed.ListedRow.{ListedRow}
@@ -7,21 +7,21 @@ use Rattle.csi_keeper.specs.declared.volume.Volume.{Volume}
 use Rattle.csi_keeper.specs.State.{State, page, published, published_of_page}
 use Rattle.csi_keeper.specs.Texts.{Text}
 
--- what is told of a volume that is published at these nodes
+-- what is reported of a volume that is published at these nodes
 abbrev pub listed_at : Volume → List Text → Listed
 listed_at v nodes = record { number = v.number; bytes = v.bytes; pool = v.pool; nodes = nodes }
 
--- what is told by a row that is lent
+-- what is reported by a row that is borrowed
 abbrev pub row_told : ListedRow → Listed
 row_told row = record { number = row.number; bytes = row.bytes; pool = row.pool.now; nodes = row.nodes.now }
 
--- what is told of volumes and the nodes of each
+-- what is reported of volumes and the nodes of each
 abbrev pub listed_each : List Volume → List (List Text) → List Listed
 listed_each [] nodes = []
 listed_each (v ∷ vs) [] = []
 listed_each (v ∷ vs) (ns ∷ nodes) = listed_at v ns ∷ listed_each vs nodes
 
--- what is told of a volume of a State
+-- what is reported of a volume of a State
 abbrev pub listed_of : State → Volume → Listed
 listed_of s v = listed_at v (published s v.number)
 
@@ -30,6 +30,6 @@ pub record IsPageWithNodes (s : State) (after count : ℕ) (p : PageWithNodes) :
   pub volumes : p.volumes ≡ page s after count
   pub nodes : p.nodes ≡ published_of_page s after count
 
--- what is told of the volumes of a page
+-- what is reported of the volumes of a page
 abbrev pub listing : State → ℕ → ℕ → List Listed
 listing s after count = map (listed_of s) (page s after count)

@@ -1,4 +1,4 @@
--- The order of capability keys is a total order, and keys that it does not tell apart are equal.
+-- The order of capability keys is a total order, and keys that it does not distinguish are equal.
 use Rattle.std.specs.Prelude.{◌≡◌, ℕ, true, ◌==◌, Option, Some, None}
 use Rattle.std.specs.declared.cmp.Ordering.{Ordering}
 use Rattle.std.specs.declared.cmp.Ordering.TheVariants.{Less, Equal, Greater}
@@ -49,7 +49,7 @@ kinds_tie Block (Mount t) = refl
 kinds_tie (Mount t) Block = refl
 kinds_tie (Mount t) (Mount u) = texts_ties t u
 
--- equal are those that the order does not tell apart
+-- equal are those that the order does not distinguish
 pub keys_tie : (a b : CapKey) → same_key a b ≡ eq_by_cmp key_cmp a b
 keys_tie a b = both_tied _ _ _ _ (kinds_tie a.kind b.kind) (nats_tie a.mode b.mode)
 

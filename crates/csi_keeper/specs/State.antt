@@ -44,7 +44,7 @@ named s name = find (λ v. bytes_eq v.name name) (volumes_in_order s)
 abbrev pub sizes : State → Text → List ℕ
 sizes s pool = map (λ v. v.bytes) (filter (λ v. bytes_eq v.pool pool) (volumes_in_order s))
 
--- as a u64 tells it
+-- as a u64
 abbrev pub up_to_u64 : ℕ → ℕ
 up_to_u64 n = min n (2 ^ 64 - 1)
 
@@ -84,7 +84,7 @@ published_of_page s after count = map (λ v. published s v.number) (page s after
 abbrev pub with_mutable : TextMap → Volume → Volume
 with_mutable m v = record v { mutable = m }
 
--- the volumes, where the one of a number, if it stands, has other mutable parameters
+-- the volumes, where the one of a number, if it exists, has other mutable parameters
 abbrev pub mutable_set : FinMap nat_cmp Volume → ℕ → TextMap → Option Volume → FinMap nat_cmp Volume
 mutable_set volumes n m None = volumes
 mutable_set volumes n m (Some v) = insert volumes n (with_mutable m v)
@@ -98,7 +98,7 @@ changed s (Detach n node) = record s { attachments = remove s.attachments (n, no
 changed s (DetachAll n) = record s { attachments = retain_keys s.attachments (λ p. not (p.0 == n)) }
 changed s (SetMutable n m) = record s { volumes = mutable_set s.volumes n m (get s.volumes n) }
 
--- what the State has to be for a change: a premise of the promise
+-- what the State must be for a change: a premise of the promise
 -- (that no volume has the number follows from the invariant, which a keeper does not know)
 abbrev pub Allows : State → Change → Type 0
 Allows s (AddVolume v) = (v.number ≡ s.next) × (get s.volumes v.number ≡ None) × (named s v.name ≡ None)

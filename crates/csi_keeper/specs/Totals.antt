@@ -38,7 +38,7 @@ less t bytes = the_total (t.volumes - 1) (t.bytes - bytes)
 abbrev pub HasRoom : Total → ℕ → Type 0
 HasRoom t bytes = (t.volumes + 1 < 2 ^ 64) × (t.bytes + bytes < 2 ^ 128)
 
--- as a u64 tells it
+-- as a u64
 abbrev pub told : Total → Usage
 told t = record { volumes = up_to_u64 t.volumes; bytes = up_to_u64 t.bytes }
 

@@ -1,4 +1,4 @@
-//! How what is kept changes, what is told of it, and why a call fails.
+//! How what is kept changes, what is reported of it, and why a call fails.
 
 ghost use Rattle.std.specs.Prelude.{◌≡◌, ◌≢◌, IfErr, IfOk};
 ghost use Rattle.csi_keeper.specs.declared.change.Change.TheVariants.{AddVolume};
@@ -14,18 +14,18 @@ pub enum Change {
     /// A new volume. Its number is the State's next one, no volume has its name, and it has at most
     /// 2^62 bytes. The next number becomes greater by 1.
     AddVolume(Volume),
-    /// The volume of the number stands no more. It has no attachments. Its number is never given
+    /// The volume of the number no longer exists. It has no attachments. Its number is never given
     /// again. Where no volume has the number nothing changes.
     RemoveVolume(u64),
-    /// The volume of the number, which stands, is attached at a node where it is not.
+    /// The volume of the number, which exists, is attached at a node where it is not.
     Attach(u64, Attachment),
     /// The volume of the number is detached at a node. Where it is not attached there nothing
     /// changes.
     Detach(u64, Text),
     /// The volume of the number is detached at each node.
     DetachAll(u64),
-    /// The volume of the number, which stands, has these mutable parameters, of at most 4,096 bytes,
-    /// in place of its own.
+    /// The volume of the number, which exists, has these mutable parameters, of at most 4,096 bytes,
+    /// instead of its own.
     SetMutable(u64, Map),
 }
 
@@ -76,7 +76,7 @@ pub struct Usage {
 pub enum StoreFault {
     /// Memory was refused.
     NoMemory,
-    /// What the keeper stands on, as a file, refused the call.
+    /// What the keeper is over, as a file, refused the call.
     Refused,
     /// The keeper is down: it answers nothing until it is opened again.
     Down,

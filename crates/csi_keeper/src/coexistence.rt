@@ -1,4 +1,4 @@
-//! Which attachments of one volume can stand at two nodes.
+//! Which attachments of one volume can exist at two nodes.
 
 ghost use Rattle.std.specs.Prelude.{◌≡◌};
 ghost use Rattle.csi_keeper.specs.Coexistence.{coexist, is_shared};

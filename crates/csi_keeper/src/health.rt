@@ -62,7 +62,7 @@ impl Health {
     /// # Errors
     ///
     /// The fault of the answer, where `Refused` is counted. This keeper is not down, so a `Down` from what it
-    /// stands on is a refusal.
+    /// is over is a refusal.
     pub fn finish_call<T>(&mut self, answer: Result<T, StoreFault>) -> Result<T, StoreFault>
         ensures { Finishes self.old self.new answer result }
     {

@@ -24,7 +24,7 @@ use std::alloc::Global;
 /// down each call but `refusals` is answered `Down`, and nothing moves; no call is answered so
 /// otherwise.
 ///
-/// A keeper may stand on something that answers other than it was written to, as a broken disk
+/// A keeper may be over something that answers other than it was written to, as a broken disk
 /// does. What is promised of the State is promised while that has not been seen: while `doubt`,
 /// which never falls, is 0.
 ///
@@ -90,7 +90,7 @@ pub trait Keeper {
     }
 
     /// The sizes in bytes of a pool's volumes, in rising order of their numbers. It may look through
-    /// all volumes; `used_in` tells their count and sum without that.
+    /// all volumes; `used_in` returns their count and sum without that.
     fn sizes_in(&mut self, alloc: Global, pool: &str) -> Result<Items<u64>, StoreFault>
         ensures { Reads (model self.old) (model self.new) result (λ s xs. xs ≡ sizes s pool.now) };
 

@@ -7,11 +7,11 @@
 //! above as well: sums over a pool after a change, the orders of the maps, what a chain of reads leaves, what
 //! supported keys have.
 //!
-//! The trait [`Keeper`] is all that the step of requests stands on. What keepers share stands here beside it:
+//! The trait [`Keeper`] is all that the step of requests uses. What keepers share is here too:
 //! the running totals of pools, [`Totals`], copies of what is kept ([`copy_volume`], [`copy_attachment`]),
-//! the count of refusals with whether a keeper is down ([`Health`]), what a listing tells of a volume
+//! the count of refusals with whether a keeper is down ([`Health`]), what a listing says of a volume
 //! ([`listed_at`], [`listed_each`]), and what is made of that, volume by volume ([`PageFold`]). The keepers
-//! stand in crates above: `csi_memory` in memory, `csi_tables` in SQLite, `csi_through` over two.
+//! are in crates above: `csi_memory` in memory, `csi_tables` in SQLite, `csi_through` over two.
 //!
 //! ```rust
 //! let number = keeper.next_number()?;

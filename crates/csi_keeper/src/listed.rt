@@ -1,4 +1,4 @@
-//! What a listing tells of volumes.
+//! What a listing says of volumes.
 
 ghost use Rattle.std.specs.Prelude.{◌≡◌, IfOk};
 ghost use Rattle.csi_keeper.specs.Listing.{listed_at, listed_each, row_told};
@@ -7,7 +7,7 @@ use crate::volume::Volume;
 use csi_types::{Items, Text};
 use std::alloc::{AllocError, Global};
 
-/// What a listing tells of a volume (CSI 1.x, `ListVolumesResponse.Entry`).
+/// What a listing says of a volume (CSI 1.x, `ListVolumesResponse.Entry`).
 #[derive(Drop)]
 pub struct Listed {
     /// The number.
@@ -35,7 +35,7 @@ impl Listed {
     }
 }
 
-/// What a listing tells of a volume, lent: the fields of [`Listed`].
+/// What a listing says of a volume, borrowed: the fields of [`Listed`].
 #[derive(Drop)]
 pub struct ListedRow<'a> {
     /// The number.

@@ -1,4 +1,4 @@
-//! The volumes of a page, one after the other.
+//! The volumes of a page, in order.
 
 ghost use Rattle.std.specs.Prelude.{◌++◌, ◌∷◌, [], List, OnOk};
 ghost use Rattle.csi_keeper.specs.Listing.{row_told};
@@ -7,9 +7,9 @@ ghost use Rattle.csi_keeper.specs.declared.listed.Listed.{Listed as Told};
 use crate::listed::{Listed, ListedRow};
 use std::alloc::AllocError;
 
-/// What is made of what a listing tells of volumes, one after the other.
+/// What is made of what a listing says of volumes, one by one in order.
 pub trait PageFold {
-    /// What a fold becomes over what is told of volumes, in their order.
+    /// What a fold becomes over what is listed of volumes, in their order.
     ghost folds: { Self → List Told → Self → Type 0 };
 
     /// What stays of a fold also where it fails.

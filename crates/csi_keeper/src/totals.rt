@@ -20,7 +20,7 @@ pub struct Total {
 
 /// The total of each pool. A pool that was never named has none of either.
 ///
-/// A keeper of volumes has one beside its rows, so that what a pool has used is told in O(log n) for
+/// A keeper of volumes has one in addition to its rows, so that what a pool has used is found in O(log n) for
 /// n pools. An entry stays for each pool that a volume was ever added to.
 #[derive(Drop)]
 pub struct Totals {

@@ -8,7 +8,7 @@ use csi_types::{Items, Map, Text};
 pub struct Volume {
     /// The number, 1 to 2^62 - 1. No other volume ever has it, also after this one is deleted.
     pub number: u64,
-    /// The name that it was created under. No other volume has it while this one stands.
+    /// The name that it was created under. No other volume has it while this one exists.
     pub name: Text,
     /// The size in bytes, at most 2^62.
     pub bytes: u64,
@@ -18,7 +18,7 @@ pub struct Volume {
     pub caps: Items<CapKey>,
     /// The parameters that it was created with (`CreateVolumeRequest.parameters`).
     pub params: Map,
-    /// The parameters that can be changed while it stands
+    /// The parameters that can be changed while it exists
     /// (`CreateVolumeRequest.mutable_parameters`, and those of `ControllerModifyVolumeRequest` laid
     /// over them).
     pub mutable: Map,

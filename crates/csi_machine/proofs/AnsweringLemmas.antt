@@ -52,7 +52,7 @@ use Rattle.csi_machine.proofs.PlanLemmas.{IsSound, sound_by, sound_still}
 use Rattle.csi_machine.proofs.PublishLemmas.{publish_fits}
 use Rattle.csi_machine.proofs.UnpublishLemmas.{unpublish_fits}
 
--- the body that is told is appended
+-- the body that is reported is appended
 pub appended_by : (x y : List ℕ) (o : Result Response Reason) (v : Verdict) → v ≡ verdict_of o → y ≡ x ++ body_of o → length (body_of o) ≤ MAX_BODY_BYTES → Appended {E = StoreFault} x y (Ok v)
 appended_by x y (Ok r) verdict.Done e b l = (response_bytes r, b, l)
 appended_by x y (Ok r) (verdict.Refused q) e b l = absurd (cc)

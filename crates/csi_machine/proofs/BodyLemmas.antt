@@ -1,4 +1,4 @@
--- What stands behind the first bytes of a vector, as a body.
+-- What stands after the first bytes of a vector, as a body.
 use Rattle.std.proofs.Common.{◌≡◌, ap, cond, subst, sym, ℕ, ◌-◌, ◌≤◌, ◌++◌, List, drop, length, take}
 use Rattle.std.proofs.lemmas.Bool.{le-leb}
 use Rattle.std.proofs.lemmas.List.{length-drop, take-append-drop}

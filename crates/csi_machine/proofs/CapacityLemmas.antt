@@ -28,7 +28,7 @@ free_le (r ∷ rs) = omega (arith, sum_by-cons free (room_value r) (map room_val
 pub rooms_fit : (config : Config) (rs : List code.Room) → all_bytes config.pools ≤ 2 ^ 62 → map (λ r. r.pool.now) rs ≡ config.pools → sum_by free (map room_value rs) ≤ 2 ^ 62
 rooms_fit config rs few e = let le = free_le rs in let same = ap (sum_by (λ (p : Pool). p.bytes)) e in omega (arith, few, le, same)
 
--- what is free in the pools that serve a topology is told as it is
+-- what is free in the pools that serve a topology is reported as it is
 pub sum_small : (rs : List Room) (t : Option TextMap) (n : ℕ) → sum_by free rs ≤ 2 ^ 62 → n ≡ up_to_u64 (sum_by free (served rs t)) → n ≤ 2 ^ 62
 sum_small rs t n h e = let le = served_le rs t in omega (arith, h, e, le)
 

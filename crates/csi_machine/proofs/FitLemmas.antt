@@ -1,4 +1,4 @@
--- A volume that was made is told in a reply: what is written of it is far shorter than a body may be.
+-- A volume that was made is reported in a reply: what is written of it is far shorter than a body may be.
 use Rattle.std.proofs.Common.{◌≡◌, ◌∙◌, ap, sym, subst, cond, arith, refl, ℕ, zero, suc, ◌+◌, ◌*◌, ◌/◌, ◌%◌, ◌==◌, ◌<◌, ◌≤◌, ◌^◌, nat_lt, nat_le, List, [], ◌∷◌, ◌++◌, length, map, take, codes, Bool, true, false, ◌&&◌, ◌||◌, Option, Some, None, option_map, inl, inr}
 use Rattle.std.specs.Cmp.Lexicographic.{slice_cmp}
 use Rattle.std.specs.FinMap as fin
@@ -36,7 +36,7 @@ use Rattle.csi_rules.specs.Ids.{id}
 use Rattle.csi_rules.specs.Info.{info_at, topology_of}
 use Rattle.envelope.specs.declared.limits.TheConstants.{MAX_BODY_BYTES}
 
--- ---- how long a spelling is at most
+-- ---- how long an encoding is at most
 
 minimal_most : (k n : ℕ) → length (minimal k n) ≤ k + 1
 unfolding minimal
@@ -146,7 +146,7 @@ volume_most segments v few short pool number =
 id_most : (n : ℕ) → n < 2 ^ 62 → length (id n) ≤ 24
 id_most n low = let all = length-append (codes "vol-") (decimal n) in let digits = length-decimal-le 20 n (omega arith) (omega (arith, low)) (omega (arith, low)) in omega (arith, all, digits)
 
--- the reply has a body that is told
+-- the reply has a body that is reported
 created_fits : (segments : TextMap) (v : Volume) → fin.len segments ≤ 8 → AreShort (fin.entries segments) → length v.pool ≤ 128 → v.number < 2 ^ 62 → length (response_bytes (response.Create (Some (info_at segments v)))) ≤ MAX_BODY_BYTES
 unfolding response_bytes row_fields
 created_fits segments v few short pool number =
@@ -222,7 +222,7 @@ name_short name e =
     let most : length name ≤ MAX_NAME_BYTES = leb-true (length name) MAX_NAME_BYTES inner.1 in
     omega (arith, most)
 
--- what is told of a volume in a pool of the configuration fits into a reply
+-- what is reported of a volume in a pool of the configuration fits into a reply
 pub made_fits : (config : Config) → ((p : Pool) → Has config.pools p → is_pool_name p.name ≡ true) → ((p : Pool) → Has config.pools p → fin.len p.segments ≤ MAX_SEGMENTS)
     → (p : Pool) → Has config.pools p → (v : Volume) → v.pool ≡ p.name → v.number < 2 ^ 62 → length (response_bytes (response.Create (Some (info_at p.segments v)))) ≤ MAX_BODY_BYTES
 made_fits config names few p h v is number =

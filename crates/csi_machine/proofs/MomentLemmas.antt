@@ -1,4 +1,4 @@
--- Pages that are asked for one after the other, at moments that have States of their own.
+-- Pages that are asked for in order, at moments that have States of their own.
 use Rattle.std.proofs.Common.{◌≡◌, ◌∙◌, sym, subst, arith, cond, ℕ, ◌<◌, ◌≤◌, nat_lt, List, [], ◌∷◌, ◌++◌, map, filter, take, suc, zero, inl, inr, ◌⊎◌, refl, Some, Bool, true, false, Ordering, Less, Equal, Greater, T}
 use Rattle.std.specs.List.{AllByRecursion}
 use Rattle.std.specs.Ordering.{nat_cmp, is_eq, eq_by_cmp}

@@ -1,4 +1,4 @@
--- A maximum that GetCapacity tells can be had.
+-- A maximum that GetCapacity says can be had.
 use Rattle.std.proofs.Common.{◌≡◌, ◌≢◌, ◌∙◌, inl, inr, ap, sym, subst, cond, arith, refl, ℕ, ◌+◌, ◌-◌, ◌*◌, ◌/◌, ◌%◌, ◌==◌, ◌<◌, ◌≤◌, ◌^◌, max, min, nat_lt, nat_le, List, [], ◌∷◌, length, map, find, fold, sum, sum_by, Bool, true, false, ◌&&◌, ◌||◌, Option, Some, None, option_map, eqb-true}
 use Rattle.std.specs.FinMap as fin
 use Rattle.std.specs.Cmp.{nat_cmp_total}
@@ -163,7 +163,7 @@ none_of rs (u ∷ ts) t n h e = go (none_of rs ts t n) (choice rs (u ∷ []) n) 
 under : (a b : ℕ) → b < a → nat_le a b ≡ false
 under a b h = elim (leb_tells a b) as (λ _. nat_le a b ≡ false) [ inl x ↦ absurd (omega (arith, h, x.1)) | inr x ↦ x.0 ]
 
--- the maximum that is told
+-- the maximum that is reported
 told : (config : Config) (rs : List Room) (g : GetCapacity) (available n : ℕ) → (b : Bool)
     → cond b (tell_capacity (sum_by free (served rs g.topology)) (greatest_size config (served rs g.topology))) (tell_capacity 0 0) ≡ tell_capacity available n → 0 < n
     → n ≡ greatest_size config (served rs g.topology)
@@ -176,7 +176,7 @@ told config rs g available n false e h = absurd (none available n (ap (λ p. p.o
     none : (c d : ℕ) → (tell_capacity 0 0).outcome ≡ (tell_capacity c d).outcome → 0 < d → ⊥
     none c d e h = let z : ◌≡◌ {A = ℕ} 0 d = cc in omega (arith, z, h)
 
--- a maximum that GetCapacity tells is a multiple of 1 MiB, within the greatest size, and no more than is free where the topology is served
+-- a maximum that GetCapacity says is a multiple of 1 MiB, within the greatest size, and no more than is free where the topology is served
 told_fits : (config : Config) → IsConfigured config → (s : State) (g : GetCapacity) (available n : ℕ) → IsInvariant config s → capacity config s g ≡ tell_capacity available n → 0 < n
     → IsTimes n × (n ≤ config.sizes.greatest_bytes) × (n ≤ greatest (map free (served (rooms config s) (Some (term_of g.topology)))))
 told_fits config good s g available n inv e h =
@@ -196,7 +196,7 @@ of_config config s ts n p f =
     let same : from.0 ≡ p = ap (λ (x : Room). x.0) from.2 ∙ one.2 in
     subst (Has config.pools) same from.1
 
--- a pool is chosen for the maximum that GetCapacity tells, under the topology that it was asked for
+-- a pool is chosen for the maximum that GetCapacity says, under the topology that it was asked for
 pub offers : (config : Config) → IsConfigured config → (s : State) (g : GetCapacity) (available n : ℕ) → IsInvariant config s → capacity config s g ≡ tell_capacity available n → 0 < n
     → (pool : Pool) × Has config.pools pool × (choice (rooms config s) (term_of g.topology ∷ []) n ≡ Some pool)
 offers config good s g available n inv e h = go (choice (rooms config s) (term_of g.topology ∷ []) n) refl
@@ -205,7 +205,7 @@ offers config good s g available n inv e h = go (choice (rooms config s) (term_o
     go None f = absurd (has_place (rooms config s) (term_of g.topology) n h (told_fits config good s g available n inv e h).2 f)
     go (Some p) f = (p, of_config config s (term_of g.topology ∷ []) n p f, f)
 
--- a volume of the maximum that GetCapacity tells is made, where its topology is one of the terms
+-- a volume of the maximum that GetCapacity says is made, where its topology is one of the terms
 pub offered : (config : Config) → IsConfigured config → (s : State) (g : GetCapacity) (available n : ℕ) (r : CreateVolume) → IsInvariant config s
     → capacity config s g ≡ tell_capacity available n → 0 < n → AsksFor config r g.topology n → IsNew config s r.name
     → (pool : Pool) × Has config.pools pool × (create config s r ≡ place_in r s.next n (Some pool))

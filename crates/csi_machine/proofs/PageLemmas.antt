@@ -34,7 +34,7 @@ last_push : (after : ℕ) (rows : List Listed) (row : Listed) → last_row after
 last_push after [] row = refl
 last_push after (r ∷ rows) row = last_push r.number rows row
 
--- one volume tells whether there are any
+-- one volume says whether there are any
 token_one : (s : State) (last : ℕ) (vs : List Volume) → token_when last (is_any (map (listed_of s) (take 1 vs)) || false) ≡ token_for last vs
 token_one s last [] = refl
 token_one s last (v ∷ vs) = refl
@@ -94,7 +94,7 @@ written_more first was now rows row h config last placed body =
           ∙ ap (λ (es : List Entry). first.body.items ++ response_bytes (response.List es [])) (sym (map_push of rows row));
     }
 
--- the token behind the entries
+-- the token after the entries
 pub wrote_token : (old mid new : List ℕ) (es : List Entry) (token : Text) → mid ≡ old ++ response_bytes (response.List es []) → new ≡ mid ++ response_bytes (response.List [] token)
     → new ≡ old ++ response_bytes (response.List es token)
 wrote_token old mid new es token stood wrote =
@@ -123,12 +123,12 @@ pub page_finds : (most count : ℕ) (a b c : Model State) (first now : Page) (is
 page_finds most count a b c first now is_more new many one two is =
     found_then (read_found one) (read_found two) (λ s wrote x more none. page_written s most count first now is_more new many (wrote (subst (ArePlaced first.config.now) (sym none) tt)) more is)
 
--- what is told does not stand on how a call may fail
+-- what is reported does not stand on how a call may fail
 told_as : (E F : Type 0) (told : Told) (x y : List ℕ) (v : Verdict) → IsReported {E = E} told x y (Ok v) → IsReported {E = F} told x y (Ok v)
 told_as E F told x y verdict.Done h = h
 told_as E F told x y (verdict.Refused reason) h = h
 
--- what is told by the body of a page, behind what stood before it
+-- what is reported by the body of a page, after what stood before it
 pub page_told : (config : Config) (s : State) (most after from : ℕ) (old body new : List ℕ) (v : Verdict) → from ≡ length old → IsPage config s after most old body
     → IsReported {E = AllocError} (within (drop from body)) (take from body) new (Ok v) → IsReported {E = StoreFault} (reported_of (list_after config s most (Some after)).outcome) old new (Ok v)
 page_told config s most after from old body new v at is told =
@@ -137,7 +137,7 @@ page_told config s most after from old body new v at is told =
     let back : drop from body ≡ page = ap₂ (λ (n : ℕ) (bs : List ℕ). drop n bs) at is ∙ drop-append_seam old page in
     told_as AllocError StoreFault _ _ _ v (subst (λ (bs : List ℕ). IsReported {E = AllocError} (within bs) old new (Ok v)) back (subst (λ (bs : List ℕ). IsReported {E = AllocError} (within (drop from body)) bs new (Ok v)) front told))
 
--- a page, behind the read of the next number
+-- a page, after the read of the next number
 pub page_then : (config : Config) (r : ListVolumes) (most after next : ℕ) (a b c : Model State) (x y : List ℕ) (result : Result Verdict StoreFault)
     → Reads a b (Ok next) (λ s n. n ≡ s.next) → Some after ≡ start_of next r.token → most ≡ whole r.max_entries
     → Finds b c result (λ s v. IsReported {E = StoreFault} (reported_of (list_after config s most (Some after)).outcome) x y (Ok v))

@@ -23,7 +23,7 @@ abbrev pub body_of : Result Response Reason → List ℕ
 body_of (Ok r) = response_bytes r
 body_of (Err reason) = []
 
--- where it is answered the State is the one after the request, and else the one before it
+-- where it is answered the State is the one after the request, and otherwise the one before it
 abbrev pub state_after : State → State → Result Verdict StoreFault → State
 state_after s t (Ok v) = t
 state_after s t (Err e) = s
@@ -88,7 +88,7 @@ pub record Carries (plan : Plan) (old new : Model State) (result : Result Verdic
   pub down : TellsDown old.is_down (λ v. plan.change ≡ None) result
   pub stays : old.is_down ≡ true → new.is_down ≡ true
 
--- A request is performed: its body is appended, what is told and the State behind it are those of one step of
+-- A request is performed: its body is appended, what is reported and the State after it are those of one step of
 -- the machine, and a fault of the keeper is counted and leaves the State.
 pub record Performs (config : Config) (request : Request) (old new : Model State) (out now : List ℕ) (result : Result Verdict StoreFault) : Type 0 where
   pub clean : old.doubt ≤ new.doubt

@@ -1,4 +1,4 @@
--- What a configuration has, as far as requests stand on it.
+-- What a configuration has, as far as requests need it.
 use Rattle.std.specs.Prelude.{◌≡◌, ◌≤◌, ◌^◌, true}
 use Rattle.csi_config.specs.Faults.{is_whole}
 use Rattle.csi_config.specs.Values.{Has}

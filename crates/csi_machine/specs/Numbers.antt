@@ -1,9 +1,12 @@
 -- How the numbers of volumes go on from one State to a later one.
-use Rattle.std.specs.Prelude.{◌≡◌, ◌≤◌, ◌<◌, ℕ, None}
+use Rattle.std.specs.Prelude.{◌≡◌, ◌≤◌, ◌<◌, ℕ, None, Some}
 use Rattle.std.specs.FinMap.{get}
-use Rattle.csi_keeper.specs.State.{State}
+use Rattle.csi_keeper.specs.State.{State, with_mutable}
+use Rattle.csi_keeper.specs.declared.volume.Volume.{Volume}
 
--- The next number is no smaller, and a number before it that no volume has is no volume's later.
+-- The next number is no smaller. A number before it that no volume has is no volume's later. A number of a
+-- volume before and after is of one volume, of which only the mutable parameters may have changed.
 pub record NumbersRise (s t : State) : Type 0 where
   pub next : s.next ≤ t.next
   pub gone : (n : ℕ) → n < s.next → get s.volumes n ≡ None → get t.volumes n ≡ None
+  pub same : (n : ℕ) (v w : Volume) → get s.volumes n ≡ Some v → get t.volumes n ≡ Some w → w ≡ with_mutable w.mutable v

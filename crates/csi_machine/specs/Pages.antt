@@ -11,7 +11,7 @@ use Rattle.csi_machine.specs.Places.{ArePlaced, entry_at, last_row}
 use Rattle.csi_machine.specs.calls.Listing.{entry_of, last_of, listed, token_for}
 use Rattle.csi_machine.specs.declared.page.Page.{Page}
 
--- the entries of the rows stand behind what the page had
+-- the entries of the rows are after what the page had
 pub record HasWritten (first : Page) (rows : List Listed) (now : Page) : Type 0 where
   pub config : now.config.now ≡ first.config.now
   pub placed : ArePlaced now.config.now now.places.items
@@ -27,7 +27,7 @@ is_any (row ∷ rows) = true
 abbrev pub token_when : ℕ → Bool → Text
 token_when last is_more = if is_more then decimal last else []
 
--- the body of the page behind a number, of at most so many volumes, stands behind other bytes
+-- the body of the page after a number, of at most so many volumes, is after other bytes
 abbrev pub IsPage : Config → State → ℕ → ℕ → List ℕ → List ℕ → Type 0
 IsPage config s after most old new =
     new ≡ old ++ response_bytes (response.List (map (entry_of config s) (listed s after most))

@@ -1,4 +1,4 @@
--- Entries of a listing, of volumes whose pools are spelled once.
+-- Entries of a listing, of volumes whose pools are encoded once.
 use Rattle.std.specs.Prelude.{◌≡◌, ℕ, List, [], ◌∷◌, Some, codes}
 use Rattle.std.specs.FinMap.{empty, insert}
 use Rattle.std.specs.List.{AllByRecursion}
@@ -17,7 +17,7 @@ pub record IsPlaced (config : Config) (place : PoolPlacement) : Type 0 where
 abbrev pub ArePlaced : Config → List PoolPlacement → Type 0
 ArePlaced config places = AllByRecursion (IsPlaced config) places
 
--- what is answered of a volume, by what a listing tells of it
+-- what is answered of a volume, by what a listing says of it
 abbrev pub entry_at : Config → Listed → Entry
 entry_at config row = record {
   volume = Some (record {

@@ -1,8 +1,9 @@
 -- Requests that are tried again until they are answered, over stops between the tries (CSI specification,
 -- 'Timeouts').
-use Rattle.std.specs.Prelude.{◌≡◌, ◌⊎◌, List, [], ◌∷◌, ◌++◌}
+use Rattle.std.specs.Prelude.{◌≡◌, ◌≢◌, ◌⊎◌, Bool, true, false, List, [], ◌∷◌, ◌++◌}
 use Rattle.std.specs.List.{AllByRecursion, flat_map}
 use Rattle.csi_types.specs.declared.requests.Request.{Request}
+use Rattle.csi_types.specs.declared.requests.Request.TheVariants as request
 use Rattle.csi_config.specs.declared.config.Config.{Config}
 use Rattle.csi_keeper.specs.State.{State}
 use Rattle.csi_machine.specs.Step.{step}
@@ -71,7 +72,7 @@ IsLife config s [] told t = (told ≡ []) × (t ≡ s)
 IsLife config s (tries ∷ sessions) told t =
     (u : State) × (rest : List Told) × Leaves config s tries u × (told ≡ reported_of config s tries ++ rest) × IsLife config u sessions rest t
 
--- ---- a lone client
+-- ---- a client, and others that change nothing
 
 -- the tries of all sessions, in order
 abbrev pub all_tries : List (List Try) → List Try
@@ -93,10 +94,30 @@ still_open rs Down = rs
 still_open rs Unanswered = rs
 still_open rs Answered = without_first rs
 
--- the tries are of each request in turn, over and over until it is answered
+-- whether the requests of this one's method change nothing
+abbrev pub is_read : Request → Bool
+is_read request.PluginInfo = true
+is_read request.PluginCapabilities = true
+is_read request.Probe = true
+is_read request.ControllerCapabilities = true
+is_read (request.Create r) = false
+is_read (request.Delete r) = false
+is_read (request.Publish r) = false
+is_read (request.Unpublish r) = false
+is_read (request.Validate r) = true
+is_read (request.List r) = true
+is_read (request.Capacity r) = true
+is_read (request.Modify r) = false
+
+-- the try is another client's, of a request that changes nothing: this client is not answered
+abbrev pub IsOfAnother : Try → Type 0
+IsOfAnother t = (is_read t.request ≡ true) × (t.end ≢ Answered)
+
+-- The tries of the client are of each request in turn, over and over until it is answered. Between them are
+-- tries of other clients.
 abbrev pub AreTriesOf : List Request → List Try → Type 0
 AreTriesOf rs [] = rs ≡ []
-AreTriesOf rs (t ∷ ts) = IsOfFirst rs t × AreTriesOf (still_open rs t.end) ts
+AreTriesOf rs (t ∷ ts) = (IsOfFirst rs t × AreTriesOf (still_open rs t.end) ts) ⊎ (IsOfAnother t × AreTriesOf rs ts)
 
 -- ---- the requests taken once each
 
@@ -122,3 +143,15 @@ abbrev pub IsLifeOfTwo : Config → State → Request → Ending → Type 0
 IsLifeOfTwo config s r end =
     AreTriesOf (r ∷ []) (all_tries (twice r end))
     × IsLife config s (twice r end) ((step config (step config s r).1 r).0 ∷ []) (step config (step config s r).1 r).1
+
+-- the same, where another client asks for something before the request is tried again
+abbrev pub between : Request → Request → List (List Try)
+between r q =
+    (record { request = r; end = Unanswered } ∷ record { request = q; end = Unanswered } ∷ [])
+    ∷ (record { request = r; end = Answered } ∷ []) ∷ []
+
+abbrev pub IsLifeWithAnother : Config → State → Request → Request → Type 0
+IsLifeWithAnother config s r q =
+    AreTriesOf (r ∷ []) (all_tries (between r q))
+    × IsLife config s (between r q) ((step config (step config (step config s r).1 q).1 r).0 ∷ [])
+    (step config (step config (step config s r).1 q).1 r).1

@@ -25,7 +25,7 @@ pub data Call : Type 0 where
   Next : ℕ → Call
   Other : Request → Call
 
--- the entries that a response lists, and the token that it tells
+-- the entries that a response lists, and the token that it has
 abbrev pub listing_of : Response → Option (List Entry × Text)
 listing_of (response.List entries token) = Some (entries, token)
 listing_of _ = None
@@ -84,23 +84,23 @@ AreChecked [] = Unit {0}
 AreChecked (Next most ∷ calls) = AreChecked calls
 AreChecked (Other r ∷ calls) = (checked r ≡ None) × AreChecked calls
 
--- each page but the last tells a token
+-- each page but the last has a token
 abbrev pub GoOn : List Page → Type 0
 GoOn [] = Unit {0}
 GoOn (p ∷ []) = Unit {0}
 GoOn (p ∷ q ∷ ps) = (p.token ≡ [] → ⊥) × GoOn (q ∷ ps)
 
--- the last page tells none
+-- the last page has none
 abbrev pub End : List Page → Type 0
 End [] = ⊥
 End (p ∷ []) = p.token ≡ []
 End (p ∷ q ∷ ps) = End (q ∷ ps)
 
--- each entry of a page is of a volume that stood at it
+-- each entry of a page is of a volume that existed at it
 abbrev pub AreOfVolumes : Config → Page → Type 0
 AreOfVolumes config p = AllByRecursion (λ e. (n : ℕ) × (v : Volume) × (get p.at.volumes n ≡ Some v) × (e ≡ entry_of config p.at v)) p.entries
 
--- a volume of the number stood at each page
+-- a volume of the number existed at each page
 abbrev pub Stood : ℕ → List Page → Type 0
 Stood n ps = AllByRecursion (λ p. (v : Volume) × (get p.at.volumes n ≡ Some v)) ps
 

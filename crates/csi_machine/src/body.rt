@@ -24,7 +24,7 @@ pub enum Verdict {
 pub(crate) fn limit_body(out: &mut Vec<u8>, from: usize) -> Verdict
     requires { from ≤ length out.old.items }
     ensures appended { Appended {E = AnyError} (take from out.old.items) out.new.items (Ok result) }
-    ensures told { IsReported {E = AnyError} (within (drop from out.old.items))
+    ensures reported { IsReported {E = AnyError} (within (drop from out.old.items))
         (take from out.old.items) out.new.items (Ok result) }
 {
     if out.len() - from > MAX_BODY_BYTES {
@@ -42,7 +42,7 @@ pub(crate) fn limit_body(out: &mut Vec<u8>, from: usize) -> Verdict
 /// Where memory is refused the vector is as it was.
 pub fn append_body(response: &Response, out: &mut Vec<u8>) -> Result<Verdict, AllocError>
     ensures appended { Appended out.old.items out.new.items result }
-    ensures told { IsReported (within (response_bytes response.now)) out.old.items out.new.items result }
+    ensures reported { IsReported (within (response_bytes response.now)) out.old.items out.new.items result }
 {
     let from = out.len();
     encode_response(response, out)?;

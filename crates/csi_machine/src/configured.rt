@@ -1,4 +1,4 @@
-//! What a configuration has, as far as requests stand on it.
+//! What a configuration has, as far as requests need it.
 
 ghost use Rattle.csi_machine.specs.Configured.{IsConfigured};
 

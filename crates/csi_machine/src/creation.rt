@@ -1,4 +1,4 @@
-//! What a create comes to. Its response is written from the volume, and not made first.
+//! What is done about a create. Its response is written from the volume, and not made first.
 
 ghost use Rattle.std.specs.Prelude.{Some};
 ghost use Rattle.csi_types.specs.declared.responses.Response.TheVariants as response;
@@ -16,12 +16,12 @@ use csi_types::{Map, Reason};
 use itoa::Buffer;
 use std::alloc::{AllocError, Global};
 
-/// What a create comes to. Beside a volume stand the segments of its pool.
+/// What is done about a create. Next to a volume are the segments of its pool.
 #[derive(Drop)]
 pub(crate) enum Creation<'a> {
     /// It is refused.
     Refused(Reason),
-    /// The volume stands, as the request asks.
+    /// The volume exists, as the request asks.
     Standing(Volume, &'a Map),
     /// The volume is made.
     Made(Volume, &'a Map),
@@ -31,7 +31,7 @@ pub(crate) enum Creation<'a> {
 // holds it.
 fn append_created(volume: &Volume, segments: &Map, out: &mut Vec<u8>) -> Result<Verdict, AllocError>
     ensures appended { Appended out.old.items out.new.items result }
-    ensures told { IsReported (within (response_bytes
+    ensures reported { IsReported (within (response_bytes
         (response.Create (Some (info_at segments.now volume.now))))) out.old.items out.new.items result }
 {
     let from = out.len();

@@ -55,7 +55,7 @@ pub(crate) fn plan_plugin_capabilities(alloc: Global) -> Result<Plan, AllocError
 /// Where memory was refused; the vector is as it was.
 pub(crate) fn append_ready(out: &mut Vec<u8>) -> Result<Verdict, AllocError>
     ensures appended { Appended out.old.items out.new.items result }
-    ensures told { IsReported (reported_of probe.outcome) out.old.items out.new.items result }
+    ensures reported { IsReported (reported_of probe.outcome) out.old.items out.new.items result }
 {
     append_body(&Response::Probe(Some(true)), out)
 }

@@ -1,7 +1,7 @@
 //! Laws of the definitions that the contracts cite: each is the contract of a function that does
 //! nothing.
 
-ghost use Rattle.std.specs.Prelude.{◌≡◌, ◌<◌, ◌^◌, ℕ, List, [], ◌∷◌, None, Some};
+ghost use Rattle.std.specs.Prelude.{◌≡◌, ◌<◌, ◌^◌, ℕ, List, [], ◌∷◌, None, Some, true};
 ghost use Rattle.csi_rules.specs.Ids.{id, number_of_id};
 ghost use Rattle.csi_keeper.specs.Texts.{Text};
 ghost use Rattle.csi_keeper.specs.Invariant.{IsInvariant};
@@ -15,7 +15,7 @@ ghost use Rattle.csi_machine.specs.Numbers.{NumbersRise};
 ghost use Rattle.csi_machine.specs.Offer.{AsksFor, IsNew, exactly, term_of};
 ghost use Rattle.csi_machine.specs.calls.Capacity.{capacity, tell_capacity};
 ghost use Rattle.csi_machine.specs.calls.Create.{create, made, place_in};
-ghost use Rattle.csi_machine.specs.Retry.{Try, IsLife, AreTriesOf, all_tries, told_once, after_once, Marked, Unanswered, IsLifeOfTwo};
+ghost use Rattle.csi_machine.specs.Retry.{Try, IsLife, AreTriesOf, all_tries, told_once, after_once, Marked, Unanswered, IsLifeOfTwo, IsLifeWithAnother, is_read};
 ghost use Rattle.csi_machine.specs.Step.{step};
 ghost use Rattle.csi_rules.specs.Info.{info_at};
 ghost use Rattle.csi_rules.specs.Size.{size};
@@ -53,8 +53,9 @@ pub fn kept(config: &Config)
     configured(config);
 }
 
-/// No number is given twice: a request lowers no next number, and a number that was given, and whose volume
-/// was deleted, is not given again. What is answered does not matter.
+/// No number is given twice: a request lowers no next number, gives no number again whose volume was deleted,
+/// and changes nothing of a volume that keeps its number but its mutable parameters. What is answered does not
+/// matter.
 #[inline(always)]
 pub fn numbers(config: &Config)
     ensures { (s : State) (r : Request) → IsInvariant config.now s → checked r ≡ None
@@ -66,9 +67,9 @@ pub fn numbers(config: &Config)
 /// A walk over the pages of a listing, from a State of the invariant (CSI specification,
 /// 'ListVolumes').
 ///
-/// Its first page has an empty token, each next one the token that the page before told, and other
+/// Its first page has an empty token, each next one the token that the page before returned, and other
 /// requests that pass the checks of their arguments come anywhere. No page is refused for its token;
-/// what is listed stood at its page; nothing is listed twice; and what stood at each page of a walk
+/// what is listed existed at its page; nothing is listed twice; and what existed at each page of a walk
 /// that came to its end is listed.
 ///
 /// # Not promised
@@ -95,7 +96,7 @@ pub fn walk(config: &Config)
 
 /// What GetCapacity offers is given (CSI specification, 'GetCapacity', `maximum_volume_size`).
 ///
-/// From a State of the invariant: where the maximum that is told is above zero, a pool of the
+/// From a State of the invariant: where the maximum that is answered is above zero, a pool of the
 /// configuration is chosen for that size under the topology that was asked for. So a create that asks
 /// for that size, by any range whose size it is, with the topology among its terms, is answered a
 /// volume of that size in a pool of the configuration, which exists from then on. Its name must be
@@ -150,11 +151,12 @@ pub fn repeat(config: &Config)
 /// Requests that are tried again until they are answered are each taken once (CSI specification,
 /// 'Timeouts').
 ///
-/// From a State of the invariant a lone client tries requests that pass the checks of their
-/// arguments, one after the other, each over and over until it is answered. A try may be refused
-/// inside, or since the store is down, an answer may be lost, and between any two tries a stop may
-/// end the session. The answers, and each State that may be left in the end, are those of the
-/// requests taken once each.
+/// From a State of the invariant a client tries requests that pass the checks of their arguments, in order,
+/// each over and over until it is answered. A try may be refused inside, or since the store is down, an
+/// answer may be lost, and between any two tries a stop may end the session. Other clients may make requests
+/// that change nothing at any time: Probe, ListVolumes, GetCapacity, ValidateVolumeCapabilities, and those
+/// about the plugin. The answers, and each State that may be left in the end, are those of the requests taken
+/// once each.
 #[inline(always)]
 pub fn retry(config: &Config)
     ensures { (s t : State) (requests : List Request) (sessions : List (List Try)) (told : List Told)
@@ -172,9 +174,11 @@ pub fn retry(config: &Config)
 /// There are such lives, of each request and from each State, so [`retry`] does not speak of nothing.
 ///
 /// A request is made and its answer is lost; or it is refused inside, and a stop leaves its change all the
-/// same. In the next session it is tried again, and answered.
+/// same. In the next session it is tried again, and answered. Another client may have asked for something
+/// that changes nothing before.
 #[inline(always)]
 pub fn tried_twice(config: &Config)
     ensures lost { (s : State) (r : Request) → IsLifeOfTwo config.now s r Unanswered }
     ensures refused { (s : State) (r : Request) → IsLifeOfTwo config.now s r Marked }
+    ensures others { (s : State) (r q : Request) → is_read q ≡ true → IsLifeWithAnother config.now s r q }
 {}

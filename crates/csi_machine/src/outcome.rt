@@ -1,4 +1,4 @@
-//! What a request comes to: a body or a refusal, and the one change that is made behind the body.
+//! What is done about a request: a body or a refusal, and the one change that is made after the body.
 
 ghost use Rattle.std.specs.Prelude.{◌≡◌, ◌≤◌, ◌++◌, length, IfOk, OnOk, OnErr, IfSome};
 ghost use Rattle.envelope.specs.declared.limits.TheConstants.{MAX_BODY_BYTES};

@@ -1,4 +1,4 @@
-//! What the pools of a configuration give their volumes, spelled as a listing comes to them.
+//! What the pools of a configuration give their volumes, encoded when a listing first needs them.
 
 ghost use Rattle.std.specs.Prelude.{◌≡◌, ◌↔◌, IfOk, IfSome, IsTrue, find, option_copied};
 ghost use Rattle.csi_types.specs.Maps.{same_text};

@@ -61,7 +61,7 @@ pub(crate) fn refuse(reason: Reason) -> Plan
     }
 }
 
-/// A response behind a change. Who calls it knows which change it is, so it is not moved whole.
+/// A response after a change. The caller knows which change it is, so it is not moved whole.
 ///
 /// # Errors
 ///

@@ -12,7 +12,7 @@ use csi_types::{Boxed, Response};
 use std::alloc::{AllocError, Global};
 use std::marker::Model;
 
-// Where a response stands.
+// Where a response is.
 #[derive(Drop)]
 enum ResponseForm {
     // In memory of its own.
@@ -37,7 +37,7 @@ fn flag_text(flag: bool) -> &'static str
 // Appends the response of a publication, or refuses it where no reply holds it.
 fn append_published(readonly: bool, out: &mut Vec<u8>) -> Result<Verdict, AllocError>
     ensures appended { Appended out.old.items out.new.items result }
-    ensures told { IsReported (within (response_bytes
+    ensures reported { IsReported (within (response_bytes
         (response.Publish (publication readonly)))) out.old.items out.new.items result }
 {
     let from = out.len();
@@ -126,7 +126,7 @@ impl PlannedResponse {
     /// As of [`append_body`].
     pub fn append(&self, out: &mut Vec<u8>) -> Result<Verdict, AllocError>
         ensures appended { Appended out.old.items out.new.items result }
-        ensures told { IsReported (within (response_bytes self.now)) out.old.items out.new.items result }
+        ensures reported { IsReported (within (response_bytes self.now)) out.old.items out.new.items result }
     {
         match &self.kept {
             ResponseForm::Made(response) => append_body(response.get(), out),

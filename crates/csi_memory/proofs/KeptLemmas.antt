@@ -1,4 +1,4 @@
--- Rows, index and totals stand for the State after a change.
+-- Rows, index and totals represent the State after a change.
 use Rattle.std.proofs.Common.{◌≡◌, ◌∙◌, ◌⊎◌, inl, inr, ap, sym, subst, cond, arith, refl, ℕ, ◌+◌, ◌-◌, ◌<◌, ◌≤◌, ◌^◌, max, List, Bool, true, false, Some, None}
 use Rattle.std.proofs.Math.Nat.{le-max_left, sub-add-eq-max}
 use Rattle.std.specs.Cmp.{nat_cmp_total}

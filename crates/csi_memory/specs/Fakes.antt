@@ -8,13 +8,13 @@ use Rattle.csi_keeper.specs.declared.change.StoreFault.TheVariants.{Refused}
 use Rattle.csi_memory.specs.declared.fakes.FusedMem.{FusedMem}
 use Rattle.csi_memory.specs.declared.mem.MemKeeper.{MemKeeper}
 
--- what a call is answered before which so many go by, and how many go by behind it
+-- what a call is answered before which so many go by, and how many go by after it
 abbrev pub burnt : Option ℕ → Result (Unit {0}) StoreFault × Option ℕ
 burnt None = (Ok tt, None)
 burnt (Some n) = if n == 0 then (Err Refused, None) else (Ok tt, Some (n - 1))
 
 -- what is seen of a keeper that refuses a call: the keeper below it, how many calls go by before the one that
--- is refused (none is behind it), how many were answered `Refused` or `Down`, and whether it is down
+-- is refused (none is after it), how many were answered `Refused` or `Down`, and whether it is down
 abbrev pub kept : FusedMem → MemKeeper
 kept fused = fused.keeper
 

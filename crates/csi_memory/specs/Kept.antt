@@ -1,4 +1,4 @@
--- Which State rows, indexes and totals stand for.
+-- Which State rows, indexes and totals represent.
 use Rattle.std.specs.Prelude.{◌≡◌, ℕ, ◌<◌, ◌≤◌, ◌^◌, List, Some}
 use Rattle.std.specs.FinMap.{get, len}
 use Rattle.csi_keeper.specs.declared.volume.Attachment.{Attachment}
@@ -12,7 +12,7 @@ use Rattle.csi_memory.specs.Memory.{volumes_of, places_of, Nodes, AreSpotted}
 use Rattle.csi_memory.specs.Naming.{Lists, at_hash, at_text}
 use Rattle.csi_memory.specs.declared.names.Names.{Names}
 
--- rows, an index of names, an index of nodes and kept totals stand for a State
+-- rows, an index of names, an index of nodes and kept totals represent a State
 pub record IsKept (next : ℕ) (volumes : List (ℕ × Volume)) (names : Names) (pools : Totals)
     (attachments : List (AttachmentKey × Attachment)) (spots : Nodes) (s : State) : Type 0 where
   pub next_is : s.next ≡ next

@@ -1,4 +1,4 @@
--- What rows in memory stand for.
+-- What rows in memory represent.
 use Rattle.std.specs.Prelude.{◌≡◌, ℕ, ◌+◌, ◌-◌, ◌^◌, ◌==◌, List, [], ◌∷◌, Option, Some, None, ◌≢◌, Bool, is_some, map, filter, if◌then◌else◌}
 use Rattle.std.specs.BTreeMap.{is_at}
 use Rattle.std.specs.BTreeSet.{BTreeSet}
@@ -34,7 +34,7 @@ place_end n = if n == 2 ^ 64 - 1 then Unbounded else Excluded (n + 1, [])
 abbrev pub nodes_in : List (AttachmentKey × Attachment) → ℕ → List Text
 nodes_in es n = map (λ a. a.node) (map (λ e. e.1) (filter (λ e. e.0.0 == n) (entries (places_of es))))
 
--- what a listing tells of a volume, by these attachments
+-- what a listing says of a volume, by these attachments
 abbrev pub listed_in : List (AttachmentKey × Attachment) → Volume → Listed
 listed_in es v = listed_at v (nodes_in es v.number)
 
@@ -76,7 +76,7 @@ IsSpotSet p b old new = (q : Spot) → has_spot new q ≡ (if is_at (spot_cmp p)
 abbrev pub HasNoEmpty : Nodes → Type 0
 HasNoEmpty nodes = (node : Text) (numbers : BTreeSet ℕ) → lookup (is_at (text_cmp node)) nodes ≡ Some numbers → numbers.keys ≢ []
 
--- the index of nodes has a spot exactly where an attachment stands, and no node where none does
+-- the index of nodes has a spot exactly where an attachment is, and no node where none is
 pub record AreSpotted (es : List (AttachmentKey × Attachment)) (nodes : Nodes) : Type 0 where
   pub found : (q : Spot) → has_spot nodes q ≡ is_some (get (places_of es) (q.1, q.0))
   pub no_empty : HasNoEmpty nodes

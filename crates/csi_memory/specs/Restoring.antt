@@ -13,6 +13,6 @@ from_number s n = record s { next = max s.next n }
 abbrev pub CanRestore : State → Volume → Type 0
 CanRestore s v = (s.next ≤ v.number) × (get s.volumes v.number ≡ None) × (named s v.name ≡ None)
 
--- the State with the volume, and the next number behind it
+-- the State with the volume, and the next number after it
 abbrev pub restored : State → Volume → State
 restored s v = changed (from_number s v.number) (AddVolume v)

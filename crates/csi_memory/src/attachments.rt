@@ -124,7 +124,7 @@ fn put_place(
     Ok(())
 }
 
-/// Adds a copy of an attachment where none stands, and its spot to the index. Where memory is refused both
+/// Adds a copy of an attachment where there is none, and its spot to the index. Where memory is refused both
 /// stay.
 pub(crate) fn put_attachment(
     alloc: Global,

@@ -54,7 +54,7 @@ impl Fuse {
 /// are counted from 0, and [`refusals`](Keeper::refusals) and [`is_down`](FusedMem::is_down) are
 /// none of them.
 ///
-/// Where the refused call is a read, the keeper goes on behind it. Where it is
+/// Where the refused call is a read, the keeper goes on after it. Where it is
 /// [`apply`](Keeper::apply), the change is not made, and each later call is answered `Down`. There
 /// is nothing that a stop leaves.
 #[derive(Drop)]

@@ -155,7 +155,7 @@ pub(crate) fn nodes_after(
     Ok(nodes)
 }
 
-/// Folds what a listing tells of the volumes with greater numbers, of at most that many.
+/// Folds what a listing says of the volumes with greater numbers, of at most that many.
 #[inline(always)]
 pub(crate) fn fold_after<F: PageFold>(
     alloc: Global,
@@ -215,7 +215,7 @@ pub(crate) fn remove_volume(
     volumes.remove(&number)
 }
 
-/// Gives the volume of a number, where one stands, other mutable parameters. It takes no memory.
+/// Gives the volume of a number, where there is one, other mutable parameters. It takes no memory.
 #[tactic(auto, using(crate::proofs::RowChangeLemmas::one_mutable, crate::proofs::RowChangeLemmas::no_mutable))]
 pub(crate) fn set_mutable(
     volumes: &mut BTreeMap<u64, StoredVolume>,

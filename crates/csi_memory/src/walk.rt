@@ -1,4 +1,4 @@
-//! A walk over the attachments in memory, beside one over the volumes.
+//! A walk over the attachments in memory, along with one over the volumes.
 
 ghost use Rattle.std.specs.Prelude.{◌≡◌, [], OnOk};
 ghost use Rattle.csi_memory.specs.Memory.{nodes_in};
@@ -34,7 +34,7 @@ pub(crate) fn walk_after(
 ) -> Walk<'_>
     ensures { IsOver attachments.now.entries result }
 {
-    // Behind the last number there is none. A walk after it may begin at it: each number is looked for.
+    // After the last number there is none. A walk after it may begin at it: each number is looked for.
     let first = (after.saturating_add(1), Text::new(alloc));
     let mut rest = attachments.range((Bound::Included(first), Bound::Unbounded));
     Walk {

@@ -36,6 +36,6 @@ fits size p = serves p.1.0.segments p.0 && nat_le size (free p.1)
 abbrev pub choice : List Room → List TextMap → ℕ → Option Pool
 choice rs ts size = option_map (λ p. p.1.0) (find (fits size) (pairs ts rs))
 
--- how many volumes stand in all pools
+-- how many volumes are in all pools
 abbrev pub count : List Room → ℕ
 count rs = sum_by (λ r. r.1.volumes) rs

@@ -1,4 +1,4 @@
--- What reads of a keeper find, one after the other, and the volume that a request names.
+-- What reads of a keeper find, in order, and the volume that a request names.
 use Rattle.std.specs.Prelude.{◌≡◌, ℕ, List, Option, None, Some, Result, IfOk}
 use Rattle.std.specs.FinMap.{get}
 use Rattle.csi_keeper.specs.Keeper.{IsQuiet, Tells, count_after}
@@ -22,7 +22,7 @@ abbrev pub numbered : ℕ → Option Volume → Option (ℕ × Volume)
 numbered n None = None
 numbered n (Some v) = Some (n, v)
 
--- the volume of a number, where one is named and stands
+-- the volume of a number, where one is named and exists
 abbrev pub volume_at : State → Option ℕ → Option (ℕ × Volume)
 volume_at s None = None
 volume_at s (Some n) = numbered n (get s.volumes n)

@@ -10,7 +10,7 @@ use Rattle.csi_keeper.specs.declared.volume.Volume.{Volume}
 use Rattle.csi_rules.specs.Ids.{id}
 use Rattle.csi_keeper.specs.Texts.{Text}
 
--- as an int64 tells it
+-- as an int64
 abbrev pub signed : ℕ → ℤ
 signed n = pos (min n (2 ^ 63 - 1))
 

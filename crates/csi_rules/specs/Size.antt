@@ -15,7 +15,7 @@ rounded_down n = n / GRANULE_BYTES * GRANULE_BYTES
 abbrev pub rounded_up : ℕ → ℕ
 rounded_up n = rounded_down (n + (GRANULE_BYTES - 1))
 
--- 0 is not given: what is required, rounded up; or else the default size, and at most the limit, rounded down
+-- 0 is not given: what is required, rounded up; or otherwise the default size, and at most the limit, rounded down
 abbrev pub requested_bytes : Sizes → ℕ → ℕ → ℕ
 requested_bytes sizes required limit =
     if nat_lt 0 required then rounded_up required
@@ -35,7 +35,7 @@ abbrev pub size : Sizes → Option CapacityRange → Option ℕ
 size sizes None = size_by sizes 0 0
 size sizes (Some r) = size_by sizes (whole r.required) (whole r.limit)
 
--- a volume that stands has a size within a range
+-- a volume that exists has a size within a range
 abbrev pub has_size : ℕ → Option CapacityRange → Bool
 has_size bytes None = true
 has_size bytes (Some r) = nat_le (whole r.required) bytes && (whole r.limit == 0 || nat_le bytes (whole r.limit))

@@ -10,7 +10,7 @@ use csi_config::{Config, Pool};
 use csi_types::{Items, Map, Text, copy_map, copy_text};
 use std::alloc::{AllocError, Global};
 
-/// The one key of a volume's context, under which stands the name of its pool.
+/// The one key of a volume's context. Its value is the name of the volume's pool.
 pub const CONTEXT_KEY: &str = "pool";
 
 /// The context of a volume.
@@ -44,7 +44,7 @@ pub fn topology_of(alloc: Global, segments: &Map) -> Result<Items<Map>, AllocErr
     Ok(terms)
 }
 
-/// Bytes as an `int64` tells them, up to the greatest.
+/// Bytes as an `int64`, up to the greatest.
 pub fn signed(bytes: u64) -> i64
     ensures { result ≡ signed bytes }
 {

@@ -21,7 +21,7 @@ two_tries : (o : Option Request) (r : Request) (end : Ending) → o ≡ Some r �
     → AreTriesOf (r ∷ []) (all_tries ((tries_for o end ++ []) ∷ (tries_for o Answered ++ []) ∷ []))
 two_tries o r end asks waits =
     subst (λ (x : Option Request). AreTriesOf (r ∷ []) (all_tries ((tries_for x end ++ []) ∷ (tries_for x Answered ++ []) ∷ []))) (sym asks)
-    (refl, subst (λ (rs : List Request). AreTriesOf rs (record { request = r; end = Answered } ∷ [])) (sym waits) (refl, refl))
+    (inl (refl, subst (λ (rs : List Request). AreTriesOf rs (record { request = r; end = Answered } ∷ [])) (sym waits) (inl (refl, refl))))
 
 unheard : (o : Option Request) (mark : Mark) (reply : ReplyBytes) → heard_by o mark false reply ≡ []
 unheard None mark reply = refl

@@ -1,4 +1,4 @@
--- Each reason is told in a text of a reply, with a code other than that of success.
+-- Each reason is reported in a text of a reply, with a code other than that of success.
 use Rattle.std.proofs.Common.{◌≡◌, ◌≢◌, ◌≤◌, Bool, true, All, length, refl, ap, arith}
 use Rattle.std.specs.Prelude.{nat_le, ◌&&◌}
 use Rattle.std.specs.List.{list_all}

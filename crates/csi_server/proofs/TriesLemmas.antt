@@ -16,7 +16,7 @@ use Rattle.csi_codec.specs.Reading.{read_request}
 use Rattle.csi_config.specs.declared.config.Config.{Config}
 use Rattle.csi_keeper.specs.Invariant.{IsInvariant}
 use Rattle.csi_keeper.specs.State.{State}
-use Rattle.csi_machine.specs.Retry.{Try, Ending, Marked, Down, Unanswered, Answered, after_try, told_by, reported_of, IsDue, Leaves, IsLife, AreTriesOf, all_tries, told_once, after_once, still_open, state_after as after_tries}
+use Rattle.csi_machine.specs.Retry.{Try, Ending, Marked, Down, Unanswered, Answered, after_try, told_by, reported_of, IsDue, IsOfFirst, Leaves, IsLife, AreTriesOf, all_tries, told_once, after_once, still_open, state_after as after_tries}
 use Rattle.csi_machine.specs.Step.{step}
 use Rattle.csi_machine.specs.Verdicts.{Told}
 use Rattle.csi_server.specs.Machine.{Event, Mark, Unmarked, OutOfMemory, StoreRefused, StoreDown, marked, may_leave, refused, state_after}
@@ -73,7 +73,7 @@ known_path method.GetCapacity = refl
 known_path method.ControllerGetCapabilities = refl
 known_path method.ControllerModifyVolume = refl
 
--- the call that spells a request asks for it
+-- the call that encodes a request asks for it
 pub spelled_asks : ((r : Request) → FitsRequest r → MeansRequest (request_method r) (request_bytes r) r) → ((m : Method) (bytes : List ℕ) (r : Request) → MeansRequest m bytes r → read_request m bytes ≡ Ok r)
     → (r : Request) → FitsRequest r → checked r ≡ None → Asks (spelled_call r) r
 spelled_asks means reads r fits passed = record {
@@ -146,7 +146,7 @@ module _ (config : Config) where
       let both = moves_by s x.event.call x.event.mark x.is_heard (asked x.event.call) refl in
       record { after = both.0; heard = both.1 }
 
-  -- ---- tries, one after the other
+  -- ---- tries, in order
 
   after_append : (s : State) (ts us : List Try) → after_tries config s (ts ++ us) ≡ after_tries config (after_tries config s ts) us
   after_append s [] us = refl
@@ -345,7 +345,7 @@ module _ (config : Config) where
 
   -- ---- a life
 
-  -- the life of the tries, and what was told in it
+  -- the life of the tries, and what was answered in it
   record IsOfTries (s : State) (sessions : List (List Exchange)) (heard : List ReplyBytes) (t : State) : Type 0 where
     pub said : List Told
     pub life : IsLife config s (map tries_of sessions) said t
@@ -380,17 +380,25 @@ life_passes : (sessions : List (List Exchange)) → AllByRecursion Passes (all_t
 life_passes [] = tt
 life_passes (session ∷ sessions) = all_append Passes (tries_of session) (all_tries (map tries_of sessions)) (session_passes session) (life_passes sessions)
 
+-- the first of the requests is asked for where it is answered
+first_passes : (t : Try) (ts : List Try) (rs : List Request) → Passes t → ((qs : List Request) → AreTriesOf qs ts → AllByRecursion (λ q. checked q ≡ None) qs) → IsOfFirst rs t → AreTriesOf (still_open rs t.end) ts
+    → AllByRecursion (λ r. checked r ≡ None) rs
+first_passes t ts [] passes next first rest = absurd first
+first_passes t ts (r ∷ rs) passes next first rest = by_end t.end rest
+  where
+    by_end : (e : Ending) → AreTriesOf (still_open (r ∷ rs) e) ts → AllByRecursion (λ q. checked q ≡ None) (r ∷ rs)
+    by_end Marked more = next (r ∷ rs) more
+    by_end Down more = next (r ∷ rs) more
+    by_end Unanswered more = next (r ∷ rs) more
+    by_end Answered more = (subst (λ (q : Request). checked q ≡ None) first passes, next rs more)
+
 -- each request is tried to its end, so each is asked for
 requests_pass : (ts : List Try) (rs : List Request) → AllByRecursion Passes ts → AreTriesOf rs ts → AllByRecursion (λ r. checked r ≡ None) rs
 requests_pass [] rs h none = subst (λ (l : List Request). AllByRecursion (λ r. checked r ≡ None) l) (sym none) tt
-requests_pass (t ∷ ts) [] h tries = absurd tries.0
-requests_pass (t ∷ ts) (r ∷ rs) h tries = by_end (λ qs more. requests_pass ts qs h.1 more) t.end tries.1
-  where
-    by_end : ((qs : List Request) → AreTriesOf qs ts → AllByRecursion (λ q. checked q ≡ None) qs) → (e : Ending) → AreTriesOf (still_open (r ∷ rs) e) ts → AllByRecursion (λ q. checked q ≡ None) (r ∷ rs)
-    by_end next Marked more = next (r ∷ rs) more
-    by_end next Down more = next (r ∷ rs) more
-    by_end next Unanswered more = next (r ∷ rs) more
-    by_end next Answered more = (subst (λ (q : Request). checked q ≡ None) tries.0 h.0, next rs more)
+requests_pass (t ∷ ts) rs h tries = elim tries as (λ _. AllByRecursion (λ r. checked r ≡ None) rs) [
+  | inl mine ↦ first_passes t ts rs h.0 (λ qs more. requests_pass ts qs h.1 more) mine.0 mine.1
+  | inr other ↦ requests_pass ts rs h.1 other.1
+]
 
 module _ (config : Config) where
   -- the law of tries, over requests

@@ -19,7 +19,7 @@ use Rattle.csi_server.specs.Requests.{AnswersBy, LeavesBy, MayBe, after_check, t
 use Rattle.csi_server.specs.Service.{HasBody, room}
 use Rattle.csi_server.specs.Volumes.{RepliesTo, asks_keeper, seen}
 
--- what was appended behind the room for a head is a body
+-- what was appended after the room for a head is a body
 pub holds_body : (old out : List ℕ) (v : Result Verdict StoreFault) → old ≡ room → Appended old out v → v ≡ Ok verdict.Done → HasBody out
 holds_body old out (Ok verdict.Done) begun (body, is, few) e =
     let long : length out ≡ 8 + length body = ap length is ∙ (length-append old body ∙ ap (λ (xs : List ℕ). length xs + length body) begun) in
@@ -61,7 +61,7 @@ module _ (config : Config) (request : Request) (a b : Model State) where
     knows = record { down = λ is. absurd (cc); refused = λ is. absurd (cc); unasked = λ is unmarked. alone is; stays = stays };
   }
 
-  -- what every State is told is what is responded from each
+  -- what is reported of every State is what is responded from each
   told_all : (v : Verdict) (old out : List ℕ) (r : ReplyBytes) → old ≡ room → RepliesTo out r (Ok v) → IsOfAll config request old out v → (t : State) → to_request t ≡ (r, t)
   told_all verdict.Done old out r begun e all t =
       let is = (all t).0 in
@@ -70,7 +70,7 @@ module _ (config : Config) (request : Request) (a b : Model State) where
   told_all (verdict.Refused q) old out r begun e all t =
       ap (λ (x : ReplyBytes). (x, (step config t request).1)) (ap told (all t).0 ∙ sym e) ∙ ap (λ (u : State). (r, u)) (all t).1
 
-  -- whoever is told of a fault of the keeper asked something of it
+  -- a call that reports a fault of the keeper asked something of it
   asked : (e : StoreFault) → (IsTrue (is_of_plugin request) → e ≡ fault.NoMemory) → (e ≡ fault.NoMemory → ⊥) → asks_keeper request ≡ true
   asked e only never = by (is_of_plugin request) only
     where

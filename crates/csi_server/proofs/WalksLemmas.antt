@@ -59,7 +59,7 @@ bad_token reason.OutOfMemory e = absurd (cc)
 bad_token reason.StoreRefused e = absurd (cc)
 bad_token reason.StoreDown e = absurd (cc)
 
--- what is told in a reply that refuses the token
+-- what is reported in a reply that refuses the token
 told_bad : (t : Told) → told t ≡ refused reason.BadToken → t ≡ Denies reason.BadToken
 told_bad (Says body) e = (let none : 0 ≡ number_of (code_of reason.BadToken) = ap (λ (r : ReplyBytes). r.status) e in absurd (cc))
 told_bad (Denies r) e = ap (λ (q : Reason). Denies q) (bad_token r (ap (λ (x : ReplyBytes). x.status) e))

@@ -18,7 +18,7 @@ use Rattle.csi_server.specs.Machine.{Machine, Mark, Unmarked, OutOfMemory, Store
 abbrev pub malformed : ℕ → ReplyBytes
 malformed at = refusal (number_of code.InvalidArgument) (codes "malformed message in the field at byte " ++ decimal at)
 
--- the reply that tells it
+-- the reply that says it
 abbrev pub told : Told → ReplyBytes
 told (Says body) = record { status = 0; text = []; body = body }
 told (Denies reason) = refused reason
@@ -63,7 +63,7 @@ requests method asks answer = record {
   may_fail = λ call mark. IsRequest asks (method call.path) call.message mark;
 }
 
--- what a call may leave behind a stop: as `Leaves`, over what it responds
+-- what a call may leave after a stop: as `Leaves`, over what it responds
 abbrev pub LeavesBy : {S : Type 0} → ReplyBytes × S → (S → Type 0) → (S → Type 0) → S → Mark → Type 0
 LeavesBy {S} x old new s Unmarked = ((x.1 ≡ s) × ((t : S) → new t → old t)) ⊎ ((t : S) → new t → t ≡ x.1)
 LeavesBy {S} x old new s OutOfMemory = (t : S) → new t → old t ⊎ (t ≡ x.1)

@@ -12,7 +12,7 @@ abbrev pub refused_by : Refusal → ReplyBytes
 refused_by (For reason) = refused reason
 refused_by (Malformed at) = malformed at
 
--- the body stands behind room for the head
+-- the body is after room for the head
 abbrev pub reply_of : {U : Type 0} → Result U Refusal → List ℕ → ReplyBytes
 reply_of (Ok done) buffer = record { status = 0; text = []; body = drop REPLY_HEAD_BYTES buffer }
 reply_of (Err r) buffer = refused_by r

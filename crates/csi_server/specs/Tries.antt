@@ -43,13 +43,13 @@ pub record Asks (call : CallBytes) (r : Request) : Type 0 where
   pub read : read_request method call.message ≡ Ok r
   pub passed : checked r ≡ None
 
--- the call with the path of a request's method, and its spelling as the message
+-- the call with the path of a request's method, and its encoding as the message
 abbrev pub spelled_call : Request → CallBytes
 spelled_call r = record { path = path_of (request_method r); message = request_bytes r }
 
 -- ---- the calls of a session
 
--- a call as its client made it: the call with its mark, and whether the client heard the reply
+-- A call with its mark, and whether the client heard the reply. Of a call that another client made it hears none.
 pub record Exchange : Type 0 where
   pub event : Event
   pub is_heard : Bool

@@ -35,7 +35,7 @@ volumes config = requests method_at asks_keeper (step config)
 abbrev pub seen : Config → Model State → Model State
 seen config m = record m { holds = λ s. m.holds s × IsInvariant config s }
 
--- the reply to a call of which the machine answered this, where the body stands behind room for the head
+-- the reply to a call of which the machine answered this, where the body is after room for the head
 abbrev pub RepliesTo : List ℕ → ReplyBytes → Result Verdict StoreFault → Type 0
 RepliesTo out r (Ok verdict.Done) = r ≡ record { status = 0; text = []; body = drop REPLY_HEAD_BYTES out }
 RepliesTo out r (Ok (verdict.Refused q)) = r ≡ refused q
@@ -43,7 +43,7 @@ RepliesTo out r (Err fault.NoMemory) = r ≡ refused reason.OutOfMemory
 RepliesTo out r (Err fault.Refused) = r ≡ refused reason.StoreRefused
 RepliesTo out r (Err fault.Down) = r ≡ refused reason.StoreDown
 
--- What a stop may leave beside the last State: what a call would have made that was refused for memory or by
+-- What a stop may leave next to the last State: what a call would have made that was refused for memory or by
 -- the store, whose request was read and passed the checks, and after which no call moved the State.
 pub record IsPending (config : Config) (s : State) (events : List Event) (t : State) : Type 0 where
   pub before : List Event

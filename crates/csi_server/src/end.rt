@@ -3,7 +3,7 @@ use envelope::FrameFault;
 /// How a run of the server ended.
 #[derive(Clone, Copy, Debug, PartialEq, Eq)]
 pub enum RunEnd {
-    /// The input ended behind a whole frame, and all calls were answered.
+    /// The input ended after a whole frame, and all calls were answered.
     Done,
     /// The stream has this fault. All calls before it were answered, and then the fault.
     Malformed(FrameFault),

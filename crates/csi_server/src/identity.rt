@@ -58,7 +58,7 @@ fn put_response(
     reply: &mut Vec<u8>,
 ) -> Result<Verdict, AllocError>
     ensures appended { IfOk result (λ v. Appended room reply.new.items result) }
-    ensures told { IfOk result (λ v. IsReported
+    ensures reported { IfOk result (λ v. IsReported
         (reported_of (said names.now.name.now names.now.version.now request.now)) room reply.new.items result) }
 {
     begin_body(reply)?;

@@ -97,8 +97,9 @@ pub fn kept(config: &Config)
 }
 
 /// No number is given twice: a run of the volume machine from a State of the invariant, with any calls and
-/// marks, lowers no next number, and gives no number again whose volume was deleted. Nor does what [`pending`]
-/// says a stop may leave.
+/// marks, lowers no next number, gives no number again whose volume was deleted, and changes nothing of a
+/// volume that keeps its number but its mutable parameters. So an id never names another volume. The same
+/// holds of each State that [`pending`] says a stop may leave.
 pub fn numbers(config: &Config)
     ensures run { (s : MachineState) (events : List Event) → IsInvariant config.now s
         → NumbersRise s (state_after (volumes config.now) s events) }
@@ -123,7 +124,7 @@ pub fn pending<K: Keeper>(config: &Config)
 /// A call asks for a request exactly where its path names a method, its message is read as that request, and
 /// the request passes the checks of its arguments. It is answered as the machine answers the request. One
 /// that asks for none has the same reply from each State, under each configuration, and leaves each as it is.
-/// Each request that can be spelled and passes the checks is asked for by a call.
+/// Each request that can be encoded and passes the checks is that of a call.
 pub fn asking()
     ensures exact { (call : CallBytes) (r : Request) → (asked call ≡ Some r) ↔ Asks call r }
     ensures answered { (config : AnyConfig) (s : MachineState) (call : CallBytes) (r : Request)
@@ -156,19 +157,20 @@ pub fn tries<K: Keeper>(config: &Config)
         → (t : MachineState) → (K.model new).survivors t → Leaves config.now s (tries_of session) t }
 {}
 
-/// Requests that a lone client asks for over and over, each until it hears the reply, are each taken once
-/// (CSI specification, 'Timeouts').
+/// Requests that a client asks for over and over, each until it hears the reply, are each taken once (CSI
+/// specification, 'Timeouts').
 ///
 /// From a State of the invariant: a call may be refused inside, a reply may be lost, and between any two
-/// calls a stop may end the session, which leaves what [`pending`] says. Calls that ask for nothing may come
-/// anywhere, from anyone. What the client hears of its requests, and each State that may be left in the end,
-/// are those of the requests taken once each.
+/// calls a stop may end the session, which leaves what [`pending`] says. Other clients may make calls that
+/// change nothing at any time, as Probe, ListVolumes and GetCapacity, and calls that are no request or are
+/// refused for their arguments. What the client hears of its requests, and each State that may be left in the
+/// end, are those of the requests taken once each.
 ///
 /// # Not promised
 ///
-/// That a request is ever answered, or that a start succeeds. What two clients hear whose requests
-/// come between each other's tries. That a new connection is over what the stop left: the law asks
-/// that of it.
+/// That a request is ever answered, or that a start succeeds. What two clients hear of which both make
+/// requests that may change something, each between the other's tries. That a new connection is over what the
+/// stop left: the law asks that of it.
 ///
 /// A contract speaks of calls that returned. That a process which ends inside a call leaves what a
 /// disk leaves that fails from there on is shown by the rows of stops of `test_tables`.
@@ -185,11 +187,11 @@ pub fn retry(config: &Config)
 /// Calls that walk over the pages of a listing, from a State of the invariant (CSI specification,
 /// 'ListVolumes').
 ///
-/// The first page is asked for with an empty token, each next one with the token of the page before. A call
-/// for a page that is refused inside, or whose reply is not heard, is no page of the walk, and the page is
-/// asked for again with its token. Other calls may come anywhere, from anyone. No page is refused for its
-/// token; what is listed stood at its page; nothing is listed twice; and what stood at each page of a walk
-/// that came to its end is listed.
+/// The first page is asked for with an empty token, each next one with the token of the page before. A
+/// call for a page that is refused inside, or whose reply is not heard, is no page of the walk, and the
+/// page is asked for again with its token. Other calls may come anywhere, from anyone. No page is refused
+/// for its token; what is listed existed at its page; nothing is listed twice; and what existed at each
+/// page of a walk that came to its end is listed.
 pub fn walk(config: &Config)
     ensures read { (s : MachineState) (turns : List Turn) → IsInvariant config.now s
         → AreAsked config.now s [] turns → AreRead config.now s [] turns }

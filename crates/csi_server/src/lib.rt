@@ -5,7 +5,7 @@
 //! public clauses of `frames_core` alone. `specs/Machine.antt` says what a run over calls replies and leaves,
 //! `specs/Serving.antt` what is read and written by each end of a run.
 //!
-//! A service writes a body behind room for the reply's head into one buffer that is kept from call to call,
+//! A service writes a body after room for the reply's head into one buffer that is kept from call to call,
 //! so a reply goes out as one write. `message.rt` decodes and checks the message of a call.
 //! [`serve_identity`] is the engine over a service without a state; [`serve`] is the engine over a keeper:
 //! each keeper is a service (`volumes.rt`), which answers a request by `csi_machine::append_answer`.

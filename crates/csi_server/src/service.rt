@@ -22,7 +22,7 @@ pub trait Service<C> {
     ghost use Rattle.csi_server.specs.Service.{reply_of, HoldsBody};
 
     /// Answers one call with status 0. Then `reply` has room for a reply's head, [`REPLY_HEAD_BYTES`], and
-    /// behind it the body, of at most [`MAX_BODY_BYTES`](envelope::MAX_BODY_BYTES).
+    /// after it the body, of at most [`MAX_BODY_BYTES`](envelope::MAX_BODY_BYTES).
     ///
     /// # Errors
     ///

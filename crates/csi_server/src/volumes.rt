@@ -100,7 +100,7 @@ impl<K: Keeper> Service<Config> for K {
 /// is refused for memory or by the store is answered `INTERNAL` and leaves the State as before it.
 ///
 /// `serves` says this by the way the run ends, from each State of the invariant that the keeper may
-/// have had, while what the keeper stands on is not in doubt at the end; besides, the keeper's count
+/// have had, while what the keeper is over is not in doubt at the end; also, the keeper's count
 /// rose exactly as often as a call was answered that the store refused or that it is down, up to
 /// 2^64 - 1, and where a stop at the start could only leave the State, a stop at the end leaves the
 /// last State, or what [`pending`](crate::laws::pending) says.

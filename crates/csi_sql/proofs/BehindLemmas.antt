@@ -1,4 +1,4 @@
--- A statement behind one that was answered Ok.
+-- A statement after one that was answered Ok.
 use Rattle.std.proofs.Common.{◌≡◌, ◌≤◌, ◌∙◌, refl, subst, arith, ℕ, [], List, Option, Ok, Err, Result, IsErrAnd, IsTrue, OnOk}
 use Rattle.sqlite.specs.Effect.{Database}
 use Rattle.sqlite.specs.Held.{Held, state}
@@ -66,7 +66,7 @@ told_weaker : {Y : Type 0} (a b : State) (before : Schema) (P R : State → Erro
 told_weaker a b before P R (Ok y) f failed has = tt
 told_weaker a b before P R (Err e) f failed has = fails_weaker (P a) (R a) a b e (f a e has) (failed has)
 
--- what refuses it is told in other words
+-- what refuses it is reported in other words
 pub runs_weaker : {S Y : Type 0} {g : Ghosts S} {a b : Held S} {before : Schema} {Effect : Database → Database → Type 0} {P R : State → Error → Type 0} (r : Result Y Error)
     → ((s : State) (e : Error) → s.now.schema ≡ before → P s e → R s e) → RunsOver g a b before Effect P r → RunsOver g a b before Effect R r
 runs_weaker {g = g} {a = a} {b = b} {before = before} {P = P} {R = R} r f ran = record {

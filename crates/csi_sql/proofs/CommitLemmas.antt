@@ -17,7 +17,7 @@ use Rattle.csi_sql.specs.Rows.{seen_meta}
 use Rattle.csi_sql.specs.Effects.{AddsNumbered, AddsVolume, SetsNext, Steps}
 use Rattle.csi_sql.specs.Tables.{schema}
 
--- the row and the number, one after the other
+-- the row and the number, in order
 adds_numbered : (old mid new : State) (row : Row) (next : ℕ) → Steps (AddsVolume row) old mid → Steps (SetsNext next) mid new → Steps (AddsNumbered row next) old new
 adds_numbered old mid new row next one two = record {
   shown = record {

@@ -77,7 +77,7 @@ numbered_given : (rows news : List Row) → numbered Given rows news ≡ news
 numbered_given rows [] = refl
 numbered_given rows (r ∷ rs) = ap (λ l. r ∷ l) (numbered_given (put_row r rows) rs)
 
--- ---- the rows that the UPDATE asks for: each behind its rowid, as it will be
+-- ---- the rows that the UPDATE asks for: each after its rowid, as it will be
 
 abbrev renewed : List ℕ → Row → Row
 renewed params r = column r 0 ∷ column r 0 ∷ Null ∷ column r 2 ∷ column r 3 ∷ column r 4 ∷ column r 5 ∷ Blob params ∷ []

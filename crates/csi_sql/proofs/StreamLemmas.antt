@@ -69,7 +69,7 @@ refused_before : (text : List ℕ) (old mid : State) (e : Error) → mid.now ≡
 refused_before text old mid e now limit why =
     subst (λ (l : Option ℕ). SqlRefusesToRead text [] (record old { step_limit = l }) e) limit (subst (λ (d : Database). SqlRefusesToRead text [] (record old { now = d; step_limit = mid.step_limit }) e) now why)
 
--- behind rows that were read
+-- after rows that were read
 pub behind_rows : (text : List ℕ) (old mid new : State) (e : Error) → IsPlain (understood old.now.schema text) → Survives old mid (λ _. ⊥) → IsUnchanged old mid → FailsToQuery text [] mid new e
     → FailsFor (SqlRefusesToRead text [] old) old new e
 behind_rows text old mid new e plain left same h =
@@ -99,7 +99,7 @@ query_told text old new e plain (inr (c, it, h)) =
     let shown = rw (bare.0, bare.1, append-nil []) at h in
     inr (inr (c, it.is, shown.0, shown.1, shown.2))
 
--- the same, behind rows that were read
+-- the same, after rows that were read
 pub told_behind : (text : List ℕ) (old mid new : State) (e : Error) → IsPlain (understood old.now.schema text) → Survives old mid (λ _. ⊥) → IsUnchanged old mid → FailsToQuery text [] mid new e
     → Relays new.blamed e ⊎ SqlRefusesToRead text [] old e
 told_behind text old mid new e plain left same h =

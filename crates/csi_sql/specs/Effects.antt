@@ -27,7 +27,7 @@ Changes = ChangesFrom schema
 abbrev pub Leaves : (Database → Database → Type 0) → State → Trees → Type 0
 Leaves = LeavesFrom schema
 
--- a SELECT leaves the database, and tells what is so of it
+-- a SELECT leaves the database, and says what is so of it
 pub record Sees (What : Database → Type 0) (old new : Database) : Type 0 where
   pub same : new ≡ old
   pub told : What old

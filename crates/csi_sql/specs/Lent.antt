@@ -1,4 +1,4 @@
--- Rows that statements are lent.
+-- Rows that statements borrow.
 use Rattle.sqlite.specs.Order.{Row}
 use Rattle.csi_sql.specs.Rows.{volume_row}
 use Rattle.csi_sql.specs.declared.statements.volumes.VolumeRow.{VolumeRow}

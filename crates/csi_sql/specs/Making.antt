@@ -1,4 +1,4 @@
--- How the tables come to be: three CREATEs, and the first row of meta.
+-- How the tables are made: three CREATEs, and the first row of meta.
 use Rattle.std.specs.Prelude.{◌≡◌, ℕ, List, [], ◌∷◌, map, IsTrue}
 use Rattle.sqlite.specs.Change.{created, next_tree, KeepsRows}
 use Rattle.sqlite.specs.Effect.{Database, IsDatabase}
@@ -58,6 +58,6 @@ pub record MakesTables (old new : Database) : Type 0 where
 abbrev pub HasNoRow : Database → Type 0
 HasNoRow db = (db.schema ≡ schema) × (db.trees 0 ≡ []) × (db.trees 1 ≡ []) × (db.trees 3 ≡ [])
 
--- on an open connection the row of meta is refused, behind the tables, which nothing refuses
+-- on an open connection the row of meta is refused, after the tables, which nothing refuses
 abbrev pub RefusesTables : State → Error → Type 0
 RefusesTables s e = IsTrue s.is_open × (db : Database) × HasNoRow db × SqlRefuses first_text [] (record s { now = db }) e

@@ -42,7 +42,7 @@ IsKeyCheck ops root =
     × (slice_get ops a ≡ Some (NodeColumn 1 0))
     × (slice_get ops b ≡ Some (Literal (Int (pos 1))))
 
--- the index that stands behind a UNIQUE or a PRIMARY KEY
+-- the index that is after a UNIQUE or a PRIMARY KEY
 abbrev pub unique_index : List ℕ → ℕ → ℕ → List ℕ → Index
 unique_index name tree table columns = record { name = name; tree = tree; table = table; columns = columns; order = plain; is_unique = true }
 

@@ -1,5 +1,5 @@
 -- Why statements and transactions over the tables are refused: a change by SQL's rules, as where a number or
--- a name stands already, or for the size of a row; a read for nothing but a meta without a row.
+-- a name already exists, or for the size of a row; a read for nothing but a meta without a row.
 use Rattle.std.specs.Prelude.{◌≡◌, ◌⊎◌, ℕ, [], ◌∷◌, List}
 use Rattle.sqlite.specs.Effect.{Database}
 use Rattle.sqlite.specs.Order.{Row}

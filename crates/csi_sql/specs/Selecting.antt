@@ -1,4 +1,4 @@
--- The SELECTs of rows: their texts and parameters, the queries that they are, and what they tell.
+-- The SELECTs of rows: their texts and parameters, the queries that they are, and what they say.
 use Rattle.std.specs.Prelude.{◌<◌, ◌^◌, ℕ, [], ◌∷◌, codes, List}
 use Rattle.sqlite.specs.Effect.{Database}
 use Rattle.sqlite.specs.Order.{Row}
@@ -47,7 +47,7 @@ IsAsked (Named name) = Unit {0}
 IsAsked (Sizes pool) = Unit {0}
 IsAsked (Attached node) = Unit {0}
 
--- what each read tells of the rows
+-- what each read says of the rows
 abbrev pub Tells : Select → Database → List Row → Type 0
 Tells (Page after count) db rows = IsBeginningOf page_query (db.trees 1) (number_value after ∷ number_value count ∷ []) count rows
 Tells (Numbered number) db rows = IsShownOf volume_query (db.trees 1) (number_value number ∷ []) rows

@@ -28,7 +28,7 @@ pub record IsUndone (old new : State) : Type 0 where
   pub now : IsTrue new.is_open → new.now ≡ old.committed
   pub committed : IsTrue new.is_open → new.committed ≡ old.committed
 
--- what a stop in the commit may leave beside what it could leave before
+-- what a stop in the commit may leave next to what it could leave before
 abbrev pub LeavesFrom : Schema → (Database → Database → Type 0) → State → Trees → Type 0
 LeavesFrom before Effect old trees = IsTrue old.is_open × (db : Database) × (old.now.schema ≡ before → Effect old.now db) × (trees ≡ db.trees)
 

@@ -20,7 +20,7 @@ use sqlite::{Alter, Error};
 /// Adds a volume, and makes its number plus 1 the next number.
 ///
 /// The number is below 2^62, the size in bytes below 2^63. `caps` and `params` are kept as they are
-/// given. A number or a name that stands already is refused.
+/// given. A number or a name that already exists is refused.
 pub fn add_volume<S: Alter>(
     conn: &mut IdleConnection<S>,
     volume: u64,
@@ -51,7 +51,7 @@ pub fn add_volume<S: Alter>(
 }
 
 /// Sets the params of the volume of a number, which is below 2^63. They are kept as they are given,
-/// and all else of the volume stays. Where no volume has the number the tables stay.
+/// and the rest of the volume stays. Where no volume has the number the tables stay.
 pub fn set_params<S: Alter>(
     conn: &mut IdleConnection<S>,
     volume: u64,

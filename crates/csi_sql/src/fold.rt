@@ -11,7 +11,7 @@ ghost use Rattle.csi_sql.specs.Folding.{FailsForMemory, FoldsOver, RefusesRows};
 use crate::idle_connection::IdleConnection;
 use sqlite::{Alter, Error, ErrorCode, Row};
 
-/// What is made of rows, one after the other.
+/// What is made of rows, in order.
 pub trait Fold {
     /// What a fold becomes over rows, in their order.
     ghost folds: { Self → List Values → Self → Type 0 };

@@ -15,7 +15,7 @@
 //!   are as they were; a stop leaves what it could leave before, or the tables after the change.
 //! - [`reads`] has a transaction a read, which is undone: it answers rows, leaves the tables, and adds
 //!   nothing to what a stop may leave. [`values`] has the cells of a row as numbers, truths, texts and bytes.
-//! - [`each_row`] hands the rows of a query to a [`Fold`], one after the other, and keeps none.
+//! - [`each_row`] hands the rows of a query to a [`Fold`], in order, and keeps none.
 //! - [`statements`] has the statements with fixed texts, a table a module, inside a transaction that the
 //!   caller ends. The SELECTs of rows are each a variant (`statements/select.rt`).
 //!

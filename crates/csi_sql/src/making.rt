@@ -8,7 +8,7 @@ ghost use Rattle.csi_sql.specs.Transactions.{CommitsOver, RunsOver};
 
 use sqlite::{Alter, Connection, Error, Transaction};
 
-// The statements that make the tables, each behind those before it.
+// The statements that make the tables, in order.
 #[derive(Clone, Copy)]
 enum TableStatement {
     Meta,

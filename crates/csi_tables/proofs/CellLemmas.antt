@@ -22,7 +22,7 @@ module _ {E X : Type 0} (entry : E → Row) (value : E → X) (P : E → Type 0)
       go (e ∷ es) (suc i) all low reads = rw add-one (ap (λ ys. value e ∷ ys) (rw add-one at (go es i all.1 (omega (arith, low)) reads)))
 
 module _ {E : Type 0} (entry : E → Row) (P : E → Type 0) where
-  -- each row stands for a value
+  -- each row represents a value
   pub entry_at : (rows : List Row) (es : List E) (i : ℕ) (d : Row) → i < length rows → AllByRecursion P es → rows ≡ map entry es → (e : E) × P e × (get_or rows i d ≡ entry e)
   entry_at rows es i d low all are = let it = go es i all low' in (it.0, it.1, ap (λ rs. get_or rs i d) are ∙ it.2)
     where

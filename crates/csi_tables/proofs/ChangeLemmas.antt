@@ -47,7 +47,7 @@ module _ {S X : Type 0} {g : Ghosts S} {old new : Held S} {Why : Type 0} where
     limit = h.limit;
   }
 
-  -- a change behind a read that failed
+  -- a change after a read that failed
   pub unmade : {Z : Type 0} {What : State → Z → Type 0} (change : Change) (r : Result X TablesFault) (fault : TablesFault) → ConnReads g old new What (Err fault) → IsErrAnd r (λ y. y ≡ fault) → ConnChanges g old new change Why r
   unmade change r fault h is = record {
     made = never_ok r _ _ is;
@@ -98,7 +98,7 @@ module _ {S : Type 0} (g : Ghosts S) (back : ReadsBack) (change : Change) (Effec
     limit = h.survives.limit;
   }
 
--- by one transaction behind a read
+-- by one transaction after a read
 module _ {S : Type 0} (g : Ghosts S) (back : ReadsBack) (change : Change) (Effect : Database → Database → Type 0) (keeps : (old new : Database) → Effect old new → new.schema ≡ old.schema)
     {X Y Z : Type 0} {before old new : Held S} {What : State → Z → Type 0} {z : Result Z TablesFault} (read : ConnReads g before old What z) {Refuses : sql.State → Error → Type 0} {Why : Type 0}
     (steps : HasCleanDisk (state g new) → (s : State) → conn_holds g before s → (db after : Database) → db.schema ≡ schema → IsRows s db.trees → Allows s change → Effect db after → IsRows (changed s change) after.trees) where

@@ -43,7 +43,7 @@ module _ {S : Type 0} (g : Ghosts S) where
   pub stays_quiet : (h : Held S) → ConnIsQuiet g h h
   stays_quiet h = record { clean = omega arith; state = λ clean s held. held; crash = λ clean t it. it; ties = λ clean tied. tied; down = refl }
 
-  -- a change by one transaction, behind a call that kept the State
+  -- a change by one transaction, after a call that kept the State
   module _ (back : ReadsBack) (change : Change) (Effect : Database → Database → Type 0) (keeps : (old new : Database) → Effect old new → new.schema ≡ old.schema)
       (before old new : Held S) (q : ConnIsQuiet g before old)
       (steps : HasCleanDisk (state g new) → (s : State) → conn_holds g before s → (db after : Database) → db.schema ≡ schema → IsRows s db.trees → Allows s change → Effect db after → IsRows (changed s change) after.trees)
@@ -136,7 +136,7 @@ module _ {S : Type 0} (g : Ghosts S) (change : Change) (old new : Held S) where
     down = refl;
   }
 
--- ---- the totals beside a connection
+-- ---- the totals with a connection
 
 module _ {S : Type 0} (g : Ghosts S) (change : Change) (old new : Store S) where
   pub store_makes : ((s : State) → conn_doubt g new.0 ≡ 0 → conn_holds g old.0 s → Allows s change → IsStorable s → AreTotals old.1 s → AreTotals new.1 (changed s change))

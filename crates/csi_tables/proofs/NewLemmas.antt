@@ -1,4 +1,4 @@
--- New tables stand for the first State.
+-- New tables represent the first State.
 use Rattle.std.proofs.Common.{◌≡◌, ◌∙◌, sym, ap, subst, ℕ, List, [], map, length, sum, IsPermutation, IsTrue, false}
 use Rattle.std.specs.FinMap.{empty, entries}
 use Rattle.std.specs.List.{AllByRecursion}

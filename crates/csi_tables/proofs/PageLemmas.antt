@@ -124,7 +124,7 @@ map_on f g [] all = refl
 map_on f g (e ∷ es) all = ap₂ ◌∷◌ all.0 (map_on f g es all.1)
 
 module _ (s : State) (db : Trees) (p : IsRows s db) where
-  -- the volumes behind a number
+  -- the volumes after a number
   behind : ℕ → ℕ → List (ℕ × Volume)
   behind after count = take count (filter (λ e. nat_lt after e.0) (entries s.volumes))
 

@@ -101,7 +101,7 @@ all_beyond : (n : ℕ) (p : AttachmentKey) (ps : List AttachmentKey) → n < p.0
 all_beyond n p [] low all = tt
 all_beyond n p (q ∷ ps) low all = (let h = all.0 in omega (arith, low, h), all_beyond n p ps low all.1)
 
--- behind a place of a greater number all have greater ones
+-- after a place of a greater number all have greater ones
 pub rest_beyond : (n : ℕ) (ps : List AttachmentKey) (i : ℕ) (d : AttachmentKey) → IsRisen ps → i < length ps → n < (get_or ps i d).0 → AllByRecursion (λ p. n < p.0) (drop i ps)
 rest_beyond n [] i d up low more = absurd (omega (arith, low))
 rest_beyond n (p ∷ ps) zero d up low more = (more, all_beyond n p ps more up.0)
@@ -128,7 +128,7 @@ beyond_all n (p ∷ ps) all =
     let passes : nat_lt n p.0 ≡ true = grind (arith, nat_tests, h) in
     ap (λ xs. p ∷ xs) (beyond_all n ps all.1) ∙ sym (ap (λ b. cond b (p ∷ filter (λ p. nat_lt n p.0) ps) (filter (λ p. nat_lt n p.0) ps)) passes)
 
--- where the places up to an index have no greater number, and those behind it have one
+-- where the places up to an index have no greater number, and those after it have one
 pub split_nodes : (n : ℕ) (ps : List AttachmentKey) (i : ℕ) → AllByRecursion (λ p. n < p.0) (drop i ps) → nodes_at (take i ps) n ≡ nodes_at ps n
 split_nodes n ps zero beyond = sym (beyond_none n ps beyond)
 split_nodes n [] (suc i) beyond = refl
@@ -156,7 +156,7 @@ all_more n ps p low all = all-append (λ (p : AttachmentKey). p.0 ≤ n) ps (p �
 
 -- ---- each number
 
--- what is behind a number has the nodes of each greater one
+-- what is after a number has the nodes of each greater one
 later_nodes : (n m : ℕ) (qs : List AttachmentKey) → n < m → nodes_at (filter (λ p. nat_lt n p.0) qs) m ≡ nodes_at qs m
 later_nodes n m [] low = refl
 later_nodes n m (q ∷ qs) low = go (nat_lt n q.0) refl (q.0 == m) refl (later_nodes n m qs low)

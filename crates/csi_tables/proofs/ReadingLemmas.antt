@@ -1,4 +1,4 @@
--- What is read of cells and of rows, one after the other.
+-- What is read of cells and of rows, in order.
 use Rattle.std.proofs.Common.{◌≡◌, ◌∙◌, inl, inr, sym, ap, ap₂, subst, arith, ℕ, ◌+◌, ◌<◌, ◌==◌, true, refl, List, [], ◌∷◌, ◌++◌, append-nil, cond, filter, map, take, length, get_or, Option, Some, option_to_list}
 use Rattle.std.specs.Bool.{⊤}
 use Rattle.std.specs.List.{AllByRecursion}
@@ -22,7 +22,7 @@ use Rattle.csi_tables.proofs.PlaceLemmas.{numbers_differ, take_one, take_whole}
 pub one_blob : (cell : Value) (bytes other : List ℕ) → Some bytes ≡ as_blob cell → cell ≡ value.Blob other → other ≡ bytes
 one_blob cell bytes other found is = let same : Some bytes ≡ Some other = found ∙ ap as_blob is in cc
 
--- a key that leaves none behind it is the one key
+-- a key that leaves none after it is the one key
 pub alone : (keys rest : List CapKey) (last : Option CapKey) (key : CapKey) → keys ≡ rest ++ option_to_list last → last ≡ Some key → rest ≡ [] → keys ≡ key ∷ []
 alone keys rest last key are is none = are ∙ ap₂ (λ xs o. xs ++ option_to_list o) none is
 

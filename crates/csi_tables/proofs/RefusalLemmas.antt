@@ -112,7 +112,7 @@ pub read_numbers : {S X : Type 0} {g : Ghosts S} {old new : Held S} {Shown : Dat
 read_numbers r rows value h ok refused shown =
     read_as r h (λ s shows what. if_ok (λ xs read. read (value s) (shown s shows what)) r ok) (λ s shows known what is. refused is (value s) (shown s shows what))
 
--- ---- a change behind a read
+-- ---- a change after a read
 
 -- what is refused turns on the database and the limit alone
 pub refuses_same : (text : List ℕ) (params : Row) (a b : sql.State) (e : Error) → b.now ≡ a.now → b.step_limit ≡ a.step_limit → SqlRefuses text params b e → SqlRefuses text params a e
@@ -120,7 +120,7 @@ refuses_same text params a b e now limit why =
     subst (λ (l : Option ℕ). SqlRefuses text params (record a { step_limit = l }) e) limit (subst (λ (db : Database). SqlRefuses text params (record a { now = db; step_limit = b.step_limit }) e) now why)
 
 module _ {S : Type 0} (g : Ghosts S) (a b d : Held S) (Why : Type 0) where
-  -- the cause behind a read is one before it
+  -- the cause after a read is one before it
   before_read : Survives (state g a) (state g b) (λ _. ⊥) → IsTrue (state g b).is_open → IsRefusal Why (state g b) (state g d) → IsRefusal Why (state g a) (state g d)
   before_read left is_open (by_disk more) = by_disk (omega (arith, left.counts, more))
   before_read left is_open (as_shut shut) = absurd (let no : true ≡ false = sym is_open ∙ shut in cc)
@@ -142,7 +142,7 @@ module _ {S : Type 0} (g : Ghosts S) (a b d : Held S) (Why : Type 0) where
       ])
       (λ shut. as_shut shut)
 
--- ---- how it is told
+-- ---- how it is reported
 
 pub told_refused : {X : Type 0} (answer : Result X TablesFault) (r : Result X StoreFault) → r ≡ answered answer → r ≡ Err store.Refused → answer ≡ Err Refused
 told_refused {X} answer r told is = go answer (sym told ∙ is)

@@ -1,4 +1,4 @@
--- Rows stand for one State.
+-- Rows represent one State.
 use Rattle.std.proofs.Common.{◌≡◌, ◌∙◌, inl, inr, refl, sym, ap, subst, ℕ, suc, pos, List, [], ◌∷◌, map, Bool, true, false, get_or, slice_index_or, IsPermutation}
 use Rattle.std.specs.Cmp.{nat_cmp_total}
 use Rattle.std.specs.FinMap.{entries}

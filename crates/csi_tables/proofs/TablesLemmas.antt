@@ -1,4 +1,4 @@
--- A keeper whose parts are a connection and the totals beside it.
+-- A keeper whose parts are a connection and the totals with it.
 use Rattle.std.proofs.Common.{◌≡◌, ◌∙◌, refl, sym, ap, subst, arith, ℕ, zero, suc, ◌≤◌, ◌^◌, ◌==◌, nat_lt, List, [], ◌∷◌, map, filter, take, false, cond, Result, Ok, Err, IfOk, OnOk, OnErr}
 use Rattle.std.specs.FinMap.{entries}
 use Rattle.std.specs.List.{AllByRecursion}
@@ -35,7 +35,7 @@ answered_again (Err Refused) = refl
 pub is_answer : {X : Type 0} (answer : Result X TablesFault) (stored r : Result X StoreFault) → stored ≡ answered answer → r ≡ health.answered stored → r ≡ answered answer
 is_answer answer stored r made is = is ∙ ap health.answered made ∙ answered_again answer
 
--- what is told of an answer
+-- what is reported of an answer
 pub told_if : {X : Type 0} {P Q : X → Type 0} (answer : Result X TablesFault) (r : Result X StoreFault) → r ≡ answered answer → ((x : X) → P x → Q x) → IfOk answer P → IfOk r Q
 told_if {X} {P} {Q} answer r is f h = subst (λ (x : Result X StoreFault). IfOk x Q) (sym is) (go answer h)
   where

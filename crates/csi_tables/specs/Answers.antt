@@ -1,4 +1,4 @@
--- Which fault an error below is, and how a fault over the tables is told by the keeper.
+-- Which fault an error below is, and how a fault over the tables is reported by the keeper.
 use Rattle.std.specs.Prelude.{Result, Ok, Err}
 use Rattle.sqlite.specs.declared.error.Error.{Error}
 use Rattle.sqlite.specs.declared.error.Error.TheVariants.{SqliteFailure}

@@ -1,4 +1,4 @@
--- How capabilities and parameters stand in a column: as the canonical bytes of a CreateVolumeRequest that has
+-- How capabilities and parameters are in a column: as the canonical bytes of a CreateVolumeRequest that has
 -- nothing else.
 use Rattle.std.specs.Prelude.{◌≡◌, ℕ, pos, true, false, List, [], None, Some, Ok, map}
 use Rattle.std.specs.List.{AllByRecursion}
@@ -30,7 +30,7 @@ create_with capabilities parameters mutable = request.Create (record {
 abbrev pub with_caps : List CapKey → Request
 with_caps keys = create_with (map capability_of keys) empty empty
 
--- the parameters of a volume, and beside them its mutable ones: where it has none of these the field is
+-- the parameters of a volume, and next to them its mutable ones: where it has none of these the field is
 -- absent
 abbrev pub with_params : TextMap → TextMap → Request
 with_params params mutable = create_with [] params mutable

@@ -1,4 +1,4 @@
--- The rows that stand for a State, and what a connection over them holds.
+-- The rows that represent a State, and what a connection over them holds.
 use Rattle.std.specs.Prelude.{◌≡◌, ◌⊎◌, ℕ, ◌<◌, ◌^◌, false, [], ◌∷◌, map, IsPermutation, IsTrue, IsUtf8}
 use Rattle.std.specs.List.{AllByRecursion}
 use Rattle.std.specs.FinMap.{empty, entries}
@@ -123,7 +123,7 @@ Holds now s = IsTrue now.is_open → Shows now s
 abbrev pub Survivors : sql.State → State → Type 0
 Survivors now s = (db : Trees) × now.may_leave db × IsRows s db
 
--- each database that a stop may leave stands for a State
+-- each database that a stop may leave represents a State
 abbrev pub Ties : sql.State → Type 0
 Ties now = HasCleanDisk now → (db : Trees) → now.may_leave db → (s : State) × IsRows s db
 
@@ -141,11 +141,11 @@ module _ {S : Type 0} (g : Ghosts S) where
   abbrev pub conn_tied : Held S → Type 0
   conn_tied h = Ties (state g h)
 
-  -- what contracts see of it: what stands over it counts refusals, and is down
+  -- what contracts see of it: what is over it counts refusals, and is down
   abbrev pub conn_model : Held S → Model State
   conn_model h = record { holds = conn_holds h; doubt = conn_doubt h; refusals = 0; survivors = conn_survivors h; tied = conn_tied h; is_down = false }
 
--- ---- a connection, and the totals that are kept beside it
+-- ---- a connection, and the totals that are kept with it
 
 abbrev pub Store : Type 0 → Type 0
 Store S = Held S × Totals

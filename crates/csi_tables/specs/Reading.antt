@@ -1,4 +1,4 @@
--- What is read of rows, also of those that stand for nothing that was written.
+-- What is read of rows, also of those that represent nothing that was written.
 use Rattle.std.specs.Prelude.{◌≡◌, ℕ, ◌==◌, Bool, false, List, [], ◌∷◌, Option, None, Some, Ok, map, filter, ⊤}
 use Rattle.sqlite.specs.Effect.{Database}
 use Rattle.sqlite.specs.Held.{Held, state}
@@ -92,6 +92,6 @@ abbrev pub IsNextIn : Database → ℕ → Type 0
 IsNextIn db n = (kept : Row) × Has (db.trees 0) kept × (column kept 3 ≡ number_value n)
 
 module _ {S : Type 0} (g : Ghosts S) (old new : Held S) where
-  -- the number that is told is one that stands in meta
+  -- the number that is reported is one that is in meta
   abbrev pub TellsNext : ℕ → Type 0
   TellsNext n = HasCleanDisk (state g new) → (state g old).now.schema ≡ schema → IsNextIn (state g old).now n

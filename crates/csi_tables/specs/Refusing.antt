@@ -63,7 +63,7 @@ RefusesDetach n node s = (e : Error) × RefusesDetaching n node s e
 abbrev pub RefusesDetachAll : ℕ → sql.State → Type 0
 RefusesDetachAll n s = (e : Error) × RefusesDetachingAll n s e
 
--- with the parameters beside them of the volume whose row stands
+-- with the parameters next to them of the volume whose row exists
 abbrev pub RefusesMutable : ℕ → TextMap → sql.State → Type 0
 RefusesMutable n m s = (v : Volume) × Has (map seen_volume (s.now.trees 1)) (volume_entry (n, v)) × (e : Error) × RefusesParams n (params_bytes v.params m) s e
 
@@ -106,7 +106,7 @@ module _ {S : Type 0} (g : Ghosts S) (old new : Held S) where
     pub limit : new.step_limit ≡ old.step_limit
 
 module _ {S : Type 0} (g : Ghosts S) (old new : Store S) where
-  -- and beside it the totals
+  -- and next to it the totals
   abbrev pub StoreRefuses : {X E : Type 0} → E → Type 0 → Result X E → Type 0
   StoreRefuses refused Why r = store_doubt g new ≡ 0 → IsErrOf r refused → (s : State) → store_holds g old s → HasKnownModes s
       → IsRefusal Why (state g old.0) (state g new.0)

@@ -1,4 +1,4 @@
-//! Each change over a connection, with the totals that are kept beside it.
+//! Each change over a connection, with the totals that are kept in memory.
 //!
 //! Each function asks that no transaction is open on the connection, and leaves it so. After `Ok` the
 //! change is made and committed; after a fault the State stays, and a stop may leave the change made.
@@ -70,7 +70,7 @@ pub(crate) fn make_volume<S: Alter>(
     Ok(())
 }
 
-// A change that changes nothing, as that of a number that no row has. A read tells whether the
+// A change that changes nothing, as that of a number that no row has. A read says whether the
 // connection is open, and what a stop leaves is the State then.
 fn make_nothing<S: Alter>(conn: &mut IdleConnection<S>) -> Result<(), TablesError>
     ensures { ConnStays S.Store conn.old conn.new result }
@@ -182,7 +182,7 @@ fn params_of(volume: Option<Volume>) -> Option<Map>
     }
 }
 
-/// Gives a volume other mutable parameters. The volume is read first, since they stand in one column
+/// Gives a volume other mutable parameters. The volume is read first, since they are in one column
 /// with its parameters, which stay.
 pub(crate) fn make_mutable<S: Alter>(
     alloc: Global,

@@ -16,7 +16,7 @@ pub fn latest()
     ensures { LatestHas }
 {}
 
-/// A State of the invariant has known modes, which is what a call's refusal is told for.
+/// A State of the invariant has known modes, which the clause on a call's refusal needs.
 pub fn known_modes()
     ensures { HaveKnownModes }
 {}

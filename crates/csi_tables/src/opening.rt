@@ -1,4 +1,4 @@
-//! How a keeper over tables comes to stand on a connection, and leaves it.
+//! How a keeper over tables takes a connection, and gives it back.
 
 ghost use Rattle.std.specs.Prelude.{◌≡◌, false, IfErr, IfOk, IsTrue};
 ghost use Rattle.sqlite.specs.Held.{state};
@@ -36,7 +36,7 @@ impl<S: Alter> Tables<S> {
     ///
     /// # Errors
     ///
-    /// What the database answers, as where a table of such a name stands, or where memory is refused.
+    /// What the database answers, as where a table of such a name exists, or where memory is refused.
     /// Nothing is made then, and the connection is given back; a stop leaves what it could leave before,
     /// or the tables as they were to be made.
     ///
@@ -66,8 +66,8 @@ impl<S: Alter> Tables<S> {
         }
     }
 
-    /// A keeper over tables that stand for a State, with what the State's pools have used; it is not
-    /// down, and has refused nothing. Who takes a connection from elsewhere has to judge its rows
+    /// A keeper over tables that represent a State, with what the State's pools have used; it is not
+    /// down, and has refused nothing. A caller with a connection from elsewhere must judge its rows
     /// first, as `csi_adoption::adopt` does.
     pub fn over(conn: IdleConnection<S>, totals: Totals) -> Tables<S>
         requires stands { conn_doubt S.Store conn ≡ 0 → (s : State) × store_holds S.Store (conn, totals) s }

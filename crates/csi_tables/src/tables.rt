@@ -30,7 +30,7 @@ use std::cell::Cell;
 ///
 /// All of that is promised while the database has returned what was written to it: while the store's
 /// `HasCleanDisk` holds as the call ends. A call is one transaction, a removal two; what a pool
-/// has used is told from memory, without one.
+/// has used is answered from memory, without one.
 ///
 /// # Not promised
 ///
@@ -47,7 +47,7 @@ pub struct Tables<S: Alter> {
 }
 
 impl<S: Alter> Tables<S> {
-    // Over a connection whose tables stand for a State, with what the State's pools have used.
+    // Over a connection whose tables represent a State, with what the State's pools have used.
     pub(crate) fn new(conn: IdleConnection<S>, totals: Totals) -> Tables<S>
         ensures over { (result.conn ≡ conn) × (result.totals ≡ totals) }
         ensures fresh { (result.health.is_down ≡ false) × (result.health.refusals ≡ 0) }

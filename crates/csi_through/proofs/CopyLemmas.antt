@@ -30,7 +30,7 @@ below n k h = elim (leb_tells (suc n) k) as (λ _. not (nat_lt n k) ≡ true) [ 
 above : (n k : ℕ) → n < k → not (nat_lt n k) ≡ false
 above n k h = elim (leb_tells (suc n) k) as (λ _. not (nat_lt n k) ≡ false) [ inl x ↦ ap not x.0 | inr x ↦ absurd (omega (arith, x.1, h)) ]
 
--- where a condition tells a number to be kept, it is
+-- where a condition says a number to be kept, it is
 kept : (n k : ℕ) → not (nat_lt n k) ≡ true → k ≤ n
 kept n k e = elim (leb_tells (suc n) k) as (λ _. k ≤ n) [ inl x ↦ absurd (cc (e, ap not x.0)) | inr x ↦ omega (arith, x.1) ]
 
@@ -151,7 +151,7 @@ module _ {K X : Type 0} {R : K → K → Ordering} (o : IsTotalOrder R) (exact :
   put_each m [] = m
   put_each m (e ∷ es) = put_each (fin.insert m e.0 e.1) es
 
-  -- the head of a list that rises is found nowhere behind it
+  -- the head of a list that rises is found nowhere after it
   head_apart : (e : K × X) (es : List (K × X)) (q : K) (x : X) → T (fin.is_sorted R (e ∷ es)) → fin.find R q es ≡ Some x → eq_by_cmp R q e.0 ≡ false
   head_apart e es q x rises f = less_apart (R q e.0) (R e.0 q) (o.antisymm q e.0) (found_below o exact e.0 q x es (both (below_all R e.0 es) (fin.is_sorted R es) rises).0 f)
 
@@ -352,7 +352,7 @@ module _ (config : Config) (s : State) (inv : IsInvariant config s) where
   no_entry [] e = refl
   no_entry (x ∷ xs) e = absurd (cc (e))
 
-  -- a page without volumes is behind the last one
+  -- a page without volumes is after the last one
   pub ends : (n count : ℕ) → 1 ≤ count → page s n count ≡ [] → up_to s n ≡ record s { next = n + 1 }
   ends n count some none =
       let volumes : (up_to s n).volumes ≡ s.volumes = fin.same_map nat_cmp_total fin.nat_cmp-IsAntisymmetric _ _ (λ q. kept_volumes s n q ∙ row q (fin.get s.volumes q) refl) in

@@ -130,7 +130,7 @@ of_memory old new fault up same alone = record {
   count = λ d config s held inv p. same ∙ ap (counted old.refusals) (sym (alone config s inv p));
 }
 
--- behind reads that were answered
+-- after reads that were answered
 pub told_later : {P Q : State → Type 0} (a b c : Model State) (fault : StoreFault) → IsQuiet a b → b.doubt ≤ c.doubt → b.refusals ≡ a.refusals
     → (b.doubt ≡ 0 → (config : Config) (s : State) → a.holds s → IsInvariant config s → P s → Q s) → IsToldFor Q b c fault → IsToldFor P a c fault
 told_later a b c fault quiet clean same more told = record {
@@ -146,7 +146,7 @@ why_read old new r fault is count down = record {
   count = λ d config s held inv. count_of old.refusals new.refusals r fault is count;
 }
 
--- behind the first read, which was answered: so the keeper is not down
+-- after the first read, which was answered: so the keeper is not down
 module _ {X : Type 0} (old mid : Model State) (r : Result X StoreFault) (x : X) (is : r ≡ Ok x) (down : (r ≡ Err Down) ↔ IsTrue old.is_down) where
   up : IsTrue old.is_down → ⊥
   up t = absurd (let e = down.1 t in cc (is, e))

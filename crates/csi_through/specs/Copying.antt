@@ -16,7 +16,7 @@ use Rattle.csi_memory.specs.declared.mem.MemKeeper.{MemKeeper}
 use Rattle.csi_keeper.specs.declared.volume.Attachment.{Attachment}
 use Rattle.csi_keeper.specs.declared.volume.Volume.{Volume}
 
--- the volumes up to a number, and what is attached of them; the next number is the one behind it
+-- the volumes up to a number, and what is attached of them; the next number is the one after it
 abbrev pub up_to : State → ℕ → State
 up_to s n = record {
   next = n + 1;
@@ -70,7 +70,7 @@ CopiesTo old new memory copy after volumes nodes last =
     → Holds memory (up_to s after)
     → (last ≡ last_number after volumes) × Holds copy (up_to s last)
 
--- it had nothing, and has all; the next number is the one behind the last
+-- it had nothing, and has all; the next number is the one after the last
 abbrev pub CopiesAll : Model State → Model State → MemKeeper → MemKeeper → Type 0
 CopiesAll old new memory copy =
     new.doubt ≡ 0 → (config : Config) (s : State) → old.holds s → IsInvariant config s → Holds memory (up_to s 0)
@@ -84,7 +84,7 @@ IsCopy old new copy = new.doubt ≡ 0 → (config : Config) (s : State) → old.
 abbrev pub IsWhole : Model State → Model State → Type 0
 IsWhole old new = new.doubt ≡ 0 → (s : State) → old.holds s → IsNumbered s.next
 
--- Why a read of the keeper gave nothing, or there was no memory. That it is down is told only where it is;
+-- Why a read of the keeper gave nothing, or there was no memory. That it is down is reported only where it is;
 -- and of each State of the invariant of which P is so, a refusal is one that the keeper counted, and nothing
 -- else is counted.
 pub record IsToldFor (P : State → Type 0) (old new : Model State) (fault : StoreFault) : Type 0 where
@@ -92,7 +92,7 @@ pub record IsToldFor (P : State → Type 0) (old new : Model State) (fault : Sto
   pub count : new.doubt ≡ 0 → (config : Config) (s : State) → old.holds s → IsInvariant config s → P s
       → new.refusals ≡ count_after {X = Unit {0}} old.refusals (Err fault)
 
--- Why there is no copy: that the keeper is down is told where it is, and nowhere else; and of a State of the
+-- Why there is no copy: that the keeper is down is reported where it is, and nowhere else; and of a State of the
 -- invariant a refusal is one that the keeper counted, and nothing else is counted.
 pub record IsWhy (old new : Model State) (fault : StoreFault) : Type 0 where
   pub down : (fault ≡ Down) ↔ IsTrue old.is_down

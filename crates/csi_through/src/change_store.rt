@@ -8,7 +8,7 @@ ghost use Rattle.csi_keeper.specs.State.{State, IsBounded};
 use csi_keeper::{Change, Keeper, StoreFault};
 use std::alloc::Global;
 
-/// What keeps the changes of a State, and answers no reads: a database, or a change store behind a socket.
+/// What keeps the changes of a State, and answers no reads: a database, or a change store at a socket.
 ///
 /// What is promised of the State is promised while `doubt`, which never falls, is 0.
 pub trait ChangeStore {

@@ -17,7 +17,7 @@ use std::alloc::Global;
 // So many volumes are read at once.
 const PAGE: u32 = 1000;
 
-// The attachments of a volume, none of which stands.
+// The attachments of a volume, none of which exists.
 #[tactic(auto, using(crate::proofs::CopyLemmas::allows_more, crate::proofs::CopyLemmas::attached_more))]
 fn attach_each(
     alloc: Global,
@@ -35,14 +35,14 @@ fn attach_each(
     Ok(())
 }
 
-// Whether a memory can have a next number. No store that tells the truth has a greater one.
+// Whether a memory can have a next number. No truthful store has a greater one.
 fn is_numbered(next: u64) -> bool
     ensures { IsTrue result ↔ IsNumbered next }
 {
     next <= MAX_NUMBER
 }
 
-// Whether a memory can hold a volume. No store that tells the truth has one that is out of bounds.
+// Whether a memory can hold a volume. No truthful store has one that is out of bounds.
 fn is_held(volume: &Volume) -> bool
     ensures { IsTrue result ↔ IsHeld volume.now }
 {
@@ -72,7 +72,7 @@ fn restore(
     attach_each(alloc, memory, number, attachments)
 }
 
-// Whether a volume of a page is published at a node; also where that is not told.
+// Whether a volume of a page is published at a node; also where that is not known.
 fn is_published(nodes: &[Items<Text>], index: usize) -> bool
     ensures { result ≡ false → (index < length nodes.now) × (get_or nodes.now index [] ≡ []) }
 {
@@ -164,7 +164,7 @@ fn restore_all<K: Keeper>(
 /// # Errors
 ///
 /// What the keeper answers, or want of memory; `Refused` also where a number or a size is none that a volume
-/// has, as only a store gives that does not tell the truth. So of a State of the invariant each refusal is
+/// has, as only an untruthful store gives. So of a State of the invariant each refusal is
 /// the keeper's.
 pub(crate) fn copy_of<K: Keeper>(alloc: Global, keeper: &mut K) -> Result<MemKeeper, StoreFault>
     ensures quiet { IsQuiet (K.model keeper.old) (K.model keeper.new) }

@@ -1,10 +1,10 @@
 //! A keeper that reads from one keeper, and has each change made by a change store first.
 //!
-//! A store that answers reads slowly, or none, still keeps what was answered: [`ChangeStore`] is all that is
-//! asked of it, a commit. [`Through`] reads from a memory beside it, and makes a change there once the change
-//! store has made it. So each read costs what it costs in memory, and a change what the log's commit costs.
-//! Any keeper is a change store ([`KeeperChanges`]), and [`Through::over`] makes the memory of what a keeper
-//! has.
+//! A store that answers reads slowly, or none, still keeps what was answered: [`ChangeStore`] is all that
+//! is asked of it, a commit. [`Through`] reads from a memory next to it, and makes a change there once the
+//! change store has made it. So each read costs what it costs in memory, and a change what the log's
+//! commit costs. Any keeper is a change store ([`KeeperChanges`]), and [`Through::over`] makes the memory
+//! of what a keeper has.
 //!
 //! `specs/Through.antt` says which States such a keeper may have, and what a read of it leaves as it was.
 //! `specs/Copying.antt` says what is copied so far.

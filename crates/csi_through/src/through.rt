@@ -18,7 +18,7 @@ use csi_memory::MemKeeper;
 use csi_types::{Items, Text};
 use std::alloc::Global;
 
-// Starts a call. A keeper whose memory is behind the change store refuses each.
+// Starts a call. A keeper whose memory is older than the change store refuses each.
 fn start_call(health: &mut Health, is_current: bool) -> Result<(), StoreFault>
     ensures down { (result ≡ Err Down) ↔ IsTrue health.old.is_down }
     ensures fault { result ≢ Err NoMemory }
@@ -55,8 +55,8 @@ fn start_change(health: &mut Health, is_current: bool) -> Result<(), StoreFault>
 /// After a change that was refused, also for memory, each further call is answered `Down`.
 ///
 /// A change that the change store made is made, also where the memory has no room for it: it is answered
-/// `Ok`. The memory is behind then, so each further read is answered `Refused`, until the keeper is opened
-/// again; a further change is refused and not tried, and with it the keeper is down.
+/// `Ok`. The memory is then out of date, so each further read is answered `Refused`, until the keeper is
+/// opened again; a further change is refused and not tried, and with it the keeper is down.
 pub struct Through<M, D> {
     memory: M,
     change_store: D,

@@ -97,7 +97,7 @@ unfolding IsStrictlySortedBy
 keys_sorted [] h = tt
 keys_sorted (e ∷ es) h = (each_below e.0 es (first_so _ _ h), keys_sorted es (second_so _ _ h))
 
--- a map is what its entries make, one after the other
+-- a map is what its entries make, in order
 pub again : (m : FinMap text_cmp Text) → from_entries {R = text_cmp} (reverse (entries m)) ≡ m
 again m = same_map nat_list_cmp_total exact _ _ (λ q.
     get-from_entries nat_list_cmp_total (reverse (entries m)) q
@@ -143,7 +143,7 @@ put_inserts k v es fs h e =
 greater : (x y : Text) → text_cmp x y ≡ Less → text_cmp y x ≡ Greater
 greater x y h = nat_list_cmp_total.antisymm y x ∙ ap ordering_reverse h
 
--- a key goes behind those that are below it
+-- a key goes after those that are below it
 pub put_beyond : (k v : Text) (es ts : List (Text × Text)) → AreBelow k es → put text_cmp k v (es ++ ts) ≡ es ++ put text_cmp k v ts
 put_beyond k v [] ts h = refl
 put_beyond k v (e ∷ es) ts h =
@@ -186,7 +186,7 @@ goes_first e [] h = refl
 goes_first e (f ∷ es) h =
     ap (λ r. match_ordering r (e ∷ f ∷ es) ((f.0, e.1) ∷ es) (f ∷ insert_entry text_cmp es e.0 e.1)) (is_less _ (first_so _ _ (first_so _ _ h)))
 
--- the last of a list moves to the tree that stands behind it
+-- the last of a list moves to the tree that stands after it
 pub last_moves : (xs : List (Text × Text)) (e : Text × Text) (ts : List (Text × Text)) → IsRising ((xs ++ e ∷ []) ++ ts) → xs ++ insert_entry text_cmp ts e.0 e.1 ≡ (xs ++ e ∷ []) ++ ts
 last_moves xs e ts h =
     let whole = append_assoc xs (e ∷ []) ts in

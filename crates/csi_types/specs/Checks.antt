@@ -40,7 +40,7 @@ writes_beside_others None = false
 writes_beside_others (Some (pos mode)) = mode == 4 || mode == 5
 writes_beside_others (Some (negsuc n)) = false
 
--- supported: block with each known mode, mount with those in which no node writes beside others
+-- supported: block with each known mode, mount with those in which no node writes next to others
 abbrev pub is_supported_access : Access → Option ℤ → Bool
 is_supported_access access.Missing mode = false
 is_supported_access access.Block mode = is_known_mode mode
@@ -93,7 +93,7 @@ prefers_another r = not (is_empty r.requisite) && list_any (λ p. not (list_any 
 
 pub record Parts : Type 0 where
   pub names : List (List ℕ)
-  -- the list of capabilities, of the calls that have to give one
+  -- the list of capabilities, of the calls that must give one
   pub required_capabilities : List (List Capability)
   pub capabilities : List Capability
   -- the capabilities of a volume that is to be made
@@ -103,11 +103,11 @@ pub record Parts : Type 0 where
   pub topologies : List TextMap
   -- all maps: parameters, mutable parameters, secrets, contexts and topologies
   pub maps : List TextMap
-  -- the mutable parameters, of the call that has to give some
+  -- the mutable parameters, of the call that must give some
   pub required_maps : List TextMap
   pub volume_ids : List (List ℕ)
   pub node_ids : List (List ℕ)
-  -- the node id, of the call that has to give one
+  -- the node id, of the call that must give one
   pub required_node_ids : List (List ℕ)
   pub tokens : List (List ℕ)
   pub most_entries : List ℤ

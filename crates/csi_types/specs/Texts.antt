@@ -1,4 +1,4 @@
--- What a text is, wherever its bytes stand.
+-- What a text is, in any place.
 use Rattle.std.specs.Prelude.{ℕ, List}
 use Rattle.std.specs.String.{string_bytes}
 use Rattle.csi_types.specs.declared.text.TextStorage.{TextStorage}

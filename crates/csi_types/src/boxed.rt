@@ -6,7 +6,7 @@ use std::alloc::{AllocError, Global};
 use std::fmt;
 use std::marker::Model;
 
-/// A value that takes the room of a pointer where it stands, and memory of its own.
+/// A value that takes the room of a pointer where it is, and memory of its own.
 #[derive(Drop)]
 pub struct Boxed<T> {
     kept: Box<T>,

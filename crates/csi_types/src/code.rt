@@ -13,7 +13,7 @@ pub enum Code {
     InvalidArgument = 3,
     /// The volume or the node does not exist.
     NotFound = 5,
-    /// What stands is not compatible with the request.
+    /// What exists is not compatible with the request.
     AlreadyExists = 6,
     /// There is no room, or a limit is reached.
     ResourceExhausted = 8,

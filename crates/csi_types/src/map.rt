@@ -20,7 +20,7 @@ use std::marker::Model;
 
 /// A `map<string, string>` (Protocol Buffers language guide, 'Maps'), in byte order of its keys.
 ///
-/// Entries that come in rising order of their keys stand in a list, others in a tree: a map of one
+/// Entries that come in rising order of their keys are in a list, others in a tree: a map of one
 /// entry takes no more than its room.
 ///
 /// Most maps have one entry, and most others come in order, as the codec writes them. The first key out of
@@ -107,7 +107,7 @@ impl Map {
         Ok(())
     }
 
-    // The entries, where all of them stand in the list.
+    // The entries, where all of them are in the list.
     #[inline(always)]
     pub(crate) fn listed(&self) -> Option<&[(Text, Text)]>
         ensures { IfSome result (λ listed. listed.now ≡ map.entries self.now) }

@@ -9,7 +9,7 @@ use std::fmt;
 
 /// Why a request is refused. Its `Display` is its text.
 ///
-/// A message that can't be decoded is no reason: its text tells a place, and so is made apart.
+/// A message that can't be decoded is no reason: its text names a place, and so is made apart.
 #[derive(Clone, Copy, Debug, PartialEq, Eq)]
 pub enum Reason {
     /// `name` is empty.
@@ -52,11 +52,11 @@ pub enum Reason {
     VolumeNotFound,
     /// No node has the id.
     NodeNotFound,
-    /// A volume of the name stands, and is not as the request asks.
+    /// A volume of the name exists, and is not as the request asks.
     VolumeNotCompatible,
     /// No pool that serves the topology has room.
     NoRoom,
-    /// The most volumes stand.
+    /// There are as many volumes as there can be.
     TooManyVolumes,
     /// No number is left for a further volume.
     NumbersUsedUp,
@@ -64,7 +64,7 @@ pub enum Reason {
     OutOfRange,
     /// The volume is published at a node.
     VolumeInUse,
-    /// The volume is published at a node beside which it can't be published here.
+    /// The volume is published at another node, and can't be published here too.
     PublishedElsewhere,
     /// The volume is published at the node with another capability or readonly flag.
     PublishedOtherwise,

@@ -179,7 +179,7 @@ impl fmt::Debug for Modify {
 }
 
 /// The request of a call, by its method. The message of one that has fields is kept apart, so that a request
-/// is small wherever it goes.
+/// is small in any place.
 #[derive(Debug)]
 pub enum Request {
     /// `GetPluginInfoRequest`, without fields.

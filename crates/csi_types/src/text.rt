@@ -14,10 +14,10 @@ use std::marker::Model;
 // room for more a text would take more than 32 bytes.
 const SHORT_BYTES: usize = 16;
 
-// Where a text stands.
+// Where a text is.
 #[derive(Drop)]
 enum TextStorage {
-    // In the value itself. What a longer text would be taken from is kept beside it.
+    // In the value itself, with what a longer text would be allocated from.
     Short(ArrayString<SHORT_BYTES>, Global),
     // In memory of its own.
     Long(String),
@@ -31,7 +31,7 @@ pub struct Text {
 }
 
 // Written out, so that what drops a text has one call for it, and its proof no branch for each place where a
-// text may stand.
+// text may be.
 impl Drop for Text {
     #[inline(always)]
     fn drop(self) {

@@ -1,4 +1,4 @@
-//! Where a volume may stand, and topologies compared.
+//! Where a volume may be, and topologies compared.
 //!
 //! Keys are compared with their ASCII letters folded, values by bytes. No function here takes
 //! memory. Each takes time little more than linear for topologies of 4,096 bytes and less without
@@ -134,7 +134,7 @@ fn is_within_many(inner: &Map, outer: &Map) -> bool
         .all(|(key, value)| is_found(outer, segments, key, value))
 }
 
-// Whether a segment is one of the topology, whose segments stand in order besides. Where the one
+// Whether a segment is one of the topology, whose segments are also in order. Where the one
 // that is found has another value, there may be others with such a key.
 fn is_found(topology: &Map, segments: &[Segment<'_>], key: &Text, value: &Text) -> bool
     requires { IsPermutation (entries topology.now) (map entry_of segments.now) }

@@ -1,4 +1,4 @@
--- Digits that spell bytes.
+-- Digits that encode bytes.
 use Rattle.std.proofs.Common.{◌≡◌, ◌≢◌, ◌⊎◌, ◌∙◌, ◌%◌, ◌-◌, ℕ, Bool, true, false, List, [], Ok, Some, None, length, codes, if◌then◌else◌, ◌||◌, inl, inr, refl, slice_index_or, sym}
 use Rattle.std.specs.Char.{is_ascii_hexdigit}
 use Rattle.std.specs.Int.{is_in_range}
@@ -32,7 +32,7 @@ spelling_digits digits (bytes, inr spelled) =
     let ok = decode_of-ok digits bytes spelled.1 in
     inr (spelled.0, ok.0, list_all-from_AllPass is_ascii_hexdigit digits (λ k d lt. same_digits (slice_index_or digits k d) ∙ ok.1 k d lt))
 
--- what digits are decoded to is what they spell
+-- what digits are decoded to is what they encode
 pub spelled : (digits bytes : List ℕ) → decode_of digits ≡ Ok bytes → IsSpelling digits → Spells digits bytes
 spelled digits bytes e (other, inl dash) = inr ((λ none. (let bad : codes "-" ≡ [] = sym dash.0 ∙ none in absurd cc)), e)
 spelled digits bytes e (other, inr h) = inr (h.0, e)

@@ -38,7 +38,7 @@ was_run config text given name input output bytes ok run same utf8 line written 
   said = refl;
 }
 
--- the line that was made is what is told
+-- the line that was made is what is reported
 pub appended_as : (a b : Option (List ℕ)) (slice items line : List ℕ) → slice ≡ items → items ≡ line → Appends a b slice → Appends a b line
 appended_as a b slice items line s i h = subst (λ (l : List ℕ). Appends a b l) (s ∙ i) h
 

@@ -14,7 +14,7 @@ use Rattle.csi_server.specs.Machine.{AreReplies, Event, Mark, Unmarked, marked, 
 use Rattle.csi_server.specs.Volumes.{volumes}
 use Rattle.csi_vectors.specs.Judging.{IsAnswered, IsUnrefused, IsWritten}
 
--- ---- the replies one after the other
+-- ---- the replies in order
 
 abbrev pub ReadsBack : Type 0
 ReadsBack = (r : ReplyBytes) (more : List ℕ) (taken : TakenReply) → IsReply r → TakesFirstReply (reply r ++ more) taken → IsTakenReply r taken

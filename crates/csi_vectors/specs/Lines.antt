@@ -10,18 +10,18 @@ is_space byte = byte == 32
 abbrev pub HasSpace : List ℕ → Type 0
 HasSpace text = position_or_len is_space text < length text
 
--- what stands before the first space of a text, and what stands behind it
+-- what comes before the first space of a text, and what is after it
 abbrev pub head : List ℕ → List ℕ
 head text = before_first is_space text
 
 abbrev pub tail : List ℕ → List ℕ
 tail text = after_first is_space text
 
--- a dash is no bytes, and else two digits are one
+-- a dash is no bytes, and otherwise two digits are one
 abbrev pub Spells : List ℕ → List ℕ → Type 0
 Spells digits bytes = ((digits ≡ codes "-") × (bytes ≡ [])) ⊎ ((digits ≢ []) × (decode_of digits ≡ Ok bytes))
 
--- digits spell some bytes
+-- digits of some bytes
 abbrev pub IsSpelling : List ℕ → Type 0
 IsSpelling digits = (bytes : List ℕ) × Spells digits bytes
 

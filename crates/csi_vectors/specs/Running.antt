@@ -78,7 +78,7 @@ pub record LineStep (config : Config) (Before : Option (List ℕ) → Option (Li
   pub wrote : Appends held holds lines
   pub either : failed ≡ (already || now)
 
--- So many lines were run, one after the other.
+-- So many lines were run, in order.
 abbrev pub AreRun : Config → Option (List ℕ) → Option (List ℕ) → ℕ → Option (List ℕ) → Option (List ℕ) → Bool → Type 0
 AreRun config unread held zero left holds failed = (left ≡ unread) × Keeps held holds × (failed ≡ false)
 AreRun config unread held (suc n) left holds failed = LineStep config (AreRun config unread held n) left holds failed

@@ -154,7 +154,7 @@ fn unread(error: &io::Error) -> VectorsEnd
     }
 }
 
-// Takes the next line with its end, in the place of the line before. Whether there is one.
+// Reads the next line with its end, over the line before. Whether there is one.
 fn next_line<B: BufRead>(reader: &mut B, line: &mut Vec<u8>) -> Result<bool, VectorsEnd>
     ensures line { OnOk result (Takes (B.remaining reader.old) (B.remaining reader.new) line.new.items) }
     ensures not_empty { result ≡ Ok true → line.new.items ≢ [] }

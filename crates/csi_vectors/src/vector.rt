@@ -42,7 +42,7 @@ fn are_digits(bytes: &[u8]) -> bool
     bytes.iter().all(|byte| byte.is_ascii_hexdigit())
 }
 
-// Whether hexadecimal digits of either case spell bytes; `-` is none.
+// Whether these are hexadecimal digits, of either case, of bytes; `-` is none.
 fn is_spelling(digits: &str) -> bool
     ensures true_only_if { IsTrue result → IsSpelling digits.now }
     ensures none { IsSpelling digits.now → IsTrue result }
@@ -56,7 +56,7 @@ fn is_spelling(digits: &str) -> bool
     are_digits(digits.as_bytes())
 }
 
-// The bytes that such digits spell; nothing but memory is refused of them.
+// The bytes of such digits; nothing but memory is refused of them.
 #[tactic(auto, using(crate::proofs::Digits::spelled))]
 fn bytes_of(alloc: Global, digits: &str) -> Result<Vec<u8>, AllocError>
     ensures { IfOk result (λ bytes. IsSpelling digits.now → Spells digits.now bytes.items) }

@@ -70,7 +70,8 @@ fn line_of(
     }
 }
 
-// The same of the body of a reply. The response is lent, so that what owns one does nothing else that may fail.
+// The same of the body of a reply. The response is borrowed, so that what owns one does nothing else that
+// may fail.
 fn line_of_body(
     alloc: Global,
     method: Method,
@@ -83,7 +84,8 @@ fn line_of_body(
     }
 }
 
-/// Makes the call of a change, again while it is not answered, and shows a line of what was done, or the refusal.
+/// Makes the call of a change, again while it is not answered, and shows a line of what was done, or the
+/// refusal.
 ///
 /// # Errors
 ///

@@ -199,7 +199,7 @@ impl<'a> Connection<'a> {
     }
 }
 
-// Whether a read or a write has to be made again.
+// Whether a read or a write must be made again.
 fn is_to_wait(error: &io::Error) -> bool {
     matches!(error.kind(), ErrorKind::WouldBlock | ErrorKind::Interrupted)
 }

@@ -48,7 +48,7 @@ impl Ended {
 /// Why the program ends otherwise. Its `Display` is the line that is said.
 #[derive(Debug, Drop, Error)]
 pub(crate) enum Failure {
-    /// The program is not told what to do.
+    /// The arguments do not say what to do.
     #[error("{0}")]
     Arguments(#[from] ArgumentsFault),
     /// No method has this name.

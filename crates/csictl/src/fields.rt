@@ -15,7 +15,7 @@ use csi_types::{
 };
 use std::alloc::{AllocError, AllocFailed, Global};
 
-/// Why a field is not had. It is small, and so is what a function spells out that makes a message of many
+/// Why there is no field. It is small, and so is what a function writes out that makes a message of many
 /// fields.
 #[derive(Clone, Copy)]
 pub(crate) enum FieldFault {
@@ -197,7 +197,8 @@ impl<'m, 'a> Fields<'m, 'a> {
         })
     }
 
-    /// The fields that the arguments of a command for people give: sizes with units, and access modes by name.
+    /// The fields that the arguments of a command for people give: sizes with units, and access modes by
+    /// name.
     ///
     /// # Errors
     ///
@@ -238,7 +239,7 @@ impl<'m, 'a> Fields<'m, 'a> {
         self.range
     }
 
-    // A mount of the file system that is given, or else a block device.
+    // A mount of the file system that is given, or otherwise a block device.
     fn access(&self) -> Result<Access, FieldFault> {
         let Some(fs) = self.arguments.get_str("fs") else {
             return Ok(Access::Block);

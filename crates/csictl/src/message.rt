@@ -89,7 +89,7 @@ fn validate(fields: &Fields<'_, '_>) -> Result<Validate, FieldFault> {
     })
 }
 
-// A message of which a request is made. Whatever it is, its type is not spelled out here.
+// A message of which a request is made. Its type is not written out here.
 fn boxed<M: Drop>(alloc: Global, message: Result<M, FieldFault>) -> Result<Boxed<M>, FieldFault> {
     Ok(Boxed::new(alloc, message?)?)
 }

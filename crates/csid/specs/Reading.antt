@@ -53,7 +53,7 @@ pub record GiveOne (config : Config) (pages : List (List PageItem)) (Has : State
   pub invariant : IsInvariant config state
   pub has : Has state
 
--- It refused nothing, neither it nor its change store is down, and its memory is not behind.
+-- It refused nothing, neither it nor its change store is down, and its memory is not out of date.
 pub record IsUnused {P : Type 0} (through : Through MemKeeper (RemoteChangeStore P)) : Type 0 where
   pub refusals : through.health.refusals ≡ 0
   pub current : through.is_current ≡ true

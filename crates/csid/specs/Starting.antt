@@ -5,7 +5,7 @@ use Rattle.envelope.specs.declared.fault.FrameWhy.TheVariants.{EndOfInput}
 use Rattle.envelope.specs.Envelope.{CallBytes, IsCall, frame}
 use Rattle.envelope.specs.Stream.{FaultAt}
 
--- a whole frame stands first
+-- a whole frame comes first
 abbrev pub BeginsCall : List ℕ → Type 0
 BeginsCall bytes = (call : CallBytes) × (size : ℕ) × IsCall call × (size ≤ length bytes) × (take size bytes ≡ frame call)
 

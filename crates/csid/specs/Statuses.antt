@@ -39,7 +39,7 @@ status_of end.TurnsSpent = 5
 status_of end.WriteFailed = 5
 status_of end.NoMemory = 6
 
--- the end of a run that a failure tells of
+-- the end of a run that a failure names
 abbrev pub end_of : Failure → Option RunEnd
 end_of (failure.Malformed fault) = Some (end.Malformed fault)
 end_of (failure.Arguments fault) = None

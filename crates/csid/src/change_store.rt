@@ -1,4 +1,4 @@
-//! Volumes that a change store keeps, which another program is: its socket, what it tells at the start, and
+//! Volumes that a change store keeps, which another program is: its socket, what it says at the start, and
 //! calls over both.
 
 ghost use Rattle.std.specs.Prelude.{◌≡◌, false, IfErr, IfOk, OnOk};
@@ -109,7 +109,7 @@ pub(crate) fn leads(alloc: Global, stream: &UnixStream) -> bool {
     matches!(received, Received::Reply(reply) if reply.status == 0)
 }
 
-/// A change store, as the replies to a peer have to do with it.
+/// A change store, as far as the replies to a peer need it.
 #[derive(Clone, Copy, Drop)]
 pub(crate) struct ChangeStoreLeadership<'a> {
     pub(crate) stream: &'a UnixStream,
@@ -119,8 +119,8 @@ pub(crate) struct ChangeStoreLeadership<'a> {
 }
 
 impl Leadership for ChangeStoreLeadership<'_> {
-    // A change that was asked for tells it too: it is made while the change store leads alone. Else another
-    // change store may have led since, and made changes that are not in memory.
+    // A change that was asked for shows it too: it is made while the change store leads alone. Otherwise
+    // another change store may have led since, and made changes that are not in memory.
     fn holds(&mut self) -> bool {
         self.is_asked.replace(false) || leads(self.alloc, self.stream)
     }

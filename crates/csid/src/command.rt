@@ -11,7 +11,7 @@ use command_line::{
 pub(crate) enum Task<'a> {
     /// Calls on standard input, replies on standard output.
     Pipe(Piped<'a>),
-    /// Connections to a socket, one after the other.
+    /// Connections to a socket, one by one.
     Serve(Serving<'a>),
     /// A configuration is judged: its file.
     CheckConfig(&'a str),
@@ -40,7 +40,7 @@ pub(crate) struct Piped<'a> {
     pub(crate) config: Option<&'a str>,
     /// The file of the tables; without it the volumes are in memory.
     pub(crate) tables: Option<&'a str>,
-    /// The tables have to stand.
+    /// The tables must exist.
     pub(crate) is_existing: bool,
     /// Reads are those of the file.
     pub(crate) is_low_memory: bool,
@@ -55,7 +55,7 @@ pub(crate) struct Serving<'a> {
     pub(crate) tables: &'a str,
     /// The socket of the change store that has the volumes.
     pub(crate) change_store: Option<&'a str>,
-    /// The tables have to stand.
+    /// The tables must exist.
     pub(crate) is_existing: bool,
     /// Reads are those of the file.
     pub(crate) is_low_memory: bool,

@@ -14,7 +14,7 @@ use std::alloc::Global;
 use std::fs;
 use std::io::{self, ErrorKind};
 
-// How often a file is copied that is written meanwhile.
+// How often a file is copied that is written at the same time.
 const TRIES: usize = 10;
 
 const IS_WRITTEN: &str = "it is written all the time";
@@ -58,7 +58,7 @@ fn path_with(alloc: Global, real: &str, end: &str) -> Result<String, Failure>
 }
 
 // What a file and its WAL have at one moment. The file is read once more after its WAL: where it was written
-// meanwhile, both are read again.
+// while they are read, both are read again.
 fn copied(rt: &HostRuntime, path: &str, wal_path: &str) -> Result<Files<Memory>, Failure>
     ensures usable { IfOk result (λ files. IsTrue (memory_is_usable files.log)
         × IsTrue (memory_is_usable files.db)) }
@@ -103,8 +103,8 @@ fn open_copy(rt: &HostRuntime, path: &str) -> Result<Connection<FileStore<Memory
 ///
 /// # Errors
 ///
-/// Where the path is none of a file; where there is no file, it cannot be read, is written all the time, is no
-/// database or has no tables; where a journal is next to it; or where memory is refused.
+/// Where the path is none of a file; where there is no file, it cannot be read, is written all the time,
+/// is no database or has no tables; where a journal is next to it; or where memory is refused.
 pub(crate) fn open_tables_copy(
     rt: &HostRuntime,
     path: &str,

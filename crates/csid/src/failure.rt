@@ -41,7 +41,7 @@ pub(crate) enum Failure {
     /// A frame is malformed.
     #[error("{0}")]
     Malformed(FrameFault),
-    /// The program is not told what to do.
+    /// The arguments do not say what to do.
     #[error("{0}")]
     Arguments(#[from] ArgumentsFault),
     /// This cannot be had: its name, and why.
@@ -98,7 +98,7 @@ impl From<AllocError> for Failure {
 impl Failure {
     // What cannot be had, and why; want of memory, where there was none to say so.
     fn of(thing: Resource, cause: Result<Cause, AllocError>) -> Failure
-        ensures told { IfOk cause (λ why. result ≡ Unusable thing why) }
+        ensures unusable { IfOk cause (λ why. result ≡ Unusable thing why) }
         ensures memory { IfErr cause (λ _. result ≡ NoMemory) }
         ensures status { IsOrNoMemory (resource_status thing) result }
     {
@@ -174,7 +174,7 @@ impl Endpoint {
 pub(crate) fn outcome(peer: Endpoint, end: RunEnd) -> Result<(), Failure>
     ensures done { IfOk result (λ _. status_of end ≡ 0) }
     ensures failed { IfErr result (λ failure. failure_status failure ≡ status_of end) }
-    ensures told { IfErr result (λ failure. end_of failure ≡ Some end) }
+    ensures end { IfErr result (λ failure. end_of failure ≡ Some end) }
 {
     match end {
         RunEnd::Done => Ok(()),

@@ -13,7 +13,7 @@ const GROUPS: &str = "/etc/group";
 
 const NO_SUCH: &str = "there is no such group in /etc/group";
 
-// The number that stands for none.
+// The number that means none.
 const NO_GROUP: u32 = u32::MAX;
 
 // The number in a line `NAME:PASSWORD:NUMBER:MEMBERS`, if it is the line of this name.

@@ -13,7 +13,7 @@ use sqlite::{Connection, Error, ErrorCode, FileStore, Files, Options};
 use sqlite_disk::{Disk, Memory};
 use std::alloc::Global;
 
-// What new logs are told by: nobody else sees these.
+// The seeds of new write-ahead logs: nobody else sees these files.
 const SEED: u64 = 1;
 
 // A file in memory.

@@ -1,4 +1,4 @@
-//! The peer of a connection: whether it is there, and what it is told.
+//! The peer of a connection: whether it is there, and what is written to it.
 
 ghost use Rattle.std.specs.Prelude.{◌≡◌};
 

@@ -23,7 +23,7 @@ pub(crate) enum Start {
     Call,
     /// No call: the first frame is malformed whatever follows, or there is none.
     NoCall,
-    /// It is not told yet.
+    /// It is not known yet.
     Open,
 }
 
@@ -97,7 +97,7 @@ impl Pending {
         }
     }
 
-    /// Whether it is told what the connection begins.
+    /// Whether it is known what the connection begins.
     pub(crate) fn is_known(&self) -> bool {
         matches!(self.start, Some(Start::Call | Start::NoCall))
     }
@@ -132,7 +132,7 @@ impl Pending {
         PeerInput::Something
     }
 
-    /// Takes what has come, a piece of it. Once it is told what the connection begins, the rest is left to
+    /// Takes what has come, a piece of it. Once it is known what the connection begins, the rest is left to
     /// those who serve it.
     pub(crate) fn receive(&mut self, now: Instant) -> PeerInput {
         if self.is_known() {

@@ -131,7 +131,7 @@ fn refused_number(alloc: Global, option: &str, number: &str) -> Failure
     Failure::Arguments(ArgumentsFault::refused(line))
 }
 
-// Two options that cannot be had at once, or a server that is not told where it has its volumes.
+// Two options that exclude each other, or a server that is not given a place for its volumes.
 fn refused_options(alloc: Global, why: &str) -> Failure
     ensures { IsOrNoMemory 2 result }
 {

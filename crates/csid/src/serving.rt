@@ -83,7 +83,7 @@ fn outcome_failure<D: Disk + Drop>(
     }
 }
 
-/// Where nobody is told how calls are served: the replies are the same.
+/// Where nothing reports how calls are served: the replies are the same.
 pub(crate) struct SilentObserver;
 
 impl Observer for SilentObserver {
@@ -94,7 +94,7 @@ impl Observer for SilentObserver {
     fn refused(&self, _cause: &Error) {}
 }
 
-// Serves calls over the tables in a file, of which `start` stands for what it and its WAL held.
+// Serves calls over the tables in a file, where `start` is what it and its WAL held.
 fn serve_from<S: Start, O: Observer, R: Read, W: Write>(
     rt: &HostRuntime,
     config: &Config,

@@ -40,7 +40,7 @@ fn of_socket(alloc: Global, path: &str, error: &io::Error) -> Failure
 {
     match error.kind() {
         ErrorKind::OutOfMemory => Failure::NoMemory,
-        ErrorKind::AddrInUse => Failure::of_socket(alloc, path, &"a file stands there already"),
+        ErrorKind::AddrInUse => Failure::of_socket(alloc, path, &"a file exists there already"),
         _ => Failure::of_socket(alloc, path, error),
     }
 }
@@ -176,11 +176,11 @@ fn refuse_peer(service: &Service<'_>, waiting: &mut Waiting, peer: &Pending) {
 
 // What is said of calls that the store refused.
 const IS_DOWN: &str =
-    "a change was refused, by the database or for memory; from then on the connection was told that the store is down";
+    "a change was refused, by the database or for memory; from then on the connection was answered that the store is down";
 
 // Of those that it refused while memory did not have what the file has.
 const IS_BEHIND: &str =
-    "there was no memory for a change that was made; from then on the connection was told that the store refused its calls";
+    "there was no memory for a change that was made; from then on the connection was answered that the store refused its calls";
 
 const NO_READ: &str = "the database refused a read";
 
@@ -333,7 +333,7 @@ fn serve_open(
     if open.keeper.is_down() {
         service.console.say_of(
             path,
-            &"a change was refused by the change store, or nobody knows of it, or there was no memory; from then on the connection was told that the store is down",
+            &"a change was refused by the change store, or nobody knows of it, or there was no memory; from then on the connection was answered that the store is down",
         );
     } else if !open.keeper.is_current() {
         service.console.say_of(path, &IS_BEHIND);

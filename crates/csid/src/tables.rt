@@ -24,7 +24,7 @@ use sqlite_disk::Disk;
 use std::alloc::Global;
 
 /// What is said where tables were made.
-pub(crate) const NEW_TABLES: &str = "no tables stood there, and new ones were made";
+pub(crate) const NEW_TABLES: &str = "no tables were there, and new ones were made";
 
 /// Why a file cannot be opened, read or closed.
 pub(crate) fn database_failure(alloc: Global, path: &str, error: &Error) -> Failure
@@ -55,7 +55,7 @@ fn names_no_file(path: &str) -> bool {
 ///
 /// # Errors
 ///
-/// Where it is empty, SQLite takes it for something else, or memory is refused.
+/// It is empty, SQLite takes it for something else, or memory is refused.
 pub(crate) fn check_path(rt: &HostRuntime, path: &str) -> Result<(), Failure>
     ensures { IfErr result (λ failure. IsOrNoMemory 4 failure) }
 {
@@ -109,7 +109,7 @@ pub(crate) fn prepare(rt: &HostRuntime, path: &str, is_existing: bool) -> Result
     Ok(())
 }
 
-// A connection to a file, which is made where there is none. `start` stands for what it and its WAL held.
+// A connection to a file, which is made where there is none. `start` is what it and its WAL held.
 fn connect<S: Start>(
     rt: &HostRuntime,
     path: &str,
@@ -217,7 +217,7 @@ pub(crate) fn report_content(console: &Console<'_>, path: &str, content: Result<
     }
 }
 
-// Opens and judges the tables in a file, of which `start` stands for what it and its WAL held.
+// Opens and judges the tables in a file, where `start` is what it and its WAL held.
 fn take_from<S: Start>(
     console: &Console<'_>,
     path: &str,

@@ -1,5 +1,5 @@
 //! The turn of a connection: its calls are read and its replies written, and once it would wait long, those
-//! who wait meanwhile are looked at.
+//! who wait are looked at in that time.
 
 use crate::console::{Console, Ending};
 use crate::limits::{CALL_SECONDS, WANTED_SECONDS, least, left_of};
@@ -57,7 +57,7 @@ fn begin(since: &Cell<Since>, now: Instant) -> Option<Instant> {
 
 impl<'a> Turn<'a> {
     /// The turn of a connection that has sent something. A read or a write of its stream takes a second at
-    /// most from here on: so long is a peer waited for in any case, and only then it is looked who else
+    /// most from here on: a peer is waited for that long in any case, and only then is it looked who else
     /// waits.
     ///
     /// # Errors
@@ -119,7 +119,7 @@ impl<'a> Turn<'a> {
         };
         for _ in 0..u64::MAX {
             let now = Instant::now(self.console.rt)?;
-            // What the socket refuses is told between two connections.
+            // What the socket refuses is reported between two connections.
             let _ = waiting.look(self.console, now);
             if is_ready(self.stream.as_raw_fd(), way) {
                 return Ok(());

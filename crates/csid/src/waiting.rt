@@ -156,7 +156,7 @@ impl Waiting {
         }
     }
 
-    // Whether no further one can wait, not in place of another either.
+    // Whether no further one can wait, not instead of another either.
     fn is_full(&self) -> bool {
         self.pending.len() >= MOST && self.oldest().is_none()
     }
@@ -237,7 +237,7 @@ impl Waiting {
         }
     }
 
-    // The oldest connection of which is told what it begins.
+    // The oldest connection of which it is known what it begins.
     fn pop_ready(&mut self) -> Option<Pending> {
         let place = self.pending.iter().position(|it| it.is_known())?;
         self.pending.remove(place)
@@ -287,8 +287,8 @@ impl Waiting {
         self.poll.poll(&mut self.events, least(longest, own))
     }
 
-    /// The next connection of which is told what it begins, the oldest first; none where no further one is
-    /// taken.
+    /// The next connection of which it is known what it begins, the oldest first; none where no further
+    /// one is taken.
     ///
     /// # Errors
     ///

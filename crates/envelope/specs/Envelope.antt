@@ -1,4 +1,4 @@
--- How a call and a reply are spelled as bytes: docs/PROTOCOL.md, "Envelope" (own).
+-- How a call and a reply are encoded as bytes: docs/PROTOCOL.md, "Envelope" (own).
 use Rattle.std.specs.Prelude.{ℕ, ◌≡◌, ◌≢◌, ◌==◌, ◌≤◌, Bool, true, List, [], ◌∷◌, ◌++◌, length, All}
 use Rattle.std.specs.Int.{w16, w32, to_be_bytes}
 use Rattle.std.specs.List.{list_any}

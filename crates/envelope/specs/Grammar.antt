@@ -1,6 +1,6 @@
 -- How a frame is read, be it of a call or of a reply: docs/PROTOCOL.md, "Envelope" and "Streams" (own). Both
--- are a text behind its length, a flag, and a body behind its length. The text of a call is its path, its
--- body the message; before the text of a reply stands its status.
+-- are a text after its length, a flag, and a body after its length. The text of a call is its path, its
+-- body the message; before the text of a reply comes its status.
 use Rattle.std.specs.Prelude.{ℕ, zero, suc, false, ◌≡◌, ◌≢◌, ◌+◌, ◌*◌, ◌<◌, ◌≤◌, List, [], ◌++◌, length, slice_index, ◌⊎◌}
 use Rattle.envelope.specs.declared.kind.Kind.{Kind}
 use Rattle.envelope.specs.declared.kind.Kind.TheVariants.{Calls, Replies}
@@ -25,7 +25,7 @@ spelling Replies r = reply r
 
 -- ---- what the table of each kind allows
 
--- how many bytes stand before the length of the text
+-- how many bytes come before the length of the text
 abbrev pub lead : Kind → ℕ
 lead Calls = 0
 lead Replies = 1
@@ -60,7 +60,7 @@ IsGoodByte kind byte = (least_byte kind ≤ byte) × (byte ≤ 126)
 unfoldable pub text_length : Kind → List ℕ → ℕ
 text_length kind bytes = 256 * slice_index bytes (lead kind) + slice_index bytes (lead kind + 1)
 
--- the length that the four bytes behind the flag give
+-- the length that the four bytes after the flag give
 unfoldable pub body_length : Kind → List ℕ → ℕ
 body_length kind bytes =
     let at = lead kind + 3 + text_length kind bytes in

@@ -9,7 +9,7 @@ use Rattle.envelope.specs.Grammar.{FaultAt as FaultAtPart}
 use Rattle.envelope.specs.Head.{WholePrefix}
 use Rattle.envelope.specs.Stream.{FaultAt}
 
--- the first frame and its length, nothing, or the fault that stands there, whose part and place two functions
+-- the first frame and its length, nothing, or the fault that is there, whose part and place two functions
 -- give
 abbrev pub BeginsWith : {F : Type 0} → Kind → (F → Part) → (F → ℕ) → List ℕ → Result (Option ℕ) F → Type 0
 BeginsWith kind part place bytes (Ok None) = bytes ≡ []

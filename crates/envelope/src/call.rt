@@ -1,4 +1,4 @@
-/// A call: what one request frame says, lent from where its bytes lie.
+/// A call: what one request frame says, borrowed from its bytes.
 #[derive(Clone, Copy, Debug)]
 pub struct Call<'a> {
     /// The method's path, such as `/csi.v1.Identity/Probe`: 1 to 128 bytes, each 0x21 to 0x7E.

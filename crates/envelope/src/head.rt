@@ -20,7 +20,7 @@ fn text_length_of(kind: Kind, bytes: &[u8]) -> usize
     usize::from(bytes[at]) * 256 + usize::from(bytes[at + 1])
 }
 
-// The length of the body, which the four bytes behind the flag give.
+// The length of the body, which the four bytes after the flag give.
 #[tactic(auto, unfolding(crate::specs::Grammar::body_length))]
 #[inline(always)]
 fn body_length_of(kind: Kind, bytes: &[u8], from: usize) -> usize

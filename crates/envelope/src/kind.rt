@@ -8,13 +8,13 @@ use crate::limits::{
     MAX_REPLY_BYTES, MAX_REPLY_HEAD_BYTES, MAX_TEXT_BYTES,
 };
 
-/// The two kinds of frame, which one table reads: a text behind its length, a flag, and a body
-/// behind its length.
+/// The two kinds of frame, which one table reads: a text after its length, a flag, and a body
+/// after its length.
 #[derive(Clone, Copy)]
 pub enum Kind {
     /// Of calls: the text is the path, the body is the message.
     Calls,
-    /// Of replies: the status stands before the text.
+    /// Of replies: the status comes before the text.
     Replies,
 }
 
@@ -36,7 +36,7 @@ pub enum Part {
 }
 
 impl Kind {
-    /// How many bytes stand before the length of the text.
+    /// How many bytes come before the length of the text.
     pub(crate) fn lead(self) -> usize
         ensures value { result ≡ lead self }
         ensures small { result ≤ 1 }

@@ -1,15 +1,15 @@
 //! The envelope: how calls and replies are framed as bytes, and which calls a list of bytes has.
 //!
 //! The envelope is this project's own (docs/PROTOCOL.md, "Envelope"). Calls and replies are one kind of
-//! frame: a text behind its length, a flag, and a body behind its length; before the text of a reply stands
+//! frame: a text after its length, a flag, and a body after its length; before the text of a reply comes
 //! its status, which says how long text and body may be. So one table reads both: `specs/Envelope.antt`
-//! spells a frame, `specs/Grammar.antt` says which byte breaks the table and in which part (the break of the
+//! encodes a frame, `specs/Grammar.antt` says which byte breaks the table and in which part (the break of the
 //! least place is the fault), and `specs/Stream.antt` reads a list of bytes as calls and an end. Each lemma
 //! is proved once, for both kinds; `specs/facts/` has those that are wanted above as well.
 //!
 //! [`take_frame`] and [`take_reply`] look at a whole rest, and [`put_request`] appends a call. Heads of
 //! replies, refusals and fault texts are made in fixed arrays, without memory. What takes a stream in pieces
-//! stands above, in `frames_core`, by [`look_at`], [`Head`], [`call_of`] and [`reply_of`].
+//! is above, in `frames_core`, by [`look_at`], [`Head`], [`call_of`] and [`reply_of`].
 //!
 //! ```rust
 //! match take_frame(rest) {

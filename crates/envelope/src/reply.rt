@@ -1,4 +1,4 @@
-/// A reply: what one reply frame says, lent from where its bytes lie.
+/// A reply: what one reply frame says, borrowed from its bytes.
 #[derive(Clone, Copy, Debug)]
 pub struct Reply<'a> {
     /// One of the ten status codes of docs/PROTOCOL.md, "Status codes": 0 where the call was done.

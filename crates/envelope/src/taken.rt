@@ -5,14 +5,14 @@ use crate::fault::{Fault, FrameFault};
 use crate::head::{Look, call_of, look_at};
 use crate::kind::Part;
 
-/// What stands first in the whole rest of a stream.
+/// What comes first in the whole rest of a stream.
 #[derive(Clone, Copy, Debug)]
 pub enum Taken<'a> {
     /// No byte is left.
     Nothing,
     /// A call, and how many bytes its frame has.
     Frame(Call<'a>, usize),
-    /// No frame stands there. The fault's place is counted from the first of these bytes.
+    /// No frame is there. The fault's place is counted from the first of these bytes.
     Fault(FrameFault),
 }
 

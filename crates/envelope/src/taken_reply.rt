@@ -5,14 +5,14 @@ use crate::reply::Reply;
 use crate::reply_fault::ReplyFault;
 use crate::taken::first_frame;
 
-/// What stands first in the whole rest of a stream of replies.
+/// What comes first in the whole rest of a stream of replies.
 #[derive(Clone, Copy, Debug)]
 pub enum TakenReply<'a> {
     /// No byte is left.
     Nothing,
     /// A reply, and how many bytes its frame has.
     Frame(Reply<'a>, usize),
-    /// No reply stands there. The fault's place is counted from the first of these bytes.
+    /// No reply is there. The fault's place is counted from the first of these bytes.
     Fault(ReplyFault),
 }
 

@@ -123,7 +123,7 @@ takes_whole kind old piece all new h n count is short w new-is count-is =
       idle = λ none. refl;
     }
 
--- behind a whole head anything may follow
+-- after a whole head anything may follow
 unbroken_longer : (kind : Kind) (bytes more : List ℕ) → IsUnbroken kind bytes → lead kind + 7 + text_length kind bytes ≤ length bytes → IsUnbroken kind (bytes ++ more)
 unfolding IsUnbroken Breaks
 unbroken_longer kind bytes more unbroken all Status at h = unbroken Status at (Breaks-shorter kind bytes more Status at h (omega arith))

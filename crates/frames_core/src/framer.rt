@@ -145,8 +145,8 @@ impl<F: Fault> Cutter<F> {
         ensures within { result ≤ length piece.now }
         ensures past { self.new.past ≡ self.old.past }
         ensures held { self.new.held ≡ self.old.held ++ take result piece.now }
-        // It takes the least prefix of the piece that completes a frame or makes a fault known, else all of
-        // it.
+        // It takes the least prefix of the piece that completes a frame or makes a fault known, otherwise
+        // all of it.
         ensures least { (k : ℕ) → k < result → IsUnfinished F.kind (self.old.held ++ take k piece.now) }
         ensures all { result < length piece.now → IsSettledAs F.kind self.new }
         // A fault that it makes known is of the bytes, and not of an end of the input.
@@ -156,7 +156,7 @@ impl<F: Fault> Cutter<F> {
         // What may yet become a frame is shorter than the longest one.
         ensures few { self.new.fault ≡ None → IsUnfinished F.kind self.new.held
             → length self.new.held < most_frame F.kind }
-        // Nothing is taken while a frame stands or after a fault.
+        // Nothing is taken while a frame is complete or after a fault.
         ensures settled { IsSettledAs F.kind self.old → result ≡ 0 }
         ensures idle { result ≡ 0 → self.new ≡ self.old }
     {

@@ -1,4 +1,4 @@
--- The one spelling of a message: rising field numbers, minimal varints, default scalars and empty texts left
+-- The one encoding of a message: rising field numbers, minimal varints, default scalars and empty texts left
 -- out, present messages written even when empty, map entries in byte order of their keys with both parts
 -- always written.
 use Rattle.std.specs.Prelude.{ℕ, ℤ, Bool, true, ◌&&◌, nat_lt, ◌<◌, ◌^◌, List, [], ◌∷◌, ◌++◌, map, length, Option, ◌==◌, if◌then◌else◌, option_to_list}
@@ -110,7 +110,7 @@ map_row k m = Strings k (spelled canon_map_entry (entries m))
 abbrev pub presence_row : ℕ → Bool → Row
 presence_row k b = Strings k (presence b)
 
--- ---- what has a spelling: texts in UTF-8, numbers in the range of their type, and payloads whose length is
+-- ---- what has an encoding: texts in UTF-8, numbers in the range of their type, and payloads whose length is
 -- a varint
 
 abbrev pub FitsText : List ℕ → Type 0

@@ -46,6 +46,6 @@ unfoldable pub prefix_fields : ℕ → List ℕ → List WireField
 prefix_fields zero bytes = []
 prefix_fields (suc k) bytes = first_and (λ rest. prefix_fields k rest) (field_at bytes)
 
--- the fields of a payload; a law says that these are the fields that the bytes spell
+-- the fields of a payload; a law says that these are the fields that the bytes encode
 abbrev pub fields_of : List ℕ → List WireField
 fields_of bytes = prefix_fields (length bytes) bytes

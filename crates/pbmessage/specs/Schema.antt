@@ -1,5 +1,5 @@
 -- Which payloads of a message are good, by the numbers of their fields: a text is UTF-8 (Protocol Buffers
--- language guide, 'Scalar Value Types'), and an embedded message is by itself a list of good fields (encoding
+-- language guide, 'Scalar Value Types'), and an embedded message is itself a list of good fields (encoding
 -- guide, 'Length-Delimited Records').
 use Rattle.std.specs.Prelude.{ℕ, List, IfSome, IsUtf8, MatchBool, ◌==◌}
 use Rattle.pbwire.specs.Wire.{WireField}
@@ -17,7 +17,7 @@ pub data Schema : Type 0 where
 abbrev pub GoodField : (ℕ → List ℕ → Type 0) → WireField → Type 0
 GoodField good e = IfSome (payload e.part) (good e.number)
 
--- the payload is by itself a list of good fields
+-- the payload is itself a list of good fields
 abbrev pub IsGoodMessage : (ℕ → List ℕ → Type 0) → List ℕ → Type 0
 IsGoodMessage good p = AreGood (GoodField good) p
 

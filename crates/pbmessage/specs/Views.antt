@@ -28,7 +28,7 @@ payload_of n e = if e.number == n then payload e.part else None
 abbrev pub number_of : ℕ → WireField → Option ℕ
 number_of n e = if e.number == n then number e.part else None
 
--- a payload beside the number of its field
+-- a payload next to the number of its field
 abbrev pub beside : ℕ → Option (List ℕ) → Option (ℕ × List ℕ)
 beside n None = None
 beside n (Some p) = Some (n, p)
@@ -36,7 +36,7 @@ beside n (Some p) = Some (n, p)
 abbrev pub member_of : (ℕ → Bool) → WireField → Option (ℕ × List ℕ)
 member_of test e = if test e.number then beside e.number (payload e.part) else None
 
--- what stands in a message: the payloads and the varints of each number in order, and the payloads of all
+-- what is in a message: the payloads and the varints of each number in order, and the payloads of all
 -- numbers that pass a test
 pub record Views : Type 0 where
   pub payloads : ℕ → Payloads
@@ -119,7 +119,7 @@ abbrev pub last_run : List (ℕ × List ℕ) → Option (ℕ × Payloads)
 last_run [] = None
 last_run (m ∷ ms) = Some (m.0, reverse (run_at m.0 (m ∷ ms)))
 
--- the number of the last member, and its payloads that stand after the last field of another member
+-- the number of the last member, and its payloads that are there after the last field of another member
 abbrev pub one_of : List (ℕ × List ℕ) → Option (ℕ × Payloads)
 one_of ms = last_run (reverse ms)
 

@@ -1,9 +1,9 @@
 //! Messages of any type to and from bytes (Protocol Buffers, proto3).
 //!
-//! What bytes mean is a function of *views*: what stands under each field number of a list of fields, as the
+//! What bytes mean is a function of *views*: what a list of fields has under each field number, as the
 //! last text, all payloads, the joined fields of an embedded message, the last entry of each key, the member
 //! of a oneof. A message is three short definitions: which view gives each part of its value, its *schema*
-//! (under which numbers stand texts and embedded messages), and how the value is written. The trait
+//! (which numbers are of texts and embedded messages), and how the value is written. The trait
 //! [`Message`] carries the reading of any message and the trait [`Written`] its writing. Which messages there
 //! are is said by the crate above.
 //!

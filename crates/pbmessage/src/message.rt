@@ -16,14 +16,14 @@ use std::alloc::{AllocError, Global};
 
 /// A type that is read from the fields of a message.
 ///
-/// Its value is a function of what stands under each field number, so to read a message is to take its fields
-/// one after the other. `P` names the package of messages: a type of the crate that says how they are read,
+/// Its value is a function of what is under each field number, so to read a message is to take its fields
+/// in order. `P` names the package of messages: a type of the crate that says how they are read,
 /// which need not be the one whose types their values are.
 pub trait Message<P>: Drop {
-    /// Under which numbers stand texts and embedded messages.
+    /// Which numbers are of texts and embedded messages.
     ghost schema: { Schema };
 
-    /// The value, by what stands in the message.
+    /// The value, by what is in the message.
     ghost of: { Views → Self };
 
     /// The value of a message without fields. It takes no memory.

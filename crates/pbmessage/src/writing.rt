@@ -1,6 +1,6 @@
-//! Writing a message of any type, in its one spelling.
+//! Writing a message of any type, in its one encoding.
 //!
-//! An embedded message is written in place: an empty field, its fields behind it, and then its length.
+//! An embedded message is written in place: an empty field, its fields after it, and then its length.
 
 ghost use Rattle.std.specs.Prelude.{◌≡◌, ◌++◌, ◌∷◌, [], ◌≤◌, ◌<◌, ◌^◌, List, OnOk, OnErr, option_to_list, length, take};
 ghost use Rattle.std.specs.FinMap.{empty, entries, insert};
@@ -14,22 +14,22 @@ use pbwire::laws::closed;
 use pbwire::{close_bytes, put_bytes, put_entry, put_varint};
 use std::alloc::AllocError;
 
-/// A message with one spelling, in the package `P` as for [`Message`](crate::Message).
+/// A message with one encoding, in the package `P` as for [`Message`](crate::Message).
 pub trait Written<P> {
-    /// The fields of the spelling, by their numbers.
+    /// The fields of the encoding, by their numbers.
     ghost canon: { Self → Rows };
 
-    /// Which values have a spelling. Every value that is written is one.
+    /// Which values have an encoding. Every value that is written is one.
     ghost fits: { Self → Type 0 };
 
-    /// Appends the spelling. Where memory is refused a part of it may stand there.
+    /// Appends the encoding. Where memory is refused a part of it may be there.
     fn write(&self, out: &mut Vec<u8>) -> Result<(), AllocError>
         ensures ok { OnOk result (out.new.items ≡ out.old.items ++ bytes_of (canon self.now)) }
         ensures fitting { OnOk result (fits self.now) }
         ensures kept { Keeps out.old.items out.new.items };
 }
 
-/// Where a spelling was not written whole, takes back what stands behind the first `from` bytes.
+/// Where an encoding was not written whole, removes what is after the first `from` bytes.
 pub fn whole_or_none(
     out: &mut Vec<u8>,
     from: usize,

@@ -1,4 +1,4 @@
--- What is read is what the encoding guide spells.
+-- What is read is what the encoding guide encodes.
 use Rattle.std.proofs.Common.{◌≡◌, ℕ, zero, suc, ◌+◌, ◌*◌, ◌/◌, ◌%◌, ◌^◌, ◌<◌, ◌≤◌, Bool, true, false, cond, ltb, leb, eqb, List, [], ◌∷◌, ◌++◌, length, take, drop, Result, Ok, Err, refl, sym, ap, subst, ◌∙◌, append_assoc, length-append, arith, inl, inr, lit<}
 use Rattle.std.specs.Prelude.{◌||◌}
 use Rattle.std.proofs.lemmas.Bool.{lt-ltb, le-ltb, ltb-false, ltb-true, eqb-true}
@@ -85,7 +85,7 @@ pub varint_sound : (bytes : List ℕ) (x : ℕ × List ℕ) → varint_at bytes 
 unfolding varint_at
 varint_sound bytes x e = let g = groups_sound 10 bytes x e in (g.first, is_varint g.first x.0 g.groups g.value, g.whole)
 
--- ---- a field that is spelled is read
+-- ---- a field that is encoded is read
 
 bytes_spelled : (n : ℕ) (p tail : List ℕ) → length p ≡ n → bytes_at n (p ++ tail) ≡ Ok (p, tail)
 bytes_spelled n p tail len =
@@ -134,7 +134,7 @@ entry_spelled e bytes tail s =
     ∙ ap (λ (n : ℕ). entry_from n (part_at (kind_of e.part) (s.payload ++ tail))) number
     ∙ ap (entry_from e.number) (part_spelled e.part s.payload tail s.is_payload)
 
--- ---- a field that is read is spelled
+-- ---- a field that is read is encoded
 
 abbrev SoundPart : ℕ → List ℕ → Part × List ℕ → Type 0
 SoundPart kind bytes x = (kind_of x.0 ≡ kind) × ((first : List ℕ) × SpellsPart x.0 first × (bytes ≡ first ++ x.1))

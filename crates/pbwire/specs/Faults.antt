@@ -1,4 +1,4 @@
--- Why the bytes in a field's place spell none, by what the encoding guide asks there ("Base 128
+-- Why the bytes in a field's place encode none, by what the encoding guide asks there ("Base 128
 -- Varints" and "Message Structure"). The names of the reasons are our own.
 use Rattle.std.specs.Prelude.{◌≡◌, ℕ, ◌%◌, ◌^◌, ◌<◌, ◌≤◌, ◌≢◌, ◌⊎◌, List, ◌++◌, length}
 use Rattle.pbwire.specs.declared.field.WireWhy.{WireWhy}
@@ -18,11 +18,11 @@ pub record AfterTag (tag : ℕ) (rest bytes : List ℕ) : Type 0 where
   pub numbered : 8 ≤ tag
   pub low : tag < 2 ^ 32
 
--- A varint has to stand where the bytes go on with rest: as tag, as number or as length.
+-- A varint must be where the bytes go on with rest: as tag, as number or as length.
 abbrev pub VarintAt : List ℕ → List ℕ → Type 0
 VarintAt rest bytes = (rest ≡ bytes) ⊎ ((tag : ℕ) × AfterTag tag rest bytes × ((tag % 8 ≡ 0) ⊎ (tag % 8 ≡ 2)))
 
--- So many bytes have to stand where the bytes go on with rest.
+-- So many bytes must be where the bytes go on with rest.
 abbrev pub BytesAt : ℕ → List ℕ → List ℕ → Type 0
 BytesAt n rest bytes =
     ((tag : ℕ) × AfterTag tag rest bytes × (((tag % 8 ≡ 1) × (n ≡ 8)) ⊎ ((tag % 8 ≡ 5) × (n ≡ 4))))

@@ -1,6 +1,6 @@
 -- The field at the start of the bytes, or the first fault that a reader meets from the left
 -- (encoding guide, "Base 128 Varints" and "Message Structure"). `laws` ties `field_at` to what bytes
--- spell (`Wire`) and to the table of faults (`Faults`); `next_of` is what a list of fields gives.
+-- encode (`Wire`) and to the table of faults (`Faults`); `next_of` is what a list of fields gives.
 use Rattle.std.specs.Prelude.{ℕ, zero, suc, ◌+◌, ◌-◌, ◌*◌, ◌/◌, ◌%◌, ◌^◌, List, [], ◌∷◌, length, take, drop, Option, Some, None, Result, Ok, Err}
 use Rattle.std.specs.Prelude.{nat_lt, nat_le, ◌==◌, ◌||◌, if◌then◌else◌, Bool, true, false}
 use Rattle.pbwire.specs.declared.field.WireWhy.{WireWhy}

@@ -1,4 +1,4 @@
--- What bytes spell: varints, fields, and lists of fields. The words are those of the Protocol
+-- What bytes encode: varints, fields, and lists of fields. The words are those of the Protocol
 -- Buffers encoding guide. Where it leaves a reader a choice, the choice is named.
 use Rattle.std.specs.Prelude.{◌≡◌, ℕ, ◌+◌, ◌*◌, ◌%◌, ◌^◌, ◌<◌, ◌≤◌, List, [], ◌∷◌, ◌++◌, length, All}
 
@@ -49,7 +49,7 @@ SpellsPart (Eight p) bytes = (length p ≡ 8) × (bytes ≡ p)
 SpellsPart (Payload p) bytes = (len : List ℕ) × IsVarint len (length p) × (bytes ≡ len ++ p)
 SpellsPart (Four p) bytes = (length p ≡ 4) × (bytes ≡ p)
 
--- The bytes spell the field: a tag, which is a varint of eight times the number plus the wire type,
+-- The bytes encode the field: a tag, which is a varint of eight times the number plus the wire type,
 -- and then what it holds. Numbers begin at 1, and a tag is below 2 ^ 32.
 pub record Spells (e : WireField) (bytes : List ℕ) : Type 0 where
   pub tag : List ℕ
@@ -60,12 +60,12 @@ pub record Spells (e : WireField) (bytes : List ℕ) : Type 0 where
   pub is_payload : SpellsPart e.part payload
   pub whole : bytes ≡ tag ++ payload
 
--- a message: the spellings of its fields, one after the other
+-- a message: the encodings of its fields, in order
 abbrev pub AreFields : List WireField → List ℕ → Type 0
 AreFields [] bytes = bytes ≡ []
 AreFields (e ∷ es) bytes = (first : List ℕ) × (rest : List ℕ) × Spells e first × AreFields es rest × (bytes ≡ first ++ rest)
 
--- ---- which fields have a spelling
+-- ---- which fields have an encoding
 
 abbrev pub FitsPart : Part → Type 0
 FitsPart (Number n) = n < 2 ^ 64

@@ -1,4 +1,4 @@
--- The shortest spelling of a field: each varint in as few bytes as it takes (encoding guide, "Base
+-- The shortest encoding of a field: each varint in as few bytes as it takes (encoding guide, "Base
 -- 128 Varints"). `laws::written` says that no other is shorter.
 use Rattle.std.specs.Prelude.{ℕ, zero, suc, ◌+◌, ◌*◌, ◌/◌, ◌%◌, List, [], ◌∷◌, ◌++◌, length, map, nat_lt, if◌then◌else◌}
 use Rattle.std.specs.List.{flat_map}
@@ -36,7 +36,7 @@ map_entry number kv = record {
   }) ++ spelling (record { number = 2; part = Payload kv.1 }));
 }
 
--- the bytes of a key and a value that are lent
+-- the bytes of a key and a value that are borrowed
 abbrev pub bytes_of : Bor (List ℕ) × Bor (List ℕ) → List ℕ × List ℕ
 bytes_of kv = (kv.0.now, kv.1.now)
 

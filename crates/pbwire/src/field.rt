@@ -1,4 +1,4 @@
-//! Fields, and what can be wrong with the bytes where one should stand.
+//! Fields, and what can be wrong with the bytes where one should be.
 
 use thiserror::Error;
 
@@ -9,7 +9,7 @@ pub enum Value<'a> {
     Varint(u64),
     /// Wire type 1 (`I64`): eight bytes, little-endian.
     Fixed64([u8; 8]),
-    /// Wire type 2 (`LEN`): the payload, lent by the message.
+    /// Wire type 2 (`LEN`): the payload, borrowed from the message.
     Bytes(&'a [u8]),
     /// Wire type 5 (`I32`): four bytes, little-endian.
     Fixed32([u8; 4]),
@@ -24,11 +24,11 @@ pub struct Field<'a> {
     pub value: Value<'a>,
 }
 
-/// Why no field stands at an offset. One reason holds: a tag's goes before its payload's, and the tag's
+/// Why no field is at an offset. One reason holds: a tag's goes before its payload's, and the tag's
 /// number before its wire type.
 #[derive(Clone, Copy, Debug, PartialEq, Eq, Error)]
 pub enum WireWhy {
-    /// A malformed varint, as tag, value or length: ten bytes stand there, and no first bytes of
+    /// A malformed varint, as tag, value or length: ten bytes are there, and no first bytes of
     /// them are one ("Base 128 Varints"). A tenth byte above 1 is malformed too.
     #[error("malformed varint")]
     Varint,
@@ -43,12 +43,12 @@ pub enum WireWhy {
     CutShort,
 }
 
-/// An offset of a message at which a field should stand, and none does.
+/// An offset of a message at which a field should be, and none is.
 #[derive(Clone, Copy, Debug, PartialEq, Eq, Error)]
 #[error("{why} at byte {at}")]
 pub struct WireFault {
     /// What is wrong.
     pub why: WireWhy,
-    /// How many bytes of the message stand before the field's tag.
+    /// How many bytes of the message come before the field's tag.
     pub at: usize,
 }

@@ -7,7 +7,7 @@ ghost use Rattle.pbwire.specs.Reading.{field_at};
 ghost use Rattle.pbwire.specs.Faults.{Faults};
 ghost use Rattle.pbwire.specs.Writing.{varint, spelling, spellings};
 
-/// A field is read exactly where one is spelled, whatever follows it, and takes at least one byte.
+/// A field is read exactly where one is encoded, whatever follows it, and takes at least one byte.
 #[inline(always)]
 pub fn spelled()
     ensures exactly { (bytes rest : List ℕ) (e : WireField) →
@@ -17,7 +17,7 @@ pub fn spelled()
 {}
 
 /// A fault is met, for a reason, exactly where the table of faults has that reason for the bytes. At
-/// most one reason holds of any bytes, and where one does, no prefix of them spells a field.
+/// most one reason holds of any bytes, and where one does, no prefix of them encodes a field.
 #[inline(always)]
 pub fn faulted()
     ensures reason { (bytes : List ℕ) (why : WireWhy) → (field_at bytes ≡ Err why) ↔ Faults why bytes }
@@ -37,8 +37,8 @@ pub fn listed()
         AreFields (e ∷ es) bytes ↔ ((rest : List ℕ) × (field_at bytes ≡ Ok (e, rest)) × AreFields es rest) }
 {}
 
-/// What is written is read again, whatever follows it; fields that are written one after the other
-/// are a message with that list; and no other spelling of a field is shorter. A field has a spelling
+/// What is written is read again, whatever follows it; fields that are written in order
+/// are a message with that list; and no other encoding of a field is shorter. A field has an encoding
 /// exactly where its number and what it holds are in range.
 #[inline(always)]
 pub fn written()
@@ -51,7 +51,7 @@ pub fn written()
         → length (spelling e) ≤ length bytes }
 {}
 
-/// A field of an empty payload that ends at `from`, bytes behind it, and its length set to theirs, as
+/// A field of an empty payload that ends at `from`, bytes after it, and its length set to theirs, as
 /// [`close_bytes`](crate::close_bytes) sets it, are the field of these bytes.
 #[inline(always)]
 pub fn closed()

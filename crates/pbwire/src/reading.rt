@@ -129,7 +129,7 @@ fn read_field(bytes: &[u8]) -> Result<(Field<'_>, &[u8]), WireWhy>
     ))
 }
 
-/// The fields of a message, from the first to the last or to the first fault. Payloads are lent by
+/// The fields of a message, from the first to the last or to the first fault. Payloads are borrowed from
 /// the message, and no call takes memory.
 #[derive(Drop)]
 pub struct Fields<'a> {
@@ -170,8 +170,8 @@ impl<'a> Fields<'a> {
         self.len - self.rest.len()
     }
 
-    /// The next field, in the order of the message, whether or not its spelling is the shortest; or
-    /// what is wrong in its place. `None` at the end of the message, and for good after a fault.
+    /// The next field, in the order of the message, whether or not its encoding is the shortest; or
+    /// what is wrong there. `None` at the end of the message, and for good after a fault.
     #[inline(always)]
     pub fn next_field(&mut self) -> Option<Result<Field<'a>, WireFault>>
         ensures given { seen_next result ≡ (next_of self.old).0 }

@@ -1,4 +1,4 @@
-//! Writing fields, each in its shortest spelling.
+//! Writing fields, each in its shortest encoding.
 
 ghost use Rattle.std.specs.Prelude.{◌-◌, ◌≡◌, ◌≤◌, ◌<◌, ◌^◌, ◌+◌, ◌*◌, ◌∷◌, ◌++◌, OnOk, OnErr, length, map, take, drop};
 ghost use Rattle.std.specs.Option.{IfSome};
@@ -46,7 +46,7 @@ fn short_head(number: u32, len: usize) -> Option<[u8; 2]>
     Some([number as u8 * 8 + 2, len as u8])
 }
 
-/// A field that holds a number (wire type 0), for who has to know its length before it is written.
+/// A field that holds a number (wire type 0), for a caller that must know its length before it is written.
 #[inline(always)]
 pub fn varint_field(number: u32, value: u64) -> ArrayVec<u8, 20>
     requires { (1 ≤ number) × (number < 2 ^ 29) }
@@ -151,7 +151,7 @@ fn close_long_bytes(out: &mut Vec<u8>, from: usize, len: usize) -> Result<(), Al
     Ok(())
 }
 
-/// Ends a field whose payload was appended behind it (wire type 2): the field was put with an empty payload,
+/// Ends a field whose payload was appended after it (wire type 2): the field was put with an empty payload,
 /// and all bytes from `from` on, where it ended, become its payload. So an embedded message is written in
 /// place, and its length need not be known before; it moves only where the length takes more than one byte.
 /// After an `Err` the vector is as it was.
@@ -171,7 +171,7 @@ pub fn close_bytes(out: &mut Vec<u8>, from: usize) -> Result<(), AllocError>
     Ok(())
 }
 
-// Two parts behind their head, of less than 256 bytes together: the vector grows at most once.
+// Two parts after their head, of less than 256 bytes together: the vector grows at most once.
 fn append_short_joined(
     out: &mut Vec<u8>,
     head: &[u8],
@@ -293,7 +293,7 @@ pub fn put_entry(out: &mut Vec<u8>, number: u32, key: &[u8], value: &[u8]) -> Re
     written
 }
 
-/// Appends a map of texts: its entries, with keys and values lent, in the order in which they come. A
+/// Appends a map of texts: its entries, with keys and values borrowed, in the order in which they come. A
 /// map that is ordered by the bytes of its keys gives them in that order, so that equal maps are
 /// written alike. After an `Err` the vector is as it was.
 pub fn put_map<'a, I: Iterator<Item = (&'a [u8], &'a [u8])> + Drop>(

@@ -34,7 +34,7 @@ pub(crate) fn answer(alloc: Global, row: &str) -> Result<String, RowFault> {
     }
 }
 
-// What is read is handed on at once to a function that does not spell out its type: so large a value is dear
+// What is read is passed on at once to a function that does not name its type: so large a value is expensive
 // to own.
 fn message_answer(
     alloc: Global,

@@ -1,4 +1,4 @@
-//! Rows about requests to the volume machine, one after the other over one keeper in memory.
+//! Rows about requests to the volume machine, in order, over one keeper in memory.
 
 use crate::words::{first_word, named};
 use csi_config::Config;
@@ -64,7 +64,7 @@ impl Bench {
         Ok(format!(in alloc; "{count}")?)
     }
 
-    // Begins anew, without volumes.
+    // Begins again, without volumes.
     fn begin(&mut self, alloc: Global, words: &str) -> Result<String, RowFault> {
         let bench = begun(alloc, words)?;
         *self = bench;

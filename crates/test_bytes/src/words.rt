@@ -4,7 +4,7 @@ use csi_types::{Method, method_named};
 use std::alloc::Global;
 use test_kit::RowFault;
 
-/// The first word, and what stands behind the space that ends it.
+/// The first word, and what comes after the space that ends it.
 pub(crate) fn first_word(row: &str) -> Result<(&str, &str), RowFault> {
     row.split_once(' ').ok_or(RowFault::NotRow)
 }

@@ -6,7 +6,7 @@ use std::alloc::{AllocError, AllocFailed};
 use std::fmt;
 use thiserror::Error;
 
-/// Why a row has no answer. It is written in the place of one.
+/// Why a row has no answer. It is written instead of one.
 #[derive(Debug, Error)]
 pub enum RowFault {
     /// The row is none of those that its section knows.

@@ -1,8 +1,8 @@
 //! Bytes as people write them.
 //!
-//! Two hexadecimal digits are a byte, and a text between quotation marks is its bytes. Parentheses stand for
+//! Two hexadecimal digits are a byte, and a text between quotation marks is its bytes. Parentheses are
 //! the length of what is in them, as a varint, and then it, so `0a(61)` is `0a0161`. Square brackets group.
-//! `*N` behind a byte, a text or a group repeats it, so `61*3` is `616161`. In a group `#N` is how often it
+//! `*N` after a byte, a text or a group repeats it, so `61*3` is `616161`. In a group `#N` is how often it
 //! was repeated before, as N digits to the base 64 (1 to 3), each a byte of that value, and `#0` the same as
 //! a decimal text. Spaces are skipped, and `-` alone is no bytes. Digits are in lower case, and parentheses
 //! and brackets nest up to 11 deep.
@@ -42,9 +42,9 @@ enum Part<'t> {
     Byte(u8),
     // The text between quotation marks.
     Text(&'t [u8]),
-    // What stands in parentheses.
+    // What is in parentheses.
     Sized(&'t [u8]),
-    // What stands in square brackets.
+    // What is in square brackets.
     Group(&'t [u8]),
     // How many digits the count has.
     Count(u8),
@@ -61,7 +61,7 @@ pub fn bytes_of(alloc: Global, text: &str) -> Result<Vec<u8>, NotationFault>
     bytes_counted(alloc, text, 0)
 }
 
-/// The bytes of a notation that stands in a group which was repeated `count` times before.
+/// The bytes of a notation in a group which was repeated `count` times before.
 ///
 /// # Errors
 ///
@@ -124,7 +124,7 @@ fn put_times(
     Ok(())
 }
 
-// Appends the length of what stands in parentheses, and then it.
+// Appends the length of what is in parentheses, and then it.
 #[cycle(put)]
 fn put_sized(
     out: &mut Vec<u8>,

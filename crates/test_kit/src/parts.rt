@@ -7,7 +7,7 @@ use std::str::FromStr;
 // Longer bytes are shown by how many they are.
 const SHOWN_BYTES: usize = 64;
 
-/// The words of a row, which stand between single spaces.
+/// The words of a row, with single spaces between them.
 ///
 /// # Errors
 ///
@@ -20,7 +20,7 @@ pub fn words_of(alloc: Global, row: &str) -> Result<Vec<&str>, RowFault> {
     Ok(words)
 }
 
-/// The word at a place, as it stands.
+/// The word at a place, as it is.
 ///
 /// # Errors
 ///

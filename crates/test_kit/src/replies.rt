@@ -48,7 +48,7 @@ impl Reply {
         )
     }
 
-    /// The status, and behind it the bytes of the body or the text.
+    /// The status, and after it the bytes of the body or the text.
     ///
     /// # Errors
     ///
@@ -131,7 +131,7 @@ fn page_text(alloc: Global, body: &[u8]) -> Result<String, RowFault> {
     }
 }
 
-// A response is lent here, since so large a value is dear to own.
+// A response is borrowed here, since so large a value is expensive to own.
 fn entries_text(alloc: Global, response: &Response) -> Result<String, RowFault> {
     let Response::List { entries, token } = response else {
         return Err(RowFault::Refused(NO_PAGE));

@@ -15,13 +15,13 @@ const HEAD: &str = "@ ";
 pub enum RowAnswer {
     /// Nothing: the row is not written either.
     Nothing,
-    /// A text, which stands on the row's line.
+    /// A text, on the row's line.
     Text(String),
-    /// Lines, each with its end, which stand below the row.
+    /// Lines, each with its end, below the row.
     Lines(Vec<u8>),
 }
 
-/// What answers the rows of a section, one after the other.
+/// What answers the rows of a section, in order.
 pub trait AnswerRow {
     /// The answer to a row.
     ///
@@ -31,7 +31,7 @@ pub trait AnswerRow {
     fn answer_row(&mut self, rt: &HostRuntime, row: &str) -> Result<RowAnswer, RowFault>;
 }
 
-/// What answers sections, one after the other.
+/// What answers sections, in order.
 pub trait AnswerSection {
     /// Answers the rows of the section of a name, by [`Rows::answer`].
     ///

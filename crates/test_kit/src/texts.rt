@@ -1,7 +1,7 @@
 //! Texts, and what is made of texts, as words.
 //!
 //! A word is its text, `U+` and a hexadecimal number is the character of that number, and `-` is the empty
-//! text. `*N` behind a text or a character repeats it.
+//! text. `*N` after a text or a character repeats it.
 
 use crate::fault::RowFault;
 use crate::parts::{number_of, word_at};
@@ -60,7 +60,7 @@ fn text_of(alloc: Global, word: &str) -> Result<Text, RowFault> {
     Ok(Text::from_string(text))
 }
 
-// The character behind `U+`, if that is how the part begins.
+// The character after `U+`, if that is how the part begins.
 fn character_of(part: &str) -> Result<Option<char>, RowFault> {
     match part.strip_prefix("U+") {
         Some(digits) => {

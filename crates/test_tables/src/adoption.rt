@@ -21,7 +21,7 @@ pub(crate) fn answer(alloc: Global, row: &str) -> Result<String, RowFault> {
     adopt_twice(alloc, without_tables(alloc)?, &config, start, statements)
 }
 
-// Begins a database so, behind these statements.
+// Begins a database so, after these statements.
 fn begin<S: Alter>(conn: &mut Connection<S>, start: &str, statements: &str) -> Result<(), RowFault>
     requires { conn.old.in_transaction ≡ false }
 {

@@ -5,7 +5,7 @@ use sqlite::types::ValueRef;
 use std::alloc::{AllocError, Global};
 use std::str;
 
-/// A cell: a number, a text between quotation marks, or bytes in hexadecimal behind an x.
+/// A cell: a number, a text between quotation marks, or bytes in hexadecimal after an x.
 pub(crate) fn cell_text(alloc: Global, row: &Row, at: usize) -> Result<String, AllocError> {
     match row.get_ref(at) {
         Ok(ValueRef::Int(number)) => format!(in alloc; "{number}"),

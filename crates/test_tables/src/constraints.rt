@@ -184,7 +184,7 @@ fn ask<S: Alter, T: RowTrial + Drop>(
     told(alloc, &fold.found, words)
 }
 
-// In which words a row is told that breaks a constraint.
+// The words for a row that breaks a constraint.
 #[derive(Clone, Copy)]
 enum Words {
     // What it is named by.
@@ -203,7 +203,7 @@ fn told(alloc: Global, found: &Option<RowName>, words: Words) -> Result<String, 
     }
 }
 
-// A row without what the words tell of it is told by what it has.
+// A row without what the words say of it is named by what it has.
 fn broken_text(alloc: Global, row: &RowName, words: Words) -> Result<String, RowFault> {
     match (words, row.number, &row.text) {
         (Words::Volume(constraint), Some(number), _) => {

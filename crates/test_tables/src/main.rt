@@ -1,6 +1,6 @@
 //! Answers rows about tables: statements and scans over them, the constraints of what is stored in them, the
 //! volume machine over them, tables that are adopted or not, the tables in files of which the disk stopped in
-//! a call, and runs from files to files. What the rows of a section look like stands at its head in the file
+//! a call, and runs from files to files. What the rows of a section look like is at its head in the file
 //! `stdin` of this crate.
 #![tactic(auto)]
 
@@ -62,7 +62,7 @@ impl AnswerSection for Sections {
 }
 
 // Answers the rows of a section that could begin. The large values that sections keep are owned here, where
-// their types are not spelled out.
+// their types are not written out.
 fn answer<W: Write, R: AnswerRow + Drop>(
     rt: &HostRuntime,
     rows: &mut Rows<'_, W>,

@@ -25,7 +25,7 @@ use troubled::{Trouble, left_of_troubled, lying};
 pub(crate) enum Ending {
     /// Closed.
     Closed,
-    /// What was committed stands in the log alone.
+    /// What was committed is in the WAL alone.
     Open,
     /// Closed, with tables of format 1.
     Older,
@@ -129,7 +129,7 @@ impl Bench {
         Ok(made.after)
     }
 
-    // What a call comes to over the files, or over new ones where no database was made in them.
+    // What comes of a call over the files, or over new ones where no database was made in them.
     fn outcome_of(&self, alloc: Global, call: &[u8]) -> Result<Outcome, RowFault> {
         if self.is_made {
             outcome_of(alloc, &self.config, &self.files, call)

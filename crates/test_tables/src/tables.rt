@@ -65,7 +65,7 @@ fn begin<T: Drop>(
     Ok(String::from_str(alloc, "begun")?)
 }
 
-// Makes the tables where they stand, which is refused, and tells the next number that the rows of
+// Makes the tables where they exist, which is refused, and shows the next number that the rows of
 // the connection that was given back still have. New ones take their place.
 fn remake<S: Alter + Drop>(
     alloc: Global,

@@ -7,13 +7,13 @@ import (
 	"google.golang.org/grpc/codes"
 )
 
-// Each row that no csid-etcd has written is named, wherever it stands, and all is as before once it is mended.
+// Each row that no csid-etcd has written is named, wherever it is, and all is as before once it is fixed.
 func TestBrokenRows(t *testing.T) {
 	t.Parallel()
 	const (
-		metaForm       = `: its value is not spelled {"format_no":NUMBER,"next_number":NUMBER}`
-		volumeForm     = `: its value is not spelled {"name":TEXT,"bytes":NUMBER,"pool":TEXT,"caps":HEX,"params":HEX}`
-		attachmentForm = `: its value is not spelled {"cap":HEX,"readonly":0 or 1}`
+		metaForm       = `: its value is not of the form {"format_no":NUMBER,"next_number":NUMBER}`
+		volumeForm     = `: its value is not of the form {"name":TEXT,"bytes":NUMBER,"pool":TEXT,"caps":HEX,"params":HEX}`
+		attachmentForm = `: its value is not of the form {"cap":HEX,"readonly":0 or 1}`
 		volume7        = "volumes/00000000000000000007"
 		of7            = "attachments/00000000000000000007/"
 		good           = `{"name":"a","bytes":1048576,"pool":"p","caps":"","params":""}`
@@ -83,7 +83,7 @@ func TestBrokenRows(t *testing.T) {
 			t.Fatal(err)
 		}
 	}
-	// Keys beside those of the plugin, and whatever stands below its lock, are no rows.
+	// Keys next to those of the plugin, and whatever is below its lock, are no rows.
 	for _, key := range []string{name, name + "0", name + ".other/meta", name + "-/volumes/7", name + "/lock/x"} {
 		if _, err := client.Put(ctx, key, "x"); err != nil {
 			t.Fatal(err)

@@ -1,4 +1,4 @@
-// Package tests runs the built csid-etcd as a process before etcd, with clients of its protocol in place of csid, and with csid and the front.
+// Package tests runs the built csid-etcd as a process before etcd, with clients of its protocol instead of csid, and with csid and the front.
 package tests
 
 import (
@@ -160,7 +160,7 @@ func (l *link) walk() (read rows, pages int, err error) {
 				continue
 			}
 			if key <= last {
-				return nil, pages, fmt.Errorf("%q behind %q", key, last)
+				return nil, pages, fmt.Errorf("%q after %q", key, last)
 			}
 			last = key
 		}
@@ -232,13 +232,13 @@ func setMutable(number uint64, params string) []byte {
 	return text(nil, 6, string(text(varint(nil, 1, number), 2, params)))
 }
 
-// commits makes a change that has to be OK.
+// commits makes a change that must be OK.
 func (l *link) commits(t *testing.T, message []byte) {
 	t.Helper()
 	l.wants(t, commitPath, hex.EncodeToString(message), codes.OK, "")
 }
 
-// refuses makes a change that has to be refused.
+// refuses makes a change that must be refused.
 func (l *link) refuses(t *testing.T, message []byte, code codes.Code, want string) {
 	t.Helper()
 	l.wants(t, commitPath, hex.EncodeToString(message), code, want)
@@ -254,7 +254,7 @@ func begun(t *testing.T) (*clusters.Cluster, program, *link) {
 	return cluster, p, l
 }
 
-// has wants that etcd has exactly these keys and values beside the lock, a line each.
+// has wants that etcd has exactly these keys and values next to the lock, a line each.
 func has(t *testing.T, cluster *clusters.Cluster, want ...string) {
 	t.Helper()
 	got := ""

@@ -11,15 +11,15 @@ import (
 	"google.golang.org/grpc/codes"
 )
 
-// driver stands for csid: it reads all rows over a connection, and makes changes over it until one is not answered by OK. It keeps what it was told
+// driver represents csid: it reads all rows over a connection, and makes changes over it until one is not answered by OK. It keeps what it was answered
 // as a model, and wants that each reading is the model, or the model with the one change whose outcome was not known.
 type driver struct {
 	t       *testing.T
 	sockets []string
 	random  *rand.Rand
-	// What was told, and what it would be with the open change.
-	told, open rows
-	next       uint64
+	// What was reported, and what it would be with the open change.
+	known, open rows
+	next        uint64
 	// How each ended that was not OK: refusals by their texts, and ends without a reply.
 	refused map[string]int
 	oks     int
@@ -119,17 +119,17 @@ func (d *driver) notRead(err error) error {
 	return nil
 }
 
-// compare takes what was read for what is told.
+// compare compares what was read with what was answered.
 func (d *driver) compare(read rows) error {
-	if d.told != nil {
+	if d.known != nil {
 		switch got := read.String(); {
 		case d.open != nil && got == d.open.String():
 			d.made++
-		case got != d.told.String():
-			return fmt.Errorf("read\n%s\ntold\n%s\nor\n%s", difference(read, d.told), difference(d.told, read), difference(d.open, read))
+		case got != d.known.String():
+			return fmt.Errorf("read\n%s\ntold\n%s\nor\n%s", difference(read, d.known), difference(d.known, read), difference(d.open, read))
 		}
 	}
-	d.told, d.open = read, nil
+	d.known, d.open = read, nil
 	fmt.Sscanf(read["meta"], "2 %d", &d.next)
 	return nil
 }
@@ -145,18 +145,18 @@ func difference(one, other rows) rows {
 	return found
 }
 
-// change makes one change, and tells whether it was OK.
+// change makes one change, and reports whether it was OK.
 func (d *driver) change(l *link) (isOK bool, err error) {
-	message, behind := d.choose()
+	message, after := d.choose()
 	reply, err := l.call(commitPath, message)
 	if err != nil {
 		d.opens++
-		d.open = behind
+		d.open = after
 		return false, nil
 	}
 	if reply.Code == codes.OK {
-		d.told = behind
-		fmt.Sscanf(behind["meta"], "2 %d", &d.next)
+		d.known = after
+		fmt.Sscanf(after["meta"], "2 %d", &d.next)
 		return true, nil
 	}
 	d.refused[fmt.Sprintf("%d %s", reply.Code, reply.Text)]++
@@ -181,10 +181,10 @@ func (r rows) with(key, value string) rows {
 }
 
 // choose chooses a change that can be made, and gives the rows with it.
-func (d *driver) choose() (message []byte, behind rows) {
+func (d *driver) choose() (message []byte, after rows) {
 	var volumes []uint64
 	nodes := map[uint64][]string{}
-	for key := range d.told {
+	for key := range d.known {
 		var kind int
 		var number uint64
 		var node string
@@ -203,36 +203,36 @@ func (d *driver) choose() (message []byte, behind rows) {
 	switch what := d.random.Intn(6); {
 	case what == 0:
 		params := []string{"", "\x42\x00", "\x42\x03\x0a\x01k"}[d.random.Intn(3)]
-		value := strings.Fields(d.told[key])
-		return setMutable(number, params), d.told.with(key, strings.Join(value[:3], " ")+fmt.Sprintf(" %x %x", block, params))
+		value := strings.Fields(d.known[key])
+		return setMutable(number, params), d.known.with(key, strings.Join(value[:3], " ")+fmt.Sprintf(" %x %x", block, params))
 	case len(nodes[number]) == 0 && what == 1:
-		return removeVolume(number), d.told.with(key, "")
+		return removeVolume(number), d.known.with(key, "")
 	case len(nodes[number]) > 0 && what < 4:
 		if what == 2 {
-			behind = d.told
+			after = d.known
 			for _, node := range nodes[number] {
-				behind = behind.with(fmt.Sprintf("2 %020d %s", number, node), "")
+				after = after.with(fmt.Sprintf("2 %020d %s", number, node), "")
 			}
-			return detachAll(number), behind
+			return detachAll(number), after
 		}
 		node := nodes[number][0]
-		return detach(number, node), d.told.with(fmt.Sprintf("2 %020d %s", number, node), "")
+		return detach(number, node), d.known.with(fmt.Sprintf("2 %020d %s", number, node), "")
 	default:
 		for i := 0; ; i++ {
 			node := fmt.Sprintf("n%d", i)
 			key := fmt.Sprintf("2 %020d %s", number, node)
-			if d.told[key] == "" {
-				return attach(number, node, i%2 == 0), d.told.with(key, fmt.Sprintf("%x %d", block, (i+1)%2))
+			if d.known[key] == "" {
+				return attach(number, node, i%2 == 0), d.known.with(key, fmt.Sprintf("%x %d", block, (i+1)%2))
 			}
 		}
 	}
 }
 
-func (d *driver) add() (message []byte, behind rows) {
+func (d *driver) add() (message []byte, after rows) {
 	called := fmt.Sprintf("pvc-%d-%d", d.next, d.random.Intn(1000))
 	key := fmt.Sprintf("1 %020d", d.next)
-	behind = d.told.with(key, fmt.Sprintf("%s %d ssd %x ", called, 1<<20, block)).with("meta", fmt.Sprintf("2 %d", d.next+1))
-	return addVolume(d.next, called), behind
+	after = d.known.with(key, fmt.Sprintf("%s %d ssd %x ", called, 1<<20, block)).with("meta", fmt.Sprintf("2 %d", d.next+1))
+	return addVolume(d.next, called), after
 }
 
 // String is what came of it.

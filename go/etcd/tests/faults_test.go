@@ -18,7 +18,7 @@ import (
 	"./clusters"
 )
 
-// A program that etcd is cut off from ends each call without a reply, does not lead any more behind its lease, and leads again once etcd is back.
+// A program that etcd is cut off from ends each call without a reply, does not lead any more after its lease, and leads again once etcd is back.
 func TestCutOff(t *testing.T) {
 	t.Parallel()
 	cluster := clusters.Start(t, 1)
@@ -42,7 +42,7 @@ func TestCutOff(t *testing.T) {
 		begin = time.Now()
 		reply, err := l.call(readPath, nil)
 		if took := time.Since(begin); err == nil && (reply.Code != codes.FailedPrecondition || !strings.HasPrefix(reply.Text, "waiting for the lock") || took > 500*time.Millisecond) {
-			t.Errorf("%d %q behind %v", reply.Code, reply.Text, took)
+			t.Errorf("%d %q after %v", reply.Code, reply.Text, took)
 		}
 		l.Close()
 		if i == 1 {
@@ -57,7 +57,7 @@ func TestCutOff(t *testing.T) {
 	wantsTold(t, d, p)
 }
 
-// A change whose outcome is not known is never made behind what is read next, also where etcd gets it only then: one of two ways to etcd is slow.
+// A change whose outcome is not known is never made after what is read next, also where etcd gets it only then: one of two ways to etcd is slow.
 func TestLateChange(t *testing.T) {
 	t.Parallel()
 	for i := 0; i < 2; i++ {
@@ -71,10 +71,10 @@ func TestLateChange(t *testing.T) {
 	}
 }
 
-// lateChange makes a change come to etcd behind the reading of all rows that follows it.
+// lateChange makes a change reach etcd after the reading of all rows that follows it.
 func lateChange(t *testing.T, cluster *clusters.Cluster, p program, l *link, slow *proxy) {
 	t.Helper()
-	// Calls go one way and the other. The one that goes the slow way waits there, and what comes behind it is not heard: so etcd does not know that it
+	// Calls go one way and the other. The one that goes the slow way waits there, and what comes after it is not heard: so etcd does not know that it
 	// was given up.
 	slow.hold()
 	for n, isOpen := 0, false; !isOpen; n++ {
@@ -96,7 +96,7 @@ func lateChange(t *testing.T, cluster *clusters.Cluster, p program, l *link, slo
 	if again.String() != read.String() {
 		t.Errorf("read\n%s\nbefore\n%s", difference(again, read), difference(read, again))
 	}
-	t.Logf("the rows were read within %v, and the change came to etcd behind that: it was not made", took.Round(time.Millisecond))
+	t.Logf("the rows were read within %v, and the change came to etcd after that: it was not made", took.Round(time.Millisecond))
 }
 
 // walks reads all rows, as often as it takes.
@@ -144,7 +144,7 @@ func revision(t *testing.T, client *clientv3.Client) int64 {
 	return read.Header.Revision
 }
 
-// An etcd that is full refuses changes that need room, and others are made; behind compaction, defragmentation and the end of the alarm all go on.
+// An etcd that is full refuses changes that need room, and others are made; after compaction, defragmentation and the end of the alarm all go on.
 func TestFull(t *testing.T) {
 	t.Parallel()
 	cluster := clusters.Start(t, 3, "--quota-backend-bytes", "1000000")
@@ -156,7 +156,7 @@ func TestFull(t *testing.T) {
 	l.wants(t, makePath, "", codes.OK, "")
 	params := "\x22\x84\x08" + strings.Repeat("x", 1028)
 	next := uint64(1)
-	told := rows{"meta": "2 1"}
+	known := rows{"meta": "2 1"}
 	made := 0
 	for round := 0; round < 2; round++ {
 		isFull := false
@@ -177,31 +177,31 @@ func TestFull(t *testing.T) {
 				isFull = true
 				next--
 			case reply.Code == codes.OK:
-				told[fmt.Sprintf("1 %020d", next)] = fmt.Sprintf("a%d %d p  %x", next, 1<<20, params)
-				told["meta"] = fmt.Sprintf("2 %d", next+1)
+				known[fmt.Sprintf("1 %020d", next)] = fmt.Sprintf("a%d %d p  %x", next, 1<<20, params)
+				known["meta"] = fmt.Sprintf("2 %d", next+1)
 			default:
 				t.Fatalf("%d: %d %q", next, reply.Code, reply.Text)
 			}
 		}
-		t.Logf("full behind %d volumes; %d changes were made of which etcd said that it had no space", next-1, made)
+		t.Logf("full after %d volumes; %d changes were made of which etcd said that it had no space", next-1, made)
 		l.refuses(t, attach(1, "n", false), codes.ResourceExhausted, "etcdserver: mvcc: database space exceeded")
 		if round == 0 {
-			// One that waits already leads in place of this one, and no other can.
+			// One that waits already leads instead of this one, and no other can.
 			third := start(t, cluster.Endpoints(), shortLease...)
 			third.says(t, "no lock: etcdserver: mvcc: database space exceeded")
 			p.Kill()
 			p = second.leads(t)
 			l = p.dial(t)
 		}
-		if read, _, err := l.walk(); err != nil || read.String() != told.String() {
-			t.Errorf("%v: read %s, told %s", err, difference(read, told), difference(told, read))
+		if read, _, err := l.walk(); err != nil || read.String() != known.String() {
+			t.Errorf("%v: read %s, told %s", err, difference(read, told), difference(known, read))
 		}
 		for number := uint64(1); number < next; number++ {
 			key := fmt.Sprintf("1 %020d", number)
-			if _, is := told[key]; is && number%2 == 0 {
+			if _, is := known[key]; is && number%2 == 0 {
 				l.commits(t, detachAll(number))
 				l.commits(t, removeVolume(number))
-				delete(told, key)
+				delete(known, key)
 			}
 		}
 		cluster.Ctl(t, "compact", fmt.Sprint(revision(t, client)))
@@ -209,13 +209,13 @@ func TestFull(t *testing.T) {
 		cluster.Ctl(t, "alarm", "disarm")
 	}
 	l.commits(t, attach(1, "n", false))
-	told["2 00000000000000000001 n"] = fmt.Sprintf("%x 0", block)
-	if read, _, err := l.walk(); err != nil || read.String() != told.String() {
-		t.Errorf("%v: read %s, told %s", err, difference(read, told), difference(told, read))
+	known["2 00000000000000000001 n"] = fmt.Sprintf("%x 0", block)
+	if read, _, err := l.walk(); err != nil || read.String() != known.String() {
+		t.Errorf("%v: read %s, told %s", err, difference(read, told), difference(known, read))
 	}
 }
 
-// A walk whose revision was compacted in its middle is refused as that, and another one begins anew. A page is read ahead, so the next one may have been read before.
+// A walk whose revision was compacted in its middle is refused as that, and another one begins again. A page is read ahead, so the next one may have been read before.
 func TestCompacted(t *testing.T) {
 	t.Parallel()
 	cluster := clusters.Start(t, 1)
@@ -233,7 +233,7 @@ func TestCompacted(t *testing.T) {
 	if reply, err = l.call(readPath, fromHex(t, message)); err == nil && reply.Code == codes.OK {
 		reply, err = l.call(readPath, fromHex(t, tokenOf(t, reply.Body)))
 	}
-	if err != nil || reply.Code != codes.FailedPrecondition || reply.Text != "etcd compacted the revision of this walk over the rows: begin anew" {
+	if err != nil || reply.Code != codes.FailedPrecondition || reply.Text != "etcd compacted the revision of this walk over the rows: start again" {
 		t.Errorf("%v %q, %v", reply.Code, reply.Text, err)
 	}
 	read, pages, err := l.walk()
@@ -242,7 +242,7 @@ func TestCompacted(t *testing.T) {
 	}
 }
 
-// tokenOf is what asks for the page behind this one.
+// tokenOf is what asks for the page after this one.
 func tokenOf(t *testing.T, page []byte) string {
 	t.Helper()
 	parts := fields(page)
@@ -253,7 +253,7 @@ func tokenOf(t *testing.T, page []byte) string {
 	return fmt.Sprintf("0a%02x%x", len(token), token)
 }
 
-// An etcd that was restored from a snapshot that is older than what was answered is refused: by the program that ran meanwhile, and by one that has
+// An etcd that was restored from a snapshot that is older than what was answered is refused: by the program that ran in the meantime, and by one that has
 // the revision of a file, until --accept-older is there.
 func TestOlderSnapshot(t *testing.T) {
 	t.Parallel()
@@ -285,8 +285,8 @@ func TestOlderSnapshot(t *testing.T) {
 	member.Start(t)
 	refused := func(p program) {
 		t.Helper()
-		const behind = "was answered: it was restored from an older snapshot, and volumes may be missing; --accept-older goes on"
-		want := fmt.Sprintf("%d %s", answered, behind)
+		const refusal = "was answered: it was restored from an older snapshot, and volumes may be missing; --accept-older goes on"
+		want := fmt.Sprintf("%d %s", answered, refusal)
 		p.says(t, want)
 		processes.Eventually(t, "the refusal", func() bool {
 			l := p.dial(t)

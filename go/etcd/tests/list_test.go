@@ -45,7 +45,7 @@ func TestList(t *testing.T) {
 		"csid-etcd: --list: volumes/00000000000000000001: its caps or params are not those of a volume\n")
 	put(t, client, name+"/volumes/00000000000000000001", "{}")
 	got := moves(t, "", "--list", cluster.Endpoints())
-	if got.status != 1 || got.said != "" || !strings.HasPrefix(got.fail, "csid-etcd: --list: volumes/00000000000000000001: its value is not spelled ") {
+	if got.status != 1 || got.said != "" || !strings.HasPrefix(got.fail, "csid-etcd: --list: volumes/00000000000000000001: its value is not of the form ") {
 		t.Errorf("a broken row: %v", got)
 	}
 }

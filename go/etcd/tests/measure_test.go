@@ -55,7 +55,7 @@ func (all times) String() string {
 	return fmt.Sprintf("%v in the middle, %v in the mean, %v for 99 of 100", all.at(0.5).Round(time.Microsecond), all.mean().Round(time.Microsecond), all.at(0.99).Round(time.Microsecond))
 }
 
-// besides measures calls that add volumes, and beside each the bare transaction of a volume. They take turns, so that both meet the same disk.
+// besides measures calls that add volumes, and next to each the bare transaction of a volume. They take turns, so that both meet the same disk.
 func besides(t *testing.T, count int, client *clientv3.Client, add func(number uint64, called string)) (adds, bare times) {
 	t.Helper()
 	const prefix = "example.measured"
@@ -89,7 +89,7 @@ func ratios(these, others times) string {
 	return fmt.Sprintf("%.3f times in the middle, %.3f in the mean", float64(these.at(0.5))/float64(others.at(0.5)), float64(these.mean())/float64(others.mean()))
 }
 
-// A change through csid-etcd, beside the same transaction without it.
+// A change through csid-etcd, next to the same transaction without it.
 func TestMeasureChanges(t *testing.T) {
 	count := measured(t)
 	for _, members := range []int{1, 3} {
@@ -136,7 +136,7 @@ func probed(t *testing.T, csid *processes.Process) *link {
 	return l
 }
 
-// A CreateVolume of csid over csid-etcd, beside the transaction of it alone.
+// A CreateVolume of csid over csid-etcd, next to the transaction of it alone.
 func TestMeasureCreates(t *testing.T) {
 	count := measured(t)
 	for _, members := range []int{1, 3} {
@@ -169,7 +169,7 @@ func TestMeasureTakeOvers(t *testing.T) {
 			memory = csid.ResidentBytes(t)
 		})
 	}
-	t.Logf("csid over 100000 volumes and 50000 attachments: the first answer behind %v in the middle of 5, %d MiB in memory", all.at(0.5).Round(time.Millisecond), memory>>20)
+	t.Logf("csid over 100000 volumes and 50000 attachments: the first answer after %v in the middle of 5, %d MiB in memory", all.at(0.5).Round(time.Millisecond), memory>>20)
 }
 
 // size is how many bytes of its file a member uses.
@@ -193,13 +193,13 @@ func put(t *testing.T, client *clientv3.Client, key, value string) {
 func bareAdd(t *testing.T, client *clientv3.Client, prefix string, lock int64, number uint64, called string) {
 	t.Helper()
 	key := fmt.Sprintf("%s/volumes/%020d", prefix, number)
-	before, behind := fmt.Sprintf(`{"format_no":2,"next_number":%d}`, number), fmt.Sprintf(`{"format_no":2,"next_number":%d}`, number+1)
+	before, after := fmt.Sprintf(`{"format_no":2,"next_number":%d}`, number), fmt.Sprintf(`{"format_no":2,"next_number":%d}`, number+1)
 	value := fmt.Sprintf(`{"name":"%s","bytes":1048576,"pool":"ssd","caps":"1a060a001a020801","params":""}`, called)
 	done, err := client.Txn(context.Background()).If(
 		clientv3.Compare(clientv3.ModRevision(prefix+"/lock/1"), "=", lock),
 		clientv3.Compare(clientv3.CreateRevision(key), "=", 0),
 		clientv3.Compare(clientv3.Value(prefix+"/meta"), "=", before),
-	).Then(clientv3.OpPut(key, value), clientv3.OpPut(prefix+"/meta", behind)).Commit()
+	).Then(clientv3.OpPut(key, value), clientv3.OpPut(prefix+"/meta", after)).Commit()
 	if err != nil || !done.Succeeded {
 		t.Fatalf("%v, %v", done, err)
 	}
@@ -242,7 +242,7 @@ func TestMeasureReadings(t *testing.T) {
 		if err != nil {
 			t.Fatal(err)
 		}
-		t.Logf("%d volumes: etcd has %d KiB in its file behind a defragmentation, and %d MiB in memory", volumes, status.DbSize>>10, cluster.Members[0].Current.ResidentBytes(t)>>20)
+		t.Logf("%d volumes: etcd has %d KiB in its file after a defragmentation, and %d MiB in memory", volumes, status.DbSize>>10, cluster.Members[0].Current.ResidentBytes(t)>>20)
 	}
 }
 

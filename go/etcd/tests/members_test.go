@@ -61,11 +61,11 @@ func TestWithoutLeader(t *testing.T) {
 	time.Sleep(2 * time.Second)
 	signal(syscall.SIGCONT)
 	if took := p.leadsSince(t, before); took > 9*time.Second {
-		t.Errorf("it led behind %v", took)
+		t.Errorf("it led after %v", took)
 	}
 }
 
-// wantsTold wants that the rows are those that were told.
+// wantsTold wants that the rows are those that were reported.
 func wantsTold(t *testing.T, d *driver, p program) {
 	t.Helper()
 	var err error

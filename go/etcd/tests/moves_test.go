@@ -63,7 +63,7 @@ func manyLines(volumes int) (lines string, count int) {
 	return all.String(), volumes + volumes/2 + 1
 }
 
-// The first row is made once; rows that stand are left, and those that an import has left are told.
+// The first row is made once; rows that exist are left, and those that an import has left are reported.
 func TestNew(t *testing.T) {
 	t.Parallel()
 	cluster := clusters.Start(t, 1)
@@ -71,14 +71,14 @@ func TestNew(t *testing.T) {
 	put(t, client, name+".other/meta", "x")
 	moves(t, "", "--new", cluster.Endpoints()).wants(t, "no rows", 0, "made: volumes 0, attachments 0, next number 1, format 2\n", "")
 	has(t, cluster, name+"/meta", `{"format_no":2,"next_number":1}`)
-	moves(t, "", "--new", cluster.Endpoints()).wants(t, "once more", 0, "stands: next number 1, format 2\n", "")
+	moves(t, "", "--new", cluster.Endpoints()).wants(t, "once more", 0, "exists: next number 1, format 2\n", "")
 	p := start(t, cluster.Endpoints(), "--existing").leads(t)
 	p.dial(t).commits(t, addVolume(1, "a"))
-	moves(t, "", "--new", cluster.Endpoints()).wants(t, "beside one that leads", 0, "stands: next number 2, format 2\n", "")
+	moves(t, "", "--new", cluster.Endpoints()).wants(t, "beside one that leads", 0, "exists: next number 2, format 2\n", "")
 	cluster.Ctl(t, "del", name+"/meta")
 	moves(t, "", "--new", cluster.Endpoints()).wants(t, "a volume without meta", 1, "", "csid-etcd: --new: rows are there, and meta is not: an import was not ended\n")
 	put(t, client, name+"/meta", "{}")
-	moves(t, "", "--new", cluster.Endpoints()).wants(t, "a broken meta", 1, "", `csid-etcd: --new: meta: its value is not spelled {"format_no":NUMBER,"next_number":NUMBER}`+"\n")
+	moves(t, "", "--new", cluster.Endpoints()).wants(t, "a broken meta", 1, "", `csid-etcd: --new: meta: its value is not of the form {"format_no":NUMBER,"next_number":NUMBER}`+"\n")
 	cluster.Ctl(t, "del", name+"/meta")
 	cluster.Ctl(t, "del", name+"/volumes/00000000000000000001")
 	p.dial(t).wants(t, makePath, "", codes.FailedPrecondition, "there are no rows, and none are made")
@@ -110,7 +110,7 @@ func TestMoves(t *testing.T) {
 	}{{p, "me"}, {waits, "you"}} {
 		got := moves(t, threeRows, "--import", cluster.Endpoints())
 		if got.status != 1 || got.said != "" || !strings.HasPrefix(got.fail, "csid-etcd: --import: lock/") ||
-			!strings.HasSuffix(got.fail, " has the lock or waits for it, and has to be stopped before; nothing was written\n") {
+			!strings.HasSuffix(got.fail, " has the lock or waits for it, and must be stopped first; nothing was written\n") {
 			t.Errorf("beside a program that leads: %v", got)
 		}
 		holder.Terminate(t)
@@ -137,8 +137,8 @@ func TestMoves(t *testing.T) {
 	// Of a broken row nothing is committed.
 	moves(t, threeRows, "--import", cluster.Endpoints()).wants(t, "an import again", 0, threeSaid, "")
 	for key, why := range map[string]string{
-		"volumes/00000000000000000002":       `its value is not spelled {"name":TEXT,"bytes":NUMBER,"pool":TEXT,"caps":HEX,"params":HEX}`,
-		"attachments/00000000000000000001/o": `its value is not spelled {"cap":HEX,"readonly":0 or 1}`,
+		"volumes/00000000000000000002":       `its value is not of the form {"name":TEXT,"bytes":NUMBER,"pool":TEXT,"caps":HEX,"params":HEX}`,
+		"attachments/00000000000000000001/o": `its value is not of the form {"cap":HEX,"readonly":0 or 1}`,
 		"volumes/2":                          "its key has no number of 20 digits",
 		"lock":                               "no row has such a key",
 		"lock0":                              "no row has such a key",
@@ -153,7 +153,7 @@ func TestMoves(t *testing.T) {
 		cluster.Ctl(t, "del", name+"/"+key)
 	}
 	for value, why := range map[string]string{
-		"{}":                              `its value is not spelled {"format_no":NUMBER,"next_number":NUMBER}`,
+		"{}":                              `its value is not of the form {"format_no":NUMBER,"next_number":NUMBER}`,
 		`{"format_no":3,"next_number":2}`: "its format is 3, and that of rows in etcd 2",
 	} {
 		put(t, client, name+"/meta", value)
@@ -184,7 +184,7 @@ func TestMovesWithoutEtcd(t *testing.T) {
 		t.Skipf("left out: a full disk: %v", err)
 	}
 	defer full.Close()
-	// The second --new finds the row that stands, and the export the rows of the import.
+	// The second --new finds the row that exists, and the export the rows of the import.
 	for _, how := range []string{"--new", "--new", "--import", "--export"} {
 		if how == "--import" {
 			cluster.Ctl(t, "del", name+"/meta")
@@ -240,7 +240,7 @@ func TestImportStopped(t *testing.T) {
 	between, p := begunImport(t, cluster, lines)
 	put(t, client, name+"/lock/1", "me")
 	between.letGo()
-	wantsRest(t, cluster, p, "csid-etcd: --import: lock/1: me has the lock or waits for it, and has to be stopped before; ", count)
+	wantsRest(t, cluster, p, "csid-etcd: --import: lock/1: me has the lock or waits for it, and must be stopped first; ", count)
 	cluster.Ctl(t, "del", name+"/lock/1")
 	moves(t, lines, "--import", cluster.Endpoints()).wants(t, "a further import", 1, "", "csid-etcd: --import: attachments/00000000000000000002/node-2: it is there already; nothing was written\n")
 	log := start(t, cluster.Endpoints()).leads(t)
@@ -262,7 +262,7 @@ func TestImportStopped(t *testing.T) {
 	between, p = begunImport(t, cluster, lines)
 	cluster.Ctl(t, "del", "--prefix", name+"/")
 	between.letGo()
-	wantsRest(t, cluster, p, "csid-etcd: --import: volumes/00000000000000000001: it was taken away meanwhile; ", count)
+	wantsRest(t, cluster, p, "csid-etcd: --import: volumes/00000000000000000001: it was removed in the meantime; ", count)
 	cluster.Ctl(t, "del", "--prefix", name+"/")
 
 	// A row that is put by hand in the middle is not written over.
@@ -329,5 +329,5 @@ func TestImportLongRows(t *testing.T) {
 	}
 	cluster.Ctl(t, "del", "--prefix", name+"/")
 	moves(t, firstRow+long(2, 400000)+metaRow, "--import", cluster.Endpoints()).wants(t, "a row that is too long", 1, "",
-		"csid-etcd: --import: volumes/00000000000000000002: etcdserver: request is too large; 1 of 3 rows were written: take them away, and begin anew\n")
+		"csid-etcd: --import: volumes/00000000000000000002: etcdserver: request is too large; 1 of 3 rows were written: remove them, and start again\n")
 }

@@ -42,7 +42,7 @@ func TestArguments(t *testing.T) {
 	}{
 		{[]string{"--version"}, 0, "csid-etcd " + string(version), ""},
 		{[]string{"--name", name}, 2, "", "csid-etcd: --listen: the path of a socket is missing\n"},
-		{[]string{"--name", name, "--listen", at("file")}, 7, "", "csid-etcd: " + at("file") + ": a file stands there that is no socket\n"},
+		{[]string{"--name", name, "--listen", at("file")}, 7, "", "csid-etcd: " + at("file") + ": a file exists there that is no socket\n"},
 		{[]string{"--name", name, "--listen", at("answered.sock")}, 7, "", "csid-etcd: " + at("answered.sock") + ": somebody answers on it already\n"},
 		{[]string{"--name", name, "--listen", at("log.sock"), "--revision", at("revision")}, 1, "", "csid-etcd: --revision: " + at("revision") + ": it has no revision\n"},
 	}
@@ -97,7 +97,7 @@ func TestBeforeEtcd(t *testing.T) {
 	begin := time.Now()
 	reply, err := l.call(readPath, nil)
 	if err != nil || reply.Code != codes.FailedPrecondition || !strings.HasPrefix(reply.Text, "waiting for the lock: ") || time.Since(begin) > 200*time.Millisecond {
-		t.Errorf("%v, %v, behind %v", reply, err, time.Since(begin))
+		t.Errorf("%v, %v, after %v", reply, err, time.Since(begin))
 	}
 	cluster.StartAll(t)
 	p.leads(t)
@@ -143,7 +143,7 @@ func TestEndWithoutEtcd(t *testing.T) {
 		}
 		status := p.Status(t)
 		if took := time.Since(begin); status != wanted || took > limit || (!isTwice && took < 500*time.Millisecond) {
-			t.Errorf("twice %v: %d behind %v: %s", isTwice, status, took, p.Log)
+			t.Errorf("twice %v: %d after %v: %s", isTwice, status, took, p.Log)
 		}
 		if _, err := os.Lstat(p.Socket); err == nil {
 			t.Errorf("twice %v: the socket stands", isTwice)

@@ -6,7 +6,7 @@ import (
 	"testing"
 )
 
-// proxy stands between a csid-etcd and a member of etcd, and hands bytes on, unless it is told otherwise.
+// proxy is between a csid-etcd and a member of etcd, and hands bytes on, unless it is asked otherwise.
 type proxy struct {
 	listener net.Listener
 	member   string

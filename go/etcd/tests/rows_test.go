@@ -123,7 +123,7 @@ func TestMalformedFrame(t *testing.T) {
 		t.Errorf("%d %q, %v, wanted %q", reply.Code, reply.Text, err, want)
 	}
 	if reply, err := l.call(readPath, nil); err == nil {
-		t.Errorf("behind a malformed frame: %v", reply)
+		t.Errorf("after a malformed frame: %v", reply)
 	}
 }
 
@@ -159,7 +159,7 @@ func TestChangedMeanwhile(t *testing.T) {
 		switch {
 		case reply.Code == codes.OK:
 			made++
-		case reply.Code == codes.FailedPrecondition && reply.Text == "volumes/00000000000000000001 was changed meanwhile":
+		case reply.Code == codes.FailedPrecondition && reply.Text == "volumes/00000000000000000001 was changed in the meantime":
 			refused++
 		default:
 			t.Fatalf("%d %q", reply.Code, reply.Text)
@@ -236,7 +236,7 @@ func TestManyRows(t *testing.T) {
 	if err != nil {
 		t.Fatal(err)
 	}
-	t.Logf("%d volumes and %d attachments in %d pages in %v, beside %d changes; %d rows behind them", volumes, attachments, pages, took, changes, len(again))
+	t.Logf("%d volumes and %d attachments in %d pages in %v, beside %d changes; %d rows after them", volumes, attachments, pages, took, changes, len(again))
 	if volumes > count || volumes < count-changes || attachments != count/2 || pages < 5 || len(again) >= len(read) {
 		t.Errorf("%d volumes, %d attachments, %d pages", volumes, attachments, pages)
 	}

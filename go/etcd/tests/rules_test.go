@@ -15,7 +15,7 @@ import (
 	"./clusters"
 )
 
-// volumeRow and attachmentRow are rows as they stand in etcd: a key without the name of the plugin, and a value.
+// volumeRow and attachmentRow are rows as they are in etcd: a key without the name of the plugin, and a value.
 func volumeRow(number int, called string, mebibytes int, pool, caps, params string) [2]string {
 	return [2]string{fmt.Sprintf("volumes/%020d", number), fmt.Sprintf(`{"name":"%s","bytes":%d,"pool":"%s","caps":"%s","params":"%s"}`, called, mebibytes<<20, pool, caps, params)}
 }

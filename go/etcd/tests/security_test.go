@@ -155,7 +155,7 @@ func TestUser(t *testing.T) {
 	l.refuses(t, removeVolume(1), codes.FailedPrecondition, "attachments/00000000000000000001/n is there")
 	l.commits(t, detachAll(1))
 	l.commits(t, setMutable(1, "\x42\x00"))
-	// What was granted is taken away, and given again. The first change behind that shows that a token of before does.
+	// What was granted is taken away, and given again. The first change after that shows that a token of before does.
 	cluster.Ctl(t, "role", "revoke-permission", "csid", name+"/", "--prefix")
 	l.refuses(t, addVolume(2, "b"), codes.Internal, "etcdserver: permission denied")
 	cluster.Ctl(t, "role", "grant-permission", "csid", "readwrite", name+"/", "--prefix")
@@ -168,10 +168,10 @@ func TestUser(t *testing.T) {
 	cluster.Type(t, "between\n", "user", "passwd", "csid", "--interactive=false")
 	p.says(t, "csid-etcd: leads no more: etcdserver: authentication failed, invalid user ID or password\n")
 	waiting.says(t, "csid-etcd: no lock: etcdserver: authentication failed, invalid user ID or password\n")
-	behind := len(waiting.Log.String())
+	before := len(waiting.Log.String())
 	write("between\n")
 	processes.Eventually(t, "that the other one stands for the lock again", func() bool {
-		said := waiting.Log.String()[behind:]
+		said := waiting.Log.String()[before:]
 		return strings.Contains(said, "waits for the lock, which ") || strings.Contains(said, "leads, from revision ")
 	})
 	waiting.Terminate(t)

@@ -198,11 +198,11 @@ func (f *fleet) note(method string, why *status.Status, begin time.Time) {
 	}
 }
 
-// served tells whether a call was answered OK that was begun behind a time.
-func (f *fleet) served(behind time.Time) bool {
+// served reports whether a call was answered OK that was begun after a time.
+func (f *fleet) served(since time.Time) bool {
 	f.mutex.Lock()
 	defer f.mutex.Unlock()
-	return f.lastCall.After(behind)
+	return f.lastCall.After(since)
 }
 
 // give notes the id of a volume, which no other one has ever been given.
@@ -215,10 +215,10 @@ func (f *fleet) give(id, called string) {
 	f.given[id] = called
 }
 
-// holding is a volume of a caller: what it was told.
+// holding is a volume of a caller: what it was answered.
 type holding struct{ called, id, node, params string }
 
-// caller has some volumes that no other one touches, so what it was told is what has to be there.
+// caller has some volumes that no other one touches, so what it was answered is what must be there.
 type caller struct {
 	*fleet
 	number  int
@@ -229,7 +229,7 @@ type caller struct {
 
 var volumeID = regexp.MustCompile(`vol-[0-9]+`)
 
-// step makes one call that changes something, and notes what it was told.
+// step makes one call that changes something, and notes what it was answered.
 func (c *caller) step() {
 	if len(c.volumes) == 0 || (len(c.volumes) < 7 && c.random.Intn(3) == 0) {
 		c.create()
@@ -285,7 +285,7 @@ func (c *caller) create() {
 	c.volumes = append(c.volumes, v)
 }
 
-// wants makes a call that has to be answered OK, or refused by one of these texts.
+// wants makes a call that must be answered OK, or refused by one of these texts.
 func (c *caller) wants(method string, message []byte, refusals ...string) bool {
 	_, why := c.call(method, message)
 	if why.Code() == codes.OK {
@@ -300,7 +300,7 @@ func (c *caller) wants(method string, message []byte, refusals ...string) bool {
 	return false
 }
 
-// standing is the rows that callers were told, as keys and values of etcd.
+// standing is the rows that callers were answered, as keys and values of etcd.
 func standing(callers []*caller) (all []string) {
 	for _, c := range callers {
 		for _, v := range c.volumes {
@@ -338,7 +338,7 @@ func stored(client *clientv3.Client) (all []string, next int, err error) {
 }
 
 // watchRows looks at the rows again and again: at no revision is the pool overcommitted, a name twice there, a number above the next one, or an attachment
-// of no volume or beside another one.
+// of no volume or next to another one.
 func watchRows(t *testing.T, client *clientv3.Client, ctx context.Context) (looks int) {
 	for ; ctx.Err() == nil; time.Sleep(50 * time.Millisecond) {
 		all, next, err := stored(client)
@@ -403,7 +403,7 @@ func kills(t *testing.T) int {
 	return count
 }
 
-// victim is what is killed: by itself, or so that the csid-etcd of its stack is told to end, as a unit does that is bound to it.
+// victim is what is killed: on its own, or so that the csid-etcd of its stack is asked to end, as a unit does that is bound to it.
 type victim struct {
 	name    string
 	isBound bool
@@ -469,7 +469,7 @@ func TestStacks(t *testing.T) {
 	t.Logf("%d OK, answers beside them %v, %d volumes and attachments, next number %d, %d ids given, rows looked at %d times", f.oks, f.answers, len(all), next, len(f.given), <-looks)
 }
 
-// kill kills again and again, and wants that service is back within the lease and 2 s, behind a member of etcd within 10 s.
+// kill kills again and again, and wants that service is back within the lease and 2 s, after a member of etcd within 10 s.
 func (f *fleet) kill(client *clientv3.Client) {
 	t := f.t
 	random := rand.New(rand.NewSource(9))
@@ -501,7 +501,7 @@ func (f *fleet) kill(client *clientv3.Client) {
 			if time.Since(at) > 20*time.Second {
 				t.Fatalf("kill %d of %v of %s: no service\n%s\n%s\n%s", i, who, s.name, s.log.Log, s.csid.Log, s.front.Log)
 			}
-			// Another one is started in its place behind a moment.
+			// Another one is started instead after a moment.
 			if !revived && time.Since(at) > 200*time.Millisecond {
 				s.revive(t)
 				revived = true

@@ -28,7 +28,7 @@ func pair(t *testing.T, cluster *clusters.Cluster) (first, second program) {
 	return first, second
 }
 
-// leadsSince waits until the program leads again behind what its log had, and tells how long that took.
+// leadsSince waits until the program leads again after what its log had, and returns how long that took.
 func (p program) leadsSince(t *testing.T, before int) time.Duration {
 	t.Helper()
 	begin := time.Now()
@@ -36,7 +36,7 @@ func (p program) leadsSince(t *testing.T, before int) time.Duration {
 	return time.Since(begin)
 }
 
-// isWaiting tells whether a program refuses calls for want of the lock.
+// isWaiting reports whether a program refuses calls for want of the lock.
 func (p program) wantsWaiting(t *testing.T, holder string) {
 	t.Helper()
 	l := p.dial(t)
@@ -78,9 +78,9 @@ func TestStandby(t *testing.T) {
 			t.Errorf("it ended with %d: %s", status, first.Log)
 		}
 		if took > limit {
-			t.Errorf("killed %v: the other one led behind %v", isKilled, took)
+			t.Errorf("killed %v: the other one led after %v", isKilled, took)
 		}
-		t.Logf("killed %v: the other one led behind %v", isKilled, took.Round(time.Millisecond))
+		t.Logf("killed %v: the other one led after %v", isKilled, took.Round(time.Millisecond))
 		if _, err := os.Lstat(first.Socket); (err == nil) != isKilled {
 			t.Errorf("killed %v: the socket: %v", isKilled, err)
 		}
@@ -94,7 +94,7 @@ func TestStandby(t *testing.T) {
 	wantsTold(t, d, first)
 }
 
-// stop stops a program, and waits until each of its threads stands.
+// stop stops a program, and waits until each of its threads has stopped.
 func (p program) stop(t *testing.T) {
 	t.Helper()
 	if err := p.Cmd.Process.Signal(syscall.SIGSTOP); err != nil {
@@ -127,7 +127,7 @@ func TestStopped(t *testing.T) {
 		if err != nil {
 			t.Fatal(err)
 		}
-		d.told, d.open = nil, nil
+		d.known, d.open = nil, nil
 		if err := d.compare(read); err != nil {
 			t.Fatal(err)
 		}
@@ -142,7 +142,7 @@ func TestStopped(t *testing.T) {
 		end := d.begin()
 		took := second.leadsSince(t, before)
 		if took > leaseLength+2*time.Second {
-			t.Errorf("the other one led behind %v", took)
+			t.Errorf("the other one led after %v", took)
 		}
 		time.Sleep(2*leaseLength - took)
 		stoppedLog := len(first.Log.String())
@@ -161,7 +161,7 @@ func TestStopped(t *testing.T) {
 			return strings.Contains(first.Log.String()[stoppedLog:], "which second holds") || strings.Contains(first.Log.String()[stoppedLog:], "which first holds")
 		})
 		end()
-		t.Logf("the other one led behind %v; let go, the connection was closed or refused behind %v; %v", took.Round(time.Millisecond), closed.Round(time.Millisecond), d)
+		t.Logf("the other one led after %v; let go, the connection was closed or refused after %v; %v", took.Round(time.Millisecond), closed.Round(time.Millisecond), d)
 		wantsTold(t, d, second)
 		first, second = second, first
 	}
@@ -223,7 +223,7 @@ func TestLockTakenAway(t *testing.T) {
 	p.leadsSince(t, before)
 	second := p.dial(t)
 	second.wants(t, readPath, "", codes.OK, "0a04 0802 1001 2200")
-	// The key is put again by hand: what comes next is refused, and then made behind a fence.
+	// The key is put again by hand: what comes next is refused, and then made after a fence.
 	lines = strings.Split(cluster.Ctl(t, "get", "--prefix", name+"/lock/"), "\n")
 	cluster.Ctl(t, "put", "--ignore-lease", lines[0], "other")
 	second.refuses(t, addVolume(1, "a"), codes.FailedPrecondition, "the key of the lock was put again")

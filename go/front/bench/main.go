@@ -1,4 +1,4 @@
-// bench measures calls through the front beside the same calls to csid alone over its socket, or beside a driver in Go (bench/front runs it), and how
+// bench measures calls through the front next to the same calls to csid alone over its socket, or next to a driver in Go (bench/front runs it), and how
 // service comes back after a stop of csid, and under callers who give up (go/front/stalls does).
 //
 // usage: bench calls CSID FRONT [ROUNDS]

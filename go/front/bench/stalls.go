@@ -133,7 +133,7 @@ func (c *crowd) servedSince(begin time.Time) (callers int) {
 	return callers
 }
 
-// until waits until so many callers had a call done since then, and tells how long that took.
+// until waits until so many callers had a call done since then, and returns how long that took.
 func (c *crowd) until(begin time.Time, callers int) (time.Duration, error) {
 	for time.Since(begin) < waited {
 		if c.servedSince(begin) >= callers {
@@ -172,7 +172,7 @@ func behindFront(program, front, tables string, do func(csid *os.Process, csidSo
 
 // opening is how long csid takes from a connection to its first reply, where it has no other one.
 func opening(socket string) (time.Duration, error) {
-	// The first one waits behind that by which the socket was looked for.
+	// The first one waits after that by which the socket was looked for.
 	if _, err := firstReply(socket); err != nil {
 		return 0, err
 	}
@@ -190,7 +190,7 @@ func firstReply(socket string) (time.Duration, error) {
 	return time.Since(begin), err
 }
 
-// stop stops csid for a while under callers that repeat, and tells when they were served again.
+// stop stops csid for a while under callers that repeat, and returns when they were served again.
 func stop(csid *os.Process, csidSocket, socket string) error {
 	opened, err := opening(csidSocket)
 	if err != nil {
@@ -216,7 +216,7 @@ func stop(csid *os.Process, csidSocket, socket string) error {
 	return comesBack(crowd, opened)
 }
 
-// comesBack tells when callers were served again, and whether that is soon enough.
+// comesBack returns when callers were served again, and whether that is soon enough.
 func comesBack(crowd *crowd, opened time.Duration) error {
 	begin := time.Now()
 	first, err := crowd.until(begin, 1)
@@ -230,7 +230,7 @@ func comesBack(crowd *crowd, opened time.Duration) error {
 	before, _ := crowd.counts()
 	time.Sleep(behindStop)
 	done, lost := crowd.counts()
-	fmt.Printf("behind the stop the first of %d callers was served after %d ms, the last after %d ms; then %.0f calls/s; lost %d calls\n",
+	fmt.Printf("after the stop the first of %d callers was served after %d ms, the last after %d ms; then %.0f calls/s; lost %d calls\n",
 		stopCallers, first.Milliseconds(), all.Milliseconds(), float64(done-before)/behindStop.Seconds(), lost)
 	if all > allowed+opened {
 		return fmt.Errorf("service came back after %v, and not within %v and one opening of the file", all, allowed)
@@ -258,7 +258,7 @@ func crowdIn(socket string, peers int, sent []byte) (end func(), err error) {
 	return end, nil
 }
 
-// quiet tells how long a call waits behind peers that stay and send nothing, or garbage: one over a connection of its own, and then the
+// quiet returns how long a call waits after peers that stay and send nothing, or garbage: one over a connection of its own, and then the
 // front's first one.
 func quiet(_ *os.Process, csidSocket, socket string) error {
 	opened, err := opening(csidSocket)
@@ -286,10 +286,10 @@ func quiet(_ *os.Process, csidSocket, socket string) error {
 		return err
 	}
 	took := time.Since(begin)
-	fmt.Printf("a file opened in %d ms; behind %d silent and %d garbage peers a connection was answered after %d ms, and the front's after %d ms\n",
+	fmt.Printf("a file opened in %d ms; after %d silent and %d garbage peers a connection was answered after %d ms, and the front's after %d ms\n",
 		opened.Milliseconds(), quietPeers, quietPeers, own.Milliseconds(), took.Milliseconds())
 	if own > allowed+opened || took > allowed+opened {
-		return fmt.Errorf("a call behind quiet peers waited for longer than %v and one opening of the file", allowed)
+		return fmt.Errorf("a call after quiet peers waited for longer than %v and one opening of the file", allowed)
 	}
 	return nil
 }

@@ -50,7 +50,7 @@ func (f *fake) dropsLate(t *testing.T, front *client, let chan struct{}) {
 	}
 }
 
-// gaveUp tells whether the front logged that a call ended by its deadline or its caller: a client whose deadline is over cancels its
+// gaveUp reports whether the front logged that a call ended by its deadline or its caller: a client whose deadline is over cancels its
 // call, which the front may learn before its own clock says so.
 func gaveUp(front *processes.Process, path string) bool {
 	log := front.Log.String()
@@ -86,7 +86,7 @@ func TestClientThatGoesAway(t *testing.T) {
 	csid.dropsLate(t, newClient(t, process.Socket), let)
 }
 
-// A late reply that is none, breaks off, or has something behind it ends the connection, as ever.
+// A late reply that is none, breaks off, or has something after it ends the connection, as ever.
 func TestLateReplyThatIsWrong(t *testing.T) {
 	t.Parallel()
 	rows := map[string]step{

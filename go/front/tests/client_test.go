@@ -42,7 +42,7 @@ func ok(body string) answer { return answer{codes.OK, "", strings.ReplaceAll(bod
 
 func refused(code codes.Code, text string) answer { return answer{code, text, ""} }
 
-// client is an orchestrator's sidecar, as far as the front can tell.
+// client is an orchestrator's sidecar, as far as the front can say.
 type client struct{ *grpc.ClientConn }
 
 func newClient(t *testing.T, socket string) *client {
@@ -89,7 +89,7 @@ func (c *client) wants(t *testing.T, path, message string, want answer) {
 	}
 }
 
-// isLost makes a call whose outcome has to stay open, so that an orchestrator repeats it.
+// isLost makes a call whose outcome must stay open, so that an orchestrator repeats it.
 func (c *client) isLost(t *testing.T, path, message string) {
 	t.Helper()
 	if got := c.call(t, path, message); got.code != codes.Unavailable || !strings.HasPrefix(got.text, "csid: ") {

@@ -114,7 +114,7 @@ func create(ctx context.Context, front *client, name string) (string, answer) {
 
 var volumeID = regexp.MustCompile(`vol-[0-9]+`)
 
-// list gives the ids of all volumes, page after page: a page that begins behind the last volume is empty.
+// list gives the ids of all volumes, page after page: a page that begins after the last volume is empty.
 func list(t *testing.T, front *client) (ids []string) {
 	t.Helper()
 	for token := ""; ; {
@@ -132,13 +132,13 @@ func list(t *testing.T, front *client) (ids []string) {
 	}
 }
 
-// book is the volumes that callers were told of, by name.
+// book is the volumes that callers were answered, by name.
 type book struct {
 	mutex sync.Mutex
 	ids   map[string]string
 }
 
-// note notes a volume that was told, and says so where the name was told another one before.
+// note notes a volume that was reported, and says so where the name had another one before.
 func (b *book) note(t *testing.T, name, id string) {
 	b.mutex.Lock()
 	defer b.mutex.Unlock()
@@ -151,7 +151,7 @@ func (b *book) note(t *testing.T, name, id string) {
 	b.ids[name] = id
 }
 
-// isListed compares the volumes that were told with those that stand: each once, and no others.
+// isListed compares the volumes that were reported with those that exist: each once, and no others.
 func (b *book) isListed(t *testing.T, front *client) {
 	t.Helper()
 	stand := map[string]bool{}
@@ -173,7 +173,7 @@ func (b *book) isListed(t *testing.T, front *client) {
 	}
 }
 
-// Callers who share names are told the same volume, and each name has one.
+// Callers who share names are answered the same volume, and each name has one.
 func TestConcurrentCallers(t *testing.T) {
 	t.Parallel()
 	const callers, names = 8, 40
@@ -199,7 +199,7 @@ func TestConcurrentCallers(t *testing.T) {
 	told.isListed(t, newClient(t, socket))
 }
 
-// createThrough makes volumes while csid is killed and started again several times. A caller is told of an open outcome at
+// createThrough makes volumes while csid is killed and started again several times. A caller is answered an open outcome at
 // worst, and repeats.
 func createThrough(t *testing.T, csid *processes.Server, socket string) *book {
 	const callers, names, kills = 4, 150, 3
@@ -238,7 +238,7 @@ func createThrough(t *testing.T, csid *processes.Server, socket string) *book {
 	return told
 }
 
-// A csid that is killed costs the calls of that time; the front finds the next one by itself.
+// A csid that is killed costs the calls of that time; the front finds the next one on its own.
 func TestCsidThatIsKilled(t *testing.T) {
 	t.Parallel()
 	csid := processes.NewServer(t, roomy).Start(t)
@@ -284,7 +284,7 @@ func TestImpatientCallers(t *testing.T) {
 	told.isListed(t, newClient(t, socket))
 }
 
-// A csid that stands still for a while is met by no further connection, and serves every caller once it goes on.
+// A csid that hangs for a while is met by no further connection, and serves every caller once it goes on.
 func TestCsidThatStandsStill(t *testing.T) {
 	t.Parallel()
 	const callers, still = 20, 1500 * time.Millisecond
@@ -331,7 +331,7 @@ func TestCsidThatIsStartedAgain(t *testing.T) {
 	front.wants(t, probe, "", ok(ready))
 }
 
-// While there is no csid, calls are told so at once, and it may come later than the front.
+// While there is no csid, calls are answered so at once, and it may come later than the front.
 func TestCsidThatIsAway(t *testing.T) {
 	t.Parallel()
 	csid := processes.NewServer(t, "")
@@ -375,7 +375,7 @@ func TestTenThousandCalls(t *testing.T) {
 	calls(10000)
 }
 
-// A connection that csid closes as idle costs no call, also where that is just when the next one is sent; and who else waits is served meanwhile.
+// A connection that csid closes as idle costs no call, also where that is just when the next one is sent; and who else waits is served in the meantime.
 func TestIdleConnection(t *testing.T) {
 	t.Parallel()
 	folder := processes.Folder(t)

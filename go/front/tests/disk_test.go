@@ -16,7 +16,7 @@ import (
 	"./processes"
 )
 
-// How soon service has to be back once a fault has passed.
+// How soon service must be back once a fault has passed.
 const soonBack = 2 * time.Second
 
 // smallDisk is a folder with so many bytes.
@@ -48,7 +48,7 @@ func fill(t *testing.T, path string) {
 	}
 }
 
-// back creates a volume of a name again and again, and tells its id and how long it took.
+// back creates a volume of a name again and again, and says its id and how long it took.
 func back(t *testing.T, front *client, name string) (string, time.Duration) {
 	t.Helper()
 	for begin := time.Now(); ; time.Sleep(10 * time.Millisecond) {
@@ -62,8 +62,8 @@ func back(t *testing.T, front *client, name string) (string, time.Duration) {
 	}
 }
 
-// While the disk is full each change is told to be open, and what needs none is answered. Once there is room again service is back, though
-// nobody started anything again, and the rows are those of the volumes that were told.
+// While the disk is full each change is reported to be open, and what needs none is answered. Once there is room again service is back, though
+// nobody started anything again, and the rows are those of the volumes that were reported.
 func TestFullDisk(t *testing.T) {
 	t.Parallel()
 	disk := smallDisk(t, 1<<20)

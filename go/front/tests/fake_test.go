@@ -26,13 +26,13 @@ type step struct {
 	mute bool
 }
 
-// fake stands for a csid: it serves one connection at a time, and takes a step a frame; once there are no more it is ready.
+// fake represents a csid: it serves one connection at a time, and takes a step a frame; once there are no more it is ready.
 type fake struct {
 	// Where it listens; where that is empty, in a folder of its own.
 	socket string
 	mutex  sync.Mutex
 	steps  []step
-	// The messages of the frames that were read, in hexadecimal, behind their paths.
+	// The messages of the frames that were read, in hexadecimal, after their paths.
 	calls []string
 	// How many connections came to an end, and how many bytes of a frame were left when the last one did.
 	ends int
@@ -128,7 +128,7 @@ func (f *fake) serve(conn net.Conn) {
 	f.rest = rest
 }
 
-// answer takes a step, and tells whether the connection goes on.
+// answer takes a step, and reports whether the connection goes on.
 func (f *fake) answer(conn net.Conn, call string) bool {
 	f.mutex.Lock()
 	f.calls = append(f.calls, call)

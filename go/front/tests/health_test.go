@@ -58,7 +58,7 @@ func TestHealth(t *testing.T) {
 	}
 }
 
-// A csid that stands still does not serve, and that is told within a short time, but not before 5 seconds.
+// A csid that hangs does not serve, and that is reported within a short time, but not before 5 seconds.
 func TestHealthWhileCsidStandsStill(t *testing.T) {
 	t.Parallel()
 	csid := startFake(t, step{mute: true})

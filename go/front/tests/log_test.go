@@ -110,7 +110,7 @@ func TestLogOfChanges(t *testing.T) {
 	}
 }
 
-// What the HTTP server of --metrics says by itself is a line as any other.
+// What the HTTP server of --metrics says on its own is a line as any other.
 func TestLogOfTheHTTPServer(t *testing.T) {
 	t.Parallel()
 	process, monitor := watched(t, startFake(t).socket)

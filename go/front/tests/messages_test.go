@@ -20,7 +20,7 @@ import (
 	"./processes"
 )
 
-// Beyond the bound of the messages that wait a call is refused at once; one without a message never is, and behind the call that held the
+// Beyond the bound of the messages that wait a call is refused at once; one without a message never is, and after the call that held the
 // room there is room again.
 func TestMessagesThatWait(t *testing.T) {
 	t.Parallel()
@@ -124,7 +124,7 @@ func TestManyGreatMessages(t *testing.T) {
 }
 
 // Callers that never send their messages, as many as a client can have, hold up the others for a while at most, and take no room. Those that nobody
-// waits behind are served themselves once they send them.
+// waits after are served themselves once they send them.
 func TestMessagesThatNeverCome(t *testing.T) {
 	t.Parallel()
 	const calls, places = 256, 16
@@ -164,10 +164,10 @@ func TestMessagesThatNeverCome(t *testing.T) {
 		return served
 	}
 	if served := ends(streams); served >= places {
-		t.Errorf("%d of those that others wait behind were served", served)
+		t.Errorf("%d of those that others wait after were served", served)
 	}
 	if served := ends(begins(places)); served != places {
-		t.Errorf("%d of those that nobody waits behind were served", served)
+		t.Errorf("%d of those that nobody waits after were served", served)
 	}
 }
 
@@ -216,7 +216,7 @@ func TestHeadersThatAreTooLong(t *testing.T) {
 	csid.sees(t, "/a/short ", "/a/then ")
 }
 
-// How many calls a client may have, what of a message it may send before that is received, and how long its headers may be, is told as it connects.
+// How many calls a client may have, what of a message it may send before that is received, and how long its headers may be, is reported as it connects.
 func TestBoundsOfAClient(t *testing.T) {
 	t.Parallel()
 	conn, framer := speak(t, processes.StartFront(t, startFake(t).socket).Socket)

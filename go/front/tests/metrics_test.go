@@ -20,14 +20,14 @@ import (
 
 const getCapacity = controller + "GetCapacity"
 
-// watched is a front that tells metrics, and where it does.
+// watched is a front that serves metrics, and where it does.
 func watched(t *testing.T, csid string, words ...string) (*processes.Process, string) {
 	t.Helper()
 	front := processes.StartFront(t, csid, append([]string{"--metrics", "127.0.0.1:0"}, words...)...)
 	return front, monitorOf(t, front)
 }
 
-// monitorOf is where a front tells metrics.
+// monitorOf is where a front serves metrics.
 func monitorOf(t *testing.T, front *processes.Process) string {
 	t.Helper()
 	var told []string
@@ -54,7 +54,7 @@ func get(t *testing.T, url string) (int, string) {
 	return answer.StatusCode, string(text)
 }
 
-// series is each series that a front tells of itself, with its value; the parts of histograms only by their counts.
+// series is each series that a front reports itself, with its value; the parts of histograms only by their counts.
 func series(t *testing.T, monitor string) map[string]string {
 	t.Helper()
 	status, text := get(t, monitor+"/metrics")
@@ -138,7 +138,7 @@ func TestMetrics(t *testing.T) {
 		`csid_front_available_capacity_bytes{topology="zone=a"}`: "0",
 	})
 	for name, value := range map[string]string{
-		// One more behind each reply with status 13.
+		// One more after each reply with status 13.
 		"csid_front_connections_total":         "3",
 		"csid_front_connection_failures_total": "0",
 		"csid_front_waiting_calls":             "0",
@@ -168,11 +168,11 @@ func TestMetricsBeforeAnyCall(t *testing.T) {
 			t.Errorf("%s is %q", name, got[name])
 		}
 	}
-	// Without --standby it is not told: the alerts count the fronts that have it.
+	// Without --standby it is not reported: the alerts count the fronts that have it.
 	wantsSeries(t, got, "csid_front_standing_by", nil)
 }
 
-// The version is told, and what Go and the process take.
+// The version is reported, and what Go and the process take.
 func TestMetricsOfTheProcess(t *testing.T) {
 	t.Parallel()
 	number, err := os.ReadFile("../../../VERSION")
@@ -206,7 +206,7 @@ func TestMetricsOfInventedMethods(t *testing.T) {
 	}
 }
 
-// While csid stands still, who watches is told so within a short time, and which calls wait; the histogram has how long they took.
+// While csid hangs, who watches learns so within a short time, and which calls wait; the histogram has how long they took.
 func TestMetricsWhileCsidStandsStill(t *testing.T) {
 	t.Parallel()
 	let := make(chan struct{})
@@ -249,7 +249,7 @@ func TestMetricsWhileCsidStandsStill(t *testing.T) {
 	}
 }
 
-// A capacity that is not told in time is left out, and the scrape is answered all the same.
+// A capacity that is not reported in time is left out, and the scrape is answered all the same.
 func TestMetricsWithoutACapacityInTime(t *testing.T) {
 	t.Parallel()
 	_, monitor := watched(t, startFake(t, step{write: okFrame(ready)}, step{mute: true}).socket)
@@ -258,7 +258,7 @@ func TestMetricsWithoutACapacityInTime(t *testing.T) {
 	wantsSeries(t, got, "csid_front_available_capacity_bytes", nil)
 }
 
-// While csid stands still, scrapes beyond the fourth are turned away.
+// While csid hangs, scrapes beyond the fourth are turned away.
 func TestScrapesAtOnce(t *testing.T) {
 	t.Parallel()
 	_, monitor := watched(t, startFake(t, step{mute: true}).socket)
@@ -363,7 +363,7 @@ func TestHealthOverHTTP(t *testing.T) {
 	}
 }
 
-// A front whose metrics cannot be told does not start, and leaves no socket.
+// A front whose metrics cannot be reported does not start, and leaves no socket.
 func TestMetricsThatCannotBeTold(t *testing.T) {
 	t.Parallel()
 	csid := startFake(t)

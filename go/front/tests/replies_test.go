@@ -88,7 +88,7 @@ func losesOneCall(t *testing.T, does step) {
 	csid.sees(t, "/a/b 01", probe+" ")
 }
 
-// eachLosesOneCall does so with each of these replies, behind which csid closes the connection, or doesn't.
+// eachLosesOneCall does so with each of these replies, after which csid closes the connection, or doesn't.
 func eachLosesOneCall(t *testing.T, replies map[string][]byte, closes bool) {
 	t.Helper()
 	for name, reply := range replies {
@@ -116,21 +116,21 @@ func TestMalformedReplies(t *testing.T) {
 	eachLosesOneCall(t, rows, false)
 }
 
-// A connection that breaks in a call leaves the outcome open, and the front doesn't send the call again by itself.
+// A connection that breaks in a call leaves the outcome open, and the front doesn't send the call again on its own.
 func TestConnectionThatBreaks(t *testing.T) {
 	t.Parallel()
 	rows := map[string][]byte{
-		"before the reply":  nil,
-		"in the text":       fromHex(t, "05 0004 41"),
-		"before the flag":   fromHex(t, "00 0000"),
-		"in the body":       fromHex(t, "00 0000 00 00000004 0a02"),
-		"before the body":   fromHex(t, "00 0000 00 00000004"),
-		"behind the status": fromHex(t, "00"),
+		"before the reply": nil,
+		"in the text":      fromHex(t, "05 0004 41"),
+		"before the flag":  fromHex(t, "00 0000"),
+		"in the body":      fromHex(t, "00 0000 00 00000004 0a02"),
+		"before the body":  fromHex(t, "00 0000 00 00000004"),
+		"after the status": fromHex(t, "00"),
 	}
 	eachLosesOneCall(t, rows, true)
 }
 
-// A connection that csid closes in place of a reply is told as that, also where it read nothing of the call.
+// A connection that csid closes instead of a reply is reported as that, also where it read nothing of the call.
 func TestUnansweredCall(t *testing.T) {
 	t.Parallel()
 	unanswered := refused(codes.Unavailable, "csid: the connection was closed unanswered: see the log of csid")
@@ -147,7 +147,7 @@ func TestUnansweredCall(t *testing.T) {
 	}
 }
 
-// What comes unasked behind a good reply is no reply of the next call.
+// What comes unasked after a good reply is no reply of the next call.
 func TestReplyThatNobodyAskedFor(t *testing.T) {
 	t.Parallel()
 	csid, front := behindFront(t, step{write: append(okFrame("01"), okFrame("02")...)})

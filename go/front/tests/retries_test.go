@@ -21,7 +21,7 @@ max_volumes = 1000
 // oneCall is the path of a call, and its message in hexadecimal digits.
 type oneCall struct{ path, message string }
 
-// lives are the calls of so many volumes, one after the other. Of four volumes one stands at the end, and one is published.
+// lives are the calls of so many volumes, in order. Of four volumes one is at the end, and one is published.
 func lives(volumes int) (calls []oneCall) {
 	text := func(field byte, text string) string { return fmt.Sprintf("%02x%02x%x", field, len(text), text) }
 	const mode1 = "1a060a001a020801"

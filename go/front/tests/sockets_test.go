@@ -142,7 +142,7 @@ func TestTermDuringACall(t *testing.T) {
 	running.csid.sees(t, "/a/b ")
 }
 
-// A socket of another front, which stands where that of the first was, outlives the first.
+// A socket of another front, which is where that of the first was, outlives the first.
 func TestTermBehindAnotherFront(t *testing.T) {
 	t.Parallel()
 	csid := startFake(t)

@@ -1,4 +1,4 @@
--- A listing is its entries, one behind the other, and then its token.
+-- A listing is its entries, in order, and then its token.
 use Rattle.std.proofs.Common.{◌≡◌, ◌∙◌, ap, ap₂, sym, refl, ℕ, List, [], ◌∷◌, ◌++◌}
 use Rattle.std.proofs.lemmas.Grind.{flat_map-append}
 use Rattle.std.proofs.lemmas.List.{append-nil}
@@ -41,7 +41,7 @@ listing_more es e =
     ∙ flat_map-append spelling (entry_fields es) (entry_fields (e ∷ []))
     ∙ ap₂ (λ (xs ys : List ℕ). xs ++ ys) (sym (entries_only es)) (sym (entries_only (e ∷ [])))
 
--- the token behind the entries
+-- the token after the entries
 pub listing_token : (es : List Entry) (token : List ℕ)
     → response_bytes (response.List es token) ≡ response_bytes (response.List es []) ++ response_bytes (response.List [] token)
 listing_token es token = in_parts es token ∙ ap₂ (λ (xs ys : List ℕ). xs ++ ys) (sym (entries_only es)) (sym (in_parts [] token))

@@ -1,5 +1,5 @@
 -- `VolumeCapability` and its `MountVolume` (CSI specification, csi.proto): what the fields mean, under which
--- numbers stand texts and embedded messages, and how a value is written.
+-- numbers are of texts and embedded messages, and how a value is written.
 use Rattle.std.specs.Prelude.{ℕ, Bool, List, [], ◌∷◌, Option, Some, None, ◌==◌, ◌||◌, if◌then◌else◌}
 use Rattle.csi_types.specs.declared.capability.Mount.{Mount}
 use Rattle.csi_types.specs.declared.capability.Access.{Access}

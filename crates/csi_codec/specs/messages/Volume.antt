@@ -1,5 +1,5 @@
 -- `Volume`, and what responses say of volumes (CSI specification, csi.proto): what the fields mean, under
--- which numbers stand texts and embedded messages, and how a value is written.
+-- which numbers are of texts and embedded messages, and how a value is written.
 use Rattle.std.specs.Prelude.{ℕ, List, [], ◌∷◌}
 use Rattle.csi_types.specs.declared.volume.VolumeInfo.{VolumeInfo}
 use Rattle.csi_types.specs.declared.volume.Entry.{Entry}

@@ -195,7 +195,7 @@ impl Message<Csi> for FreeCapacity {
     }
 }
 
-/// Appends a `GetPluginInfoResponse`. Where memory is refused a part of it may stand there, and so for the
+/// Appends a `GetPluginInfoResponse`. Where memory is refused a part of it may be there, and so for the
 /// others.
 pub fn put_plugin_info(out: &mut Vec<u8>, name: &Text, version: &Text) -> Result<(), AllocError>
     ensures ok { OnOk result (out.new.items ≡ out.old.items ++ bytes_of (canon_info (record {

@@ -85,7 +85,7 @@ fn set_mount(slot: &mut Access, alloc: Global, mount: Mount) -> Result<(), Alloc
     Ok(())
 }
 
-/// Merges a mount with its earlier occurrences, back to where another member stood. Where memory is refused,
+/// Merges a mount with its earlier occurrences, back to where another member was. Where memory is refused,
 /// no member is set.
 fn merge_mount(slot: &mut Access, alloc: Global, payload: &[u8]) -> Result<(), AllocError>
     requires { AreGood (GoodField (Good mount_schema)) payload.now }

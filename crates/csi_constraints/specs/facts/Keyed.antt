@@ -1,4 +1,4 @@
--- A scan whose rowids rise tells that no two rows share one.
+-- A scan whose rowids rise says that no two rows share one.
 use Rattle.std.proofs.Common.{◌≡◌, inl, inr, ◌∙◌, sym, ap, subst, ℕ, true, true≢false, List, [], ◌∷◌, map, drop, None, IsPermutation}
 use Rattle.std.specs.List.{AllByRecursion}
 use Rattle.std.specs.declared.cmp.Ordering.TheVariants.{Less}

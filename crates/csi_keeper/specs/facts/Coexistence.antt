@@ -1,4 +1,4 @@
--- Attachments that stand beside one another.
+-- Attachments that coexist.
 use Rattle.std.proofs.Common.{◌≡◌, ◌∙◌, ap, sym, refl, ◌==◌, ◌&&◌, ◌||◌, Bool, true, false, eq-eqb, eqb-true}
 use Rattle.csi_keeper.specs.Coexistence.{coexist, is_shared}
 use Rattle.csi_keeper.specs.declared.volume.Attachment.{Attachment}

@@ -24,7 +24,7 @@ both true b h = (tt, h)
 both false b h = absurd h
 
 module _ {K X : Type 0} {R : K → K → Ordering} (o : IsTotalOrder R) (exact : fin.IsAntisymmetric R) where
-  -- what stands after one more
+  -- what is after one more
   pub inserted : (m : fin.FinMap R X) (k : K) (x : X) (q : K) (v : X) → fin.get (fin.insert m k x) q ≡ Some v → ((q ≡ k) × (x ≡ v)) ⊎ (fin.get m q ≡ Some v)
   inserted m k x q v e = elim (eq_by_cmp R q k) as (λ b. eq_by_cmp R q k ≡ b → cond b (Some x) (fin.get m q) ≡ Some v → ((q ≡ k) × (x ≡ v))
       ⊎ (fin.get m q ≡ Some v)) [
@@ -39,7 +39,7 @@ module _ {K X : Type 0} {R : K → K → Ordering} (o : IsTotalOrder R) (exact :
     | false ↦ λ t. refl
   ] refl
 
-  -- what stands after one less
+  -- what is after one less
   pub removed : (m : fin.FinMap R X) (k q : K) (v : X) → fin.get (fin.remove m k) q ≡ Some v → (q ≡ k → ⊥) × (fin.get m q ≡ Some v)
   removed m k q v e = elim (eq_by_cmp R q k) as (λ b. eq_by_cmp R q k ≡ b → cond b None (fin.get m q) ≡ Some v → (q ≡ k → ⊥) × (fin.get m q ≡ Some v)) [
     | true ↦ λ t h. absurd (none_some v h)
@@ -56,7 +56,7 @@ module _ {K X : Type 0} {R : K → K → Ordering} (o : IsTotalOrder R) (exact :
         | false ↦ λ t. refl
       ] refl)
 
-  -- a key that is set anew is taken away and put
+  -- a key that is set again is taken away and put
   pub set_anew : (m : fin.FinMap R X) (k : K) (x : X) → fin.insert m k x ≡ fin.insert (fin.remove m k) k x
   set_anew m k x = fin.same_map o exact _ _ (λ q.
       fin.get-insert o m k x q
@@ -66,7 +66,7 @@ module _ {K X : Type 0} {R : K → K → Ordering} (o : IsTotalOrder R) (exact :
       ] refl
       ∙ sym (fin.get-insert o (fin.remove m k) k x q ∙ ap (cond (eq_by_cmp R q k) (Some x)) (fin.get-remove o m k q)))
 
-  -- what was put somewhere stands there
+  -- what was put somewhere is there
   pub put_there : (m : fin.FinMap R X) (k : K) (x : X) → fin.get (fin.insert m k x) k ≡ Some x
   put_there m k x = fin.get-insert o m k x k ∙ ap (λ b. cond b (Some x) (fin.get m k)) (ap is_eq (tied_itself o k))
 

@@ -16,7 +16,7 @@ use Rattle.csi_keeper.specs.facts.Sums.{in_order, count_cons, total_cons, measur
 abbrev Volumes : Type 0
 Volumes = fin.FinMap nat_cmp Volume
 
--- the volume of a number, where it is this one or stands beside it
+-- the volume of a number after the change, and the one that it was
 pub stood : (vs : Volumes) (n : ℕ) (m : TextMap) (q : ℕ) (w : Volume) → fin.get (mutable_set vs n m (fin.get vs n)) q ≡ Some w
     → (v : Volume) × (fin.get vs q ≡ Some v) × ((w ≡ v) ⊎ ((q ≡ n) × (w ≡ with_mutable m v)))
 stood vs n m q w e = go (fin.get vs n) refl e
@@ -28,7 +28,7 @@ stood vs n m q w e = go (fin.get vs n) refl e
       | inr b ↦ (w, b, inl refl)
     ]
 
--- a volume that stood stands, as it was or with the map
+-- a volume that existed exists, as it was or with the map
 pub stands : (vs : Volumes) (n : ℕ) (m : TextMap) (q : ℕ) (v : Volume) → fin.get vs q ≡ Some v
     → (w : Volume) × (fin.get (mutable_set vs n m (fin.get vs n)) q ≡ Some w) × ((w ≡ v) ⊎ ((q ≡ n) × (w ≡ with_mutable m v)))
 stands vs n m q v e = go (fin.get vs n) refl

@@ -1,4 +1,4 @@
--- What reads leave of a keeper, one after the other.
+-- What reads leave of a keeper, in order.
 use Rattle.std.proofs.Common.{◌≡◌, ◌≤◌, ◌∙◌, arith, refl, false, Result, Ok, Err, IfOk}
 use Rattle.csi_keeper.specs.State.{State}
 use Rattle.csi_keeper.specs.Keeper.{IsQuiet, Reads, Tells}

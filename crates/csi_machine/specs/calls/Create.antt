@@ -19,9 +19,9 @@ use Rattle.csi_rules.specs.Size.{size, has_size}
 use Rattle.csi_keeper.specs.State.{State, named}
 use Rattle.csi_rules.specs.Topology.{is_reachable, terms}
 
--- a volume of the name stands
+-- a volume of the name exists
 
--- the volume, whose pool has these segments, is as the request asks; a mutable parameter that is given has to
+-- the volume, whose pool has these segments, is as the request asks; a mutable parameter that is given must
 -- be as it is now
 abbrev pub is_compatible : TextMap → Volume → CreateVolume → Bool
 is_compatible segments v r =
@@ -35,7 +35,7 @@ again_at segments r v =
 abbrev pub again : Config → CreateVolume → Volume → Plan
 again config r v = again_at (segments_at config v.pool) r v
 
--- no volume of the name stands
+-- no volume of the name exists
 
 abbrev pub made : CreateVolume → ℕ → ℕ → Pool → Volume
 made r number bytes pool = record {

@@ -23,7 +23,7 @@ given next None = None
 given next (Some n) = if nat_le 1 n && nat_lt n next then Some n else None
 
 -- the number after which a page begins; a token is the number of the last volume that was listed, which need
--- not stand any more
+-- not exist any more
 abbrev pub start_of : ℕ → Text → Option ℕ
 start_of next token = if is_empty token then Some 0 else given next (number_of token)
 
@@ -40,7 +40,7 @@ abbrev pub last_of : ℕ → List Volume → ℕ
 last_of after [] = after
 last_of after (v ∷ vs) = last_of v.number vs
 
--- the token of the next page, if a volume stands beyond this one
+-- the token of the next page, if a volume exists beyond this one
 abbrev pub token_for : ℕ → List Volume → Text
 token_for last [] = []
 token_for last (v ∷ vs) = decimal last

@@ -37,11 +37,11 @@ abbrev pub publish_again : CapKey → Bool → Attachment → Plan
 publish_again key readonly a =
     if same_key a.cap key && same_flag a.readonly readonly then respond (response.Publish (publication readonly)) else refuse PublishedOtherwise
 
--- some attachment can't stand beside mine
+-- some attachment can't coexist with mine
 abbrev pub has_conflict : Attachment → List Attachment → Bool
 has_conflict mine attachments = list_any (λ a. not (coexist a mine)) attachments
 
--- a volume that stands, what it may be used as, where it is published, and a node with the count of the volumes
+-- a volume that exists, what it may be used as, where it is published, and a node with the count of the volumes
 -- that are there
 pub record Target : Type 0 where
   pub number : ℕ

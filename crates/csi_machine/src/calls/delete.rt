@@ -14,7 +14,7 @@ use csi_rules::caps_of;
 use csi_types::{DeleteVolume, Reason};
 use std::alloc::{AllocError, Global};
 
-// The plan for a volume that stands.
+// The plan for a volume that exists.
 fn delete_volume(alloc: Global, number: u64, attachments: &[Attachment]) -> Result<Plan, AllocError>
     ensures bounded { IfOk result (λ p. IfSome p.change IsBounded) }
     ensures value { IfOk result (λ p. p ≡ delete_volume number attachments.now) }
@@ -29,7 +29,7 @@ fn delete_volume(alloc: Global, number: u64, attachments: &[Attachment]) -> Resu
     )
 }
 
-/// A volume that is attached is refused, one that does not stand is done with.
+/// A volume that is attached is refused; one that does not exist is answered as deleted.
 impl Planned for DeleteVolume {
     ghost planned = { λ config s r. delete s r };
 

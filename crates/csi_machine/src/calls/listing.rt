@@ -113,7 +113,7 @@ fn append_after<K: Keeper>(
 }
 
 /// Appends the body of a page, or refuses its token. A page has at most 100 entries; its token is the number
-/// of its last volume, which need not stand any more when the next page is asked for.
+/// of its last volume, which need not exist any more when the next page is asked for.
 #[inline(always)]
 pub(crate) fn append_page<K: Keeper>(
     alloc: Global,

@@ -33,7 +33,7 @@ fn has_conflict(mine: &Attachment, attachments: &[Attachment]) -> bool
     attachments.iter().any(|other| !coexist(other, mine))
 }
 
-// A volume that stands, what it may be used as, where it is published, and a node with the count of the
+// A volume that exists, what it may be used as, where it is published, and a node with the count of the
 // volumes that are there.
 #[derive(Clone, Copy)]
 struct Target<'a> {

@@ -87,7 +87,7 @@ spotted_more es fs spots ts place v more here full old = record {
     by true o = refl
     by false o = refl
 
--- a spot that was put where nothing stands, and taken out again
+-- a spot that was put where there is nothing, and taken out again
 pub spotted_again : (es : List Row) (spots ts us : Nodes) (place : AttachmentKey) → fin.get (places_of es) place ≡ None
     → IsSpotSet (place.1, place.0) true spots ts → IsSpotSet (place.1, place.0) false ts us → (HasNoEmpty spots → HasNoEmpty us) → AreSpotted es spots
     → AreSpotted es us
@@ -231,7 +231,7 @@ module _ (attachments : List Row) (spots : Nodes) (node : Text) where
           let same : (n, node) ≡ e.0 = place_exact (n, node) e.0 (tied _ t) in
           sym (ap (λ (q : AttachmentKey). same_text q.1 node) same) ∙ (bytes_decides node node).1 refl
 
-  -- the index tells what is attached at the node
+  -- the index says what is attached at the node
   pub numbers_spotted : AreSpotted attachments spots → IsStrictlySortedBy nat_cmp (numbers_by spots node)
       → numbers_by spots node ≡ map (λ e. e.0.0) (filter (λ e. same_text e.0.1 node) (fin.entries (places_of attachments)))
   numbers_spotted spotted ordered =

@@ -1,4 +1,4 @@
--- What is found by reads, one after the other.
+-- What is found by reads, in order.
 use Rattle.std.proofs.Common.{◌≡◌, ◌∙◌, sym, arith, subst, refl, ap, ℕ, List, Bool, Option, None, Some, Result, Ok}
 use Rattle.csi_keeper.specs.Keeper.{Reads, count_after}
 use Rattle.csi_keeper.specs.Model.{Model}
@@ -10,12 +10,12 @@ use Rattle.csi_keeper.specs.declared.capability.CapKey.{CapKey}
 use Rattle.csi_keeper.specs.declared.volume.Volume.{Volume}
 use Rattle.csi_rules.specs.Finding.{Finds, keys_found}
 
--- what is told of a keeper that is down, where an answer tells more
+-- what is reported of a keeper that is down, where an answer says more
 told_more : {X : Type 0} {P Q : X → Type 0} {is_down : Bool} (result : Result X StoreFault) → ((x : X) → P x → Q x) → TellsDown is_down P result
     → TellsDown is_down Q result
 told_more result f told = record { down = told.down; refused = told.refused; unasked = λ is. if_ok f result (told.unasked is) }
 
--- what is found, as something else that it tells
+-- what is found, as something that follows from it
 pub found_as : {X : Type 0} {P Q : State → X → Type 0} {a b : Model State} {result : Result X StoreFault} → ((s : State) (x : X) → P s x → Q s x)
     → Finds a b result P → Finds a b result Q
 found_as {result = result} f found = record {
@@ -35,7 +35,7 @@ found_so found f = record {
   down = record { down = λ e. absurd (cc); refused = λ e. absurd (cc); unasked = λ is s. f s (found.down.unasked is s) };
 }
 
--- what is found behind what was found
+-- what is found after what was found
 pub found_then : {X Y : Type 0} {P : State → X → Type 0} {Q R : State → Y → Type 0} {a b c : Model State} {x : X} {result : Result Y StoreFault}
     → Finds a b (Ok x) P → Finds b c result Q
     → ((s : State) → P s x → (y : Y) → Q s y → R s y) → Finds a c result R

@@ -41,7 +41,7 @@ fails_weaker P Q old new e f (as_shut is shut) = as_shut is shut
 fails_weaker P Q old new e f (at_limit is some) = at_limit is some
 fails_weaker P Q old new e f (as_refused why) = as_refused (f why)
 
--- what is done behind the error forgets no fault
+-- what is done after the error forgets no fault
 pub fails_before : (P : Error → Type 0) (old mid new : State) (e : Error) → mid.faults ≤ new.faults → FailsFor P old mid e → FailsFor P old new e
 fails_before P old mid new e up (for_memory is) = for_memory is
 fails_before P old mid new e up (by_disk is more) = by_disk is (omega (arith, up, more))
@@ -72,7 +72,7 @@ on_err : {X E : Type 0} (r : Result X E) (P : Type 0) → P → OnErr r P
 on_err (Ok x) P h = tt
 on_err (Err x) P h = h
 
--- ---- what the store told
+-- ---- what the store reported
 
 caused : (P : Error → Type 0) (old new : State) (big : Type 0) (e : Error) (cause : StoreError) → (big → e ≡ SqliteFailure code.TooBig → P e)
     → e ≡ store_error cause → HasCause old new big cause → FailsFor P old new e
@@ -94,7 +94,7 @@ commit_fails old new e inside (inr h) = absurd (true≢false (sym inside ∙ h.1
 
 -- ---- a write of a fixed text
 
--- one statement and nothing behind it, with so many parameters, that does not read the time
+-- one statement and nothing after it, with so many parameters, that does not read the time
 abbrev pub IsAlone : List ℕ → ℕ → Result Compiled CompileError → Type 0
 IsAlone text count (Ok c) = (length text ≤ c.tail) × (length c.names ≡ count) × (c.formats ≡ [])
 IsAlone text count (Err e) = ⊥
@@ -275,7 +275,7 @@ module _ {S : Type 0} (g : Ghosts S) (before : Schema) (old : Held S) where
   abbrev begun : State
   begun = state g (record old { in_transaction = true })
 
-  -- a later part of it failed, behind a statement that was answered Ok
+  -- a later part of it failed, after a statement that was answered Ok
   pub later_fails : (P Q : Error → Type 0) (Effect : Database → Database → Type 0) (mid : State) (new : State) (e : Error)
       → Survives begun mid (λ _. ⊥) → StepsFrom before Effect begun mid
       → (P e → Q e) → FailsFor P mid new e → FailsFor Q (state g old) new e

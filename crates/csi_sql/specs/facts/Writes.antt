@@ -92,7 +92,7 @@ module _ (text : List ℕ) (params : Row) (old new : State) (count : ℕ) (has :
       (λ rows. taken_by old.now.trees (edit_of old.now.trees table (ids_of rows) Given 0 [])) w.tally (λ rows. refl) w.sound
       (placed command (w.tally, new.now) (changed command w.tally w.changed))
 
-  -- the rows that are asked for are those that the row becomes, each behind the rowid that it had
+  -- the rows that are asked for are those that the row becomes, each after the rowid that it had
   pub updated : (q : Query) → IsCommand text (Update at (record { lets = []; body = q })) → Executes text params old new (Ok count)
       → (shown : List Row) × IsAnswer q (overlay old.now.trees []) params shown × Makes old new (edit_of old.now.trees table (ids_of shown) Given 1 shown)
   unfolding task

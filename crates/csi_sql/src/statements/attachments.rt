@@ -14,7 +14,7 @@ use sqlite::types::ValueRef;
 use sqlite::{Alter, Transaction};
 
 /// Adds the row of an attachment: the number of the volume, which is below 2^63, the node, the
-/// capability as it is given, and the flag readonly. A place that stands already is refused.
+/// capability as it is given, and the flag readonly. A place that already exists is refused.
 pub fn insert_attachment<S: Alter>(
     tx: &mut Transaction<'_, S>,
     volume: u64,
@@ -40,7 +40,7 @@ pub fn insert_attachment<S: Alter>(
     .and(Ok(()))
 }
 
-/// Takes away the attachment of a volume, whose number is below 2^63, at a node. Where none stands
+/// Removes the attachment of a volume, whose number is below 2^63, at a node. Where there is none
 /// there the tables stay.
 pub fn delete_attachment<S: Alter>(tx: &mut Transaction<'_, S>, volume: u64, node: &str) -> Changed
     requires { volume < 2 ^ 63 }

@@ -32,7 +32,7 @@ pub struct VolumeRow<'a> {
     pub params: &'a [u8],
 }
 
-/// Adds the row of a volume. A number or a name that stands already is refused.
+/// Adds the row of a volume. A number or a name that already exists is refused.
 pub fn insert_volume<S: Alter>(tx: &mut Transaction<'_, S>, row: &VolumeRow<'_>) -> Changed
     requires number { row.now.number < 2 ^ 63 }
     requires bytes { row.now.bytes < 2 ^ 63 }

@@ -14,7 +14,7 @@ use crate::text::Text;
 use std::alloc::AllocError;
 use std::collections::BTreeMap;
 
-/// Gives a key its value, in place of one that it had. Where memory is refused the entries stay.
+/// Gives a key its value, instead of one that it had. Where memory is refused the entries stay.
 pub(super) fn enter(
     listed: &mut Vec<(Text, Text)>,
     tree: &mut BTreeMap<Text, Text>,

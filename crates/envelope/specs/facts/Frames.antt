@@ -111,7 +111,7 @@ Parts_of kind bytes unbroken all = record {
 
 -- ---- a frame by its parts
 
--- the four parts behind the status, one after the other
+-- the four parts after the status, in order
 spell : List ℕ → List ℕ → List ℕ → List ℕ → List ℕ
 spell first text third body = first ++ (text ++ (0 ∷ (third ++ body)))
 
@@ -131,7 +131,7 @@ cut_in_five bytes n all zero-flag =
     ∙ (ap (λ (x : List ℕ). take 2 bytes ++ (take n (drop 2 bytes) ++ x)) rest-2
     ∙ (ap (λ (x : List ℕ). take 2 bytes ++ x) rest-1 ∙ take-append-drop 2 bytes))
 
--- a frame behind its status, by the bytes that its lengths are
+-- a frame after its status, by the bytes that its lengths are
 spelled_by : (text body : List ℕ) (n m : ℕ) (first third : List ℕ) → length text ≡ n → length body ≡ m → to_be_bytes w16 n ≡ first
     → to_be_bytes w32 m ≡ third → spell (to_be_bytes w16 (length text)) text (to_be_bytes w32 (length body)) body ≡ spell first text third body
 spelled_by text body n m first third tl bl f t =
@@ -325,7 +325,7 @@ block_first : (text body more : List ℕ) → length text < 2 ^ 16 → 256 * get
 unfolding block
 block_first text body more fits = omega (arith, from_be_bytes-to_be_bytes_2 (length text) fits)
 
--- the bytes of a frame are those of its block, behind the status
+-- the bytes of a frame are those of its block, after the status
 frame_at : (kind : Kind) (i : Item kind) (more : List ℕ) (j k : ℕ) → j ≡ lead kind + k
     → get_or (spelling kind i ++ more) j 0 ≡ get_or (block (text_of kind i) (body_of kind i) more) k 0
 frame_at kind i more j k e =

@@ -84,7 +84,7 @@ pub not_at_end : (kind : Kind) (past : ℕ) (held : List ℕ) (part : Part) (at 
 not_at_end kind past held part at k e = nothing_breaks kind (held ++ []) (at - past)
     (subst (λ (p : Part). Breaks kind (held ++ []) p (at - past)) e (k.1 []).breaks)
 
--- ---- a piece behind a piece
+-- ---- a piece after a piece
 
 pub one_piece : (read piece : List ℕ) (at n : ℕ) (rest : List ℕ) → rest ≡ drop at piece → (read ++ take at piece) ++ take n rest ≡ read ++ take (at + n) piece
 one_piece read piece at n rest e = append_assoc read (take at piece) (take n rest)

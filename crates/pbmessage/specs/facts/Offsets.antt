@@ -11,7 +11,7 @@ use Rattle.pbmessage.specs.Fields.{AreGood, IsFaultOffset, IsRefusedAt}
 use Rattle.pbmessage.specs.facts.Laws.{FieldLaws}
 use Rattle.pbmessage.specs.facts.Fields.{Reads, same_read, nothing_read, are_read, read_are}
 
--- good fields are a prefix, and the bytes behind them begin with no good field
+-- good fields are a prefix, and the bytes after them begin with no good field
 pub record Stops (good : WireField → Type 0) (bytes : List ℕ) (at : ℕ) : Type 0 where
   pub fields : List WireField
   pub rest : List ℕ

@@ -88,7 +88,7 @@ flag_again false = refl
 
 -- ---- messages
 
--- the spelling of each value that fits means the value
+-- the encoding of each value that fits means the value
 pub record Law {V : Type 0} (good : ℕ → List ℕ → Type 0) (of : Views → V) (canon : V → Rows) (fits : V → Type 0) : Type 0 where
   pub laws : SpellingLaws
   pub again : (v : V) → fits v → RoundTrip good of canon v

@@ -1,4 +1,4 @@
--- A table of rows with rising numbers, written and read again: under each number stands what its row says.
+-- A table of rows with rising numbers, written and read again: each number has what its row says.
 use Rattle.std.proofs.Common.{◌≡◌, ℕ, ◌^◌, ◌<◌, Bool, true, false, cond, eqb, ltb, List, [], ◌∷◌, ◌++◌, map, length, Option, None, Some, refl, sym}
 use Rattle.std.proofs.Common.{ap, subst, ◌∙◌, arith}
 use Rattle.std.specs.Prelude.{nat_lt, ◌&&◌, ◌==◌, if◌then◌else◌}
@@ -16,7 +16,7 @@ use Rattle.pbmessage.specs.Canon.{above, rises}
 use Rattle.pbmessage.specs.facts.Laws.{SpellingLaws}
 use Rattle.pbmessage.specs.facts.Fields.{Reads, read_are}
 
--- what stands in a table
+-- what is in a table
 abbrev pub payloads_at : ℕ → Rows → Payloads
 payloads_at n Start = []
 payloads_at n (rs ▸ Numbers k xs) = payloads_at n rs
@@ -97,7 +97,7 @@ no_numbers_below Start k e = refl
 no_numbers_below (rs ▸ Strings j ps) k e = no_numbers_below rs k (both_so _ _ e).0
 no_numbers_below (rs ▸ Numbers j xs) k e = skipped j k xs (numbers_at k rs) (both_so _ _ e).1 (no_numbers_below rs k (both_so _ _ e).0) (eqb j k) refl
 
--- under the row's number stands the row, and under another what stood there
+-- the row's number has the row, and another one what it had
 placed : {A : Type 0} (b : Bool) (old new : List A) → (b ≡ true → old ≡ []) → old ++ cond b new [] ≡ cond b new old
 placed {A} true old new none = ap (λ (xs : List A). xs ++ new) (none refl)
 placed false old new none = append-nil old
@@ -231,7 +231,7 @@ spelled_read l good (e ∷ es) a = (spellings es, l.again e (spellings es) a.0.0
 
 -- ---- the law of a table
 
--- the spelling of a value means the value
+-- the encoding of a value means the value
 abbrev pub RoundTrip : {V : Type 0} → (ℕ → List ℕ → Type 0) → (Views → V) → (V → Rows) → V → Type 0
 RoundTrip good of canon v = Means (GoodField good) (value_of of) (bytes_of (canon v)) v
 

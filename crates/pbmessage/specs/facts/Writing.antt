@@ -23,22 +23,22 @@ pub closed_keeps : {A E : Type 0} (r : Result A E) (old mid new closed tail : Li
 closed_keeps (Ok x) old mid new closed tail is kept done undone = record { tail = tail; is = done ∙ is }
 closed_keeps (Err e) old mid new closed tail is kept done undone = subst (λ (bs : List ℕ). Keeps old bs) (sym undone) kept
 
--- the next row behind those that stand
+-- the next row after those that are there
 pub wrote_next : (old mid new : List ℕ) (es fs : List WireField) → mid ≡ old ++ spellings es → new ≡ mid ++ spellings fs → new ≡ old ++ spellings (es ++ fs)
 wrote_next old mid new es fs one two = two ∙ ap (λ (bs : List ℕ). bs ++ spellings fs) one ∙ wrote_two old es fs
 
--- a signed number behind what stands, which came through its 64 bits
+-- a signed number after what is there, which came through its 64 bits
 pub wrote_signed : (old new : List ℕ) (k : ℕ) (z : ℤ) → FitsI64 z → new ≡ old ++ spellings (row_fields (signed_row k (to_z w64 (of_z w64 z))))
     → new ≡ old ++ spellings (row_fields (signed_row k z))
 wrote_signed old new k z fits is = is ∙ ap (λ (x : ℤ). old ++ spellings (row_fields (signed_row k x))) (to_z-of_z w64 z fits)
 
--- what stands behind what was kept, whether or not there was room for it
+-- what is after what was kept, whether or not there was room for it
 pub extended_keeps : {A E : Type 0} (r : Result A E) (old mid new tail : List ℕ) → Keeps old mid → OnOk r (new ≡ mid ++ tail) → OnErr r (new ≡ mid)
     → Keeps old new
 extended_keeps (Ok x) old mid new tail kept done undone = keeps_on old mid new (record { tail = tail; is = done }) kept
 extended_keeps (Err e) old mid new tail kept done undone = subst (λ (bs : List ℕ). Keeps old bs) (sym undone) kept
 
--- two rows together behind those that stand
+-- two rows together after those that are there
 pub wrote_placed : {A E : Type 0} (r : Result A E) (old mid new : List ℕ) (es fs gs : List WireField) → mid ≡ old ++ spellings es
     → OnOk r (new ≡ mid ++ spellings (fs ++ gs)) → OnOk r (new ≡ old ++ spellings ((es ++ fs) ++ gs))
 wrote_placed (Ok x) old mid new es fs gs one two = wrote_next old mid new es (fs ++ gs) one two

@@ -14,7 +14,7 @@ use test_kit::{RowFault, bytes_of, bytes_text, number_of, put_part};
 // A field has a number below this.
 const NUMBERS: u32 = 1 << 29;
 
-/// The fields of a message, one after the other, the fault behind them if there is one, and where
+/// The fields of a message, in order, the fault after them if there is one, and where
 /// the reading stays.
 pub(crate) fn fields_answer(alloc: Global, notation: &str) -> Result<String, RowFault> {
     let bytes = bytes_of(alloc, notation)?;
@@ -86,7 +86,7 @@ fn is_cut_short(prefix: &[u8]) -> bool {
     )
 }
 
-/// Fields as they are written, one behind the other.
+/// Fields as they are written, in order.
 pub(crate) fn write_answer(alloc: Global, fields: &str) -> Result<String, RowFault> {
     let mut out = Vec::new(alloc);
     for field in fields.split(", ") {

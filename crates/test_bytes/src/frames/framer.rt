@@ -66,7 +66,7 @@ impl AnyFramer {
         }
     }
 
-    /// The call or the reply that stands, as a text.
+    /// The call or the reply that is complete, as a text.
     pub(crate) fn frame_text(&self, alloc: Global) -> Result<Option<String>, RowFault> {
         match self {
             AnyFramer::Calls(framer) => match framer.frame() {

@@ -21,7 +21,7 @@ enum Part {
     Frame(String, usize),
 }
 
-/// The frames of a whole rest, one after the other, and how it ends.
+/// The frames of a whole rest, in order, and how it ends.
 pub(crate) fn parts_answer(alloc: Global, kind: Kind, notation: &str) -> Result<String, RowFault> {
     let bytes = bytes_of(alloc, notation)?;
     let mut out = String::new(alloc);

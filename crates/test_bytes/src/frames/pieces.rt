@@ -25,7 +25,7 @@ pub(crate) fn pieces_answer(alloc: Global, kind: Kind, rest: &str) -> Result<Str
     Ok(out)
 }
 
-// Feeds a piece, and tells and gives up each frame that it completes.
+// Feeds a piece, and shows and gives up each frame that it completes.
 fn feed_all(
     alloc: Global,
     framer: &mut AnyFramer,
@@ -55,8 +55,8 @@ fn put_end(alloc: Global, framer: &AnyFramer, out: &mut String) -> Result<(), Ro
     }
 }
 
-/// What a framer makes of steps: `next`, `end`, or bytes that it is fed. Of these it is told how many were
-/// taken; and behind them how much it took, and a frame, a fault or neither.
+/// What a framer makes of steps: `next`, `end`, or bytes that it is fed. Of these it is shown how many were
+/// taken; and after them how much it took, and a frame, a fault or neither.
 pub(crate) fn steps_answer(alloc: Global, kind: Kind, steps: &str) -> Result<String, RowFault> {
     let mut framer = AnyFramer::new(alloc, kind)?;
     let mut out = String::new(alloc);

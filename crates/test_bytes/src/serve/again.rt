@@ -8,7 +8,7 @@ use csi_memory::MemKeeper;
 use test_kit::RowFault;
 
 impl Trials<'_> {
-    /// Each call is done, and writing its reply fails at once. It is sent again, with those behind it,
+    /// Each call is done, and writing its reply fails at once. It is sent again, with those after it,
     /// to a second run over the same keeper.
     pub(crate) fn again(&self) -> Result<(), RowFault> {
         for call in 0..self.stream.calls.len() {
@@ -35,7 +35,7 @@ impl Trials<'_> {
         compare(self.alloc, trial, &served, &wanted)
     }
 
-    // Loses the reply to a call, and serves it again with those behind it.
+    // Loses the reply to a call, and serves it again with those after it.
     fn serve_twice<K: Keeper>(&self, call: usize, keeper: &mut K) -> Result<Served, RowFault> {
         let lost = Takes::troubled(usize::MAX, Trouble::Write, call as u64);
         self.server

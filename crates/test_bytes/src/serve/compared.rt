@@ -20,7 +20,7 @@ pub(crate) struct Wanted<'a> {
     pub(crate) end: End<'a>,
     /// What is written first, which are replies.
     pub(crate) replies: &'a [u8],
-    /// What is written behind them, and that is all.
+    /// What is written after them, and that is all.
     pub(crate) last: &'a [u8],
     /// What is kept then.
     pub(crate) kept: &'a str,

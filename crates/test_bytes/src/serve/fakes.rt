@@ -1,4 +1,4 @@
-//! A reader and a writer that take their time, and fail where they are told to.
+//! A reader and a writer that take their time, and fail where they are set to.
 
 use std::alloc::Global;
 use std::cell::Cell;

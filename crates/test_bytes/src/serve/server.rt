@@ -27,7 +27,7 @@ impl Server<'_> {
     ///
     /// # Errors
     ///
-    /// A name that is too long, or memory is refused for what comes before or behind the run.
+    /// A name that is too long, or memory is refused for what comes before or after the run.
     pub(crate) fn run(
         self,
         alloc: Global,
@@ -42,7 +42,7 @@ impl Server<'_> {
     ///
     /// # Errors
     ///
-    /// A name that is too long, or memory is refused behind the run.
+    /// A name that is too long, or memory is refused after the run.
     pub(crate) fn run_on<K: Keeper>(
         self,
         alloc: Global,

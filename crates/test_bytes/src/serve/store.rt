@@ -71,7 +71,7 @@ impl Trials<'_> {
         Err(RowFault::Refused("another call than the next was refused"))
     }
 
-    // The first call that asks the store, of those behind so many.
+    // The first call that asks the store, of those after so many.
     fn first_asking(&self, from: usize) -> Option<usize> {
         let calls = self.stream.calls.get(from..)?;
         let place = calls.iter().position(|call| call.asks)?;
@@ -140,7 +140,7 @@ impl Trials<'_> {
         })
     }
 
-    /// What came of a run, with whether the store is down behind it and what a keeper keeps then.
+    /// What came of a run, with whether the store is down after it and what a keeper keeps then.
     ///
     /// # Errors
     ///
@@ -175,7 +175,7 @@ impl Trials<'_> {
         answered
     }
 
-    // What is wanted where the change of a call is refused: the store is down for the calls behind
+    // What is wanted where the change of a call is refused: the store is down for the calls after
     // it that ask it.
     fn after_change(&self, call: usize) -> Result<Replies, AllocError> {
         let mut bytes = self.refused_behind(call)?;
@@ -187,7 +187,7 @@ impl Trials<'_> {
         })
     }
 
-    /// The replies to the calls behind so many, where each that asks the store is refused like this. How many
+    /// The replies to the calls after so many, where each that asks the store is refused like this. How many
     /// are.
     pub(super) fn put_refused(
         &self,
@@ -214,7 +214,7 @@ impl Trials<'_> {
         Ok(bytes)
     }
 
-    // What is wanted where a read of a call is refused: all else is as if the call had not come.
+    // What is wanted where a read of a call is refused: the rest is as if the call had not come.
     fn after_read(&self, call: usize) -> Result<Replies, RowFault> {
         let input = self.input_without(call)?;
         let pieces = Pieces::new(&input, GREATEST_PIECE);

@@ -21,7 +21,7 @@ pub(crate) struct StreamFault {
     pub(crate) frame: Vec<u8>,
 }
 
-/// Calls, and perhaps a fault behind them. The output has the replies to the calls.
+/// Calls, and perhaps a fault after them. The output has the replies to the calls.
 pub(crate) struct Stream {
     pub(crate) input: Vec<u8>,
     pub(crate) output: Vec<u8>,
@@ -80,7 +80,7 @@ impl Stream {
         Ok(())
     }
 
-    /// Appends bytes that nobody looks at, behind a fault.
+    /// Appends bytes that nobody looks at, after a fault.
     pub(crate) fn put_behind(&mut self, bytes: &[u8]) -> Result<(), AllocError> {
         self.input.extend_from_slice(bytes)?;
         Ok(())
@@ -109,7 +109,7 @@ impl Stream {
         self.output.get(..end).unwrap_or(&[])
     }
 
-    /// The reply to a call, and behind all calls the frame that answers the fault, if there is one.
+    /// The reply to a call, and after all calls the frame that answers the fault, if there is one.
     pub(crate) fn reply(&self, call: usize) -> &[u8] {
         if call == self.calls.len() {
             return self.fault_frame();

@@ -80,7 +80,7 @@ impl Trials<'_> {
         Ok(true)
     }
 
-    // The memory is behind a change that was answered with OK: each later call that asks it is refused, and
+    // The memory lacks a change that was answered with OK: each later call that asks it is refused, and
     // changes nothing.
     fn judge_behind(&self, trial: Trial, came: &Refused) -> Result<(), RowFault> {
         let calls = self.answered(&came.served.written);

@@ -119,7 +119,7 @@ impl Trials<'_> {
         Ok(())
     }
 
-    // Two pieces, cut behind each byte.
+    // Two pieces, cut after each byte.
     fn cuts(&self) -> Result<(), RowFault> {
         for at in 1..self.stream.input.len() {
             let pieces = Pieces::cut_at(self.stream.input.as_slice(), at);
@@ -139,7 +139,7 @@ impl Trials<'_> {
         Ok(())
     }
 
-    // The input ends behind so many bytes.
+    // The input ends after so many bytes.
     fn end(&self, at: usize) -> Result<(), RowFault> {
         let (boundary, _) = self.stream.ends_of(self.stream.calls_within(at));
         if at == boundary {
@@ -150,7 +150,7 @@ impl Trials<'_> {
         self.ended(at, End::StreamFault(text.as_str()), frame.as_slice())
     }
 
-    // The input ends behind so many bytes, and the run like this, unless they make a fault known.
+    // The input ends after so many bytes, and the run like this, unless they make a fault known.
     fn ended<'w>(&'w self, at: usize, end: End<'w>, last: &'w [u8]) -> Result<(), RowFault> {
         let bytes = self.stream.input.get(..at).unwrap_or(&[]);
         let pieces = Pieces::new(bytes, GREATEST_PIECE);
@@ -215,7 +215,7 @@ impl Trials<'_> {
     }
 
     // Each write of a reply, before which so many were made, has its trouble. How many were made
-    // behind it.
+    // after it.
     fn writes_of_reply(
         &self,
         call: usize,
@@ -247,7 +247,7 @@ impl Trials<'_> {
         Ok(count)
     }
 
-    // What is wanted where writing the reply of a call ends behind so many bytes: the call is done.
+    // What is wanted where writing the reply of a call ends after so many bytes: the call is done.
     fn stopped(&self, call: usize, written: usize) -> Wanted<'_> {
         let done = call.saturating_add(1).min(self.stream.calls.len());
         let reply = self.stream.reply(call);

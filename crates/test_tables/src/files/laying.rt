@@ -99,7 +99,7 @@ pub(crate) fn lay_each(alloc: Global, page: &[u8], bytes: &[u8]) -> Result<Laid,
     Ok(laid)
 }
 
-// Another byte in the place of one.
+// Another byte instead of one.
 fn with_odd(alloc: Global, bytes: &[u8], at: usize) -> Result<Vec<u8>, RowFault> {
     let mut odd = Vec::from_slice(alloc, bytes)?;
     if at < odd.len() {

@@ -10,7 +10,7 @@ use std::alloc::{AllocError, Global};
 // The seed of the salts in the log, on which no answer depends.
 const SEED: u64 = 7;
 
-// Nobody is told how calls are served.
+// Nothing reports how calls are served.
 struct Unheard;
 
 impl Observer for Unheard {

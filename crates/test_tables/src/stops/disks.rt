@@ -1,4 +1,4 @@
-//! The two files of a database, in memory, which stop behind so many of their calls.
+//! The two files of a database, in memory, which stop after so many of their calls.
 
 ghost use Rattle.std.specs.Prelude.{◌≡◌, false, IfOk};
 
@@ -26,7 +26,7 @@ pub(crate) enum Which {
     Log,
     /// The database file.
     Database,
-    /// Each of the two, behind so many calls of its own.
+    /// Each of the two, after so many calls of its own.
     Both,
 }
 
@@ -35,7 +35,7 @@ pub(crate) enum Which {
 pub(crate) struct Stop {
     /// What stops.
     pub(crate) which: Which,
-    /// Behind so many calls of the disk.
+    /// After so many calls of the disk.
     pub(crate) calls: u64,
     /// The connection is closed in the end, and not dropped.
     pub(crate) closes: bool,
@@ -47,7 +47,7 @@ pub(crate) struct Stop {
 }
 
 impl Stop {
-    /// Behind how many calls the log and the database file stop.
+    /// After how many calls the log and the database file stop.
     pub(crate) fn calls_of_each(self) -> (u64, u64) {
         match self.which {
             Which::Log => (self.calls, u64::MAX),
@@ -86,7 +86,7 @@ pub(crate) fn new_files(alloc: Global) -> Files<Memory> {
     }
 }
 
-// Files that stop behind so many calls of the log and of the database file.
+// Files that stop after so many calls of the log and of the database file.
 fn fused(files: Files<Memory>, calls: (u64, u64)) -> Disks {
     Files {
         log: Fuse::new(files.log, calls.0),
@@ -122,7 +122,7 @@ pub(crate) fn copied_files(
     })
 }
 
-/// Files with the same bytes, all synchronised, which stop behind so many calls of the log and of the
+/// Files with the same bytes, all synchronised, which stop after so many calls of the log and of the
 /// database file.
 pub(crate) fn copies(
     alloc: Global,
@@ -187,7 +187,7 @@ fn end<D: Disk + Drop>(conn: Connection<FileStore<D>>, closes: bool) -> Files<D>
     }
 }
 
-/// What is done over a database, wherever it is stored.
+/// What is done over a database, on any disk.
 pub(crate) trait Task {
     /// Does it, and gives the connection back.
     fn run<S: Alter + Drop>(&mut self, conn: Connection<S>) -> Connection<S>

@@ -22,7 +22,7 @@ pub(crate) struct Outcome {
     pub(crate) before: String,
     /// The replies.
     pub(crate) replies: Vec<u8>,
-    /// The State behind the calls.
+    /// The State after the calls.
     pub(crate) after: String,
 }
 
@@ -95,7 +95,7 @@ pub(crate) fn unlike<W: fmt::Display, T: fmt::Display>(
     }
 }
 
-// Answers calls, and tells the State before and after them.
+// Answers calls, and returns the State before and after them.
 fn answered<K: Keeper>(
     alloc: Global,
     config: &Config,
@@ -112,7 +112,7 @@ fn answered<K: Keeper>(
     })
 }
 
-// Calls over tables that have to be adopted, and what came of them.
+// Calls over tables that must be adopted, and what came of them.
 #[derive(Drop)]
 struct Telling<'a> {
     alloc: Global,

@@ -49,7 +49,7 @@ pub(crate) enum Way {
     Once,
     /// In the call, and the next start stops at the same place.
     Twice,
-    /// In the call, or as the connection is closed behind it.
+    /// In the call, or as the connection is closed after it.
     Closing,
     /// Anywhere in a run of `csi_files`, from the opening to the close.
     Running(Trouble),
@@ -97,7 +97,7 @@ impl<'a> Trials<'a> {
     ///
     /// # Errors
     ///
-    /// The first stop behind which something is found that must not be.
+    /// The first stop after which something is found that must not be.
     pub(crate) fn all(mut self) -> Result<Seen, RowFault> {
         for which in [Which::Log, Which::Database, Which::Both] {
             self.stops_of(which, false)?;

@@ -11,7 +11,7 @@ use csi_types::{Items, MAX_MAP_BYTES, Map, Text, map_bytes};
 use std::alloc::{AllocError, Global};
 use test_kit::{RowFault, number_at, word_at, words_of};
 
-/// Makes the call of a row, and tells what it was answered.
+/// Makes the call of a row, and shows what it was answered.
 pub(crate) fn call<K: Keeper>(
     alloc: Global,
     keeper: &mut K,

@@ -1,4 +1,4 @@
-//! What a keeper tells, in words.
+//! What a keeper answers, in words.
 
 use csi_keeper::{Attachment, CapKey, Kind, Volume};
 use csi_types::{Items, Map, Text};

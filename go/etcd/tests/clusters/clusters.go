@@ -19,7 +19,7 @@ import (
 	"../../../front/tests/processes"
 )
 
-// Member is one etcd, which may be killed and started again where it stood.
+// Member is one etcd, which may be killed and started again where it was.
 type Member struct {
 	Name   string
 	Folder string
@@ -37,7 +37,7 @@ type Cluster struct {
 	Words []string
 }
 
-// Settings is what a cluster has beside its members.
+// Settings is what a cluster has next to its members.
 type Settings struct {
 	// More words of the command line of each member.
 	Words []string
@@ -101,7 +101,7 @@ func (c *Cluster) StartAll(t *testing.T) {
 	}
 }
 
-// Start starts a member where it stood.
+// Start starts a member where it was.
 func (m *Member) Start(t *testing.T) {
 	t.Helper()
 	command := exec.Command("etcd", m.words...)
@@ -112,7 +112,7 @@ func (m *Member) Start(t *testing.T) {
 // Kill ends a member without a warning.
 func (m *Member) Kill() { m.Current.Kill() }
 
-// Restore puts a snapshot in place of what a member of a cluster of one had, which was ended before.
+// Restore puts a snapshot instead of what a member of a cluster of one had, which was ended before.
 func (m *Member) Restore(t *testing.T, snapshot string) {
 	t.Helper()
 	if err := os.RemoveAll(filepath.Join(m.Folder, "data")); err != nil {
@@ -176,7 +176,7 @@ func (c *Cluster) Ctl(t *testing.T, words ...string) string {
 	return run(t, append(append([]string{"--endpoints", c.Endpoints()}, c.Words...), words...))
 }
 
-// Try runs etcdctl, and tells whether it failed.
+// Try runs etcdctl, and reports whether it failed.
 func (c *Cluster) Try(words ...string) error {
 	_, err := ctl(append(append([]string{"--endpoints", c.Endpoints()}, c.Words...), words...), "")
 	return err

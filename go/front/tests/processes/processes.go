@@ -28,7 +28,7 @@ func pathOf(variable, otherwise string) string {
 	return filepath.Join(filepath.Dir(here), "../../../..", otherwise)
 }
 
-// program is the path of a program that has to be there.
+// program is the path of a program that must be there.
 func program(t *testing.T, variable, otherwise string) string {
 	t.Helper()
 	path := pathOf(variable, otherwise)
@@ -96,7 +96,7 @@ func (p *Process) Kill() {
 	<-p.Ended
 }
 
-// Status is the exit status of a process that ends by itself.
+// Status is the exit status of a process that ends on its own.
 func (p *Process) Status(t *testing.T) int {
 	t.Helper()
 	select {
@@ -122,7 +122,7 @@ func (p *Process) Answers(t *testing.T) *Process {
 	return p
 }
 
-// IsAnswered tells whether somebody listens on a socket.
+// IsAnswered reports whether somebody listens on a socket.
 func IsAnswered(socket string) bool {
 	conn, err := net.Dial("unix", socket)
 	if err == nil {
@@ -173,7 +173,7 @@ func Together(callers int, call func(caller int)) {
 	all.Wait()
 }
 
-// Folder is a folder of the test's own. Its path is short, since that of a socket has to be.
+// Folder is a folder of the test's own. Its path is short, since that of a socket must be.
 func Folder(t *testing.T) string {
 	t.Helper()
 	path, err := os.MkdirTemp("", "front")
@@ -195,12 +195,12 @@ func StartFront(t *testing.T, csid string, words ...string) *Process {
 type Server struct {
 	folder string
 	config string
-	// The file of the volumes; an empty one stands for one in the folder.
+	// The file of the volumes; an empty one means one in the folder.
 	Tables  string
 	Current *Process
 }
 
-// HasTables tells whether csid keeps volumes in a file.
+// HasTables reports whether csid keeps volumes in a file.
 func HasTables(t *testing.T) bool {
 	t.Helper()
 	help, err := exec.Command(CsidProgram(t), "serve", "--help").Output()
@@ -210,7 +210,7 @@ func HasTables(t *testing.T) bool {
 	return strings.Contains(string(help), "--tables")
 }
 
-// NewServer is a place for a csid with a configuration; an empty one stands for the sample.
+// NewServer is a place for a csid with a configuration; an empty one means the sample.
 func NewServer(t *testing.T, config string) *Server {
 	t.Helper()
 	s := &Server{folder: Folder(t)}
@@ -263,7 +263,7 @@ func StartCsid(t *testing.T) *Server {
 func (s *Server) WantsStartAlone(t *testing.T) {
 	t.Helper()
 	tables := filepath.Join(s.folder, "volumes.db")
-	want := fmt.Sprintf("csid: %s: no tables stood there, and new ones were made\ncsid: %s: volumes 0, attachments 0, next number 1, format 2\n", tables, tables)
+	want := fmt.Sprintf("csid: %s: no tables were there, and new ones were made\ncsid: %s: volumes 0, attachments 0, next number 1, format 2\n", tables, tables)
 	if log := s.Current.Log.String(); log != want {
 		t.Errorf("csid said %q, wanted %q", log, want)
 	}

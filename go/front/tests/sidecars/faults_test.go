@@ -24,7 +24,7 @@ const (
 	stages
 )
 
-// ledger is what stands by what the sidecars were answered: the node of each volume by its id, "" for none.
+// ledger is what exists by what the sidecars were answered: the node of each volume by its id, "" for none.
 type ledger struct {
 	mutex sync.Mutex
 	nodes map[string]string
@@ -42,7 +42,7 @@ func (l *ledger) strike(id string) {
 	delete(l.nodes, id)
 }
 
-// cluster is the sidecars of one cluster, and what stands in it.
+// cluster is the sidecars of one cluster, and what is in it.
 type cluster struct {
 	*provisioner
 	*attacher
@@ -100,7 +100,7 @@ func workers(count int, claims []claim, take func(i int, c claim)) {
 	})
 }
 
-// killUntil kills csid and starts it again, each time 100 to 300 ms after it answers, until something is over, and tells how often.
+// killUntil kills csid and starts it again, each time 100 to 300 ms after it answers, until something is over, and returns how often.
 func killUntil(t *testing.T, csid *processes.Server, front string, random *rand.Rand, over <-chan struct{}) (kills int) {
 	t.Helper()
 	for ; ; kills++ {
@@ -115,7 +115,7 @@ func killUntil(t *testing.T, csid *processes.Server, front string, random *rand.
 	}
 }
 
-// While csid is killed again and again, claims get, attach, detach and delete their volumes: each that was answered stands once as it was
+// While csid is killed again and again, claims get, attach, detach and delete their volumes: each that was answered exists once as it was
 // answered, and nothing else does.
 func TestKills(t *testing.T) {
 	t.Parallel()
@@ -192,7 +192,7 @@ func TestTwoProvisioners(t *testing.T) {
 	wantsListed(t, leaders[1].attacher, map[string]string{})
 }
 
-// cancelEach begins a create for each claim, and cancels it within some milliseconds. It tells how many calls were answered nevertheless.
+// cancelEach begins a create for each claim, and cancels it within some milliseconds. It returns how many calls were answered nevertheless.
 func (k *cluster) cancelEach(t *testing.T, claims []claim, random *rand.Rand) (answered int) {
 	t.Helper()
 	for i, c := range claims {

@@ -43,7 +43,7 @@ func startDriver(t *testing.T, config string) (*processes.Server, string) {
 	return csid, processes.StartFront(t, csid.Socket()).Socket
 }
 
-// wantsListed compares what csi-attacher is told, volume by volume, with the nodes that a test says; "" is a volume at no node.
+// wantsListed compares what csi-attacher is answered, volume by volume, with the nodes that a test says; "" is a volume at no node.
 func wantsListed(t *testing.T, a *attacher, want map[string]string) {
 	t.Helper()
 	got, err := a.list(0)
@@ -119,7 +119,7 @@ func TestLifeOfAClaim(t *testing.T) {
 	wantsListed(t, a, map[string]string{})
 }
 
-// twice does what has to come to the same again.
+// twice does what must give the same again.
 func twice(t *testing.T, what string, does func() error) {
 	t.Helper()
 	for i := 0; i < 2; i++ {

@@ -43,7 +43,7 @@ type capacityRange struct {
 	LimitBytes    int64 `protobuf:"varint,2,opt,name=limit_bytes,proto3"`
 }
 
-// volumeCapability has the mount in a oneof, as generated code has it: golang/protobuf writes a oneof behind all other fields.
+// volumeCapability has the mount in a oneof, as generated code has it: golang/protobuf writes a oneof after all other fields.
 type volumeCapability struct {
 	AccessType interface{ isAccessType() } `protobuf_oneof:"access_type"`
 	AccessMode *accessMode                 `protobuf:"bytes,3,opt,name=access_mode,proto3"`

@@ -45,7 +45,7 @@ func newUID(random *rand.Rand) string {
 	return fmt.Sprintf("%x-%x-%x-%x-%x", b[:4], b[4:6], b[6:8], b[8:10], b[10:])
 }
 
-// volumeCapability is what ReadWriteOnce and a file system come to for a driver that knows, or does not know, SINGLE_NODE_MULTI_WRITER.
+// volumeCapability is what ReadWriteOnce and a file system become for a driver that knows, or does not know, SINGLE_NODE_MULTI_WRITER.
 func (s *sidecar) volumeCapability() *volumeCapability {
 	mode := int32(modeSingleNodeWriter)
 	if s.controller[singleNodeMultiWriter] {
@@ -104,7 +104,7 @@ func (p *provisioner) provision(c claim) (*volume, error) {
 	return got.Volume, c.accepts(got.Volume)
 }
 
-// accepts tells why a volume that was answered is none for the claim.
+// accepts says why a volume that was answered is none for the claim.
 func (c claim) accepts(v *volume) error {
 	switch {
 	case v == nil:

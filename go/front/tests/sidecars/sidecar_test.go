@@ -169,7 +169,7 @@ func (s *sidecar) capabilities(path string) (map[int32]bool, error) {
 	return set, nil
 }
 
-// isFinal tells whether a call that ended so is over: behind other errors it may still go on in the driver.
+// isFinal reports whether a call that ended so is over: after other errors it may still go on in the driver.
 func isFinal(err error) bool {
 	state, is := status.FromError(err)
 	if !is {

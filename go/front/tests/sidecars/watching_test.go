@@ -18,7 +18,7 @@ func (p *provisioner) wantsCapacity(t *testing.T, zone string, want int64) {
 	}
 }
 
-// poll asks for what is free in each zone until something is over, and tells how often; it is never less than nothing or more than a pool has.
+// poll asks for what is free in each zone until something is over, and returns how often; it is never less than nothing or more than a pool has.
 func (p *provisioner) poll(t *testing.T, pool int64, over <-chan struct{}) (polls int) {
 	t.Helper()
 	for ; ; polls++ {
@@ -92,7 +92,7 @@ func (k *cluster) churn(c claim, rounds int) error {
 	return err
 }
 
-// reconcile walks over all pages, and compares the nodes that it is told: the volumes that stand throughout are where they are, and the others,
+// reconcile walks over all pages, and compares the nodes that it is answered: the volumes that exist throughout are where they are, and the others,
 // by their ids, at the node of their claims or at none.
 func (k *cluster) reconcile(t *testing.T, pageLength int32, others map[string]string) {
 	t.Helper()
@@ -114,8 +114,8 @@ func (k *cluster) reconcile(t *testing.T, pageLength int32, others map[string]st
 	}
 }
 
-// What csi-attacher compares its attachments with, while others come and go: no attachment that stands throughout is missing, and none is shown
-// that never stood.
+// What csi-attacher compares its attachments with, while others come and go: no attachment that exists throughout is missing, and none is shown
+// that never was.
 func TestReconciliation(t *testing.T) {
 	t.Parallel()
 	const standing, churning, rounds = 20, 4, 20

@@ -32,7 +32,7 @@ type Malformed string
 
 func (part Malformed) Error() string { return "malformed reply: bad " + string(part) }
 
-// IsPath tells whether a frame can have the path.
+// IsPath reports whether a frame can have the path.
 func IsPath(path string) bool {
 	for i := 0; i < len(path); i++ {
 		if path[i] < 0x21 || path[i] > 0x7e {
@@ -50,7 +50,7 @@ func AppendRequestHead(frame []byte, path string, messageBytes int) []byte {
 	return append(frame, byte(messageBytes>>24), byte(messageBytes>>16), byte(messageBytes>>8), byte(messageBytes))
 }
 
-// isStatus tells whether a reply can have the status.
+// isStatus reports whether a reply can have the status.
 func isStatus(code codes.Code) bool {
 	switch code {
 	case codes.OK, codes.InvalidArgument, codes.NotFound, codes.AlreadyExists, codes.ResourceExhausted,
@@ -60,7 +60,7 @@ func isStatus(code codes.Code) bool {
 	return false
 }
 
-// Replies is a stream of replies, which are read one after the other.
+// Replies is a stream of replies, which are read in order.
 type Replies struct {
 	in *bufio.Reader
 	// The reply whose body is being read, and how much of the body has been read. There is none where body is nil.
@@ -192,7 +192,7 @@ func inside(err error) error {
 	return err
 }
 
-// IsClosing tells whether the peer closed the connection: an end where it read all that was sent, otherwise a reset or a broken pipe.
+// IsClosing reports whether the peer closed the connection: an end where it read all that was sent, otherwise a reset or a broken pipe.
 func IsClosing(err error) bool {
 	return err == io.EOF || errors.Is(err, syscall.ECONNRESET) || errors.Is(err, syscall.EPIPE)
 }

@@ -65,7 +65,7 @@ func TestGoodReply(t *testing.T) {
 	}
 }
 
-// Each fault is told though nothing follows: a csid that stays silent behind it would otherwise hold up the call.
+// Each fault is reported though nothing follows: a csid that stays silent after it would otherwise hold up the call.
 func TestMalformedReply(t *testing.T) {
 	rows := []struct{ bytes, want string }{
 		{"01", "status 1"}, {"02", "status 2"}, {"04", "status 4"}, {"07", "status 7"}, {"0e", "status 14"}, {"10", "status 16"}, {"ff", "status 255"},
@@ -83,7 +83,7 @@ func TestMalformedReply(t *testing.T) {
 	}
 }
 
-// An end behind any byte of a reply but the last is told, and only that behind none is a clean one.
+// An end after any byte of a reply but the last is reported, and only that after none is a clean one.
 func TestReplyCutShort(t *testing.T) {
 	for _, whole := range []string{"00 0000 00 00000004 0a020801", "05 0002 4142 00 00000000"} {
 		all := fromHex(t, whole)

@@ -13,7 +13,7 @@ type Request struct {
 	Message []byte
 }
 
-// Fault is the first fault of a stream of calls, at a place that counts its bytes from 0. Nothing behind it is a call.
+// Fault is the first fault of a stream of calls, at a place that counts its bytes from 0. Nothing after it is a call.
 type Fault struct {
 	Reason string
 	Place  int64
@@ -21,7 +21,7 @@ type Fault struct {
 
 func (f Fault) Error() string { return fmt.Sprintf("%s at byte %d", f.Reason, f.Place) }
 
-// Requests is a stream of calls, which are read one after the other.
+// Requests is a stream of calls, which are read in order.
 type Requests struct {
 	in *bufio.Reader
 	// How many bytes were read.
@@ -30,7 +30,7 @@ type Requests struct {
 
 func NewRequests(in io.Reader) *Requests { return &Requests{in: bufio.NewReader(in)} }
 
-// Next reads the next call. A stream that ends behind a whole one ends with io.EOF; a Fault is told as soon as it is read, and not waited behind.
+// Next reads the next call. A stream that ends after a whole one ends with io.EOF; a Fault is returned as soon as it is read, without another read.
 func (r *Requests) Next() (Request, error) {
 	begin := r.read
 	length, err := r.take(2)
@@ -106,10 +106,10 @@ func (r *Requests) within(err error) error {
 	return err
 }
 
-// isShown tells whether a text may have the character.
+// isShown reports whether a text may have the character.
 func isShown(character byte) bool { return 0x20 <= character && character <= 0x7e }
 
-// Append puts a reply as a frame behind other bytes. Its text has to be one that a frame can have, as Text makes it.
+// Append puts a reply as a frame after other bytes. Its text must be one that a frame can have, as Text makes it.
 func (answer Reply) Append(frame []byte) []byte {
 	frame = append(frame, byte(answer.Code), byte(len(answer.Text)>>8), byte(len(answer.Text)))
 	frame = append(frame, answer.Text...)

@@ -9,7 +9,7 @@ import (
 	"google.golang.org/grpc/codes"
 )
 
-// Calls are read whatever pieces they come in, and an end behind a whole one is a clean one.
+// Calls are read whatever pieces they come in, and an end after a whole one is a clean one.
 func TestGoodRequests(t *testing.T) {
 	stream := fromHex(t, "0016 2f6373692e76312e4964656e746974792f50726f6265 00 00000000 0001 21 00 00000002 0a00")
 	for _, in := range []io.Reader{bytes.NewReader(stream), slowReader{bytes.NewReader(stream)}} {
@@ -26,7 +26,7 @@ func TestGoodRequests(t *testing.T) {
 	}
 }
 
-// The greatest parts of a call are read, and a place behind them counts all of their bytes.
+// The greatest parts of a call are read, and a place after them counts all of their bytes.
 func TestGreatestRequest(t *testing.T) {
 	want := Request{strings.Repeat("~", 128), make([]byte, 1048576)}
 	frame := append(AppendRequestHead(nil, want.Path, len(want.Message)), want.Message...)
@@ -36,7 +36,7 @@ func TestGreatestRequest(t *testing.T) {
 		t.Errorf("%.10s, %d bytes, %v", got.Path, len(got.Message), err)
 	}
 	if _, err := requests.Next(); err != (Fault{"bad path length", 2 + 128 + 1 + 4 + 1048576}) {
-		t.Errorf("the fault behind it: %v", err)
+		t.Errorf("the fault after it: %v", err)
 	}
 }
 
@@ -45,7 +45,7 @@ type slowReader struct{ io.Reader }
 
 func (r slowReader) Read(into []byte) (int, error) { return r.Reader.Read(into[:1]) }
 
-// Each fault has the place that docs/PROTOCOL.md says, also behind a call, and is told though nothing follows.
+// Each fault has the place that docs/PROTOCOL.md says, also after a call, and is reported though nothing follows.
 func TestFaults(t *testing.T) {
 	const call = "0001 21 00 00000000"
 	rows := []struct{ bytes, want string }{

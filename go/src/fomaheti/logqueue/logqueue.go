@@ -95,7 +95,7 @@ func (q *Queue) run() {
 	}
 }
 
-// next waits for the next line, or for a count that has to be reported without one.
+// next waits for the next line, or for a count that must be reported without one.
 func (q *Queue) next() (next line, isThere bool) {
 	q.mutex.Lock()
 	defer q.mutex.Unlock()

@@ -92,7 +92,7 @@ func (s *Socket) Close() (err error) {
 	return err
 }
 
-// remove removes the file of the socket, unless another one stands there now. They are compared by device and inode before the listener
+// remove removes the file of the socket, unless another one is there now. They are compared by device and inode before the listener
 // is closed, since until then no other file is given that inode.
 func (s *Socket) remove() {
 	folder, err := lockedFolder(s.path)
@@ -128,7 +128,7 @@ func removeDeadSocket(path string) error {
 		return err
 	}
 	if file.Mode()&os.ModeSocket == 0 {
-		return fmt.Errorf("%s: a file stands there that is no socket", path)
+		return fmt.Errorf("%s: a file exists there that is no socket", path)
 	}
 	conn, err := net.Dial("unix", path)
 	if err == nil {
@@ -136,7 +136,7 @@ func removeDeadSocket(path string) error {
 		return fmt.Errorf("%s: somebody answers on it already", path)
 	}
 	if !errors.Is(err, syscall.ECONNREFUSED) {
-		return fmt.Errorf("a socket stands there, and nothing is known of it: %w", err)
+		return fmt.Errorf("a socket exists there, and nothing is known of it: %w", err)
 	}
 	return os.Remove(path)
 }

@@ -52,7 +52,7 @@ func TestListenWaitsForTheFolder(t *testing.T) {
 	<-ended
 }
 
-// A socket of which a connection does not tell that nobody answers stays: here one of datagrams, that is in use.
+// A socket of which a connection does not say that nobody answers stays: here one of datagrams, that is in use.
 func TestSocketOfAnotherKindStays(t *testing.T) {
 	path := filepath.Join(t.TempDir(), "csi.sock")
 	other, err := net.ListenUnixgram("unixgram", &net.UnixAddr{Name: path, Net: "unixgram"})
@@ -73,7 +73,7 @@ func TestSocketOfAnotherKindStays(t *testing.T) {
 	}
 }
 
-// The end of a socket takes its own file away, once, and no other's that stands there meanwhile.
+// The end of a socket takes its own file away, once, and no other's that is there in the meantime.
 func TestFileOfTheSocket(t *testing.T) {
 	path := filepath.Join(t.TempDir(), "csi.sock")
 	rows := map[string]func() *Socket{
@@ -105,7 +105,7 @@ func TestFileOfTheSocket(t *testing.T) {
 	}
 }
 
-// The mode is that of the owner alone, whatever the umask is, or of a group beside him; the umask is as it was afterwards.
+// The mode is that of the owner alone, whatever the umask is, or of a group next to him; the umask is as it was afterwards.
 func TestSocketForGroup(t *testing.T) {
 	before := syscall.Umask(0o002)
 	defer syscall.Umask(before)

@@ -8,7 +8,7 @@ returns-clause-appended c =
     let small : length c.args.out.now.items - c.args.from ≤ MAX_BODY_BYTES = search rules in
     body_behind c.args.from c.args.out.now.items small
 
-pub returns-clause-told : goal.returns-clause-told
-returns-clause-told c =
+pub returns-clause-reported : goal.returns-clause-reported
+returns-clause-reported c =
     let small : length c.args.out.now.items - c.args.from ≤ MAX_BODY_BYTES = search rules in
     said_behind c.args.from c.args.out.now.items small

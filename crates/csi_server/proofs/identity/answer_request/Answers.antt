@@ -14,7 +14,7 @@ returns-in-Ok-Done-clause-step c =
     let v = c.args.names.now.version.now in
     let out = c.put_response.new.reply.items in
     said_by {E = AllocError} n v c.args.request.now (Ok verdict.Done) out _
-    (subst (λ (x : Verdict). IsReported {E = AllocError} (reported_of (said n v c.args.request.now)) room out (Ok x)) c.in-Ok-Done.field-0-is c.in-Ok-Done.ensures.told) refl
+    (subst (λ (x : Verdict). IsReported {E = AllocError} (reported_of (said n v c.args.request.now)) room out (Ok x)) c.in-Ok-Done.field-0-is c.in-Ok-Done.ensures.reported) refl
 
 pub returns-in-Ok-Refused-clause-step : goal.returns-in-Ok-Refused-clause-step
 returns-in-Ok-Refused-clause-step c =
@@ -22,7 +22,7 @@ returns-in-Ok-Refused-clause-step c =
     let v = c.args.names.now.version.now in
     let out = c.put_response.new.reply.items in
     said_by {E = AllocError} n v c.args.request.now (Ok (verdict.Refused c.in-Ok-Refused.reason)) out _
-    (subst (λ (x : Verdict). IsReported {E = AllocError} (reported_of (said n v c.args.request.now)) room out (Ok x)) c.in-Ok-Refused.field-0-is c.in-Ok-Refused.ensures.told)
+    (subst (λ (x : Verdict). IsReported {E = AllocError} (reported_of (said n v c.args.request.now)) room out (Ok x)) c.in-Ok-Refused.field-0-is c.in-Ok-Refused.ensures.reported)
     (c.refuse.ensures.answered out)
 
 pub returns-in-Err-clause-step : goal.returns-in-Err-clause-step

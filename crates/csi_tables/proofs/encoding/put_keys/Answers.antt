@@ -5,7 +5,7 @@ use Rattle.csi_keeper.specs.declared.capability.CapKey.{CapKey}
 use Rattle.csi_tables.proofs.WritingLemmas.{caps_spelled, caps_fitting}
 use Rattle.csi_tables.proofs.encoding.put_keys.Goals as goal
 
--- the loop ends behind the last key
+-- the loop ends after the last key
 all : (ks : List CapKey) (i : ℕ) → i ≡ length ks → take i ks ≡ ks
 all ks i is = ap (λ (n : ℕ). take n ks) is ∙ take-length ks
 

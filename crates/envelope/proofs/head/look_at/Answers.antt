@@ -28,7 +28,7 @@ in_text kind bytes seen p n within there prefix status is some few short text = 
   body_length_right = λ e. absurd (omega arith);
 }
 
--- where n ends behind the flag
+-- where n ends after the flag
 in_head : (kind : Kind) (bytes : List ℕ) (seen p n : ℕ) → seen ≤ length bytes → n ≤ length bytes → IsUnbroken kind (take seen bytes) → (HasBadStatus kind bytes → ⊥) → p ≡ text_length kind bytes → least_text kind ≤ p → p ≤ most_text kind (get_or bytes 0 0) → AreGoodBytes kind bytes seen (lead kind + 2 + p) (length bytes) → get_or bytes (lead kind + 2 + p) 0 ≡ 0 → (lead kind + 7 + p ≤ n → body_length kind bytes ≤ most_body kind (get_or bytes 0 0)) → CheckedTo kind bytes n
 in_head kind bytes seen p n within there prefix status is some few text flag long = record {
   status_right = λ some began. good_status kind bytes status some (omega arith);

@@ -14,4 +14,4 @@ returns-clause-finds g c =
     found_so c.in_default.ensures.finds (λ s written.
     page_told c.args.config.now s (whole c.args.most) c.args.after c.len-from.result c.args.out.now.items c.write_page-written.new.page.body.items _ c.limit_body.result at
     (subst (λ old. IsPage c.args.config.now s c.args.after (whole c.args.most) old c.write_page-written.new.page.body.items) stood
-    (subst (λ count. IsPage c.args.config.now s c.args.after count c.replace.result.items c.write_page-written.new.page.body.items) most (written none))) c.limit_body.ensures.told)
+    (subst (λ count. IsPage c.args.config.now s c.args.after count c.replace.result.items c.write_page-written.new.page.body.items) most (written none))) c.limit_body.ensures.reported)
