@@ -70,8 +70,8 @@ func (c *candidate) run(ctx context.Context) {
 	}
 }
 
-// say writes a line, unless it is the last one again.
-func (c *candidate) say(line string) {
+// report writes a line, unless it is the last one again.
+func (c *candidate) report(line string) {
 	if line != c.said {
 		c.say("%s", frames.Text(line))
 		c.said = line
@@ -169,7 +169,7 @@ func (c *candidate) hold(t *term) error {
 			return errKeyGone
 		case queue.own == 0:
 		case queue.own != queue.first:
-			c.say(fmt.Sprintf("waits for the lock, which %s holds", queue.holder))
+			c.report(fmt.Sprintf("waits for the lock, which %s holds", queue.holder))
 			c.state.set(nil, refuse("waiting for the lock, which %s holds", queue.holder))
 		default:
 			isLeading = c.lead(t, queue, isLeading)
@@ -187,7 +187,7 @@ func (c *candidate) hold(t *term) error {
 // waits says why there is no lock, where there is an error.
 func (c *candidate) waits(err error) {
 	if err != nil {
-		c.say(fmt.Sprintf("no lock: %v", err))
+		c.report(fmt.Sprintf("no lock: %v", err))
 		c.state.set(nil, refuse("waiting for the lock: %v", err))
 	}
 }
@@ -201,7 +201,7 @@ func (c *candidate) lead(t *term, queue queue, isLeading bool) bool {
 	if !isLeading {
 		t.created, t.put, t.seen = queue.own, queue.ownPut, queue.revision
 		c.state.set(t, refusal{})
-		c.say(fmt.Sprintf("leads, from revision %d on, by the key %s", queue.revision, c.keys.shown(t.key)))
+		c.report(fmt.Sprintf("leads, from revision %d on, by the key %s", queue.revision, c.keys.shown(t.key)))
 		go t.watch(queue.revision)
 	}
 	return true
@@ -212,11 +212,11 @@ func (c *candidate) stop(why string, answer refusal) {
 	before, _ := c.state.current()
 	c.state.set(nil, answer)
 	if before == nil {
-		c.say("no lock: " + why)
+		c.report("no lock: " + why)
 		return
 	}
 	c.drop()
-	c.say("leads no more: " + why)
+	c.report("leads no more: " + why)
 }
 
 // putKey puts the key of this program, where it is not there yet.

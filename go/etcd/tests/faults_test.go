@@ -194,7 +194,7 @@ func TestFull(t *testing.T) {
 			l = p.dial(t)
 		}
 		if read, _, err := l.walk(); err != nil || read.String() != known.String() {
-			t.Errorf("%v: read %s, told %s", err, difference(read, told), difference(known, read))
+			t.Errorf("%v: read %s, told %s", err, difference(read, known), difference(known, read))
 		}
 		for number := uint64(1); number < next; number++ {
 			key := fmt.Sprintf("1 %020d", number)
@@ -211,7 +211,7 @@ func TestFull(t *testing.T) {
 	l.commits(t, attach(1, "n", false))
 	known["2 00000000000000000001 n"] = fmt.Sprintf("%x 0", block)
 	if read, _, err := l.walk(); err != nil || read.String() != known.String() {
-		t.Errorf("%v: read %s, told %s", err, difference(read, told), difference(known, read))
+		t.Errorf("%v: read %s, told %s", err, difference(read, known), difference(known, read))
 	}
 }
 

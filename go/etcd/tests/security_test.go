@@ -168,10 +168,10 @@ func TestUser(t *testing.T) {
 	cluster.Type(t, "between\n", "user", "passwd", "csid", "--interactive=false")
 	p.says(t, "csid-etcd: leads no more: etcdserver: authentication failed, invalid user ID or password\n")
 	waiting.says(t, "csid-etcd: no lock: etcdserver: authentication failed, invalid user ID or password\n")
-	before := len(waiting.Log.String())
+	seen := len(waiting.Log.String())
 	write("between\n")
 	processes.Eventually(t, "that the other one stands for the lock again", func() bool {
-		said := waiting.Log.String()[before:]
+		said := waiting.Log.String()[seen:]
 		return strings.Contains(said, "waits for the lock, which ") || strings.Contains(said, "leads, from revision ")
 	})
 	waiting.Terminate(t)
