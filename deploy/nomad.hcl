@@ -76,7 +76,7 @@ job "pools-controller" {
 
       user = "root"
 
-      # The first start makes the file of volumes. Take this away after it, and never put it back where volumes stand: over a new file csid
+      # The first start makes the file of volumes. Take this away after it, and never put it back where volumes exist: over a new file csid
       # would give their numbers again.
       env {
         NEW = "yes"

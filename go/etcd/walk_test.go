@@ -205,7 +205,7 @@ func TestTokens(t *testing.T) {
 	}
 	for _, token := range [][]byte{second, first} {
 		if err := reads(held, token); err != errToken {
-			t.Errorf("last a page that could not be read, with the token %s: %v", token, err)
+			t.Errorf("after a page that could not be read, with the token %s: %v", token, err)
 		}
 	}
 }
