@@ -1,5 +1,5 @@
 -- What taking the items of a page makes of the tables.
-use Rattle.std.specs.Prelude.{◌≡◌, ℕ, ◌<◌, ◌==◌, true, List, [], ◌∷◌, ◌++◌, Option, Some, None, Result, IfErr, OnOk, IsTrue}
+use Rattle.std.specs.Prelude.{◌≡◌, ◌≢◌, ℕ, ◌<◌, ◌==◌, true, List, [], ◌∷◌, ◌++◌, Option, Some, None, Result, IfErr, OnOk, IsTrue}
 use Rattle.std.specs.String.{string_bytes}
 use Rattle.sqlite.specs.Effect.{Database}
 use Rattle.sqlite.specs.Held.{Held, state}
@@ -106,8 +106,8 @@ abbrev pub IsFaultOf : Option ℕ → Error → RowsFault → Type 0
 IsFaultOf number error Malformed = ⊥
 IsFaultOf number error (Untyped n) = ⊥
 IsFaultOf number error (Flag n node) = ⊥
-IsFaultOf number error (Refused e) = (number ≡ None) × (e ≡ error)
-IsFaultOf number error (RowRefused n e) = (number ≡ Some n) × (e ≡ error)
+IsFaultOf number error (Refused e) = (number ≡ None) × (e ≡ error) × (error ≢ SqliteFailure OutOfMemory)
+IsFaultOf number error (RowRefused n e) = (number ≡ Some n) × (e ≡ error) × (error ≢ SqliteFailure OutOfMemory)
 IsFaultOf number error NoMemory = error ≡ SqliteFailure OutOfMemory
 
 -- the database alone gives these

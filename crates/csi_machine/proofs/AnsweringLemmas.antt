@@ -33,7 +33,7 @@ use Rattle.csi_keeper.specs.Model.{Model}
 use Rattle.csi_machine.specs.Plan.{after, refuse}
 use Rattle.csi_rules.specs.Size.{whole}
 use Rattle.csi_keeper.specs.State.{State, Allows}
-use Rattle.csi_machine.specs.Step.{is_of_plugin, NamesNone, plan, limited, limited_by, settled_plan, moved, step}
+use Rattle.csi_machine.specs.Step.{is_of_plugin, is_read, NamesNone, plan, limited, limited_by, settled_plan, moved, step}
 use Rattle.csi_machine.specs.Verdicts.{Told, Says, Denies, reported_of, Appended, IsReported, verdict_of}
 use Rattle.csi_machine.specs.calls.Capacity.{capacity_of, served, greatest_size, tell_capacity}
 use Rattle.csi_machine.specs.calls.Listing.{list_after, start_of}
@@ -296,30 +296,45 @@ still_performed config r a b x y (Ok v) asks names still found appended = record
 pub keeps : (config : Config) (r : Request) → IsSound config (λ s. settled_plan config s r) → (s : State) → IsInvariant config s → IsInvariant config (step config s r).1
 keeps config r sound s inv = subst (IsInvariant config) (moved_is config s r) (sound.keeps s inv)
 
-pub validate_still : (r : Validate) (o : Option (ℕ × Volume)) → (validate_found r o).change ≡ None
+validate_still : (r : Validate) (o : Option (ℕ × Volume)) → (validate_found r o).change ≡ None
 validate_still r None = refl
 validate_still r (Some f) = elim (have_keys f.1.caps r.capabilities && ((fin.len r.parameters == 0) || same_map f.1.params r.parameters)) as (λ b. (cond b (confirm r) deny).change ≡ None) [ true ↦ refl | false ↦ refl ]
 
-pub list_still : (config : Config) (s : State) (most : ℕ) (o : Option ℕ) → (list_after config s most o).change ≡ None
+list_still : (config : Config) (s : State) (most : ℕ) (o : Option ℕ) → (list_after config s most o).change ≡ None
 list_still config s most None = refl
 list_still config s most (Some n) = refl
 
-pub capacity_still : (config : Config) (rs : List Room) (r : GetCapacity) → (capacity_of config rs r).change ≡ None
+capacity_still : (config : Config) (rs : List Room) (r : GetCapacity) → (capacity_of config rs r).change ≡ None
 capacity_still config rs r = elim (list_all is_supported r.capabilities) as (λ b. (cond b (tell_capacity (sum_by free (served rs r.topology)) (greatest_size config (served rs r.topology))) (tell_capacity 0 0)).change ≡ None) [ true ↦ refl | false ↦ refl ]
+
+-- the plan of a request whose method changes nothing has no change
+pub plan_still : (config : Config) (s : State) (r : Request) → is_read r ≡ true → (plan config s r).change ≡ None
+plan_still config s request.PluginInfo e = refl
+plan_still config s request.PluginCapabilities e = refl
+plan_still config s request.Probe e = refl
+plan_still config s request.ControllerCapabilities e = refl
+plan_still config s (request.Create r) e = absurd (cc)
+plan_still config s (request.Delete r) e = absurd (cc)
+plan_still config s (request.Publish r) e = absurd (cc)
+plan_still config s (request.Unpublish r) e = absurd (cc)
+plan_still config s (request.Validate r) e = validate_still r (volume_at s (number_of_id r.volume_id))
+plan_still config s (request.List r) e = list_still config s (whole r.max_entries) (start_of s.next r.token)
+plan_still config s (request.Capacity r) e = capacity_still config (rooms config s) r
+plan_still config s (request.Modify r) e = absurd (cc)
 
 -- the plan of each request is sound
 plan_sound : (config : Config) → IsConfigured config → (r : Request) → checked r ≡ None → IsSound config (λ s. plan config s r)
-plan_sound config good request.PluginInfo e = sound_still config _ (λ s. refl)
-plan_sound config good request.PluginCapabilities e = sound_still config _ (λ s. refl)
-plan_sound config good request.Probe e = sound_still config _ (λ s. refl)
-plan_sound config good request.ControllerCapabilities e = sound_still config _ (λ s. refl)
+plan_sound config good request.PluginInfo e = sound_still config _ (λ s. plan_still config s request.PluginInfo refl)
+plan_sound config good request.PluginCapabilities e = sound_still config _ (λ s. plan_still config s request.PluginCapabilities refl)
+plan_sound config good request.Probe e = sound_still config _ (λ s. plan_still config s request.Probe refl)
+plan_sound config good request.ControllerCapabilities e = sound_still config _ (λ s. plan_still config s request.ControllerCapabilities refl)
 plan_sound config good (request.Create r) e = create_sound config r good (asked r e)
 plan_sound config good (request.Delete r) e = delete_sound config r
 plan_sound config good (request.Publish r) e = sound_by config (λ s. publish config s r) (publish_fits config good.nodes r)
 plan_sound config good (request.Unpublish r) e = sound_by config (λ s. unpublish s r) (unpublish_fits config r)
-plan_sound config good (request.Validate r) e = sound_still config _ (λ s. validate_still r (volume_at s (number_of_id r.volume_id)))
-plan_sound config good (request.List r) e = sound_still config _ (λ s. list_still config s (whole r.max_entries) (start_of s.next r.token))
-plan_sound config good (request.Capacity r) e = sound_still config _ (λ s. capacity_still config (rooms config s) r)
+plan_sound config good (request.Validate r) e = sound_still config _ (λ s. plan_still config s (request.Validate r) refl)
+plan_sound config good (request.List r) e = sound_still config _ (λ s. plan_still config s (request.List r) refl)
+plan_sound config good (request.Capacity r) e = sound_still config _ (λ s. plan_still config s (request.Capacity r) refl)
 plan_sound config good (request.Modify r) e = sound_by config (λ s. modify s r) (modify_fits config r)
 
 pub settled_sound : (config : Config) → IsConfigured config → (r : Request) → checked r ≡ None → IsSound config (λ s. settled_plan config s r)

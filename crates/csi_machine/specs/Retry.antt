@@ -1,12 +1,11 @@
 -- Requests that are tried again until they are answered, over stops between the tries (CSI specification,
 -- 'Timeouts').
-use Rattle.std.specs.Prelude.{◌≡◌, ◌≢◌, ◌⊎◌, Bool, true, false, List, [], ◌∷◌, ◌++◌}
+use Rattle.std.specs.Prelude.{◌≡◌, ◌≢◌, ◌⊎◌, true, List, [], ◌∷◌, ◌++◌}
 use Rattle.std.specs.List.{AllByRecursion, flat_map}
 use Rattle.csi_types.specs.declared.requests.Request.{Request}
-use Rattle.csi_types.specs.declared.requests.Request.TheVariants as request
 use Rattle.csi_config.specs.declared.config.Config.{Config}
 use Rattle.csi_keeper.specs.State.{State}
-use Rattle.csi_machine.specs.Step.{step}
+use Rattle.csi_machine.specs.Step.{is_read, step}
 use Rattle.csi_machine.specs.Verdicts.{Told}
 
 -- how a try ends: marked, that is refused inside, for memory or by the store; refused since the store is
@@ -93,21 +92,6 @@ still_open rs Marked = rs
 still_open rs Down = rs
 still_open rs Unanswered = rs
 still_open rs Answered = without_first rs
-
--- whether the requests of this one's method change nothing
-abbrev pub is_read : Request → Bool
-is_read request.PluginInfo = true
-is_read request.PluginCapabilities = true
-is_read request.Probe = true
-is_read request.ControllerCapabilities = true
-is_read (request.Create r) = false
-is_read (request.Delete r) = false
-is_read (request.Publish r) = false
-is_read (request.Unpublish r) = false
-is_read (request.Validate r) = true
-is_read (request.List r) = true
-is_read (request.Capacity r) = true
-is_read (request.Modify r) = false
 
 -- the try is another client's, of a request that changes nothing: this client is not answered
 abbrev pub IsOfAnother : Try → Type 0

@@ -70,6 +70,21 @@ is_of_plugin (request.List r) = false
 is_of_plugin (request.Capacity r) = false
 is_of_plugin (request.Modify r) = false
 
+-- whether the requests of this one's method change nothing
+abbrev pub is_read : Request → Bool
+is_read request.PluginInfo = true
+is_read request.PluginCapabilities = true
+is_read request.Probe = true
+is_read request.ControllerCapabilities = true
+is_read (request.Create r) = false
+is_read (request.Delete r) = false
+is_read (request.Publish r) = false
+is_read (request.Unpublish r) = false
+is_read (request.Validate r) = true
+is_read (request.List r) = true
+is_read (request.Capacity r) = true
+is_read (request.Modify r) = false
+
 -- the request is about a volume, which it names by a text that is no volume's id: no State has that volume
 abbrev pub NamesNone : Request → Type 0
 NamesNone request.PluginInfo = ⊥

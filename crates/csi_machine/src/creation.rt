@@ -44,10 +44,7 @@ fn append_created(volume: &Volume, segments: &Map, out: &mut Vec<u8>) -> Result<
         value: volume.pool.as_str(),
         segments,
     };
-    if let Err(refused) = encode_created(&created, out) {
-        out.truncate(from);
-        return Err(refused);
-    }
+    encode_created(&created, out)?;
     Ok(limit_body(out, from))
 }
 

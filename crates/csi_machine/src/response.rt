@@ -41,10 +41,7 @@ fn append_published(readonly: bool, out: &mut Vec<u8>) -> Result<Verdict, AllocE
         (response.Publish (publication readonly)))) out.old.items out.new.items result }
 {
     let from = out.len();
-    if let Err(refused) = encode_published(READONLY, flag_text(readonly), out) {
-        out.truncate(from);
-        return Err(refused);
-    }
+    encode_published(READONLY, flag_text(readonly), out)?;
     Ok(limit_body(out, from))
 }
 

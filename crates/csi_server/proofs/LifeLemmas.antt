@@ -1,12 +1,13 @@
 -- Lives of one call that is made twice.
-use Rattle.std.proofs.Common.{◌≡◌, inl, ap, sym, subst, refl, false, true, List, [], ◌∷◌, ◌++◌, Option, Some, None}
+use Rattle.std.proofs.Common.{◌≡◌, inl, inr, ap, ap₂, sym, subst, subst₂, refl, false, true, List, [], ◌∷◌, ◌++◌, Option, Some, None}
 use Rattle.envelope.specs.Envelope.{CallBytes, ReplyBytes}
 use Rattle.csi_types.specs.declared.requests.Request.{Request}
 use Rattle.csi_config.specs.declared.config.Config.{Config}
 use Rattle.csi_keeper.specs.State.{State}
-use Rattle.csi_machine.specs.Retry.{Ending, Answered, AreTriesOf, all_tries, still_open}
+use Rattle.csi_machine.specs.Retry.{Ending, Answered, Unanswered, AreTriesOf, all_tries, still_open}
+use Rattle.csi_machine.specs.Step.{is_read}
 use Rattle.csi_server.specs.Machine.{Mark, Unmarked, OutOfMemory, StoreRefused, StoreDown, done, may_leave, state_after}
-use Rattle.csi_server.specs.Tries.{Asks, asked, ending, heard_by, tries_for, IsLeft, IsLifeOfTwo}
+use Rattle.csi_server.specs.Tries.{Asks, asked, ending, heard_by, tries_for, IsLeft, IsLifeOfTwo, IsLifeWithAnother}
 use Rattle.csi_server.specs.Volumes.{volumes, IsPending}
 use Rattle.csi_server.proofs.TriesLemmas.{asked_answers, is_asked}
 
@@ -22,6 +23,12 @@ two_tries : (o : Option Request) (r : Request) (end : Ending) → o ≡ Some r �
 two_tries o r end asks waits =
     subst (λ (x : Option Request). AreTriesOf (r ∷ []) (all_tries ((tries_for x end ++ []) ∷ (tries_for x Answered ++ []) ∷ []))) (sym asks)
     (inl (refl, subst (λ (rs : List Request). AreTriesOf rs (record { request = r; end = Answered } ∷ [])) (sym waits) (inl (refl, refl))))
+
+with_another : (o p : Option Request) (r q : Request) → o ≡ Some r → p ≡ Some q → is_read q ≡ true
+    → AreTriesOf (r ∷ []) (all_tries ((tries_for o Unanswered ++ (tries_for p Unanswered ++ [])) ∷ (tries_for o Answered ++ []) ∷ []))
+with_another o p r q asks others reads =
+    subst₂ (λ (x y : Option Request). AreTriesOf (r ∷ []) (all_tries ((tries_for x Unanswered ++ (tries_for y Unanswered ++ [])) ∷ (tries_for x Answered ++ []) ∷ []))) (sym asks) (sym others)
+    (inl (refl, inr ((reads, λ e. cc), inl (refl, refl))))
 
 unheard : (o : Option Request) (mark : Mark) (reply : ReplyBytes) → heard_by o mark false reply ≡ []
 unheard None mark reply = refl
@@ -48,6 +55,23 @@ module _ (config : Config) (s : State) (call : CallBytes) (r : Request) where
           left,
           ap (λ (xs : List ReplyBytes). (xs ++ []) ++ reply ∷ []) (sym (unheard (asked call) mark _)),
           (done (volumes config) first call, [], inl refl, ap (λ (xs : List ReplyBytes). (xs ++ []) ++ []) (sym (heard (asked call) r reply is)), (refl, refl)),
+        ),
+      )
+
+  -- the same, where another client's call changes nothing
+  pub lived_with : (other : CallBytes) (q : Request) → Asks call r → Asks other q → is_read q ≡ true → IsLifeWithAnother config s call other r
+  unfolding state_after
+  lived_with other q asks others reads =
+      let after_other = done (volumes config) (done (volumes config) s call) other in
+      let reply = ((volumes config).respond after_other call).0 in
+      let is = is_asked call r asks in (
+        with_another (asked call) (asked other) r q is (is_asked other q others) reads,
+        (
+          after_other,
+          reply ∷ [],
+          inl refl,
+          ap₂ (λ (xs ys : List ReplyBytes). (xs ++ (ys ++ [])) ++ reply ∷ []) (sym (unheard (asked call) Unmarked _)) (sym (unheard (asked other) Unmarked _)),
+          (done (volumes config) after_other call, [], inl refl, ap (λ (xs : List ReplyBytes). (xs ++ []) ++ []) (sym (heard (asked call) r reply is)), (refl, refl)),
         ),
       )
 

@@ -130,3 +130,17 @@ IsLifeOfTwo config s call r mark =
     AreTriesOf (r ∷ []) (all_tries (map tries_of (twice call mark)))
     × IsLifeOfCalls config s (twice call mark) (((volumes config).respond (done (volumes config) s call) call).0 ∷ [])
     (done (volumes config) (done (volumes config) s call) call)
+
+-- the same, where another client makes a call before the call is made again
+abbrev pub between : CallBytes → CallBytes → List (List Exchange)
+between call other =
+    (record { event = record { call = call; mark = Unmarked }; is_heard = false }
+    ∷ record { event = record { call = other; mark = Unmarked }; is_heard = false } ∷ [])
+    ∷ (record { event = record { call = call; mark = Unmarked }; is_heard = true } ∷ []) ∷ []
+
+abbrev pub IsLifeWithAnother : Config → State → CallBytes → CallBytes → Request → Type 0
+IsLifeWithAnother config s call other r =
+    AreTriesOf (r ∷ []) (all_tries (map tries_of (between call other)))
+    × IsLifeOfCalls config s (between call other)
+    (((volumes config).respond (done (volumes config) (done (volumes config) s call) other) call).0 ∷ [])
+    (done (volumes config) (done (volumes config) (done (volumes config) s call) other) call)

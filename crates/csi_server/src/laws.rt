@@ -15,11 +15,11 @@ ghost use Rattle.csi_keeper.specs.Invariant.{IsInvariant};
 ghost use Rattle.csi_server.specs.Machine.{Unmarked, Event, Mark, Runs, AreReplies, may_leave, refusal, state_after};
 ghost use Rattle.csi_server.specs.Identity.{identity};
 ghost use Rattle.csi_server.specs.Requests.{told};
-ghost use Rattle.csi_server.specs.Tries.{Asks, Exchange, asked, spelled_call, events_of, tries_of, heard_of, IsLeft, IsLifeOfCalls, IsLifeOfTwo};
+ghost use Rattle.csi_server.specs.Tries.{Asks, Exchange, asked, spelled_call, events_of, tries_of, heard_of, IsLeft, IsLifeOfCalls, IsLifeOfTwo, IsLifeWithAnother};
 ghost use Rattle.csi_server.specs.Volumes.{volumes, seen, IsPending};
 ghost use Rattle.csi_machine.specs.Numbers.{NumbersRise};
 ghost use Rattle.csi_machine.specs.Retry.{Leaves, AreTriesOf, all_tries, reported_of, told_once, after_once, state_after as after_tries};
-ghost use Rattle.csi_machine.specs.Step.{step};
+ghost use Rattle.csi_machine.specs.Step.{is_read, step};
 ghost use Rattle.csi_config.specs.Values.{Has};
 ghost use Rattle.csi_config.specs.declared.config.Config.{Config as AnyConfig};
 ghost use Rattle.csi_machine.specs.Walk.{AreApart, AreOfVolumes, End, GoOn, Stood, listed_ids};
@@ -213,12 +213,15 @@ pub fn walk(config: &Config)
 /// speak of nothing.
 ///
 /// The call is made and its reply is lost; or it is refused for memory or by the store, and a stop leaves its
-/// change all the same. In the next session it is made again, and its reply is heard.
+/// change all the same. In the next session it is made again, and its reply is heard. Another client may have
+/// made a call that changes nothing before.
 pub fn made_twice(config: &Config)
     ensures lost { (s : MachineState) (call : CallBytes) (r : Request) → Asks call r
         → IsLifeOfTwo config.now s call r Unmarked }
     ensures refused { (s : MachineState) (call : CallBytes) (r : Request) (mark : Mark) → Asks call r
         → may_leave mark ≡ true → IsLifeOfTwo config.now s call r mark }
+    ensures others { (s : MachineState) (call other : CallBytes) (r q : Request) → Asks call r → Asks other q
+        → is_read q ≡ true → IsLifeWithAnother config.now s call other r }
 {}
 
 /// Each call is idempotent (CSI specification, 'Timeouts'): from a State of the invariant the same call, made

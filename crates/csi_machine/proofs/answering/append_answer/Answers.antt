@@ -1,12 +1,10 @@
-use Rattle.std.proofs.Common.{◌≡◌, ◌∙◌, ap, sym, subst}
+use Rattle.std.proofs.Common.{◌≡◌, ◌∙◌, ap, sym, subst, refl}
 use Rattle.csi_types.specs.declared.requests.CreateVolume.{CreateVolume}
 use Rattle.csi_types.specs.declared.requests.ListVolumes.{ListVolumes}
 use Rattle.csi_types.specs.declared.requests.Request.{Request}
 use Rattle.csi_types.specs.declared.requests.Request.TheVariants as request
 use Rattle.csi_machine.specs.Answering.{Performs}
-use Rattle.csi_rules.specs.Size.{whole}
-use Rattle.csi_machine.specs.calls.Listing.{start_of}
-use Rattle.csi_machine.proofs.AnsweringLemmas.{keeps, list_still, settled_sound, still_performed}
+use Rattle.csi_machine.proofs.AnsweringLemmas.{keeps, plan_still, settled_sound, still_performed}
 use Rattle.csi_machine.proofs.answering.append_answer.Goals as goal
 
 pub returns-in-List-clause-performs : goal.returns-in-List-clause-performs
@@ -15,7 +13,7 @@ returns-in-List-clause-performs g c =
     let asked : ListVolumes = c.get-in-List.result.now in
     let is : c.args.request.now ≡ request.List asked = c.in-List.is ∙ ap (λ (l : ListVolumes). request.List l) (sym c.get-in-List.ensures) in
     subst (λ (r : Request). Performs c.args.config.now r (m c.args.keeper.now) (m c.append_page.new.keeper) c.args.out.now.items c.append_page.new.out.items c.append_page.result) (sym is)
-    (still_performed c.args.config.now (request.List asked) _ _ _ _ _ (λ is. absurd (cc (is))) (λ no. no) (λ s. list_still c.args.config.now s (whole asked.max_entries) (start_of s.next asked.token)) c.append_page.ensures.finds c.append_page.ensures.appended)
+    (still_performed c.args.config.now (request.List asked) _ _ _ _ _ (λ is. absurd (cc (is))) (λ no. no) (λ s. plan_still c.args.config.now s (request.List asked) refl) c.append_page.ensures.finds c.append_page.ensures.appended)
 
 pub returns-in-List-clause-invariant : goal.returns-in-List-clause-invariant
 returns-in-List-clause-invariant g c = keeps c.args.config.now c.args.request.now (settled_sound c.args.config.now c.configured.ensures c.args.request.now c.requires)
