@@ -1,5 +1,6 @@
 -- What a fold over rows has become.
-use Rattle.std.specs.Prelude.{◌≡◌, ◌⊎◌, ◌↔◌, ℕ, ◌+◌, ◌-◌, ◌<◌, ◌^◌, length, min, sum_by, ℤ, int_lt, Bool, true, false, if◌then◌else◌, IsTrue, unwrap_or, List, []}
+use Rattle.std.specs.Prelude.{◌≡◌, ◌⊎◌, ◌↔◌, ℕ, ◌+◌, ◌-◌, ◌<◌, ◌^◌, length, min, sum_by, ℤ, int_lt, List, []}
+use Rattle.std.specs.Prelude.{Bool, true, false, if◌then◌else◌, IsTrue, unwrap_or}
 use Rattle.std.specs.Prelude.{◌∷◌, ◌++◌, map, Option, Some, None}
 use Rattle.std.specs.List.{AllByRecursion}
 use Rattle.std.specs.Ordering.{is_eq, nat_cmp}

@@ -322,19 +322,22 @@ plan_still config s (request.List r) e = list_still config s (whole r.max_entrie
 plan_still config s (request.Capacity r) e = capacity_still config (rooms config s) r
 plan_still config s (request.Modify r) e = absurd (cc)
 
+read_sound : (config : Config) (r : Request) → is_read r ≡ true → IsSound config (λ s. plan config s r)
+read_sound config r is = sound_still config _ (λ s. plan_still config s r is)
+
 -- the plan of each request is sound
 plan_sound : (config : Config) → IsConfigured config → (r : Request) → checked r ≡ None → IsSound config (λ s. plan config s r)
-plan_sound config good request.PluginInfo e = sound_still config _ (λ s. plan_still config s request.PluginInfo refl)
-plan_sound config good request.PluginCapabilities e = sound_still config _ (λ s. plan_still config s request.PluginCapabilities refl)
-plan_sound config good request.Probe e = sound_still config _ (λ s. plan_still config s request.Probe refl)
-plan_sound config good request.ControllerCapabilities e = sound_still config _ (λ s. plan_still config s request.ControllerCapabilities refl)
+plan_sound config good request.PluginInfo e = read_sound config request.PluginInfo refl
+plan_sound config good request.PluginCapabilities e = read_sound config request.PluginCapabilities refl
+plan_sound config good request.Probe e = read_sound config request.Probe refl
+plan_sound config good request.ControllerCapabilities e = read_sound config request.ControllerCapabilities refl
 plan_sound config good (request.Create r) e = create_sound config r good (asked r e)
 plan_sound config good (request.Delete r) e = delete_sound config r
 plan_sound config good (request.Publish r) e = sound_by config (λ s. publish config s r) (publish_fits config good.nodes r)
 plan_sound config good (request.Unpublish r) e = sound_by config (λ s. unpublish s r) (unpublish_fits config r)
-plan_sound config good (request.Validate r) e = sound_still config _ (λ s. plan_still config s (request.Validate r) refl)
-plan_sound config good (request.List r) e = sound_still config _ (λ s. plan_still config s (request.List r) refl)
-plan_sound config good (request.Capacity r) e = sound_still config _ (λ s. plan_still config s (request.Capacity r) refl)
+plan_sound config good (request.Validate r) e = read_sound config (request.Validate r) refl
+plan_sound config good (request.List r) e = read_sound config (request.List r) refl
+plan_sound config good (request.Capacity r) e = read_sound config (request.Capacity r) refl
 plan_sound config good (request.Modify r) e = sound_by config (λ s. modify s r) (modify_fits config r)
 
 pub settled_sound : (config : Config) → IsConfigured config → (r : Request) → checked r ≡ None → IsSound config (λ s. settled_plan config s r)

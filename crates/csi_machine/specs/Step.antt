@@ -70,7 +70,7 @@ is_of_plugin (request.List r) = false
 is_of_plugin (request.Capacity r) = false
 is_of_plugin (request.Modify r) = false
 
--- whether the requests of this one's method change nothing
+-- whether the method of a request changes nothing
 abbrev pub is_read : Request → Bool
 is_read request.PluginInfo = true
 is_read request.PluginCapabilities = true

@@ -1,5 +1,5 @@
 -- The three tables: their texts, and the schema that these make.
-use Rattle.std.specs.Prelude.{true, false, [], ◌∷◌, Some, None, codes, List, ℕ, pos}
+use Rattle.std.specs.Prelude.{true, false, [], ◌∷◌, ◌++◌, Some, None, codes, List, ℕ, pos}
 use Rattle.sqlite.specs.Collation.TheVariants.{Binary}
 use Rattle.sqlite.specs.declared.types.Value.TheVariants.{Null, Int}
 use Rattle.sqlite.specs.Kind.TheVariants.{Integer, Text, Any}
@@ -17,10 +17,14 @@ abbrev pub meta_text : List ℕ
 meta_text = codes "CREATE TABLE meta (k INTEGER PRIMARY KEY CHECK (k = 1), format_no INTEGER NOT NULL, next_number INTEGER NOT NULL)"
 
 abbrev pub volumes_text : List ℕ
-volumes_text = codes "CREATE TABLE volumes (number INTEGER PRIMARY KEY, name TEXT NOT NULL UNIQUE, bytes INTEGER NOT NULL, pool TEXT NOT NULL, caps BLOB NOT NULL, params BLOB NOT NULL)"
+volumes_text =
+    codes "CREATE TABLE volumes (number INTEGER PRIMARY KEY, name TEXT NOT NULL UNIQUE, bytes INTEGER NOT NULL, "
+    ++ codes "pool TEXT NOT NULL, caps BLOB NOT NULL, params BLOB NOT NULL)"
 
 abbrev pub attachments_text : List ℕ
-attachments_text = codes "CREATE TABLE attachments (number INTEGER NOT NULL, node TEXT NOT NULL, cap BLOB NOT NULL, readonly INTEGER NOT NULL, PRIMARY KEY (number, node))"
+attachments_text =
+    codes "CREATE TABLE attachments (number INTEGER NOT NULL, node TEXT NOT NULL, cap BLOB NOT NULL, "
+    ++ codes "readonly INTEGER NOT NULL, PRIMARY KEY (number, node))"
 
 abbrev pub first_text : List ℕ
 first_text = codes "INSERT INTO meta (k, format_no, next_number) VALUES (1, 2, 1)"

@@ -15,7 +15,10 @@ has_permuted xs ys x same = all_has (Has xs) ys x (all-permutation (Has xs) xs y
 
 flat_has : {A B : Type 0} (f : A → List B) (xs : List A) (y : B) → Has (flat_map f xs) y → (x : A) × Has xs x × Has (f x) y
 flat_has f [] y h = absurd h
-flat_has f (x ∷ xs) y h = elim (has_either (f x) (flat_map f xs) y h) [ inl here ↦ (x, inl refl, here) | inr later ↦ let r = flat_has f xs y later in (r.0, inr r.1, r.2) ]
+flat_has f (x ∷ xs) y h = elim (has_either (f x) (flat_map f xs) y h) [
+  | inl here ↦ (x, inl refl, here)
+  | inr later ↦ let r = flat_has f xs y later in (r.0, inr r.1, r.2)
+]
 
 has_flat : {A B : Type 0} (f : A → List B) (xs : List A) (x : A) (y : B) → Has xs x → Has (f x) y → Has (flat_map f xs) y
 has_flat f [] x y h k = absurd h

@@ -33,7 +33,9 @@ strictly [] sorted none = tt
 strictly (x ∷ []) sorted none = (tt, tt)
 strictly (x ∷ y ∷ rows) sorted none =
     let less : value_cmp (column x 0) (column y 0) ≡ Less =
-    is_less (value_cmp (column x 0) (column y 0)) (value_cmp (column y 0) (column x 0)) (value_cmp_total.antisymm (column x 0) (column y 0)) (sorted 0 x (omega arith) (omega arith)) (none 0 x (omega arith)) in
+    is_less (value_cmp (column x 0) (column y 0)) (value_cmp (column y 0) (column x 0))
+    (value_cmp_total.antisymm (column x 0) (column y 0))
+    (sorted 0 x (omega arith) (omega arith)) (none 0 x (omega arith)) in
     let all = x ∷ y ∷ rows in
     let rest = strictly (y ∷ rows)
     (λ k d from below.

@@ -32,7 +32,8 @@ same_supported : (ks : List CapKey) (k : CapKey) → has_same ks (Some k) ≡ tr
 same_supported [] k has all = absurd (cc (has))
 same_supported (j ∷ ks) k has all = go (both (is_supported_key j) (list_all is_supported_key ks) all) (same_supported ks k) (same_key k j) refl has
   where
-    go : (is_supported_key j ≡ true) × (list_all is_supported_key ks ≡ true) → (has_same ks (Some k) ≡ true → list_all is_supported_key ks ≡ true → is_supported_key k ≡ true)
+    go : (is_supported_key j ≡ true) × (list_all is_supported_key ks ≡ true)
+        → (has_same ks (Some k) ≡ true → list_all is_supported_key ks ≡ true → is_supported_key k ≡ true)
         → (b : Bool) → same_key k j ≡ b → (b || has_same ks (Some k)) ≡ true → is_supported_key k ≡ true
     go two more true t h = ap is_supported_key (key_exact k j (tied _ (sym (keys_tie k j) ∙ t))) ∙ two.0
     go two more false t h = more h two.1
@@ -52,7 +53,8 @@ in_seven (Mount t) = refl
 wide_supported : (k j : CapKey) → wider_key k ≡ Some j → is_supported_key k ≡ true
 wide_supported k j e = go (k.mode == 6) refl (k.mode == 7) refl e
   where
-    go : (a : Bool) → (k.mode == 6) ≡ a → (b : Bool) → (k.mode == 7) ≡ b → option_map (λ m. record { kind = k.kind; mode = m }) (cond (a || b) (Some 1) None) ≡ Some j → is_supported_key k ≡ true
+    go : (a : Bool) → (k.mode == 6) ≡ a → (b : Bool) → (k.mode == 7) ≡ b
+        → option_map (λ m. record { kind = k.kind; mode = m }) (cond (a || b) (Some 1) None) ≡ Some j → is_supported_key k ≡ true
     go true s b t h = in_mode k 6 (eqb-true _ _ s) (in_six k.kind)
     go false s true t h = in_mode k 7 (eqb-true _ _ t) (in_seven k.kind)
     go false s false t h = absurd (none_some j h)

@@ -43,7 +43,13 @@ module _ {K X : Type 0} {R : K → K → Ordering} (o : IsTotalOrder R) (exact :
   pub removed : (m : fin.FinMap R X) (k q : K) (v : X) → fin.get (fin.remove m k) q ≡ Some v → (q ≡ k → ⊥) × (fin.get m q ≡ Some v)
   removed m k q v e = elim (eq_by_cmp R q k) as (λ b. eq_by_cmp R q k ≡ b → cond b None (fin.get m q) ≡ Some v → (q ≡ k → ⊥) × (fin.get m q ≡ Some v)) [
     | true ↦ λ t h. absurd (none_some v h)
-    | false ↦ λ t h. (λ s. let y : eq_by_cmp R q q ≡ true = ap is_eq (tied_itself o q) in let z : eq_by_cmp R q q ≡ false = subst (λ (j : K). eq_by_cmp R q j ≡ false) (sym s) t in absurd (cc (y, z)), h)
+    | false ↦ λ t h. (
+      λ s.
+          let y : eq_by_cmp R q q ≡ true = ap is_eq (tied_itself o q) in
+          let z : eq_by_cmp R q q ≡ false = subst (λ (j : K). eq_by_cmp R q j ≡ false) (sym s) t in
+          absurd (cc (y, z)),
+      h,
+    )
   ] refl (sym (fin.get-remove o m k q) ∙ e)
 
   -- a key that has a value is put back where it was
@@ -86,9 +92,14 @@ module _ {K X : Type 0} {R : K → K → Ordering} (o : IsTotalOrder R) (exact :
     where
       go : (a : Bool) → p e.0 ≡ a → (b : Bool) → eq_by_cmp R q e.0 ≡ b → fin.find R q (filter (λ e. p e.0) es) ≡ cond (p q) (fin.find R q es) None
           → fin.find R q (cond a (e ∷ filter (λ e. p e.0) es) (filter (λ e. p e.0) es)) ≡ cond (p q) (cond b (Some e.1) (fin.find R q es)) None
-      go true t true u more = ap (λ b. cond b (Some e.1) (fin.find R q (filter (λ e. p e.0) es))) u ∙ sym (ap (λ d. cond d (Some e.1) None) (ap p (exact q e.0 (tied _ u)) ∙ t))
+      go true t true u more =
+          ap (λ b. cond b (Some e.1) (fin.find R q (filter (λ e. p e.0) es))) u
+          ∙ sym (ap (λ d. cond d (Some e.1) None) (ap p (exact q e.0 (tied _ u)) ∙ t))
       go true t false u more = ap (λ b. cond b (Some e.1) (fin.find R q (filter (λ e. p e.0) es))) u ∙ more
-      go false t true u more = more ∙ ap (λ d. cond d (fin.find R q es) None) (ap p (exact q e.0 (tied _ u)) ∙ t) ∙ sym (ap (λ d. cond d (Some e.1) None) (ap p (exact q e.0 (tied _ u)) ∙ t))
+      go false t true u more =
+          more
+          ∙ ap (λ d. cond d (fin.find R q es) None) (ap p (exact q e.0 (tied _ u)) ∙ t)
+          ∙ sym (ap (λ d. cond d (Some e.1) None) (ap p (exact q e.0 (tied _ u)) ∙ t))
       go false t false u more = more
 
 -- the entries of maps that keep some
@@ -109,7 +120,12 @@ module _ {K X : Type 0} {R : K → K → Ordering} (o : IsTotalOrder R) (exact :
   entries_retained m p = entries_kept m (fin.retain_keys m p) p (λ q. fin.get-retain_keys m p q (λ x t. sym (ap p (exact q x t))))
 
   pub entries_left : (m : fin.FinMap R X) (k : K) → fin.entries (fin.remove m k) ≡ filter (λ e. not (eq_by_cmp R e.0 k)) (fin.entries m)
-  entries_left m k = entries_kept m (fin.remove m k) (λ q. not (eq_by_cmp R q k)) (λ q. fin.get-remove o m k q ∙ elim (eq_by_cmp R q k) as (λ b. cond b None (fin.get m q) ≡ cond (not b) (fin.get m q) None) [ true ↦ refl | false ↦ refl ])
+  entries_left m k = entries_kept m (fin.remove m k) (λ q. not (eq_by_cmp R q k)) (λ q.
+      fin.get-remove o m k q
+      ∙ elim (eq_by_cmp R q k) as (λ b. cond b None (fin.get m q) ≡ cond (not b) (fin.get m q) None) [
+        | true ↦ refl
+        | false ↦ refl
+      ])
 
 pub less_apart : (a b : Ordering) → a ≡ ordering_reverse b → T (is_lt b) → is_eq a ≡ false
 less_apart a Less e l = ap is_eq e

@@ -21,12 +21,14 @@ pub stood : (vs : Volumes) (n : ℕ) (m : TextMap) (q : ℕ) (w : Volume) → fi
     → (v : Volume) × (fin.get vs q ≡ Some v) × ((w ≡ v) ⊎ ((q ≡ n) × (w ≡ with_mutable m v)))
 stood vs n m q w e = go (fin.get vs n) refl e
   where
-    go : (o : Option Volume) → fin.get vs n ≡ o → fin.get (mutable_set vs n m o) q ≡ Some w → (v : Volume) × (fin.get vs q ≡ Some v) × ((w ≡ v) ⊎ ((q ≡ n) × (w ≡ with_mutable m v)))
+    go : (o : Option Volume) → fin.get vs n ≡ o → fin.get (mutable_set vs n m o) q ≡ Some w
+        → (v : Volume) × (fin.get vs q ≡ Some v) × ((w ≡ v) ⊎ ((q ≡ n) × (w ≡ with_mutable m v)))
     go None h e = (w, e, inl refl)
-    go (Some v) h e = elim (inserted nat_cmp_total fin.nat_cmp-IsAntisymmetric vs n (with_mutable m v) q w e) as (λ _. (v : Volume) × (fin.get vs q ≡ Some v) × ((w ≡ v) ⊎ ((q ≡ n) × (w ≡ with_mutable m v)))) [
-      | inl a ↦ (v, ap (fin.get vs) a.0 ∙ h, inr (a.0, sym a.1))
-      | inr b ↦ (w, b, inl refl)
-    ]
+    go (Some v) h e = elim (inserted nat_cmp_total fin.nat_cmp-IsAntisymmetric vs n (with_mutable m v) q w e)
+        as (λ _. (v : Volume) × (fin.get vs q ≡ Some v) × ((w ≡ v) ⊎ ((q ≡ n) × (w ≡ with_mutable m v)))) [
+          | inl a ↦ (v, ap (fin.get vs) a.0 ∙ h, inr (a.0, sym a.1))
+          | inr b ↦ (w, b, inl refl)
+        ]
 
 -- a volume that existed exists, as it was or with the map
 pub stands : (vs : Volumes) (n : ℕ) (m : TextMap) (q : ℕ) (v : Volume) → fin.get vs q ≡ Some v
@@ -61,16 +63,22 @@ as_many vs n m = go (fin.get vs n) refl
 pub same_sum : (s : State) (n : ℕ) (m : TextMap) (pool : Text) → sum (sizes (changed s (SetMutable n m)) pool) ≡ sum (sizes s pool)
 same_sum s n m pool = go (fin.get s.volumes n) refl
   where
-    go : (o : Option Volume) → fin.get s.volumes n ≡ o → sum (in_order (fin.entries (mutable_set s.volumes n m o)) pool) ≡ sum (in_order (fin.entries s.volumes) pool)
+    go : (o : Option Volume) → fin.get s.volumes n ≡ o
+        → sum (in_order (fin.entries (mutable_set s.volumes n m o)) pool) ≡ sum (in_order (fin.entries s.volumes) pool)
     go None h = refl
-    go (Some v) h = measure_set (λ es. sum (in_order es pool)) (λ v. cond (same_text v.pool pool) v.bytes 0) (λ e es. total_cons e es pool) s.volumes n v (with_mutable m v) h refl
+    go (Some v) h =
+        measure_set (λ es. sum (in_order es pool)) (λ v. cond (same_text v.pool pool) v.bytes 0) (λ e es. total_cons e es pool)
+        s.volumes n v (with_mutable m v) h refl
 
 pub same_count : (s : State) (n : ℕ) (m : TextMap) (pool : Text) → length (sizes (changed s (SetMutable n m)) pool) ≡ length (sizes s pool)
 same_count s n m pool = go (fin.get s.volumes n) refl
   where
-    go : (o : Option Volume) → fin.get s.volumes n ≡ o → length (in_order (fin.entries (mutable_set s.volumes n m o)) pool) ≡ length (in_order (fin.entries s.volumes) pool)
+    go : (o : Option Volume) → fin.get s.volumes n ≡ o
+        → length (in_order (fin.entries (mutable_set s.volumes n m o)) pool) ≡ length (in_order (fin.entries s.volumes) pool)
     go None h = refl
-    go (Some v) h = measure_set (λ es. length (in_order es pool)) (λ v. cond (same_text v.pool pool) 1 0) (λ e es. count_cons e es pool) s.volumes n v (with_mutable m v) h refl
+    go (Some v) h =
+        measure_set (λ es. length (in_order es pool)) (λ v. cond (same_text v.pool pool) 1 0) (λ e es. count_cons e es pool)
+        s.volumes n v (with_mutable m v) h refl
 
 -- kept totals stay
 pub totals_kept : (pools : Totals) (s : State) (n : ℕ) (m : TextMap) → AreTotals pools s → AreTotals pools (changed s (SetMutable n m))

@@ -14,9 +14,15 @@ no_name : (es : List (ℕ × Volume)) (name : Text) (n : ℕ) (v : Volume) → f
 no_name [] name n v none some is = none_some v some
 no_name (e ∷ es) name n v none some is = go (λ h k. no_name es name n v h k is) (same_text e.1.name name) refl (eq_by_cmp nat_cmp n e.0) none some
   where
-    go : (find (λ v. same_text v.name name) (map (λ e. e.1) es) ≡ None → fin.find nat_cmp n es ≡ Some v → ⊥) → (b : Bool) → same_text e.1.name name ≡ b → (d : Bool) → cond b (Some e.1) (find (λ v. same_text v.name name) (map (λ e. e.1) es)) ≡ None → cond d (Some e.1) (fin.find nat_cmp n es) ≡ Some v → ⊥
+    go : (find (λ v. same_text v.name name) (map (λ e. e.1) es) ≡ None → fin.find nat_cmp n es ≡ Some v → ⊥)
+        → (b : Bool) → same_text e.1.name name ≡ b → (d : Bool)
+        → cond b (Some e.1) (find (λ v. same_text v.name name) (map (λ e. e.1) es)) ≡ None
+        → cond d (Some e.1) (fin.find nat_cmp n es) ≡ Some v → ⊥
     go more true t d h k = none_some e.1 (sym h)
-    go more false t true h k = let y : same_text e.1.name name ≡ true = (bytes_decides e.1.name name).1 (ap (λ (v : Volume). v.name) (same_some e.1 v k) ∙ is) in absurd (cc (t, y))
+    go more false t true h k =
+        let named : e.1.name ≡ name = ap (λ (v : Volume). v.name) (same_some e.1 v k) ∙ is in
+        let y : same_text e.1.name name ≡ true = (bytes_decides e.1.name name).1 named in
+        absurd (cc (t, y))
     go more false t false h k = more h k
 
 -- no volume has a name that none was found for

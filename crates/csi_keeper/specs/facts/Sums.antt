@@ -41,7 +41,8 @@ module _ (measure : List (ℕ × Volume) → ℕ) (part : Volume → ℕ) (more 
   measure_put k v [] none = more (k, v) []
   measure_put k v (e ∷ es) none = go (nat_cmp k e.0) none (measure_put k v es)
     where
-      go : (o : Ordering) → cond (is_eq o) (Some e.1) (fin.find nat_cmp k es) ≡ None → (fin.find nat_cmp k es ≡ None → measure (fin.put nat_cmp k v es) ≡ part v + measure es)
+      go : (o : Ordering) → cond (is_eq o) (Some e.1) (fin.find nat_cmp k es) ≡ None
+          → (fin.find nat_cmp k es ≡ None → measure (fin.put nat_cmp k v es) ≡ part v + measure es)
           → measure (by_order o ((k, v) ∷ e ∷ es) ((e.0, v) ∷ es) (e ∷ fin.put nat_cmp k v es)) ≡ part v + measure (e ∷ es)
       go Less h next = more (k, v) (e ∷ es)
       go Equal h next = absurd (none_some e.1 (sym h))

@@ -58,7 +58,8 @@ pub filter_after : {A : Type 0} (p q : A → Bool) → ((x : A) → p x ≡ true
 filter_after p q h [] = refl
 filter_after p q h (x ∷ xs) = go (filter_after p q h xs) (q x) refl (p x) refl
   where
-    go : filter p (filter q xs) ≡ filter p xs → (b : Bool) → q x ≡ b → (d : Bool) → p x ≡ d → filter p (cond b (x ∷ filter q xs) (filter q xs)) ≡ cond d (x ∷ filter p xs) (filter p xs)
+    go : filter p (filter q xs) ≡ filter p xs → (b : Bool) → q x ≡ b → (d : Bool) → p x ≡ d
+        → filter p (cond b (x ∷ filter q xs) (filter q xs)) ≡ cond d (x ∷ filter p xs) (filter p xs)
     go more true t true u = ap (λ d. cond d (x ∷ filter p (filter q xs)) (filter p (filter q xs))) u ∙ ap (λ ys. x ∷ ys) more
     go more true t false u = ap (λ d. cond d (x ∷ filter p (filter q xs)) (filter p (filter q xs))) u ∙ more
     go more false t true u = let y = h x u in absurd (cc (t, y))

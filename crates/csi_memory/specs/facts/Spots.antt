@@ -44,11 +44,13 @@ spot_place p q = go (is_at (spot_cmp (p.1, p.0)) q) refl (eq_by_cmp attachment_k
     go false s false t = refl
     go true s false t =
         let same : (p.1, p.0) ≡ q = spot_exact (p.1, p.0) q (tied _ s) in
-        let here : eq_by_cmp attachment_key_cmp (q.1, q.0) p ≡ true = subst (λ (x : Spot). eq_by_cmp attachment_key_cmp (x.1, x.0) p ≡ true) same (ap is_eq (tied_itself place_total p)) in
+        let here : eq_by_cmp attachment_key_cmp (q.1, q.0) p ≡ true =
+        subst (λ (x : Spot). eq_by_cmp attachment_key_cmp (x.1, x.0) p ≡ true) same (ap is_eq (tied_itself place_total p)) in
         absurd (cc (here, t))
     go false s true t =
         let same : (q.1, q.0) ≡ p = place_exact (q.1, q.0) p (tied _ t) in
-        let here : is_at (spot_cmp (p.1, p.0)) q ≡ true = subst (λ (x : AttachmentKey). is_at (spot_cmp (x.1, x.0)) q ≡ true) same (ap is_eq (tied_itself spot_total q)) in
+        let here : is_at (spot_cmp (p.1, p.0)) q ≡ true =
+        subst (λ (x : AttachmentKey). is_at (spot_cmp (x.1, x.0)) q ≡ true) same (ap is_eq (tied_itself spot_total q)) in
         absurd (cc (here, s))
 
 -- one attachment less, and its spot
@@ -239,11 +241,17 @@ module _ (attachments : List Row) (spots : Nodes) (node : Text) where
       let us = map alone ns in
       let vs = map (λ (e : Row). alone e.0.0) (filter by_place (fin.entries (places_of attachments))) in
       let up : IsStrictlySortedBy nat_cmp (keys_of us) = subst (IsStrictlySortedBy nat_cmp) (sym (alone_keys ns)) ordered in
-      let in_order : T (fin.is_sorted nat_cmp us) = subst (λ (es : List (ℕ × Unit {0})). T (fin.is_sorted nat_cmp es)) (entries_are nat_cmp_total us up) (fin.entries_sorted (fin.from_entries {R = nat_cmp} us)) in
+      let in_order : T (fin.is_sorted nat_cmp us) =
+      subst (λ (es : List (ℕ × Unit {0})). T (fin.is_sorted nat_cmp es)) (entries_are nat_cmp_total us up)
+      (fin.entries_sorted (fin.from_entries {R = nat_cmp} us)) in
       let all : us ≡ vs = same_list us vs in_order
       (rising attachment_key_cmp by_place (λ (k : AttachmentKey). k.0) places_up (fin.entries (places_of attachments))
       (fin.entries_sorted (places_of attachments)))
-      (λ n. alone_found n ns ∙ ap as_mark (spotted.found (node, n)) ∙ once (fin.get (places_of attachments) (n, node)) ∙ sym (place_found n (fin.entries (places_of attachments)) ∙ ap mark (sym (fin.get-entries (places_of attachments) (n, node))))) in
+      (λ n.
+      alone_found n ns
+      ∙ ap as_mark (spotted.found (node, n))
+      ∙ once (fin.get (places_of attachments) (n, node))
+      ∙ sym (place_found n (fin.entries (places_of attachments)) ∙ ap mark (sym (fin.get-entries (places_of attachments) (n, node))))) in
       sym (alone_keys ns)
       ∙ ap keys_of all
       ∙ map_map (λ (e : ℕ × Unit {0}). e.0) (λ (e : Row). alone e.0.0) (filter by_place (fin.entries (places_of attachments)))

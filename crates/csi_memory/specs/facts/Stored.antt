@@ -19,22 +19,27 @@ use Rattle.csi_memory.specs.facts.Listing.{rows_are}
 use Rattle.csi_memory.specs.facts.Trees.{get_number, one_volume, no_volume}
 
 -- what is found under a number
-pub found_stored : (es : List (ℕ × StoredVolume)) (k : ℕ) → lookup (is_at (nat_cmp k)) (as_volumes es) ≡ option_map (as_volume k) (lookup (is_at (nat_cmp k)) es)
+pub found_stored : (es : List (ℕ × StoredVolume)) (k : ℕ)
+    → lookup (is_at (nat_cmp k)) (as_volumes es) ≡ option_map (as_volume k) (lookup (is_at (nat_cmp k)) es)
 found_stored [] k = refl
 found_stored (e ∷ es) k = go (found_stored es k) (is_at (nat_cmp k) e.0) refl
   where
     go : lookup (is_at (nat_cmp k)) (as_volumes es) ≡ option_map (as_volume k) (lookup (is_at (nat_cmp k)) es) → (b : Bool) → is_at (nat_cmp k) e.0 ≡ b
-        → cond b (Some (as_volume e.0 e.1)) (lookup (is_at (nat_cmp k)) (as_volumes es)) ≡ option_map (as_volume k) (cond b (Some e.1) (lookup (is_at (nat_cmp k)) es))
+        → cond b (Some (as_volume e.0 e.1)) (lookup (is_at (nat_cmp k)) (as_volumes es))
+        ≡ option_map (as_volume k) (cond b (Some e.1) (lookup (is_at (nat_cmp k)) es))
     go more true t = ap (λ n. Some (as_volume n e.1)) (sym (fin.nat_cmp-IsAntisymmetric k e.0 (tied _ t)))
     go more false t = more
 
 pub get_stored : (es : List (ℕ × StoredVolume)) (k : ℕ) → fin.get (volumes_of (as_volumes es)) k ≡ option_map (as_volume k) (lookup (is_at (nat_cmp k)) es)
 get_stored es k = get_number (as_volumes es) k ∙ found_stored es k
 
-set_stored : (es fs : List (ℕ × StoredVolume)) (k : ℕ) (x : Option StoredVolume) → IsSetAt nat_cmp k x es fs → IsSetAt nat_cmp k (option_map (as_volume k) x) (as_volumes es) (as_volumes fs)
+set_stored : (es fs : List (ℕ × StoredVolume)) (k : ℕ) (x : Option StoredVolume) → IsSetAt nat_cmp k x es fs
+    → IsSetAt nat_cmp k (option_map (as_volume k) x) (as_volumes es) (as_volumes fs)
 set_stored es fs k x h q = found_stored fs q ∙ ap (option_map (as_volume q)) (h q) ∙ go (is_at (nat_cmp k) q) refl
   where
-    go : (b : Bool) → is_at (nat_cmp k) q ≡ b → option_map (as_volume q) (cond b x (lookup (is_at (nat_cmp q)) es)) ≡ cond b (option_map (as_volume k) x) (lookup (is_at (nat_cmp q)) (as_volumes es))
+    go : (b : Bool) → is_at (nat_cmp k) q ≡ b
+        → option_map (as_volume q) (cond b x (lookup (is_at (nat_cmp q)) es))
+        ≡ cond b (option_map (as_volume k) x) (lookup (is_at (nat_cmp q)) (as_volumes es))
     go true t = ap (λ n. option_map (as_volume n) x) (sym (fin.nat_cmp-IsAntisymmetric k q (tied _ t)))
     go false t = sym (found_stored es q)
 
@@ -42,7 +47,8 @@ pub one_stored : (es fs : List (ℕ × StoredVolume)) (k : ℕ) (v : StoredVolum
     → volumes_of (as_volumes fs) ≡ fin.insert (volumes_of (as_volumes es)) k (as_volume k v)
 one_stored es fs k v h = one_volume (as_volumes es) (as_volumes fs) k (as_volume k v) (set_stored es fs k (Some v) h)
 
-pub none_stored : (es fs : List (ℕ × StoredVolume)) (k : ℕ) → IsSetAt nat_cmp k None es fs → volumes_of (as_volumes fs) ≡ fin.remove (volumes_of (as_volumes es)) k
+pub none_stored : (es fs : List (ℕ × StoredVolume)) (k : ℕ) → IsSetAt nat_cmp k None es fs
+    → volumes_of (as_volumes fs) ≡ fin.remove (volumes_of (as_volumes es)) k
 none_stored es fs k h = no_volume (as_volumes es) (as_volumes fs) k (set_stored es fs k None h)
 
 same_keys : (es : List (ℕ × StoredVolume)) → keys_of (as_volumes es) ≡ keys_of es
@@ -60,7 +66,8 @@ between_stored (e ∷ es) after = go (between_stored es after) (range_contains n
   where
     go : as_volumes (entries_between nat_cmp (Excluded after) Unbounded es) ≡ entries_between nat_cmp (Excluded after) Unbounded (as_volumes es) → (b : Bool)
         → as_volumes (cond b (e ∷ entries_between nat_cmp (Excluded after) Unbounded es) (entries_between nat_cmp (Excluded after) Unbounded es))
-        ≡ cond b ((e.0, as_volume e.0 e.1) ∷ entries_between nat_cmp (Excluded after) Unbounded (as_volumes es)) (entries_between nat_cmp (Excluded after) Unbounded (as_volumes es))
+        ≡ cond b ((e.0, as_volume e.0 e.1) ∷ entries_between nat_cmp (Excluded after) Unbounded (as_volumes es))
+        (entries_between nat_cmp (Excluded after) Unbounded (as_volumes es))
     go more true = ap (λ fs. (e.0, as_volume e.0 e.1) ∷ fs) more
     go more false = more
 
@@ -69,18 +76,22 @@ each_stored f [] = refl
 each_stored f (e ∷ es) = ap (λ xs. f (as_volume e.0 e.1) ∷ xs) (each_stored f es)
 
 pub page_stored : {X : Type 0} (f : Volume → X) (es : List (ℕ × StoredVolume)) (after count : ℕ)
-    → take count (map (λ e. f (as_volume e.0 e.1)) (entries_between nat_cmp (Excluded after) Unbounded es)) ≡ take count (map (λ e. f e.1) (entries_between nat_cmp (Excluded after) Unbounded (as_volumes es)))
+    → take count (map (λ e. f (as_volume e.0 e.1)) (entries_between nat_cmp (Excluded after) Unbounded es))
+    ≡ take count (map (λ e. f e.1) (entries_between nat_cmp (Excluded after) Unbounded (as_volumes es)))
 page_stored f es after count =
     ap (take count) (each_stored f (entries_between nat_cmp (Excluded after) Unbounded es) ∙ ap (map (λ (e : ℕ × Volume). f e.1)) (between_stored es after))
 
 -- the sizes in a pool
 pub sizes_stored : (pool : Text) (es : List (ℕ × StoredVolume))
-    → map (λ v. v.bytes) (filter (λ v. same_text v.pool pool) (map (λ e. e.1) es)) ≡ map (λ v. v.bytes) (filter (λ v. same_text v.pool pool) (map (λ e. e.1) (as_volumes es)))
+    → map (λ v. v.bytes) (filter (λ v. same_text v.pool pool) (map (λ e. e.1) es))
+    ≡ map (λ v. v.bytes) (filter (λ v. same_text v.pool pool) (map (λ e. e.1) (as_volumes es)))
 sizes_stored pool [] = refl
 sizes_stored pool (e ∷ es) = go (sizes_stored pool es) (same_text e.1.pool pool)
   where
-    go : map (λ v. v.bytes) (filter (λ v. same_text v.pool pool) (map (λ e. e.1) es)) ≡ map (λ v. v.bytes) (filter (λ v. same_text v.pool pool) (map (λ e. e.1) (as_volumes es))) → (b : Bool)
+    go : map (λ v. v.bytes) (filter (λ v. same_text v.pool pool) (map (λ e. e.1) es))
+        ≡ map (λ v. v.bytes) (filter (λ v. same_text v.pool pool) (map (λ e. e.1) (as_volumes es))) → (b : Bool)
         → map (λ v. v.bytes) (cond b (e.1 ∷ filter (λ v. same_text v.pool pool) (map (λ e. e.1) es)) (filter (λ v. same_text v.pool pool) (map (λ e. e.1) es)))
-        ≡ map (λ v. v.bytes) (cond b (as_volume e.0 e.1 ∷ filter (λ v. same_text v.pool pool) (map (λ e. e.1) (as_volumes es))) (filter (λ v. same_text v.pool pool) (map (λ e. e.1) (as_volumes es))))
+        ≡ map (λ v. v.bytes) (cond b (as_volume e.0 e.1 ∷ filter (λ v. same_text v.pool pool) (map (λ e. e.1) (as_volumes es)))
+        (filter (λ v. same_text v.pool pool) (map (λ e. e.1) (as_volumes es))))
     go more true = ap (λ ns. e.1.bytes ∷ ns) more
     go more false = more

@@ -166,7 +166,11 @@ any_tied k (j ∷ ks) = ap (λ b. b || list_any (same_key k) ks) (keys_tie k j) 
 
 some_found : (k : CapKey) (ks : List CapKey) → is_some (fin.find key_cmp k (map entry ks)) ≡ list_any (eq_by_cmp key_cmp k) ks
 some_found k [] = refl
-some_found k (j ∷ ks) = elim (eq_by_cmp key_cmp k j) as (λ b. is_some (cond b (Some true) (fin.find key_cmp k (map entry ks))) ≡ (b || list_any (eq_by_cmp key_cmp k) ks)) [ true ↦ refl | false ↦ some_found k ks ]
+some_found k (j ∷ ks) = elim (eq_by_cmp key_cmp k j)
+    as (λ b. is_some (cond b (Some true) (fin.find key_cmp k (map entry ks))) ≡ (b || list_any (eq_by_cmp key_cmp k) ks)) [
+      | true ↦ refl
+      | false ↦ some_found k ks
+    ]
 
 any_ordered : (k : CapKey) (ks : List CapKey) → list_any (same_key k) (ordered ks) ≡ list_any (same_key k) ks
 any_ordered k ks =

@@ -35,7 +35,9 @@ number_is text n e = go (nat_lt (digits_value 10 text) (2 ^ 64)) refl (same_text
     same : (m : ℕ) → Some (digits_value 10 text) ≡ Some m → digits_value 10 text ≡ m
     same m h = cc
 
-    go : (p : Bool) → nat_lt (digits_value 10 text) (2 ^ 64) ≡ p → (q : Bool) → same_text (decimal (digits_value 10 text)) text ≡ q → cond (p && q) (Some (digits_value 10 text)) None ≡ Some n → (n < 2 ^ 64) × (decimal n ≡ text)
+    go : (p : Bool) → nat_lt (digits_value 10 text) (2 ^ 64) ≡ p
+        → (q : Bool) → same_text (decimal (digits_value 10 text)) text ≡ q
+        → cond (p && q) (Some (digits_value 10 text)) None ≡ Some n → (n < 2 ^ 64) × (decimal n ≡ text)
     go false a q b h = absurd (cc)
     go true a false b h = absurd (cc)
     go true a true b h = subst (λ (m : ℕ). (m < 2 ^ 64) × (decimal m ≡ text)) (same n h) (below _ _ a, (bytes_decides _ text).0 b)

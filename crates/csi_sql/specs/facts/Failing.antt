@@ -244,7 +244,9 @@ module _ (schema : Schema) (text : List ℕ) (params : Row) (sure : IsSure schem
   sure_refused (inr (c, is, db, source, why)) =
       let known : ◌≡◌ {A = Result Compiled CompileError} (Ok c) (understood schema text) = sym is ∙ ap (λ s. understood s text) has in
       let same : db ≡ old.now = subst (λ b. IsSourceOf b old.now db) (ap (λ s. reads_listing s text) has ∙ sure.unlisted) source in
-      let asked : RefusesToRead old.step_limit (Select (record { lets = []; body = sure.query }) sure.names) old.now params e = subst₂ (λ k d. RefusesToRead old.step_limit k d params e) (ap command_of known ∙ sure.is) same why in
+      let select : Command = Select (record { lets = []; body = sure.query }) sure.names in
+      let asked : RefusesToRead old.step_limit select old.now params e =
+      subst₂ (λ k d. RefusesToRead old.step_limit k d params e) (ap command_of known ∙ sure.is) same why in
       sure.unrefused old.step_limit old.now.trees e (subst (λ s. RefusesQuery old.step_limit (record {
         schema = s;
         trees = old.now.trees;

@@ -118,7 +118,8 @@ module _ (text : List ℕ) (params : Row) (old new : State) (count : ℕ) (has :
   inserted from it h =
       let command = Insert at from in
       let w = runs_as text params old new schema has command it.is it.plain count h in
-      let all = went (placed text params old new count has at (plain_table t) place command (w.tally, new.now) (changed text params old new count has at (plain_table t) place command w.tally w.changed)) in
+      let change = changed text params old new count has at (plain_table t) place command w.tally w.changed in
+      let all = went (placed text params old new count has at (plain_table t) place command (w.tally, new.now) change) in
       let now = ap (λ (p : Tally × Database). p.1) (same_value (went (went all.2).2).2) in
       let given = went all.1 in
       let written = went (went given.2).2 in

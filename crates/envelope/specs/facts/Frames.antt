@@ -122,7 +122,8 @@ cut_in_five bytes n all zero-flag =
     let e3 : 3 + n + 4 ≡ 7 + n = omega arith in
     let e2 : 2 + n + 1 ≡ 3 + n = omega arith in
     let rest-3 : take 4 (drop (3 + n) bytes) ++ drop (7 + n) bytes ≡ drop (3 + n) bytes =
-    ap (λ (x : List ℕ). take 4 (drop (3 + n) bytes) ++ x) (sym (drop-drop 4 (3 + n) bytes ∙ ap (λ (k : ℕ). drop k bytes) e3)) ∙ take-append-drop 4 (drop (3 + n) bytes) in
+    ap (λ (x : List ℕ). take 4 (drop (3 + n) bytes) ++ x) (sym (drop-drop 4 (3 + n) bytes ∙ ap (λ (k : ℕ). drop k bytes) e3))
+    ∙ take-append-drop 4 (drop (3 + n) bytes) in
     let rest-2 : 0 ∷ drop (3 + n) bytes ≡ drop (2 + n) bytes =
     sym (drop_more bytes (2 + n) 0 (omega arith) ∙ (ap (λ (b : ℕ). b ∷ drop (2 + n + 1) bytes) zero-flag ∙ ap (λ (k : ℕ). 0 ∷ drop k bytes) e2)) in
     let rest-1 : take n (drop 2 bytes) ++ drop (2 + n) bytes ≡ drop 2 bytes =
@@ -185,7 +186,8 @@ item_good Replies (suc n) text body good least short bytes body-short = record {
 
 text_from : (bytes : List ℕ) (o n : ℕ) → n ≡ 256 * get_or bytes o 0 + get_or bytes (o + 1) 0 → n ≡ from_be_bytes w16 (take 2 (drop o bytes))
 text_from bytes o n is =
-    let read : (k : ℕ) → k < 2 → get_or (take 2 (drop o bytes)) k 0 ≡ get_or bytes (o + k) 0 = λ k lt. get_or-take 2 (drop o bytes) k 0 lt ∙ get_or-drop o bytes k 0 in
+    let read : (k : ℕ) → k < 2 → get_or (take 2 (drop o bytes)) k 0 ≡ get_or bytes (o + k) 0 =
+    λ k lt. get_or-take 2 (drop o bytes) k 0 lt ∙ get_or-drop o bytes k 0 in
     omega (arith, is, read 0 (omega arith) ∙ ap (λ (k : ℕ). get_or bytes k 0) (add-zero o), read 1 (omega arith))
 
 text_length-drop : (kind : Kind) (bytes : List ℕ) → text_length kind bytes ≡ from_be_bytes w16 (take 2 (drop (lead kind) bytes))
@@ -196,14 +198,16 @@ body_length-drop : (kind : Kind) (bytes : List ℕ) → body_length kind bytes �
 unfolding body_length
 body_length-drop kind bytes =
     let at = lead kind + 3 + text_length kind bytes in
-    let read : (k : ℕ) → k < 4 → get_or (take 4 (drop at bytes)) k 0 ≡ get_or bytes (at + k) 0 = λ k lt. get_or-take 4 (drop at bytes) k 0 lt ∙ get_or-drop at bytes k 0 in
+    let read : (k : ℕ) → k < 4 → get_or (take 4 (drop at bytes)) k 0 ≡ get_or bytes (at + k) 0 =
+    λ k lt. get_or-take 4 (drop at bytes) k 0 lt ∙ get_or-drop at bytes k 0 in
     omega (arith, read 0 (omega arith) ∙ ap (λ (k : ℕ). get_or bytes k 0) (add-zero at), read 1 (omega arith), read 2 (omega arith), read 3 (omega arith))
 
 text_in : (kind : Kind) (bytes : List ℕ) (n : ℕ) → Parts kind bytes → text_length kind bytes ≡ n → length (take n (drop (lead kind + 2) bytes)) ≡ n
     → All (IsGoodByte kind) (take n (drop (lead kind + 2) bytes))
 text_in kind bytes n parts is len k d lt =
     let at : get_or (take n (drop (lead kind + 2) bytes)) k d ≡ get_or bytes (lead kind + 2 + k) 0 =
-    get_or_default (take n (drop (lead kind + 2) bytes)) k d 0 lt ∙ (get_or-take n (drop (lead kind + 2) bytes) k 0 (omega arith) ∙ get_or-drop (lead kind + 2) bytes k 0) in
+    get_or_default (take n (drop (lead kind + 2) bytes)) k d 0 lt
+    ∙ (get_or-take n (drop (lead kind + 2) bytes) k 0 (omega arith) ∙ get_or-drop (lead kind + 2) bytes k 0) in
     rw at (parts.text_bytes (lead kind + 2 + k) (omega arith) (omega arith))
 
 pub whole_is_frame : (kind : Kind) (bytes : List ℕ) → IsBytes bytes → IsUnbroken kind bytes → IsWhole kind bytes → IsItem kind (item_in kind bytes)
@@ -228,9 +232,16 @@ whole_is_frame kind bytes fits unbroken whole =
     let flag : get_or rest (2 + n) 0 ≡ 0 = get_or-drop o bytes (2 + n) 0 ∙ (ap (λ (k : ℕ). get_or bytes k 0) flag-at ∙ parts.flag_zero) in
     let text-len : length text ≡ n = omega (arith, length-take n (drop (o + 2) bytes), length-drop (o + 2) bytes) in
     let body-len : length body ≡ m = omega (arith, length-drop (o + 7 + n) bytes, whole.1) in
-    let first : to_be_bytes w16 n ≡ take 2 rest = be_bytes_2 (take 2 rest) n (omega (arith, length-take 2 rest)) (IsBytes-take 2 rest (IsBytes-drop o bytes fits)) (text_length-drop kind bytes) in
-    let third : to_be_bytes w32 m ≡ take 4 (drop (o + 3 + n) bytes) = be_bytes_4 (take 4 (drop (o + 3 + n) bytes)) m (omega (arith, length-take 4 (drop (o + 3 + n) bytes), length-drop (o + 3 + n) bytes)) (IsBytes-take 4 (drop (o + 3 + n) bytes) (IsBytes-drop (o + 3 + n) bytes fits)) (body_length-drop kind bytes) in
-    let good = item_good kind (get_or bytes 0 0) text body parts.status_good (omega (arith, parts.text_least)) (omega (arith, parts.text_short)) (text_in kind bytes n parts refl text-len) (omega (arith, parts.body_short)) in
+    let first : to_be_bytes w16 n ≡ take 2 rest =
+    be_bytes_2 (take 2 rest) n (omega (arith, length-take 2 rest))
+    (IsBytes-take 2 rest (IsBytes-drop o bytes fits)) (text_length-drop kind bytes) in
+    let third : to_be_bytes w32 m ≡ take 4 (drop (o + 3 + n) bytes) =
+    be_bytes_4 (take 4 (drop (o + 3 + n) bytes)) m
+    (omega (arith, length-take 4 (drop (o + 3 + n) bytes), length-drop (o + 3 + n) bytes))
+    (IsBytes-take 4 (drop (o + 3 + n) bytes) (IsBytes-drop (o + 3 + n) bytes fits)) (body_length-drop kind bytes) in
+    let good =
+    item_good kind (get_or bytes 0 0) text body parts.status_good (omega (arith, parts.text_least)) (omega (arith, parts.text_short))
+    (text_in kind bytes n parts refl text-len) (omega (arith, parts.body_short)) in
     let cut : spell (take 2 rest) text (take 4 (drop (o + 3 + n) bytes)) body ≡ rest =
     ap (λ (x : List ℕ). spell (take 2 rest) x (take 4 (drop (o + 3 + n) bytes)) body) (sym text-is)
     ∙ (ap (λ (x : List ℕ). spell (take 2 rest) (take n (drop 2 rest)) (take 4 x) body) (sym third-is)
@@ -349,8 +360,11 @@ spelled_second kind i more text-fits fits =
     let text = text_of kind i in
     let body = body_of kind i in
     let n = length text in
-    let at : lead kind + 3 + text_length kind (spelling kind i ++ more) ≡ lead kind + 3 + n = ap (λ (k : ℕ). lead kind + 3 + k) (spelled_first kind i more text-fits) in
-    let read : (j k : ℕ) → j ≡ lead kind + (2 + (n + k)) → get_or (spelling kind i ++ more) j 0 ≡ get_or (0 ∷ (to_be_bytes w32 (length body) ++ (body ++ more))) k 0 = λ j k e. frame_at kind i more j (2 + (n + k)) e ∙ block_tail text body more k in
+    let at : lead kind + 3 + text_length kind (spelling kind i ++ more) ≡ lead kind + 3 + n =
+    ap (λ (k : ℕ). lead kind + 3 + k) (spelled_first kind i more text-fits) in
+    let after_text = 0 ∷ (to_be_bytes w32 (length body) ++ (body ++ more)) in
+    let read : (j k : ℕ) → j ≡ lead kind + (2 + (n + k)) → get_or (spelling kind i ++ more) j 0 ≡ get_or after_text k 0 =
+    λ j k e. frame_at kind i more j (2 + (n + k)) e ∙ block_tail text body more k in
     omega (
       arith,
       from_be_bytes-to_be_bytes_4 (length body) fits,
@@ -425,7 +439,10 @@ broken_no_frame kind bytes i Status at good begins h =
     true_not_false (get_or bytes 0 0) (ap is_status (begins.status_is h.1.0) ∙ (fits kind i good).status_good h.1.0) h.1.2
 broken_no_frame kind bytes i TextLength at good begins h =
     let f = fits kind i good in
-    elim h.2 [ inl none ↦ omega (arith, begins.text_is, f.text_least) | inr long ↦ omega (arith, begins.text_is, f.text_short (get_or bytes 0 0) begins.status_is) ]
+    elim h.2 [
+      | inl none ↦ omega (arith, begins.text_is, f.text_least)
+      | inr long ↦ omega (arith, begins.text_is, f.text_short (get_or bytes 0 0) begins.status_is)
+    ]
 broken_no_frame kind bytes i Text at good begins h =
     let e : at ≡ lead kind + 2 + (at - (lead kind + 2)) = omega (arith, h.0) in
     let lt : at - (lead kind + 2) < length (text_of kind i) = omega (arith, begins.text_is, h.0, h.1) in

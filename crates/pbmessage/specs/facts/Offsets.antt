@@ -63,11 +63,18 @@ is_offset l good bytes at s =
       longest = λ n lt le g.
           let tail : List ℕ = take (n - length f.0) s.rest in
           let longer : take n bytes ≡ f.0 ++ take (n - length f.0) s.rest = ap (take n) f.1 ∙ take_longer n f.0 s.rest (omega arith) in
-          let some : length (take (n - length f.0) s.rest) ≡ n - length f.0 = length-take-le (n - length f.0) s.rest (omega (arith, ap length f.1, length-append f.0 s.rest)) in
+          let some : length (take (n - length f.0) s.rest) ≡ n - length f.0 =
+          length-take-le (n - length f.0) s.rest (omega (arith, ap length f.1, length-append f.0 s.rest)) in
           let more : take (n - length f.0) s.rest ≢ [] = λ e. not_nil (n - length f.0) (take (n - length f.0) s.rest) some (omega arith) e in
-          let next = go_on good s.fields g.fields (f.0 ++ take (n - length f.0) s.rest) (take (n - length f.0) s.rest) (f.2 (take (n - length f.0) s.rest)) (subst (λ (b : List ℕ). Reads g.fields b []) longer (are_read l g.fields (take n bytes) g.whole)) g.each more in
+          let whole = subst (λ (b : List ℕ). Reads g.fields b []) longer (are_read l g.fields (take n bytes) g.whole) in
+          let next =
+          go_on good s.fields g.fields (f.0 ++ take (n - length f.0) s.rest) (take (n - length f.0) s.rest)
+          (f.2 (take (n - length f.0) s.rest)) whole g.each more in
           let spelled = (l.exactly (take (n - length f.0) s.rest) next.1 next.0).0 next.2 in
-          let rest : s.rest ≡ spelled.0 ++ (next.1 ++ drop (n - length f.0) s.rest) = sym (take-append-drop (n - length f.0) s.rest) ∙ ap (λ (bs : List ℕ). bs ++ drop (n - length f.0) s.rest) spelled.2 ∙ append_assoc spelled.0 next.1 (drop (n - length f.0) s.rest) in
+          let rest : s.rest ≡ spelled.0 ++ (next.1 ++ drop (n - length f.0) s.rest) =
+          sym (take-append-drop (n - length f.0) s.rest)
+          ∙ ap (λ (bs : List ℕ). bs ++ drop (n - length f.0) s.rest) spelled.2
+          ∙ append_assoc spelled.0 next.1 (drop (n - length f.0) s.rest) in
           s.bad next.0 (next.1 ++ drop (n - length f.0) s.rest)
           ((l.exactly s.rest (next.1 ++ drop (n - length f.0) s.rest) next.0).1 (spelled.0, spelled.1, rest)) next.3;
     }
