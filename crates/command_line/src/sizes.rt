@@ -80,8 +80,8 @@ fn text_in(alloc: Global, units: &[Unit], bytes: u64) -> Result<String, AllocErr
     format!(in alloc; "{bytes} B")
 }
 
-/// A size in the greatest binary unit in which it is exact to one decimal, as `1 GiB` or `1.5 MiB`; otherwise in
-/// bytes, as `1000 B`.
+/// A size in the greatest binary unit in which it is exact to one decimal, as `1 GiB` or `1.5 MiB`; otherwise
+/// in bytes, as `1000 B`.
 ///
 /// # Errors
 ///

@@ -8,8 +8,8 @@ const GAP: usize = 2;
 // A longer word than this makes no column wider, so that one long word costs no space in each other row.
 const WIDEST: usize = 80;
 
-/// Rows of words, which are shown in columns: each is as wide as its longest word of at most 80 bytes. A longer
-/// word moves the rest of its own row to the right.
+/// Rows of words, which are shown in columns: each is as wide as its longest word of at most 80 bytes. A
+/// longer word moves the rest of its own row to the right.
 #[derive(Drop)]
 pub struct Table {
     rows: Vec<Vec<String>>,

@@ -11,14 +11,15 @@ use std::alloc::{AllocError, Global};
 // The characters of ASCII that would end a word, and the one that begins an escape.
 const ESCAPED: AsciiSet = ascii_set!(CONTROLS.add(b' ').add(b'%'));
 
-/// Appends a text as a part of a word: a byte outside 0x21 to 0x7E, and `%`, as `%` and two hexadecimal digits
-/// (URL Standard, section 1.3).
+/// Appends a text as a part of a word: a byte outside 0x21 to 0x7E, and `%`, as `%` and two hexadecimal
+/// digits (URL Standard, section 1.3).
 ///
 /// # Errors
 ///
 /// Where memory was refused.
 pub fn put_word(out: &mut String, text: &str) -> Result<(), AllocError>
-    ensures ok { OnOk result (string_bytes out.new ≡ string_bytes out.old ++ percent_encode ESCAPED text.now) }
+    ensures ok { OnOk result
+        (string_bytes out.new ≡ string_bytes out.old ++ percent_encode ESCAPED text.now) }
 {
     utf8_percent_encode(text, ESCAPED).append_to(out)
 }

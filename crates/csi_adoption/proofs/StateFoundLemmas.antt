@@ -1,4 +1,5 @@
--- Tables that pass every constraint have the rows of a State, which meets every constraint; and the rows of such a State pass.
+-- Tables that pass every constraint have the rows of a State, which meets every constraint; and the rows of
+-- such a State pass.
 use Rattle.std.proofs.Common.{◌≡◌, ◌∙◌, inl, inr, refl, sym, ap, ap₂, subst, arith, ℕ, ◌-◌, ◌^◌, ◌≤◌, ◌<◌, ℤ, pos, negsuc, int_lt, nat_lt, ◌==◌, ◌<ℤ◌, Bool, true, false, true≢false, cond, not, ◌||◌, List, [], ◌∷◌, length, map, sum, Option, Some, None, Result, Ok, Err, IsPermutation, slice_index_or}
 use Rattle.std.specs.List.{AllByRecursion}
 use Rattle.std.proofs.lemmas.Bool.Decides.{nat_tests}

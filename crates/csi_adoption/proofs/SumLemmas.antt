@@ -20,7 +20,8 @@ module _ (at : ℕ) (text : List ℕ) where
     pub sum_told : sum_by (added_by at text weight) rows ≤ 2 ^ 64 - 1 → sum_after at text weight 0 rows ≡ sum_by (added_by at text weight) rows
     sum_told low = omega (arith, low)
 
-    -- a bound below the greatest number that is reported holds of what is reported exactly where it holds of the sum
+    -- a bound below the greatest number that is reported holds of what is reported exactly where it holds of
+    -- the sum
     pub room_told : (most : ℕ) → sum_after at text weight 0 rows ≤ most → most < 2 ^ 64 - 1 → sum_by (added_by at text weight) rows ≤ most
     room_told most told low = omega (arith, told, low)
 

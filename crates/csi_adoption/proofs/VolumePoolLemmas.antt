@@ -1,4 +1,5 @@
--- What is reported of the pools is what their volumes are and have, and no volume has a pool that the configuration has not.
+-- What is reported of the pools is what their volumes are and have, and no volume has a pool that the
+-- configuration has not.
 use Rattle.std.proofs.Common.{◌≡◌, ◌∙◌, refl, sym, ap, Bool, true, false, true≢false, cond, ℕ, List, [], ◌∷◌, map, filter, length, sum, None, Some, IsSome, ◌⊎◌, inl, inr, ap₂, ◌-◌, ◌^◌, ◌<◌}
 use Rattle.std.specs.Cmp.{nat_cmp_total}
 use Rattle.std.specs.FinMap.{entries, nat_cmp-IsAntisymmetric}

@@ -44,8 +44,8 @@ pub record IsFound (config : Config) (db : Database) (format : ℕ) (totals : To
   pub schema_is : db.schema ≡ schema
   pub found : IsSound schema db.trees → IsFormat format × (s : State) × IsRowsIn format s db.trees × IsInvariant config s × AreTotals totals s
 
--- Tables that were taken: they represent the State that they represented, which meets every constraint, and are
--- of the latest format.
+-- Tables that were taken: they represent the State that they represented, which meets every constraint, and
+-- are of the latest format.
 pub record IsTaken (config : Config) (old new : sql.State) (totals : Totals) : Type 0 where
   pub was_open : IsTrue old.is_open
   pub is_open : IsTrue new.is_open

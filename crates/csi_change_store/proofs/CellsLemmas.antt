@@ -35,7 +35,8 @@ pub record HasRead (kinds : List Kind) (cells : Cells) (es all : List WireField)
   pub numbers : (k : ℕ) → slice_get kinds k ≡ Some Integer → last number_in k (number_of cells k) es ≡ number_at k all
   pub bytes : (k : ℕ) → slice_get kinds k ≡ Some Bytes → last bytes_in k (bytes_of cells k) es ≡ bytes_at k all
 
--- The fields of the rest complete those that were read to those of the payload, and those of the payload end with them.
+-- The fields of the rest complete those that were read to those of the payload, and those of the payload end
+-- with them.
 pub record Reading (kinds : List Kind) (payload rest : List ℕ) (cells : Cells) : Type 0 where
   pub whole : (es : List WireField) → AreFields es rest → AreCells kinds es → (all : List WireField) × AreFields all payload × AreCells kinds all × HasRead kinds cells es all
   pub left : (all : List WireField) → AreFields all payload → AreCells kinds all → (es : List WireField) × AreFields es rest × AreCells kinds es

@@ -1,5 +1,5 @@
--- What a page of rows encodes: docs/PROTOCOL.md, "The change store" (own). Its fields are read in order; field
--- 1 is the row of meta, 2 a row of volumes, 3 one of attachments, 4 the token of the next page.
+-- What a page of rows encodes: docs/PROTOCOL.md, "The change store" (own). Its fields are read in order;
+-- field 1 is the row of meta, 2 a row of volumes, 3 one of attachments, 4 the token of the next page.
 use Rattle.std.specs.Prelude.{◌≡◌, ℕ, ◌<◌, ◌^◌, ◌==◌, Bool, true, false, List, [], ◌∷◌, Option, Some, None, Ok, IsUtf8, slice_get, unwrap_or, nat_lt}
 use Rattle.std.specs.Prelude.{if◌then◌else◌}
 use Rattle.std.specs.List.{AllByRecursion, list_all}

@@ -128,8 +128,8 @@ fn frame_holding(alloc: Global, message: &[u8]) -> Result<Vec<u8>, StoreFault>
 /// # Errors
 ///
 /// `NoMemory`; `Refused` where the message would have more than 1,048,576 bytes. How many it has is known
-/// once its columns are made, so where there is no memory for these, that is answered for a message that is too
-/// long too.
+/// once its columns are made, so where there is no memory for these, that is answered for a message that is
+/// too long too.
 pub(crate) fn commit_frame(alloc: Global, change: &Change) -> Result<Vec<u8>, StoreFault>
     ensures frame { IfOk result (λ frame. frame.items ≡ commit_frame change.now) }
     ensures fault { result ≢ Err Down }

@@ -103,7 +103,8 @@ fn put_context(out: &mut Vec<u8>, context: &Map) -> Result<(), AllocError>
 }
 
 fn put_denied(out: &mut Vec<u8>, message: &Text) -> Result<(), AllocError>
-    ensures { OnOk result (out.new.items ≡ out.old.items ++ codes "not confirmed " ++ escaped message.now ++ codes "\n") }
+    ensures { OnOk result
+        (out.new.items ≡ out.old.items ++ codes "not confirmed " ++ escaped message.now ++ codes "\n") }
 {
     out.extend_from_slice(b"not confirmed ")?;
     put_escaped(out, message.as_bytes())?;
@@ -182,7 +183,8 @@ fn put_token(out: &mut Vec<u8>, token: &Text) -> Result<(), AllocError>
 }
 
 fn put_plugin(out: &mut Vec<u8>, name: &Text, version: &Text) -> Result<(), AllocError>
-    ensures { OnOk result (out.new.items ≡ out.old.items ++ codes "plugin " ++ escaped name.now ++ codes " " ++ escaped version.now ++ codes "\n") }
+    ensures { OnOk result (out.new.items
+        ≡ out.old.items ++ codes "plugin " ++ escaped name.now ++ codes " " ++ escaped version.now ++ codes "\n") }
 {
     out.extend_from_slice(b"plugin ")?;
     put_escaped(out, name.as_bytes())?;
@@ -192,7 +194,9 @@ fn put_plugin(out: &mut Vec<u8>, name: &Text, version: &Text) -> Result<(), Allo
 }
 
 fn put_capacity(out: &mut Vec<u8>, available: i64, maximum: Option<i64>) -> Result<(), AllocError>
-    ensures { OnOk result (out.new.items ≡ out.old.items ++ codes "available " ++ signed_decimal available ++ codes " maximum " ++ number_or_none maximum ++ codes "\n") }
+    ensures { OnOk result (out.new.items
+        ≡ out.old.items ++ codes "available " ++ signed_decimal available
+        ++ codes " maximum " ++ number_or_none maximum ++ codes "\n") }
 {
     out.extend_from_slice(b"available ")?;
     put_number(out, available)?;

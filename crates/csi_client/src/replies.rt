@@ -18,7 +18,8 @@ use pbmessage::DecodeFault;
 use std::alloc::{AllocError, Global};
 
 fn put_status(out: &mut Vec<u8>, status: u8) -> Result<(), AllocError>
-    ensures { OnOk result ((code : Code) → status ≡ number_of code → out.new.items ≡ out.old.items ++ decimal status ++ codes " " ++ name_of code) }
+    ensures { OnOk result ((code : Code) → status ≡ number_of code
+        → out.new.items ≡ out.old.items ++ decimal status ++ codes " " ++ name_of code) }
 {
     let mut buffer = Buffer::new();
     out.extend_from_slice(buffer.format(status).as_bytes())?;

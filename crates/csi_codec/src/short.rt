@@ -83,8 +83,8 @@ fn put_id(buffer: &mut [u8], end: usize, prefix: &str, number: u64) -> usize
     put_before(buffer, id, &[18, (end - id) as u8])
 }
 
-/// Puts an entry without nodes at the end of a buffer, and returns where it begins; `None` where it may be too
-/// long for that. Whether it has nodes is not looked at.
+/// Puts an entry without nodes at the end of a buffer, and returns where it begins; `None` where it may be
+/// too long for that. Whether it has nodes is not looked at.
 #[inline(always)]
 pub(crate) fn put_short(buffer: &mut [u8], entry: &ListedEntry) -> Option<usize>
     requires { length buffer.old ≡ 176 }

@@ -16,8 +16,8 @@ IsRead seen r (Err (Key section key rule)) = r ≡ Err (Key section key rule)
 IsRead seen r (Err (Fault f)) = ⊥
 IsRead seen r (Err NoMemory) = ⊤
 
--- the configuration of a document, the first key at fault, or otherwise the first fault of its parts; or memory
--- was refused
+-- the configuration of a document, the first key at fault, or otherwise the first fault of its parts; or
+-- memory was refused
 abbrev pub IsOfDocument : Members → Result Config ConfigError → Type 0
 IsOfDocument ms (Ok config) = parts_in ms ≡ Ok (record { plugin = config.plugin; sizes = config.sizes; pools = config.pools; nodes = config.nodes })
 IsOfDocument ms (Err (NotToml line)) = ⊥

@@ -143,8 +143,8 @@ impl Faults {
         }
     }
 
-    // Adds the faults of the pool with this number, which comes after pools of these names. Its bytes, or none
-    // where they are not read.
+    // Adds the faults of the pool with this number, which comes after pools of these names. Its bytes, or
+    // none where they are not read.
     fn add_pool(
         &mut self,
         number: usize,
@@ -276,9 +276,9 @@ impl Faults {
     }
 }
 
-/// The faults of a document that [`read_config`](crate::read_config) refuses, all at once: of each key, of each
-/// pool and each node the first rule that it breaks alone, and of all of them together. A text that is no
-/// document has none.
+/// The faults of a document that [`read_config`](crate::read_config) refuses, all at once: of each key, of
+/// each pool and each node the first rule that it breaks alone, and of all of them together. A text that is
+/// no document has none.
 ///
 /// # Errors
 ///

@@ -1,5 +1,5 @@
-//! A configuration from its text, a TOML document: what it gives, or the first fault of it; all of its faults;
-//! and its keys that are not known.
+//! A configuration from its text, a TOML document: what it gives, or the first fault of it; all of its
+//! faults; and its keys that are not known.
 #![tactic(auto)]
 
 mod config_file;

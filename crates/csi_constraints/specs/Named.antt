@@ -27,8 +27,8 @@ first_out test rows = find (λ r. not (test r)) rows
 abbrev pub named_out : ℕ → ℕ → (Row → Bool) → Option RowName → List Row → Option RowName
 named_out number text test found rows = option_or found (option_map (name_of number text) (first_out test rows))
 
--- what the search for a broken constraint has become over rows, by the rows that pass and what is known of one
--- that does
+-- what the search for a broken constraint has become over rows, by the rows that pass and what is known of
+-- one that does
 pub record FindsBroken {T : Type 0} (accepts : T → Row → Bool) (knows : T → Row → Type 0) (first : FirstBroken T) (rows : List Row)
     (now : FirstBroken T) : Type 0 where
   pub test : now.test ≡ first.test

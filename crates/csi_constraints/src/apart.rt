@@ -93,7 +93,8 @@ pub struct FirstApart {
 
 impl Fold for FirstApart {
     ghost folds = { λ first rows now.
-        first.found ≡ None → first.last ≡ None → DoNotFall rows → (now.found ≡ apart_named rows) × (now.found ≡ None → AreCovered now.last rows) };
+        first.found ≡ None → first.last ≡ None → DoNotFall rows
+        → (now.found ≡ apart_named rows) × (now.found ≡ None → AreCovered now.last rows) };
 
     ghost takes_memory = { λ fold row. (fold.found ≡ None) × IsSome (as_integer (column row 0)) };
 

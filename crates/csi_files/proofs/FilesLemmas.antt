@@ -88,7 +88,8 @@ in_trees : (db : Database) (s : State) → IsSound db.schema db.trees → IsStat
 in_trees db s sound (inl it) = inl it.1
 in_trees db s sound (inr it) = inr (subst (λ q. IsSound q db.trees) it.0 sound, it.1)
 
--- what the laws of the machine say of a run over tables: what a stop may leave of it, and that the invariant is kept
+-- what the laws of the machine say of a run over tables: what a stop may leave of it, and that the invariant
+-- is kept
 pub record RunLaws {D : Type 0} (g : Ghosts D) (config : Config) : Type 0 where
   pub left : (old new : Tables (FileStore D g)) (s : State) (events : List Event)
       → Runs (volumes config) (seen config (tables_model over_files old)) (seen config (tables_model over_files new)) s events

@@ -30,7 +30,8 @@ use Rattle.csi_files.specs.declared.serving.NotServed.{NotServed}
 use Rattle.csi_files.specs.declared.serving.NotServed.TheVariants.{NotOpened, Blank, NotAdopted, NotCopied, Left, NotClosed}
 use Rattle.csi_files.proofs.StartingLemmas.{no_state}
 
--- some replies that a client heard in these sessions, and the State that a run over the files starts as in the end
+-- some replies that a client heard in these sessions, and the State that a run over the files starts as in
+-- the end
 record Lived (config : Config) (was : Image) (s : State) (sessions : List (List Exchange)) (last : Image) : Type 0 where
   pub heard : List ReplyBytes
   pub left : State

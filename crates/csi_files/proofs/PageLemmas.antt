@@ -70,7 +70,8 @@ one_page_long size image pages found large ignored =
     let inside = part_within image.db 0 whole (omega arith) (ap length front ∙ found.whole.sized 1 page is) in
     omega (arith, inside)
 
--- nor does a first page that was torn: bytes of 0 name no size of a page, and its own bytes one that they do not reach
+-- nor does a first page that was torn: bytes of 0 name no size of a page, and its own bytes one that they do
+-- not reach
 pub torn_holds_none : (image : Image) (db : Trees) → IsTorn image → HoldsDatabase image db → ⊥
 torn_holds_none image db (none, bytes) (size, allowed, held) =
     let few : reserved size ≤ 8 = grind arith in

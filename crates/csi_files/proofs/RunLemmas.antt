@@ -18,7 +18,8 @@ use Rattle.csi_files.specs.declared.over.Served.{Served}
 use Rattle.csi_files.specs.Over.{ServesFrom, ServesWith, with_counts}
 use Rattle.csi_files.specs.Serving.{events_of}
 
--- What is so of a run from the State s, through the models old and new, is so through the models first and last.
+-- What is so of a run from the State s, through the models old and new, is so through the models first and
+-- last.
 pub record Carries {S : Type 0} (old new first last : Model S) (s : S) : Type 0 where
   pub refused : (first.refusals ≡ old.refusals) × (last.refusals ≡ new.refusals)
   pub down : (first.is_down ≡ old.is_down) × (last.is_down ≡ new.is_down)
@@ -73,7 +74,8 @@ run_in m old new s read AtEnd held holds TurnsSpent it = it.0.run
 run_in m old new s read AtEnd held holds WriteFailed it = it.run
 run_in m old new s read AtEnd held holds NoMemory it = it.0
 
--- A run over a keeper that was read before it, and had no refusal counted then: its counts begin with the run.
+-- A run over a keeper that was read before it, and had no refusal counted then: its counts begin with the
+-- run.
 pub counted_from : (config : Config) (first mid last : Model State) (served : Served) (unread left held holds : Option (List ℕ)) → IsQuiet first mid → first.is_down ≡ false
     → (mid.doubt ≡ 0 → (s : State) → first.holds s → IsInvariant config s → mid.refusals ≡ 0) → ServesWith config mid last served unread left held holds
     → ServesFrom config first last served unread left held holds

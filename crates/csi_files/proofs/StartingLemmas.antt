@@ -34,7 +34,8 @@ no_database image db holds wanted = ∥∥₁_elim holds (λ x y. absurd x) (λ 
 pub no_state : (image : Image) (s : State) → HasState image s → ¬ IsToMake image
 no_state image s has = no_database image has.db has.holds
 
--- a run over the files in which a database was made says whether one was, and whether the one that they had was without tables
+-- a run over the files in which a database was made says whether one was, and whether the one that they had
+-- was without tables
 says_start : (before after : Image) (served : Served) → ShowsLaidOut before after → SaysNew after served → SaysStart before served
 says_start before after served shows says = record {
   had = λ db held sound. says db (subst (λ (i : Image). ∥ HoldsDatabase i db.trees ∥₁) (sym (shows.kept (no_database before db.trees held))) held) sound;

@@ -46,8 +46,8 @@ abbrev pub IsLifeOfFiles : Config → Image → List (List Exchange) → Image �
 IsLifeOfFiles config was [] last = was ≡ last
 IsLifeOfFiles config was (session ∷ sessions) last = (next : Image) × IsRunOver config was session next × IsLifeOfFiles config next sessions last
 
--- A client that repeats each of its calls until it hears the reply, while others change nothing: what it hears,
--- and the State of the files in the end, are those of its requests taken once each.
+-- A client that repeats each of its calls until it hears the reply, while others change nothing: what it
+-- hears, and the State of the files in the end, are those of its requests taken once each.
 abbrev pub LivesOnce : Config → Type 0
 LivesOnce config =
     (was last : Image) (s : State) (requests : List Request) (sessions : List (List Exchange)) → MayStart was s → IsInvariant config s
@@ -56,7 +56,8 @@ LivesOnce config =
     → ∥ (GoesOn was last s (after_once config s requests)
     × IsLifeOfCalls config s sessions (map told (told_once config s requests)) (after_once config s requests)) ∥₁
 
--- The files in the end start a run as a State to which the numbers of volumes went on, whatever the calls were.
+-- The files in the end start a run as a State to which the numbers of volumes went on, whatever the calls
+-- were.
 abbrev pub NumbersOnce : Config → Type 0
 NumbersOnce config =
     (was last : Image) (s : State) (sessions : List (List Exchange)) → MayStart was s → IsInvariant config s

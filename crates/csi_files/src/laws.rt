@@ -39,9 +39,9 @@ pub fn lived(config: &Config)
     retry(config);
 }
 
-/// Run after run over two files, with a stop after each and any calls in each, gives no number twice: the next
-/// number is no smaller in the end, a number whose volume was deleted has none, and nothing of a volume that
-/// keeps its number has changed but its mutable parameters. So an id never names another volume.
+/// Run after run over two files, with a stop after each and any calls in each, gives no number twice: the
+/// next number is no smaller in the end, a number whose volume was deleted has none, and nothing of a volume
+/// that keeps its number has changed but its mutable parameters. So an id never names another volume.
 ///
 /// The runs are as of [`lived`].
 pub fn numbered(config: &Config)

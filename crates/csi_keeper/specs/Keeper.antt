@@ -56,8 +56,8 @@ pub record Reads {X : Type 0} (old new : Model State) (result : Result X StoreFa
   pub count : new.refusals ≡ count_after old.refusals result
   pub down : (result ≡ Err Down) ↔ IsTrue old.is_down
 
--- A change: it is made or fails, a refusal is counted, and that the keeper is down is reported where it is, and
--- nowhere else.
+-- A change: it is made or fails, a refusal is counted, and that the keeper is down is reported where it is,
+-- and nowhere else.
 pub record Applies {X : Type 0} (old new : Model State) (change : Change) (result : Result X StoreFault) : Type 0 where
   pub changes : Changes old new change result
   pub count : new.refusals ≡ count_after old.refusals result

@@ -1,4 +1,5 @@
--- The answer to a request: reads that make a plan, the body of its response, its change, and what a keeper has then.
+-- The answer to a request: reads that make a plan, the body of its response, its change, and what a keeper
+-- has then.
 use Rattle.std.proofs.Common.{◌≡◌, ◌∙◌, ◌⊎◌, inl, inr, ap, sym, subst, arith, refl, ℕ, ◌≤◌, ◌==◌, ◌&&◌, ◌||◌, ◌++◌, List, length, sum_by, nat_le, Bool, true, false, cond, Option, Some, None, Result, Ok, Err, IfSome, IsSome, IsTrue, IfErr, OnOk, OnErr, append-nil}
 use Rattle.std.specs.FinMap as fin
 use Rattle.std.specs.List.{list_all}

@@ -97,7 +97,8 @@ modify_fits config r s c inv e = by_number (number_of_id r.volume_id) e
 
 -- It is done with when it is asked again.
 
--- what is laid over a map has its values there, and laid over once more it changes nothing; a map has its own values
+-- what is laid over a map has its values there, and laid over once more it changes nothing; a map has its own
+-- values
 pub record AreLaid : Type 0 where
   pub given : (m given : TextMap) → has_each (laid_over m given) given ≡ true
   pub again : (m given : TextMap) → laid_over (laid_over m given) given ≡ laid_over m given

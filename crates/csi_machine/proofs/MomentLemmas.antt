@@ -15,7 +15,8 @@ use Rattle.csi_machine.specs.calls.Listing.{entries_for, listed, last_of}
 abbrev pub Moment : Type 0
 Moment = State × ℕ
 
--- the volumes of the pages, of which the first begins after a number, and each other after the last volume of the page before
+-- the volumes of the pages, of which the first begins after a number, and each other after the last volume of
+-- the page before
 abbrev pub walked : ℕ → List Moment → List (List Volume)
 walked after [] = []
 walked after (m ∷ ms) = listed m.0 after m.1 ∷ walked (last_of after (listed m.0 after m.1)) ms

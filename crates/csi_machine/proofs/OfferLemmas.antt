@@ -176,7 +176,8 @@ told config rs g available n false e h = absurd (none available n (ap (λ p. p.o
     none : (c d : ℕ) → (tell_capacity 0 0).outcome ≡ (tell_capacity c d).outcome → 0 < d → ⊥
     none c d e h = let z : ◌≡◌ {A = ℕ} 0 d = cc in omega (arith, z, h)
 
--- a maximum that GetCapacity says is a multiple of 1 MiB, within the greatest size, and no more than is free where the topology is served
+-- a maximum that GetCapacity says is a multiple of 1 MiB, within the greatest size, and no more than is free
+-- where the topology is served
 told_fits : (config : Config) → IsConfigured config → (s : State) (g : GetCapacity) (available n : ℕ) → IsInvariant config s → capacity config s g ≡ tell_capacity available n → 0 < n
     → IsTimes n × (n ≤ config.sizes.greatest_bytes) × (n ≤ greatest (map free (served (rooms config s) (Some (term_of g.topology)))))
 told_fits config good s g available n inv e h =

@@ -88,8 +88,8 @@ pub record Carries (plan : Plan) (old new : Model State) (result : Result Verdic
   pub down : TellsDown old.is_down (λ v. plan.change ≡ None) result
   pub stays : old.is_down ≡ true → new.is_down ≡ true
 
--- A request is performed: its body is appended, what is reported and the State after it are those of one step of
--- the machine, and a fault of the keeper is counted and leaves the State.
+-- A request is performed: its body is appended, what is reported and the State after it are those of one step
+-- of the machine, and a fault of the keeper is counted and leaves the State.
 pub record Performs (config : Config) (request : Request) (old new : Model State) (out now : List ℕ) (result : Result Verdict StoreFault) : Type 0 where
   pub clean : old.doubt ≤ new.doubt
   pub appended : Appended out now result

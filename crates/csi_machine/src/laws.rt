@@ -54,8 +54,8 @@ pub fn kept(config: &Config)
 }
 
 /// No number is given twice: a request lowers no next number, gives no number again whose volume was deleted,
-/// and changes nothing of a volume that keeps its number but its mutable parameters. What is answered does not
-/// matter.
+/// and changes nothing of a volume that keeps its number but its mutable parameters. What is answered does
+/// not matter.
 #[inline(always)]
 pub fn numbers(config: &Config)
     ensures { (s : State) (r : Request) → IsInvariant config.now s → checked r ≡ None

@@ -48,7 +48,8 @@ pub(crate) fn volume_named(
     volumes: &BTreeMap<u64, StoredVolume>,
     name: &str,
 ) -> Result<Option<Volume>, AllocError>
-    ensures { IfOk result (λ v. v ≡ named_by names.now (volumes_of (as_volumes volumes.now.entries)) name.now) }
+    ensures { IfOk result (λ v.
+        v ≡ named_by names.now (volumes_of (as_volumes volumes.now.entries)) name.now) }
 {
     if let Some(number) = names.by_hash.get(&name_hash(name.as_bytes())) {
         if let Some(volume) = volume_if_named(alloc, volumes, *number, name)? {

@@ -49,7 +49,8 @@ pub(crate) fn volume_if_named(
     number: u64,
     name: &str,
 ) -> Result<Option<Volume>, AllocError>
-    ensures { IfOk result (λ v. v ≡ if_named name.now (get (volumes_of (as_volumes volumes.now.entries)) number)) }
+    ensures { IfOk result (λ v.
+        v ≡ if_named name.now (get (volumes_of (as_volumes volumes.now.entries)) number)) }
 {
     match volumes.get(&number) {
         Some(volume) if volume.name.as_str() == name => Ok(Some(volume.copy(alloc, number)?)),

@@ -15,7 +15,8 @@ rounded_down n = n / GRANULE_BYTES * GRANULE_BYTES
 abbrev pub rounded_up : ℕ → ℕ
 rounded_up n = rounded_down (n + (GRANULE_BYTES - 1))
 
--- 0 is not given: what is required, rounded up; or otherwise the default size, and at most the limit, rounded down
+-- 0 is not given: what is required, rounded up; or otherwise the default size, and at most the limit, rounded
+-- down
 abbrev pub requested_bytes : Sizes → ℕ → ℕ → ℕ
 requested_bytes sizes required limit =
     if nat_lt 0 required then rounded_up required

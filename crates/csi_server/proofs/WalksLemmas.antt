@@ -68,7 +68,8 @@ marks_apart : (r : Reason) → (number_of (code_of r) ≡ number_of (code_of rea
 marks_apart r apart e = apart (ap (λ (x : ReplyBytes). x.status) e)
 
 module _ (config : Config) where
-  -- requests that show these pages, and of which no page is refused for its token where no page of the calls is
+  -- requests that show these pages, and of which no page is refused for its token where no page of the calls
+  -- is
   pub record Walks (s : State) (token : Text) (ps : List Page) (Read : Type 0) : Type 0 where
     pub calls : List Call
     pub checked : AreChecked calls

@@ -49,7 +49,8 @@ spelled_call r = record { path = path_of (request_method r); message = request_b
 
 -- ---- the calls of a session
 
--- A call with its mark, and whether the client heard the reply. Of a call that another client made it hears none.
+-- A call with its mark, and whether the client heard the reply. Of a call that another client made it hears
+-- none.
 pub record Exchange : Type 0 where
   pub event : Event
   pub is_heard : Bool

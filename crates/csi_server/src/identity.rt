@@ -59,7 +59,8 @@ fn put_response(
 ) -> Result<Verdict, AllocError>
     ensures appended { IfOk result (λ v. Appended room reply.new.items result) }
     ensures reported { IfOk result (λ v. IsReported
-        (reported_of (said names.now.name.now names.now.version.now request.now)) room reply.new.items result) }
+        (reported_of (said names.now.name.now names.now.version.now request.now))
+        room reply.new.items result) }
 {
     begin_body(reply)?;
     match respond(alloc, names, request)? {

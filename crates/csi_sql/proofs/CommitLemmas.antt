@@ -1,4 +1,5 @@
--- What a transaction over the tables makes, and that of two statements: the row of a volume, and the next number.
+-- What a transaction over the tables makes, and that of two statements: the row of a volume, and the next
+-- number.
 use Rattle.std.proofs.Common.{◌≡◌, ◌∙◌, ◌∷◌, inr, refl, sym, ap, subst, arith, map, true, ℕ, Ok, Err, Result, OnOk, IsPermutation}
 use Rattle.std.specs.Result.{IsErrAnd}
 use Rattle.sqlite.specs.Effect.{Database}

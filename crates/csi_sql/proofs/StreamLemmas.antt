@@ -64,7 +64,8 @@ shown_from sql params a b c rows plain same h =
 
 -- ---- why it failed
 
--- a query that is refused on a connection is refused as it was before, of the same database with the same limit
+-- a query that is refused on a connection is refused as it was before, of the same database with the same
+-- limit
 refused_before : (text : List ℕ) (old mid : State) (e : Error) → mid.now ≡ old.now → mid.step_limit ≡ old.step_limit → SqlRefusesToRead text [] mid e → SqlRefusesToRead text [] old e
 refused_before text old mid e now limit why =
     subst (λ (l : Option ℕ). SqlRefusesToRead text [] (record old { step_limit = l }) e) limit (subst (λ (d : Database). SqlRefusesToRead text [] (record old { now = d; step_limit = mid.step_limit }) e) now why)

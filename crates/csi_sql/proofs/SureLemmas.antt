@@ -1,4 +1,5 @@
--- A CREATE that makes one of the tables is refused for nothing: that computes of its text and of the tables before it.
+-- A CREATE that makes one of the tables is refused for nothing: that computes of its text and of the tables
+-- before it.
 use Rattle.std.proofs.Common.{◌≡◌, ◌∙◌, inl, inr, refl, sym, ap, subst, subst₂, arith, ℕ, ◌+◌, ◌*◌, ◌^◌, ◌<◌, ◌≤◌, true, false, true≢false, List, [], length, codes, Option, Some, None, Ok, Err, IsUtf8}
 use Rattle.std.specs.List.{AllByRecursion}
 use Rattle.std.specs.Str.{chars, is_utf8}

@@ -45,7 +45,8 @@ fn make<S: Alter>(tx: &mut Transaction<'_, S>, step: TableStatement) -> Result<u
 
 fn create_tables<S: Alter>(tx: &mut Transaction<'_, S>) -> Result<(), Error>
     ensures same_reference { tx.new.conn.ghost_name ≡ tx.old.conn.ghost_name }
-    ensures runs { RunsOver S.Store tx.old.conn.now tx.new.conn.now no_schema MakesTables RefusesTables result }
+    ensures runs { RunsOver S.Store tx.old.conn.now tx.new.conn.now no_schema
+        MakesTables RefusesTables result }
 {
     make(tx, TableStatement::Meta)?;
     make(tx, TableStatement::Volumes)?;

@@ -131,7 +131,8 @@ pub fn page_with_nodes<S: Alter>(
 ) -> Result<PageWithNodes, Error>
     requires after { after < 2 ^ 63 }
     ensures { ReadsOnly S.Store conn.old conn.new
-        (λ db page. IsPageWithNodes after count db page.volumes.items page.places.items) NothingRefuses result }
+        (λ db page. IsPageWithNodes after count db page.volumes.items page.places.items)
+        NothingRefuses result }
 {
     let mut tx = conn.0.transaction();
     let volumes = select_rows(&mut tx, &Select::Page(after, count))?;

@@ -103,8 +103,8 @@ pub(crate) fn page<S: Alter>(
     volumes_from(alloc, &rows)
 }
 
-/// The volumes of a page, and the nodes of each, in byte order of their ids: of tables that nobody judged too.
-/// It is one read of the whole page.
+/// The volumes of a page, and the nodes of each, in byte order of their ids: of tables that nobody judged
+/// too. It is one read of the whole page.
 ///
 /// # Errors
 ///

@@ -305,9 +305,11 @@ impl<S: Alter> Keeper for Tables<S> {
 
     fn apply_owned(&mut self, alloc: Global, change: Change) -> Result<(), StoreFault>
         requires { IsBounded change }
-        ensures applies { Applies (tables_model S.Store self.old) (tables_model S.Store self.new) change result }
+        ensures applies { Applies
+            (tables_model S.Store self.old) (tables_model S.Store self.new) change result }
         ensures stops { OnErr result (IsTrue self.new.health.is_down) }
-        ensures refused { TablesRefuses S.Store self.old self.new (refuses_change S.Store self.old change) result }
+        ensures refused { TablesRefuses S.Store self.old self.new
+            (refuses_change S.Store self.old change) result }
         ensures limit { self.new.conn.step_limit ≡ self.old.conn.step_limit }
     {
         self.apply(alloc, &change)

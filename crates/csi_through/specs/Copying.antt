@@ -84,16 +84,16 @@ IsCopy old new copy = new.doubt ≡ 0 → (config : Config) (s : State) → old.
 abbrev pub IsWhole : Model State → Model State → Type 0
 IsWhole old new = new.doubt ≡ 0 → (s : State) → old.holds s → IsNumbered s.next
 
--- Why a read of the keeper gave nothing, or there was no memory. That it is down is reported only where it is;
--- and of each State of the invariant of which P is so, a refusal is one that the keeper counted, and nothing
--- else is counted.
+-- Why a read of the keeper gave nothing, or there was no memory. That it is down is reported only where it
+-- is; and of each State of the invariant of which P is so, a refusal is one that the keeper counted, and
+-- nothing else is counted.
 pub record IsToldFor (P : State → Type 0) (old new : Model State) (fault : StoreFault) : Type 0 where
   pub down : fault ≡ Down → IsTrue old.is_down
   pub count : new.doubt ≡ 0 → (config : Config) (s : State) → old.holds s → IsInvariant config s → P s
       → new.refusals ≡ count_after {X = Unit {0}} old.refusals (Err fault)
 
--- Why there is no copy: that the keeper is down is reported where it is, and nowhere else; and of a State of the
--- invariant a refusal is one that the keeper counted, and nothing else is counted.
+-- Why there is no copy: that the keeper is down is reported where it is, and nowhere else; and of a State of
+-- the invariant a refusal is one that the keeper counted, and nothing else is counted.
 pub record IsWhy (old new : Model State) (fault : StoreFault) : Type 0 where
   pub down : (fault ≡ Down) ↔ IsTrue old.is_down
   pub count : new.doubt ≡ 0 → (config : Config) (s : State) → old.holds s → IsInvariant config s

@@ -9,8 +9,8 @@ use Rattle.csi_keeper.specs.declared.change.Change.{Change}
 use Rattle.csi_keeper.specs.declared.change.StoreFault.{StoreFault}
 use Rattle.csi_through.specs.declared.through.Through.{Through}
 
--- The change store has the State, and so has the memory, unless it is out of date. A stop leaves what it leaves of
--- the change store.
+-- The change store has the State, and so has the memory, unless it is out of date. A stop leaves what it
+-- leaves of the change store.
 abbrev pub through_model : {M D : Type 0} → (M → Model State) → (D → Model State) → Through M D → Model State
 through_model memory change_store t = record {
   holds = λ s. (change_store t.change_store).holds s × (t.is_current ≡ true → (memory t.memory).holds s);

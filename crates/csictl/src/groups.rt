@@ -149,7 +149,8 @@ fn node_rows(alloc: Global, groups: &Groups) -> Result<String, AllocError> {
     table.text(alloc)
 }
 
-/// The pools that volumes are in, a line each; of volumes that do not say their pool, a line for each topology.
+/// The pools that volumes are in, a line each; of volumes that do not say their pool, a line for each
+/// topology.
 ///
 /// # Errors
 ///

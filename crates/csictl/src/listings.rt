@@ -122,8 +122,8 @@ fn walked(rt: &HostRuntime, arguments: &ArgMatches<'_>) -> Result<Walked, Failur
 ///
 /// # Errors
 ///
-/// Where a call is not answered, a reply is malformed, no volume has the id that is asked for, writing fails, or
-/// memory is refused.
+/// Where a call is not answered, a reply is malformed, no volume has the id that is asked for, writing fails,
+/// or memory is refused.
 pub(crate) fn run(
     rt: &HostRuntime,
     what: What,

@@ -108,7 +108,8 @@ fn walk_once(
 ///
 /// # Errors
 ///
-/// Where a call is not answered, a reply is malformed or no page, the pages have no end, or memory is refused.
+/// Where a call is not answered, a reply is malformed or no page, the pages have no end, or memory is
+/// refused.
 pub(crate) fn walk(
     alloc: Global,
     arguments: &ArgMatches<'_>,

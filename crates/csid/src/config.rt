@@ -45,8 +45,8 @@ fn tell_unknown(console: &Console<'_>, path: &str, bytes: &[u8]) {
     }
 }
 
-// Says the keys that are not known of a configuration that is refused, and then all of its faults but the last
-// one, which is given.
+// Says the keys that are not known of a configuration that is refused, and then all of its faults but the
+// last one, which is given.
 fn tell_faults(console: &Console<'_>, path: &str, bytes: &[u8], refused: Failure) -> Failure
     requires { IsOrNoMemory 3 refused }
     ensures { IsOrNoMemory 3 result }

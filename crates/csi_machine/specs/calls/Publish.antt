@@ -41,8 +41,8 @@ publish_again key readonly a =
 abbrev pub has_conflict : Attachment → List Attachment → Bool
 has_conflict mine attachments = list_any (λ a. not (coexist a mine)) attachments
 
--- a volume that exists, what it may be used as, where it is published, and a node with the count of the volumes
--- that are there
+-- a volume that exists, what it may be used as, where it is published, and a node with the count of the
+-- volumes that are there
 pub record Target : Type 0 where
   pub number : ℕ
   pub caps : List CapKey

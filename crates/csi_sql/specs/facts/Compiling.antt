@@ -1,5 +1,5 @@
--- What a text is compiled to, computed once: everything else that is said of a fixed text under the schema follows
--- from it.
+-- What a text is compiled to, computed once: everything else that is said of a fixed text under the schema
+-- follows from it.
 use Rattle.std.proofs.Common.{◌≡◌, refl, sym, ap, subst, if◌then◌else◌, [], ◌∷◌, arith, codes, length, take, List, None, Ok, ℕ}
 use Rattle.sqlite.specs.Command.{Command}
 use Rattle.sqlite.specs.Command.TheVariants.{Select}

@@ -46,7 +46,8 @@ pub fn delete_attachment<S: Alter>(tx: &mut Transaction<'_, S>, volume: u64, nod
     requires { volume < 2 ^ 63 }
     ensures same_reference { tx.new.conn.ghost_name ≡ tx.old.conn.ghost_name }
     ensures runs { RunsOver S.Store tx.old.conn.now tx.new.conn.now
-        schema (Drops 3 seen_attachment (is_place volume node.now)) (RefusesDetaching volume node.now) result }
+        schema (Drops 3 seen_attachment (is_place volume node.now))
+        (RefusesDetaching volume node.now) result }
 {
     tx.execute(
         "DELETE FROM attachments WHERE number = ?1 AND node = ?2",
