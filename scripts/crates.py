@@ -1,7 +1,8 @@
 """The crates of the repository, and folders in which one of them is worked on next to others.
 
-A run of rt keeps every other out of the folders that it reads. So where several are to run side by side, each gets a folder of its own
-with links to the files of the crates that it reads, and to the libraries that were built of them.
+A run of rt keeps every other out of the folders that it reads. So where several are to run side by side, each
+gets a folder of its own with links to the files of the crates that it reads, and to the libraries that were
+built of them.
 """
 import os
 import shutil
@@ -16,8 +17,8 @@ def read_crates():
     with open("crates.txt", encoding="utf-8") as file:
         lines = [line.strip() for line in file if line.partition("#")[0].strip()]
     named = {line.partition(":")[0].split()[0]: line for line in lines}
-    uses = {name: [it for it in line.partition(":")[2].split() if it in named] for name, line in named.items()}
-    return named, uses
+    words = {name: line.partition(":")[2].split() for name, line in named.items()}
+    return named, {name: [it for it in used if it in named] for name, used in words.items()}
 
 
 def below(name, uses):
@@ -68,7 +69,9 @@ def link(source, to):
 
 
 def make_stage(stage, name, lines, uses):
-    """Makes a folder with a crate's line of crates.txt and all that the crate stands on, built. Returns where the crate itself belongs."""
+    """Makes a folder with a crate's line of crates.txt and all that the crate uses, built. Returns where the
+    crate itself belongs.
+    """
     room = f"{stage}/crates/{name}"
     os.makedirs(room)
     with open(f"{stage}/crates.txt", "w", encoding="utf-8") as file:

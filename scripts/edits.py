@@ -1,4 +1,6 @@
-"""The functions of the crates, by the lines of their sources, and the wrong bodies that are kept: scripts/try-edits says what they are."""
+"""The functions of the crates, by the lines of their sources, and the wrong bodies that are kept:
+scripts/try-edits says what they are.
+"""
 import collections
 import os
 import re
@@ -27,7 +29,9 @@ def module_of(file):
 
 
 def function_at(file, text, number):
-    """Returns the function that a line of a file is in, its attributes too, or None where it is in none. Lines are counted from 1."""
+    """Returns the function that a line of a file is in, its attributes too, or None where it is in none.
+    Lines are counted from 1.
+    """
     lines = text.split("\n")
     while number < len(lines) and lines[number - 1].lstrip().startswith("#["):
         number += 1
@@ -35,15 +39,19 @@ def function_at(file, text, number):
     if start is None:
         return None
     indent, name = HEAD.match(lines[start]).groups()
-    end = next((it for it in range(start, len(lines)) if lines[it].startswith((f"{indent}}}", f"{indent}{{}}")) or lines[it].rstrip().endswith(("{}", ";")) and it == start), None)
+    end = start
+    if not lines[start].rstrip().endswith(("{}", ";")):
+        ends = (f"{indent}}}", f"{indent}{{}}")
+        end = next((it for it in range(start, len(lines)) if lines[it].startswith(ends)), None)
     if end is None or end < number - 1:
         return None
     module = module_of(file)
-    return Function(module, name, "::".join(filter(None, [module, type_at(lines, start, indent), name])), "\n".join(lines[start : end + 1]))
+    path = "::".join(filter(None, [module, type_at(lines, start, indent), name]))
+    return Function(module, name, path, "\n".join(lines[start : end + 1]))
 
 
 def type_at(lines, start, indent):
-    """Returns how the checker calls the impl or the trait that a method is in, or nothing of a function that is in none."""
+    """Returns how the checker calls the impl or trait that a method is in, or nothing where it is in none."""
     if not indent:
         return ""
     for it in range(start, -1, -1):
@@ -58,8 +66,10 @@ def type_at(lines, start, indent):
 
 
 def block_name(head):
-    """Returns how the checker calls the impl with a head, of what follows its word: the type, and the trait with what it is given, as in `AdoptFaultFromSqlError`; or the type
-    with what it is given, unless that is the impl's own parameters alone, as in `Through+MemKeeper+D`."""
+    """Returns how the checker calls the impl with a head, of what follows its word: the type, and the trait
+    with what it is given, as in `AdoptFaultFromSqlError`; or the type with what it is given, unless that is
+    the impl's own parameters alone, as in `Through+MemKeeper+D`.
+    """
     given, rest = split_brackets(head.strip())
     own = {it.partition(":")[0].strip() for it in parts_of(given)}
     trait, is_of_trait, of = rest.strip().rpartition(" for ")
@@ -77,7 +87,7 @@ def block_name(head):
 
 
 def split_brackets(text):
-    """Returns what a text has between its first angle bracket, with which it begins, and the matching one, and what follows."""
+    """Returns what a text that begins with an angle bracket has up to the matching one, and what follows."""
     depth = 0
     for at, sign in enumerate(text if text.startswith("<") else ""):
         depth += (sign == "<") - (sign == ">" and text[at - 1] != "-")
@@ -123,7 +133,9 @@ class Edit:
                 raise ValueError(f"{crate}/{name} has a line that begins with no known word: {line}")
 
     def apply(self, texts):
-        """Puts its texts into those of the crate's files, and returns whether each old text was in its file exactly once. Files that are not in `texts` are read."""
+        """Puts its texts into those of the crate's files, and returns whether each old text was in its file
+        exactly once. Files that are not in `texts` are read.
+        """
         changed = {}
         for file, old, new in self.pairs:
             text = changed.get(file) or texts.get(file) or read(f"crates/{self.crate}/{file}")
@@ -133,20 +145,28 @@ class Edit:
         texts.update(changed)
         return bool(changed)
 
+    def function_of(self, file, old):
+        """Returns the function that a text of a file of the crate is in, or None where it is in none."""
+        text = read(f"crates/{self.crate}/{file}")
+        before, is_there, _ = text.partition(old)
+        if not is_there or not file.startswith("src/"):
+            return None
+        return function_at(file, text, before.count("\n") + 1)
+
     def functions(self):
-        """Returns the functions that it changes, by path, or none where it changes more than functions and their own proofs."""
+        """Returns the functions that it changes, by path, or none where it changes more than functions and
+        their own proofs.
+        """
         found = {}
         for file, old, _ in self.pairs:
             if file.startswith("proofs/"):
                 continue
-            text = read(f"crates/{self.crate}/{file}")
-            before, is_there, _ = text.partition(old)
-            own = function_at(file, text, before.count("\n") + 1) if is_there and file.startswith("src/") else None
+            own = self.function_of(file, old)
             if not own:
                 return {}
             found[own.path] = own
-        is_own = all(any(it.has_proof(file) for it in found.values()) for file, _, _ in self.pairs if file.startswith("proofs/"))
-        return found if is_own else {}
+        proofs = [file for file, _, _ in self.pairs if file.startswith("proofs/")]
+        return found if all(any(it.has_proof(file) for it in found.values()) for file in proofs) else {}
 
 
 def read(path):

@@ -1,6 +1,6 @@
-"""Runs the tests as `python3 -m unittest` does. A test that fails is run once more alone: a busy machine can hold
-a process up for longer than a test waits. At the end it says which ones passed then (`second try: NAME`), and what
-was skipped and why: a line for each reason, `left out: REASON (N tests)`.
+"""Runs the tests as `python3 -m unittest` does. A test that fails is run once more alone: a busy machine can
+hold a process up for longer than a test waits. At the end it says which ones passed then (`second try:
+NAME`), and what was skipped and why: a line for each reason, `left out: REASON (N tests)`.
 
 usage: python3 -m tests [what python3 -m unittest takes]
 """

@@ -41,8 +41,8 @@ echo "$name|${*/--jobs=*/}|$listed|$built|$(ls src)|$(ls out 2>/dev/null | paste
 mkdir -p out/rlib
 echo "$name" >"out/rlib/$name"
 """
-# What serves on the socket of its words: csid itself, or an rt that runs its sources. It writes down how it was
-# called, and a SIGINT, which is not for it.
+# What serves on the socket of its words: csid itself, or an rt that runs its sources. It writes down how it
+# was called, and a SIGINT, which is not for it.
 SERVER = """#!/usr/bin/env python3
 import os, signal, socket, sys
 def note(line):

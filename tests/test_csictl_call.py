@@ -41,8 +41,8 @@ time.sleep(60)
 """
 
 CUT_SHORT, GARBAGE = READY[:5], b"HTTP/1.1 400 Bad Request\r\n"
-# Heads of frames of HTTP/2 on stream 0: SETTINGS with one setting, as grpc-go begins, and without one (RFC 9113,
-# 4.1 and 6.5).
+# Heads of frames of HTTP/2 on stream 0: SETTINGS with one setting, as grpc-go begins, and without one (RFC
+# 9113, 4.1 and 6.5).
 SETTINGS, NO_SETTINGS = (
     bytes.fromhex("000006 04 00 00000000 000500004000"),
     bytes.fromhex("000000 04 00 00000000"),
@@ -62,7 +62,15 @@ STORE_REFUSED = refusal(13, "store refused")
 # more than these is none: the row fails.
 TRIED = [
     ("answered at once", ["--tries", "5"], [READY], SHOWN, [], "", 0),
-    ("as many tries and seconds as there can be", ["--tries", "10", "--timeout", "86400"], [READY], SHOWN, [], "", 0),
+    (
+        "as many tries and seconds as there can be",
+        ["--tries", "10", "--timeout", "86400"],
+        [READY],
+        SHOWN,
+        [],
+        "",
+        0,
+    ),
     ("without --tries once", [], [CLOSED], "", [], ": closed without a reply", 5),
     ("once", ["--tries", "1"], [CLOSED], "", [], ": closed without a reply", 5),
     ("closed twice", ["--tries", "3"], [CLOSED, CLOSED, READY], SHOWN, [NO_REPLY, NO_REPLY], "", 0),
@@ -367,9 +375,8 @@ class CallTest(CsictlTest):
         )
         # In a mount namespace of its own /run is empty, but for what a row puts there.
         put = "mount -t tmpfs none /run && mkdir /run/csid /run/csid-front && %s && exec \"$@\""
-        control, csid = (
-            "ln -s %s /run/%s" % (server.path, place) for place in ("csid-front/control.sock", "csid/csid.sock")
-        )
+        places = ("csid-front/control.sock", "csid/csid.sock")
+        control, csid = ("ln -s %s /run/%s" % (server.path, place) for place in places)
         if run(["unshare", "--mount", "sh", "-c", put % "true", "sh", "true"])[2] == 0:
             for name, made, variable, wanted in [
                 ("none", "true", "", ("", neither, 2)),
@@ -387,12 +394,13 @@ class CallTest(CsictlTest):
         server.kill()
 
     def test_place_that_may_not_be_looked_into(self):
-        """Where this user may not see whether the first place exists, it is taken, and connecting says why."""
+        """The first place is taken where this user may not see whether it exists, and connecting says why."""
         if os.geteuid() != 0 or not shutil.which("setpriv"):
             self.skipTest("the user nobody cannot be taken here")
         program, _ = copy_for_nobody(self.csictl, self.folder)
         put = (
-            "mount -t tmpfs none /run && mkdir /run/csid && touch /run/csid/csid.sock && mkdir -m 700 /run/csid-front"
+            "mount -t tmpfs none /run && mkdir /run/csid && touch /run/csid/csid.sock"
+            " && mkdir -m 700 /run/csid-front"
             ' && exec setpriv --reuid 65534 --regid 65534 --clear-groups "$@"'
         )
         words = ["unshare", "--mount", "sh", "-c", put, "sh", program]

@@ -238,7 +238,15 @@ WALKS = [
         "csictl: the pages have no end\n",
         3,
     ),
-    ("a page that is none", ["--json"], [[ok("0a")]], "", [], "csictl: the body is no response of the method\n", 3),
+    (
+        "a page that is none",
+        ["--json"],
+        [[ok("0a")]],
+        "",
+        [],
+        "csictl: the body is no response of the method\n",
+        3,
+    ),
     (
         "a page that is not answered",
         ["--json"],
@@ -340,8 +348,8 @@ class JsonTest(CsictlTest):
         peer.end()
         for name, words, connections, out, reasons, last, status in WALKS:
             pages = Pages(self.folder, connections)
-            asked = [self.csictl, "call", "--all", "--socket", pages.path, "--method", "ListVolumes", "--max", "1"]
-            came = text(run(asked + words, input=b""))
+            asked = ["--socket", pages.path, "--method", "ListVolumes", "--max", "1", *words]
+            came = text(run([self.csictl, "call", "--all", *asked], input=b""))
             said = "".join("csictl: PATH: %s: try 2 of 2\n" % why for why in reasons) + last
             self.row("" + name, came, (out, said.replace("PATH", pages.path), status))
             self.row("what was asked: " + name, pages.end(), asked_of(connections))

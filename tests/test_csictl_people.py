@@ -26,7 +26,7 @@ def pairs(number, of):
 
 
 def entry(name, size, topologies=(), nodes=(), **context):
-    """An entry of ListVolumes in hexadecimal digits; of topologies, pairs each (docs/PROTOCOL.md, "Messages")."""
+    """An entry of ListVolumes in hexadecimal digits (docs/PROTOCOL.md, "Messages"). A topology is pairs."""
     volume = b"\x08" + varint(size % (1 << 64)) + part(2, name.encode()) + pairs(3, context)
     volume += b"".join(part(5, pairs(1, segments)) for segments in topologies)
     return part(1, part(1, volume) + part(2, b"".join(part(1, it.encode()) for it in nodes))).hex()
@@ -53,8 +53,8 @@ IN_JSON = (
     '"volumeId":"vol-22"}}],"nextToken":""}\n'
 )
 
-# Each row: what it shows, words, what the calls of each connection are answered, the tokens of the calls, standard
-# output, standard error, status.
+# Each row: what it shows, words, what the calls of each connection are answered, the tokens of the calls,
+# standard output, standard error, status.
 SHOWN = [
     ("volumes", ["volumes"], [[ok("".join(THREE))]], [[""]], VOLUMES, "", 0),
     (
@@ -62,7 +62,9 @@ SHOWN = [
         ["volumes"],
         [[ok(entry("v" * 81, GIB) + entry("vol-2", MIB))]],
         [[""]],
-        "ID     SIZE   TOPOLOGY  NODES  POOL\n" + "v" * 81 + "  1 GiB  -         -      -\nvol-2  1 MiB  -         -      -\n",
+        "ID     SIZE   TOPOLOGY  NODES  POOL\n"
+        + ("v" * 81 + "  1 GiB  -         -      -\n")
+        + "vol-2  1 MiB  -         -      -\n",
         "",
         0,
     ),
@@ -86,7 +88,15 @@ SHOWN = [
         0,
     ),
     ("volumes of no node", ["volumes", "--node", "n"], [[ok("".join(THREE))]], [[""]], HEADINGS, "", 0),
-    ("volumes of a node in JSON", ["volumes", "--json", "--node", "n2"], [[ok("".join(THREE))]], [[""]], IN_JSON, "", 0),
+    (
+        "volumes of a node in JSON",
+        ["volumes", "--json", "--node", "n2"],
+        [[ok("".join(THREE))]],
+        [[""]],
+        IN_JSON,
+        "",
+        0,
+    ),
     (
         "words that are escaped, and topologies",
         ["volumes"],
@@ -162,7 +172,15 @@ SHOWN = [
         "",
         0,
     ),
-    ("an entry without a volume", ["volumes"], [[ok("0a00")]], [[""]], HEADINGS + "-   -     -         -      -\n", "", 0),
+    (
+        "an entry without a volume",
+        ["volumes"],
+        [[ok("0a00")]],
+        [[""]],
+        HEADINGS + "-   -     -         -      -\n",
+        "",
+        0,
+    ),
     (
         "nodes",
         ["nodes"],
@@ -235,7 +253,15 @@ SHOWN = [
         "",
         1,
     ),
-    ("a first page is asked for once", ["nodes"], [[OUTDATED]], [[""]], "10 ABORTED bad starting token\n", "", 1),
+    (
+        "a first page is asked for once",
+        ["nodes"],
+        [[OUTDATED]],
+        [[""]],
+        "10 ABORTED bad starting token\n",
+        "",
+        1,
+    ),
     (
         "a refusal",
         ["pools"],
@@ -379,8 +405,9 @@ CHANGES = [
     ),
     (
         [
-            *["create", "--size", "1Gi", "--limit", "2Gi", "--mode", "single-node-reader-only", "--fs", "ext4"],
-            *["--parameters", "tier=fast", "--mutable", "iops=5", "--pool-topology", "zone=a", "a"],
+            *["create", "--size", "1Gi", "--limit", "2Gi", "--mode", "single-node-reader-only"],
+            *["--fs", "ext4", "--parameters", "tier=fast", "--mutable", "iops=5"],
+            *["--pool-topology", "zone=a", "a"],
         ],
         CREATE,
         "0a0161 120c 088080808004 108080808008 1a0c 12060a0465787434 1a020802 220c 0a0474696572 120466617374"

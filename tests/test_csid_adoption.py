@@ -429,8 +429,8 @@ RECONFIGURED = [
 ]
 
 
-# What --check-tables says before the line of a row that is to blame: of a volume and of an attachment that, and
-# of some rows something else, or nothing.
+# What --check-tables says before the line of a row that is to blame: of a volume and of an attachment that,
+# and of some rows something else, or nothing.
 BROKEN_A = "volume 1: it is vol-1 (a), 1 MiB in pool p1"
 EXPLAINED = {
     "a number of 0": None,

@@ -36,7 +36,7 @@ class PlayedStore(change_stores.ChangeStore):
 
     @property
     def leads(self):
-        """Whether it leads: by turns, one each time that it is asked, and after them as it was answered last."""
+        """Whether it leads: one turn each time that it is asked, and after them as it was answered last."""
         return self.turns.pop(0) if self.turns else self.is_leading
 
     @leads.setter

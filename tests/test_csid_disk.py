@@ -99,8 +99,8 @@ class DiskTest(CsidTest):
         self.row("integrity_check", tables.ask("PRAGMA integrity_check"), [("ok",)])
 
     def test_salts(self):
-        """The salts of a log ("Database File Format" of SQLite, 4.1) are drawn at random, so that frames of an
-        older log are never taken for those of a newer one.
+        """The salts of a WAL ("Database File Format" of SQLite, 4.1) are drawn at random, so that frames of
+        an older WAL are never taken for those of a newer one.
         """
         salts = []
         for name in "one.db", "two.db":
@@ -272,8 +272,8 @@ class DiskTest(CsidTest):
         )
 
     def test_refused_read(self):
-        """A file of which pages are overwritten while a connection has it open. Where reads go to the file, they
-        are refused and that is reported once; where volumes are in memory, nothing is noticed.
+        """A file of which pages are overwritten while a connection has it open. Where reads go to the file,
+        they are refused and that is reported once; where volumes are in memory, nothing is noticed.
         """
         config = os.path.join(self.folder, "config.toml")
         write(config, sample((b"10485760", b"%d" % (20000 * MIB))))
@@ -281,8 +281,8 @@ class DiskTest(CsidTest):
         refused = refusal(13, "store refused")
         page = reply(
             bytes.fromhex(
-                "0a2b 0a27 08808040 1208 766f6c2d32303031 1a0a 0a04706f6f6c 12027031 2a0b 0a09 0a047a6f6e65 120161"
-                "1200 1204 32303031"
+                "0a2b 0a27 08808040 1208 766f6c2d32303031 1a0a 0a04706f6f6c 12027031"
+                "2a0b 0a09 0a047a6f6e65 120161 1200 1204 32303031"
             )
         )
         lines = ["the database refused a call: " + DAMAGED, "the database refused a read"]

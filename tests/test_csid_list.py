@@ -117,10 +117,12 @@ DOCUMENT = {
 
 # A mount of a file system with a space in its name.
 ODD = "1a0b 1205 0a03 612062 1a020801".replace(" ", "")
+# The key 'a b' with the value 'c d', and the key ' ' with an empty one.
+ODD_MAPS = "220a 0a03612062 1203632064 4205 0a0120 1200".replace(" ", "")
 
 # Each text that a row has, with a space in it: of a name, a pool, a file system, a key, a value and a node.
 SPACES = (
-    volume(1, "'a b'", MIB, "'p 1'", cell(ODD), cell("220a0a03 612062 1203 632064 42050a01201200".replace(" ", "")))
+    volume(1, "'a b'", MIB, "'p 1'", cell(ODD), cell(ODD_MAPS))
     + attachment(1, "'n 1'", cell(ODD))
     + next_is(2)
 )
@@ -202,7 +204,8 @@ class ListTest(CsidTest):
         self.row("in columns", self.listed(tables)[0].count(b"4        %d B\n" % most), 2)
         # More than a page of them.
         tables.new().script(MANY % (1001, BLOCK_CAPS) + "UPDATE volumes SET number = number + %d" % (1 << 62))
-        self.row("1,001 ids", self.ids(tables), ["vol-%d" % ((1 << 62) + number) for number in range(1, 1002)])
+        wanted = ["vol-%d" % ((1 << 62) + number) for number in range(1, 1002)]
+        self.row("1,001 ids", self.ids(tables), wanted)
 
     def test_long_names(self):
         """A name of 80 bytes makes its column wider; a longer one moves the rest of its own row alone."""
@@ -292,7 +295,8 @@ class ListTest(CsidTest):
         write(tables.path + "-journal", b"\x01")
         self.row("next to a journal", self.listed(tables), tables.says(NO_FILE))
         os.unlink(tables.path + "-journal")
-        # Both can be opened. The first has capabilities that take memory, and the second as many bytes that are none.
+        # Both can be opened. The first has capabilities that take memory, and the second as many bytes that
+        # are none.
         large = Tables(self.csid, self.folder, "large.db")
         for name, caps, wanted in [
             ("no memory for a volume", LARGE_CAPS, (b"", NO_MEMORY, 6)),

@@ -244,7 +244,8 @@ class ServeTest(CsidTest):
         said = server.lines()[len(begun) :]
         counts = ended(said, CROWDED)
         # 252 waited, and 11 came.
-        self.row("what was said", sum(counts.values()) == counts["of a line"] + counts["made room for others"], True)
+        others = sum(counts.values()) - counts["of a line"] - counts["made room for others"]
+        self.row("what else was said", others, 0)
         self.row("each beyond 256", sum(counts.values()), 7)
         with server.connect() as garbage, server.connect() as waiting:
             garbage.sendall(b"garbage")
@@ -318,8 +319,8 @@ class ServeTest(CsidTest):
         os.unlink(path)
 
     def test_counts_of_ends(self):
-        """The end of each connection is reported: in a line of its own, or as one of a count, where many end in a
-        second.
+        """The end of each connection is reported: in a line of its own, or as one of a count, where many end
+        in a second.
         """
         server = Server(self.csid, self.folder, "--idle", "1")
         begun = server.lines()

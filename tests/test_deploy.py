@@ -661,8 +661,8 @@ class DeployTest(RowTest):
             self.row(name + " elects nobody", [word for word in sidecar["args"] if "election" in word], [])
 
     def test_chown(self):
-        """csid and the front may give their sockets to a group (--group, --control-group), and csid the WAL the
-        owner of its file: that call is the last that their units allow.
+        """csid and the front may give their sockets to a group (--group, --control-group), and csid the WAL
+        the owner of its file: that call is the last that their units allow.
         """
         for name in [*UNITS, FIRST]:
             self.row(

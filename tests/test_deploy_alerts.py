@@ -59,9 +59,8 @@ class AlertsTest(RowTest):
 
     def test_queries_are_queries(self):
         """Each query of the dashboard is taken as the expression of a rule."""
-        queries = [
-            target["expr"] for panel in json.loads(read("dashboard.json"))["panels"] for target in panel["targets"]
-        ]
+        panels = json.loads(read("dashboard.json"))["panels"]
+        queries = [target["expr"] for panel in panels for target in panel["targets"]]
         self.assertTrue(queries)
         rules = [
             {"record": "query:%d" % number, "expr": re.sub(r"\$__rate_interval", "1m", query)}

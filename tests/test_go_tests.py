@@ -7,7 +7,8 @@ import subprocess
 from tests.support.processes import SECONDS, TOP
 from tests.support.rows import RowTest
 
-# A go that prints one text after the other, and ends with the status that is its last line. Its words are kept.
+# A go that prints one text after the other, and ends with the status that is its last line. Its words are
+# kept.
 GO = """#!/bin/bash
 echo "$@" >>words
 run=$(wc -l <words)

@@ -72,9 +72,11 @@ FILES = {
     "crates/csi_config/src/fault.rt": FAULTS,
     "crates/csi_types/src/limits.rt": LIMITS,
     "crates/low/src/lib.rt": "//! Bytes, also\n//! long ones\n//!\n//! Details. More of them.\nmod bytes;\n",
-    "crates/high/src/main.rt": "//! The program, with a sentence that is longer than a line of a page, so that the item here is\n"
-    "//! well-known in a second line.\n"
-    "mod command;\n",
+    "crates/high/src/main.rt": (
+        "//! The program, with a sentence that is longer than a line of a page, so that the item here is\n"
+        "//! well-known in a second line.\n"
+        "mod command;\n"
+    ),
     "docs/ARCHITECTURE.md": "Crates:\n<!-- scripts/lists: crates -->\n<!-- end -->\nThe end.\n",
     "docs/DECISIONS.md": "<!-- scripts/lists: decisions -->\n\n| old |\n\n<!-- end -->\n",
     "docs/OPERATING.md": """<!-- scripts/lists: limits -->

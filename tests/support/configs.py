@@ -306,7 +306,9 @@ FAULTS = [
     ),
     (
         "as many pools, nodes and volumes as there can be, and a name that is none",
-        sample((b"pools.example.org", b"a b"), (b"max_volumes = 2", b"max_volumes = 100000")) + pools(14) + nodes(62),
+        sample((b"pools.example.org", b"a b"), (b"max_volumes = 2", b"max_volumes = 100000"))
+        + pools(14)
+        + nodes(62),
         ["plugin name a b: " + NO_NAME],
     ),
     (

@@ -8,8 +8,8 @@ import time
 
 from tests.support.processes import SECONDS
 
-# What a peer does instead of answering with bytes: it closes the connection, with the call taken or not, or is
-# silent until the connection is closed.
+# What a peer does instead of answering with bytes: it closes the connection, with the call taken or not, or
+# is silent until the connection is closed.
 CLOSED, RESET, SILENT = b"", "reset", "silent"
 
 

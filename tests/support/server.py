@@ -20,8 +20,8 @@ EMPTIED = (
     " belongs to, or move the WAL away to begin with no volumes"
 )
 DOWN = (
-    "a change was refused, by the database or for memory; from then on the connection was answered that the store"
-    " is down"
+    "a change was refused, by the database or for memory; from then on the connection was answered that the"
+    " store is down"
 )
 IDLE = "csid: a connection that sent nothing was closed\n"
 SLOW = "csid: a connection that sent no whole call in 10 seconds was closed\n"

@@ -7,8 +7,8 @@ from tests.support.frames import READY
 from tests.support.processes import run
 
 
-# Rows of volumes and attachments, as docs/TABLES.md encodes them: a block device with mode 1, one with mode 5,
-# and no parameters.
+# Rows of volumes and attachments, as docs/TABLES.md encodes them: a block device with mode 1, one with mode
+# 5, and no parameters.
 BLOCK_CAPS = "x'1a060a001a020801'"
 SHARED_CAPS = "x'1a060a001a020805'"
 MIB = 1 << 20
