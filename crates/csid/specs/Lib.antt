@@ -3,3 +3,4 @@ pub mod Serving
 pub mod Starting
 pub mod Statuses
 pub mod Taking
+pub mod Waiting

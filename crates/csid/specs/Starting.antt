@@ -1,9 +1,16 @@
 -- What the first bytes of a connection begin.
-use Rattle.std.specs.Prelude.{◌≡◌, ◌≢◌, ◌⊎◌, ◌≤◌, List, [], length, take, ℕ}
+use Rattle.std.specs.Prelude.{◌≡◌, ◌≢◌, ◌⊎◌, ◌≤◌, ◌<◌, ◌==◌, ◌++◌, Bool, true, false, Option, None, Some, IsSomeAnd, List, [], length, take, ℕ, ⊤}
+use Rattle.std.specs.Io.KnownBytes.{Consumes, IsAtEnd, Keeps}
 use Rattle.envelope.specs.declared.fault.FrameWhy.{FrameWhy}
 use Rattle.envelope.specs.declared.fault.FrameWhy.TheVariants.{EndOfInput}
 use Rattle.envelope.specs.Envelope.{CallBytes, IsCall, frame}
 use Rattle.envelope.specs.Stream.{FaultAt}
+use Rattle.csid.specs.declared.pending.FirstBytes.{FirstBytes}
+use Rattle.csid.specs.declared.pending.PeerInput.{PeerInput}
+use Rattle.csid.specs.declared.pending.PeerInput.TheVariants.{Nothing, Something, Lost}
+use Rattle.csid.specs.declared.pending.Start.{Start}
+use Rattle.csid.specs.declared.pending.Start.TheVariants.{Call, NoCall, Open}
+use Rattle.csid.specs.declared.pending.TheConstants.{ENOUGH}
 
 -- a whole frame comes first
 abbrev pub BeginsCall : List ℕ → Type 0
@@ -20,3 +27,33 @@ BeginsFault bytes = (why : FrameWhy) × (at : ℕ) × FaultAt bytes why at × (w
 -- nothing is wrong with them but that they end
 abbrev pub MayBeginCall : List ℕ → Type 0
 MayBeginCall bytes = (bytes ≡ []) ⊎ ((at : ℕ) × FaultAt bytes EndOfInput at)
+
+-- what the bytes begin that a connection has sent, up to its end or so far
+abbrev pub Begins : List ℕ → Bool → Start → Type 0
+Begins sent has_ended Call = BeginsCall sent ⊎ ((has_ended ≡ false) × (ENOUGH ≤ length sent) × MayBeginCall sent)
+Begins sent has_ended NoCall = BeginsFault sent ⊎ ((has_ended ≡ true) × BeginsNoCall sent)
+Begins sent has_ended Open = (has_ended ≡ false) × (length sent < ENOUGH) × MayBeginCall sent
+
+-- whether it is known what a connection begins
+abbrev pub is_known : Option Start → Bool
+is_known None = false
+is_known (Some Call) = true
+is_known (Some NoCall) = true
+is_known (Some Open) = false
+
+-- a piece that came, the empty one at the end: it is kept, and what all of it begins is noted
+abbrev pub Notes : List ℕ → FirstBytes → FirstBytes → Type 0
+Notes piece old new = (new.sent.items ≡ old.sent.items ++ piece) × IsSomeAnd new.start (Begins new.sent.items (length piece == 0))
+
+-- a piece is noted, or the connection is lost
+abbrev pub Accepts : List ℕ → FirstBytes → FirstBytes → PeerInput → Type 0
+Accepts piece old new Nothing = ⊥
+Accepts piece old new Something = Notes piece old new
+Accepts piece old new Lost = ⊤
+
+-- A look at what is unread, of which this is left: nothing came, or a piece of it, which is noted. Of a
+-- connection that is lost nothing is said.
+abbrev pub Finds : (unread left : Option (List ℕ)) → FirstBytes → FirstBytes → PeerInput → Type 0
+Finds unread left old new Nothing = Keeps unread left × (new.sent.items ≡ old.sent.items) × (new.start ≡ Some Open)
+Finds unread left old new Something = (piece : List ℕ) × Consumes unread left piece × (piece ≡ [] → IsAtEnd left) × Notes piece old new
+Finds unread left old new Lost = ⊤

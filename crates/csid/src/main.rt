@@ -2,10 +2,10 @@
 //!
 //! # Not promised
 //!
-//! What the sockets, the signals and the command line do. That nothing is answered before a change
-//! store was asked whether it leads is read off `GuardedWriter`, and `open_change_store` has no
-//! clause of what comes through its connection: `tests/test_csid_*.py` show both. That each
-//! connection is served by `csi_files::serve_path` is read off `serving.rt` and `socket.rt`.
+//! What the sockets, the signals and the command line do. That `ChangeStoreLeadership` asks the change
+//! store whether it leads is read off `change_store.rt`, and `open_change_store` has no clause of what
+//! comes through its connection: `tests/test_csid_*.py` show both. That each connection is served by
+//! `csi_files::serve_path` is read off `serving.rt` and `socket.rt`.
 //!
 //! What is said of tables that were taken (`take_from`).
 #![tactic(auto)]

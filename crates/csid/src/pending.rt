@@ -1,8 +1,7 @@
 //! A connection that has not sent a whole call yet.
 
-ghost use Rattle.std.specs.Prelude.{◌≡◌, ◌⊎◌, ◌≤◌, ◌<◌, ◌++◌, true, false, length};
-ghost use Rattle.csid.specs.declared.pending.TheConstants.{ENOUGH};
-ghost use Rattle.csid.specs.Starting.{BeginsCall, BeginsNoCall, BeginsFault, MayBeginCall};
+ghost use Rattle.std.specs.Prelude.{◌≡◌, None, true, false};
+ghost use Rattle.csid.specs.Starting.{Accepts, Begins, Finds, is_known};
 
 use crate::console::Ending;
 use crate::limits::{CALL_SECONDS, least, left_of};
@@ -38,38 +37,37 @@ pub(crate) enum PeerInput {
     Lost,
 }
 
-/// A connection that waits, and what it has sent so far.
+/// What a connection has sent so far.
+#[derive(Drop)]
+pub(crate) struct FirstBytes {
+    /// All of it.
+    pub(crate) sent: Vec<u8>,
+    /// What it begins; none where it was not looked at yet.
+    pub(crate) start: Option<Start>,
+    // When a byte of it came last, or the connection itself.
+    since: Instant,
+    // When its first byte came.
+    begun: Option<Instant>,
+}
+
+/// A connection that waits.
 pub(crate) struct Pending {
     pub(crate) stream: UnixStream,
-    pub(crate) sent: Vec<u8>,
-    /// None where it was not looked at yet.
-    pub(crate) start: Option<Start>,
-    /// When a byte of it came last, or it itself.
-    since: Instant,
-    /// When its first byte came.
-    begun: Option<Instant>,
+    pub(crate) first: FirstBytes,
 }
 
 impl Drop for Pending {
     fn drop(self) {
         let Pending {
             stream: _stream,
-            sent: _sent,
-            start: _,
-            since: _,
-            begun: _,
+            first: _first,
         } = self;
     }
 }
 
 // What the bytes begin that a connection has sent, up to its end or so far.
 fn start_of(sent: &[u8], has_ended: bool) -> Start
-    ensures call { result ≡ Start.Call → BeginsCall sent.now
-        ⊎ ((has_ended ≡ false) × (ENOUGH ≤ length sent.now) × MayBeginCall sent.now) }
-    ensures no_call { result ≡ Start.NoCall → BeginsFault sent.now
-        ⊎ ((has_ended ≡ true) × BeginsNoCall sent.now) }
-    ensures open { result ≡ Start.Open → (has_ended ≡ false) × (length sent.now < ENOUGH)
-        × MayBeginCall sent.now }
+    ensures { Begins sent.now has_ended result }
 {
     match take_frame(sent) {
         Taken::Frame(..) => Start::Call,
@@ -85,11 +83,10 @@ fn is_nothing(error: &io::Error) -> bool {
     matches!(error.kind(), ErrorKind::WouldBlock | ErrorKind::Interrupted)
 }
 
-impl Pending {
-    /// A connection that has sent nothing so far.
-    pub(crate) fn new(alloc: Global, stream: UnixStream, since: Instant) -> Pending {
-        Pending {
-            stream,
+impl FirstBytes {
+    // None of a connection that came then.
+    fn new(alloc: Global, since: Instant) -> FirstBytes {
+        FirstBytes {
             sent: Vec::new(alloc),
             start: None,
             since,
@@ -97,12 +94,15 @@ impl Pending {
         }
     }
 
-    /// Whether it is known what the connection begins.
-    pub(crate) fn is_known(&self) -> bool {
+    /// Whether it is known what they begin.
+    pub(crate) fn is_known(&self) -> bool
+        ensures { result ≡ is_known self.now.start }
+    {
         matches!(self.start, Some(Start::Call | Start::NoCall))
     }
 
-    /// How long it may go on without a whole call, or how it ends: its peer may send nothing for so long.
+    /// How long the connection may go on without a whole call, or how it ends: its peer may send nothing for
+    /// so long.
     pub(crate) fn patience(
         &self,
         idle: Option<Duration>,
@@ -119,9 +119,9 @@ impl Pending {
         Ok(longest)
     }
 
-    // Takes a piece of what it sends, which is empty at the end.
+    // Adds a piece, which is empty at the end.
     fn accept(&mut self, piece: &[u8], now: Instant) -> PeerInput
-        ensures { result ≡ PeerInput.Something → self.new.sent.items ≡ self.old.sent.items ++ piece.now }
+        ensures { Accepts piece.now self.old self.new result }
     {
         if self.sent.extend_from_slice(piece).is_err() {
             return PeerInput::Lost;
@@ -132,15 +132,12 @@ impl Pending {
         PeerInput::Something
     }
 
-    /// Takes what has come, a piece of it. Once it is known what the connection begins, the rest is left to
-    /// those who serve it.
-    pub(crate) fn receive(&mut self, now: Instant) -> PeerInput {
-        if self.is_known() {
-            return PeerInput::Nothing;
-        }
+    // Adds what can be read now, a piece of it.
+    fn receive<R: Read>(&mut self, reader: &mut R, now: Instant) -> PeerInput
+        ensures { Finds (R.remaining reader.old) (R.remaining reader.new) self.old self.new result }
+    {
         let mut piece = [0; ENOUGH];
-        let mut stream = &self.stream;
-        match stream.read(&mut piece) {
+        match reader.read(&mut piece) {
             Ok(count) => self.accept(piece.split_at(count).0, now),
             Err(error) if is_nothing(&error) => {
                 self.start = Some(Start::Open);
@@ -148,5 +145,30 @@ impl Pending {
             }
             Err(_) => PeerInput::Lost,
         }
+    }
+}
+
+impl Pending {
+    /// A connection that has sent nothing so far.
+    pub(crate) fn new(alloc: Global, stream: UnixStream, since: Instant) -> Pending {
+        Pending {
+            stream,
+            first: FirstBytes::new(alloc, since),
+        }
+    }
+
+    /// Takes what has come, a piece of it. Once it is known what the connection begins, the rest is left to
+    /// those who serve it.
+    pub(crate) fn receive(&mut self, now: Instant) -> PeerInput
+        ensures known { is_known self.old.first.start ≡ true
+            → (result ≡ PeerInput.Nothing) × (self.new.first ≡ self.old.first) }
+        ensures unknown { is_known self.old.first.start ≡ false
+            → Finds None None self.old.first self.new.first result }
+    {
+        if self.first.is_known() {
+            return PeerInput::Nothing;
+        }
+        let mut stream = &self.stream;
+        self.first.receive(&mut stream, now)
     }
 }

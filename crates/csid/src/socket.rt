@@ -150,7 +150,7 @@ fn serve_one<K: Keeper, L: Leadership + Drop>(
     let Some(turn) = turn_of(service.console, waiting, peer) else {
         return false;
     };
-    let mut reader = peer.sent.as_slice().chain(&turn);
+    let mut reader = peer.first.sent.as_slice().chain(&turn);
     let mut writer = GuardedWriter::new(lead, &turn);
     let end = serve(
         service.console.rt.alloc(),
@@ -264,7 +264,7 @@ fn serve_over_tables<'a>(service: &'a Service<'a>, waiting: &'a mut Waiting, pee
         return;
     };
     let ending = &turn.ending;
-    let mut reader = peer.sent.as_slice().chain(&turn);
+    let mut reader = peer.first.sent.as_slice().chain(&turn);
     let mut writer = GuardedWriter::new(Always, &turn);
     answer_over_tables(service, ending, &mut reader, &mut writer);
 }
@@ -375,7 +375,7 @@ fn serve_over_store(
 
 // Says that the peer of a connection had gone. One that sent nothing was not refused anything.
 fn tell_gone(console: &Console<'_>, peer: &Pending) {
-    if peer.sent.is_empty() {
+    if peer.first.sent.is_empty() {
         return;
     }
     if let Ok(now) = Instant::now(console.rt) {
@@ -393,7 +393,7 @@ fn serve_peer(
 ) {
     if has_gone(&peer.stream) {
         tell_gone(service.console, peer);
-    } else if matches!(peer.start, Some(Start::NoCall)) {
+    } else if matches!(peer.first.start, Some(Start::NoCall)) {
         refuse_peer(service, waiting, peer);
     } else {
         serve_over_store(service, waiting, change_store, peer);

@@ -1,6 +1,10 @@
 //! The connections that wait to be served. All are looked at, so that one that sends nothing keeps no other
 //! one waiting.
 
+ghost use Rattle.std.specs.Prelude.{◌≡◌, ◌≤◌, false, true, IfOk, IfSome, [], length, slice_index_or};
+ghost use Rattle.std.specs.List.{list_any, position};
+ghost use Rattle.csid.specs.Waiting.{StayFew, TakesOut, has_no_call, is_full, is_ready, without};
+
 use crate::console::{Console, Ending};
 use crate::limits::{CALL_SECONDS, least};
 use crate::pending::{PeerInput, Pending, Start};
@@ -96,7 +100,9 @@ impl Waiting {
         listener: UnixListener,
         connections: u32,
         idle: Option<u32>,
-    ) -> io::Result<Waiting> {
+    ) -> io::Result<Waiting>
+        ensures { IfOk result (λ waiting. waiting.pending.items ≡ []) }
+    {
         listener.set_nonblocking(true)?;
         let poll = Poll::new(rt)?;
         watch(&poll, listener.as_raw_fd())?;
@@ -117,8 +123,10 @@ impl Waiting {
     }
 
     /// Whether one that waits has sent what it is served for.
-    pub(crate) fn has_ready(&self) -> bool {
-        self.pending.iter().any(|one| one.is_known())
+    pub(crate) fn has_ready(&self) -> bool
+        ensures { result ≡ list_any is_ready self.now.pending.items }
+    {
+        self.pending.iter().any(|one| one.first.is_known())
     }
 
     /// Has a wait also end when a connection that was taken from here can be written.
@@ -142,14 +150,19 @@ impl Waiting {
     }
 
     // The place of the oldest one of those that have sent no call.
-    fn oldest(&self) -> Option<usize> {
+    fn oldest(&self) -> Option<usize>
+        ensures { result ≡ position has_no_call self.now.pending.items }
+    {
         self.pending
             .iter()
-            .position(|it| matches!(it.start, Some(Start::Open)))
+            .position(|it| matches!(it.first.start, Some(Start::Open)))
     }
 
     // Closes that one.
-    fn close_oldest(&mut self, console: &Console<'_>, now: Instant) {
+    fn close_oldest(&mut self, console: &Console<'_>, now: Instant)
+        ensures { self.new.pending.items
+            ≡ without (position has_no_call self.old.pending.items) self.old.pending.items }
+    {
         if let Some(place) = self.oldest() {
             let _ = self.pending.remove(place);
             report_ending(console, Ending::Crowded, now);
@@ -157,12 +170,17 @@ impl Waiting {
     }
 
     // Whether no further one can wait, not instead of another either.
-    fn is_full(&self) -> bool {
+    fn is_full(&self) -> bool
+        ensures { result ≡ is_full self.now.pending.items }
+    {
         self.pending.len() >= MOST && self.oldest().is_none()
     }
 
     // Takes a connection in.
-    fn admit(&mut self, console: &Console<'_>, stream: UnixStream, now: Instant) {
+    fn admit(&mut self, console: &Console<'_>, stream: UnixStream, now: Instant)
+        ensures few { is_full self.old.pending.items ≡ false
+            → StayFew self.old.pending.items self.new.pending.items }
+    {
         self.left = self.left.saturating_sub(1);
         self.is_stirring = true;
         if self.pending.len() >= MOST {
@@ -178,12 +196,9 @@ impl Waiting {
 
     // Where the system gives no further connection while some wait, as for want of descriptors, half of them
     // make room.
-    fn make_room(
-        &mut self,
-        console: &Console<'_>,
-        error: io::Error,
-        now: Instant,
-    ) -> io::Result<()> {
+    fn make_room(&mut self, console: &Console<'_>, error: io::Error, now: Instant) -> io::Result<()>
+        ensures { length self.new.pending.items ≤ length self.old.pending.items }
+    {
         if self.pending.is_empty() {
             return Err(error);
         }
@@ -196,7 +211,9 @@ impl Waiting {
     }
 
     // Takes the connections in that are there, some at a time.
-    fn accept_some(&mut self, console: &Console<'_>, now: Instant) -> io::Result<()> {
+    fn accept_some(&mut self, console: &Console<'_>, now: Instant) -> io::Result<()>
+        ensures few { StayFew self.old.pending.items self.new.pending.items }
+    {
         for _ in 0..AT_ONCE {
             if self.left == 0 || self.is_full() {
                 return Ok(());
@@ -211,20 +228,24 @@ impl Waiting {
     }
 
     // Looks at a connection. Nothing, where it goes on waiting, or how it ended.
-    fn ending_of(&mut self, one: &mut Pending, now: Instant) -> Option<Ending> {
+    fn ending_of(&mut self, one: &mut Pending, now: Instant) -> Option<Ending>
+        ensures { self.new.pending ≡ self.old.pending }
+    {
         match one.receive(now) {
             PeerInput::Something => {
                 self.is_stirring = true;
                 None
             }
             PeerInput::Lost => Some(Ending::Failed),
-            PeerInput::Nothing if one.is_known() => None,
-            PeerInput::Nothing => one.patience(self.idle, now).err(),
+            PeerInput::Nothing if one.first.is_known() => None,
+            PeerInput::Nothing => one.first.patience(self.idle, now).err(),
         }
     }
 
     // Looks at each connection, in order.
-    fn receive_all(&mut self, console: &Console<'_>, now: Instant) {
+    fn receive_all(&mut self, console: &Console<'_>, now: Instant)
+        ensures { length self.new.pending.items ≤ length self.old.pending.items }
+    {
         for _ in 0..self.pending.len() {
             if let Some(mut one) = self.pending.pop_front() {
                 match self.ending_of(&mut one, now) {
@@ -237,9 +258,23 @@ impl Waiting {
         }
     }
 
-    // The oldest connection of which it is known what it begins.
-    fn pop_ready(&mut self) -> Option<Pending> {
-        let place = self.pending.iter().position(|it| it.is_known())?;
+    // The place of the oldest connection of which it is known what it begins.
+    fn first_ready(&self) -> Option<usize>
+        ensures place { result ≡ position is_ready self.now.pending.items }
+        ensures ready { IfSome result (λ place. (d : Pending)
+            → is_ready (slice_index_or self.now.pending.items place d) ≡ true) }
+    {
+        self.pending.iter().position(|it| it.first.is_known())
+    }
+
+    // That connection, which waits no longer.
+    fn pop_ready(&mut self) -> Option<Pending>
+        ensures taken { TakesOut (position is_ready self.old.pending.items)
+            self.old.pending.items self.new.pending.items result }
+        ensures ready { IfSome result (λ one. is_ready one ≡ true) }
+        ensures few { length self.new.pending.items ≤ length self.old.pending.items }
+    {
+        let place = self.first_ready()?;
         self.pending.remove(place)
     }
 
@@ -247,8 +282,11 @@ impl Waiting {
     fn patience(&self, now: Instant) -> Option<Duration> {
         let mut longest = None;
         for one in self.pending.iter() {
-            if !one.is_known() {
-                let left = one.patience(self.idle, now).unwrap_or(Some(Duration::ZERO));
+            if !one.first.is_known() {
+                let left = one
+                    .first
+                    .patience(self.idle, now)
+                    .unwrap_or(Some(Duration::ZERO));
                 longest = least(longest, left);
             }
         }
@@ -260,7 +298,9 @@ impl Waiting {
     /// # Errors
     ///
     /// Where the socket gives no connection while none waits.
-    pub(crate) fn look(&mut self, console: &Console<'_>, now: Instant) -> io::Result<()> {
+    pub(crate) fn look(&mut self, console: &Console<'_>, now: Instant) -> io::Result<()>
+        ensures few { StayFew self.old.pending.items self.new.pending.items }
+    {
         self.is_stirring = false;
         console.finish_second(now);
         let accepted = self.accept_some(console, now);
@@ -279,7 +319,9 @@ impl Waiting {
         console: &Console<'_>,
         now: Instant,
         longest: Option<Duration>,
-    ) -> io::Result<()> {
+    ) -> io::Result<()>
+        ensures { self.new.pending ≡ self.old.pending }
+    {
         if self.is_stirring {
             return Ok(());
         }
@@ -293,7 +335,10 @@ impl Waiting {
     /// # Errors
     ///
     /// Where the socket gives no connection while none waits, or the system lets nobody wait.
-    pub(crate) fn next(&mut self, console: &Console<'_>) -> io::Result<Option<Pending>> {
+    pub(crate) fn next(&mut self, console: &Console<'_>) -> io::Result<Option<Pending>>
+        ensures ready { IfOk result (λ next. IfSome next (λ one. is_ready one ≡ true)) }
+        ensures few { StayFew self.old.pending.items self.new.pending.items }
+    {
         for _ in 0..u64::MAX {
             let now = Instant::now(console.rt)?;
             self.look(console, now)?;
