@@ -1,9 +1,9 @@
-"""What the programs of a release stand on, as far as it can be told here: the crates of the Rattle kit, and
+"""What the programs of a release use, as far as it can be told here: the crates of the Rattle kit, and
 Debian's packages of Go's sources.
 
 A crate of the kit names in its README.md the Rust crate that it follows, and has the texts of its licences
-next to it. A Debian package has its
-version in dpkg's records and its licence in its file of copyright. What is not said there is reported as unknown.
+next to it. A Debian package has its version in dpkg's records and its licence in its file of copyright. What
+is not said there is reported as unknown.
 """
 import os
 import re

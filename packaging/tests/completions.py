@@ -102,7 +102,8 @@ ROWS = [
     ("csid-etcd --new --ex", ""),
     (
         "csid-etcd --list --",
-        "--name --endpoints --cacert --cert --key --user --password-file --timeout --volume --pool --node --json",
+        "--name --endpoints --cacert --cert --key --user --password-file --timeout --volume --pool --node"
+        " --json",
     ),
     ("csid-etcd --le", "--lease"),
     ("csid-etcd --listen v", "volumes.db"),
