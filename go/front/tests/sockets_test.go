@@ -261,3 +261,31 @@ func TestHelp(t *testing.T) {
 		t.Errorf("said %q, %v", said, err)
 	}
 }
+
+// A lock that another process keeps on the folder of a socket, with the right to read it alone, holds
+// up neither a start, beyond a second, nor an end.
+func TestFolderThatStaysLocked(t *testing.T) {
+	t.Parallel()
+	socket := filepath.Join(processes.Folder(t), "csi.sock")
+	folder, err := os.Open(filepath.Dir(socket))
+	if err != nil {
+		t.Fatal(err)
+	}
+	defer folder.Close()
+	if err := syscall.Flock(int(folder.Fd()), syscall.LOCK_SH); err != nil {
+		t.Fatal(err)
+	}
+	front := frontAt(t, startFake(t).socket, socket).Answers(t)
+	newClient(t, front.Socket).wants(t, probe, "", ok(ready))
+	front.Terminate(t)
+	if status := front.Status(t); status != 0 {
+		t.Errorf("status %d", status)
+	}
+	if _, err := os.Lstat(socket); !os.IsNotExist(err) {
+		t.Errorf("the socket: %v", err)
+	}
+	want := "front: " + folder.Name() + ": another process keeps this folder locked, and a socket is made there without the lock\n"
+	if log := front.Log.String(); log != want {
+		t.Errorf("logged %q", log)
+	}
+}

@@ -4,6 +4,7 @@ package sockets
 import (
 	"errors"
 	"fmt"
+	"log"
 	"net"
 	"os"
 	"os/user"
@@ -11,6 +12,14 @@ import (
 	"strconv"
 	"sync"
 	"syscall"
+	"time"
+)
+
+// How long a start waits for the lock on the folder of its socket, and how often it tries to get it. A start that
+// keeps the lock needs it for a moment only.
+const (
+	lockTime  = time.Second
+	lockPause = 10 * time.Millisecond
 )
 
 // Socket is a Unix socket that is listened on, whose file goes with it.
@@ -60,13 +69,19 @@ func groupNumber(group string) (int, error) {
 }
 
 // Listen makes a socket. One that nobody answers on is what an earlier process left, and gives way; any other file
-// stays, and is an error.
+// stays, and is an error. Whoever may read the folder can lock it: where another process keeps the lock for a second,
+// the socket is made without it, and package log says so.
 func Listen(path string) (*Socket, error) {
-	folder, err := lockedFolder(path)
+	folder, err := openFolder(path)
 	if err != nil {
 		return nil, err
 	}
 	defer folder.Close()
+	if isLocked, err := lockSoon(folder); err != nil {
+		return nil, err
+	} else if !isLocked {
+		log.Printf("%s: another process keeps this folder locked, and a socket is made there without the lock", folder.Name())
+	}
 	if err := removeDeadSocket(path); err != nil {
 		return nil, err
 	}
@@ -92,31 +107,46 @@ func (s *Socket) Close() (err error) {
 	return err
 }
 
-// remove removes the file of the socket, unless another one is there now. They are compared by device and inode before the listener
-// is closed, since until then no other file is given that inode.
+// remove removes the file of the socket, unless another one is there now. They are compared by device and inode before the
+// listener is closed, since until then no other file is given that inode. Where another process has the lock it is not
+// waited for: until the listener is closed, no process that starts puts a socket in the place of this one.
 func (s *Socket) remove() {
-	folder, err := lockedFolder(s.path)
+	folder, err := openFolder(s.path)
 	if err != nil {
 		return
 	}
 	defer folder.Close()
+	lock(folder)
 	if file, err := os.Lstat(s.path); err == nil && os.SameFile(file, s.file) {
 		os.Remove(s.path)
 	}
 }
 
-// lockedFolder locks the folder of a file until it is closed, so that of two processes that start together none removes the new socket of
-// the other.
-func lockedFolder(path string) (*os.File, error) {
-	folder, err := os.Open(filepath.Dir(path))
-	if err != nil {
-		return nil, err
+// openFolder opens the folder of a file. A lock on it ends when it is closed.
+func openFolder(path string) (*os.File, error) {
+	return os.Open(filepath.Dir(path))
+}
+
+// lockSoon locks a folder, so that of two processes that start together none removes the new socket of the other. It reports
+// whether the lock could be had in time.
+func lockSoon(folder *os.File) (isLocked bool, err error) {
+	for end := time.Now().Add(lockTime); ; time.Sleep(lockPause) {
+		err := lock(folder)
+		if err == nil {
+			return true, nil
+		}
+		if !errors.Is(err, syscall.EWOULDBLOCK) {
+			return false, fmt.Errorf("locking %s: %w", folder.Name(), err)
+		}
+		if time.Now().After(end) {
+			return false, nil
+		}
 	}
-	if err := syscall.Flock(int(folder.Fd()), syscall.LOCK_EX); err != nil {
-		folder.Close()
-		return nil, fmt.Errorf("locking %s: %w", folder.Name(), err)
-	}
-	return folder, nil
+}
+
+// lock locks a folder, or fails with EWOULDBLOCK where another process has the lock.
+func lock(folder *os.File) error {
+	return syscall.Flock(int(folder.Fd()), syscall.LOCK_EX|syscall.LOCK_NB)
 }
 
 func removeDeadSocket(path string) error {

@@ -1,6 +1,8 @@
 package sockets
 
 import (
+	"bytes"
+	"log"
 	"net"
 	"os"
 	"path/filepath"
@@ -10,13 +12,56 @@ import (
 	"time"
 )
 
-// Of two processes that start together the second looks at the socket only when the first has made it, and one that ends looks only when the second has.
-func TestListenWaitsForTheFolder(t *testing.T) {
-	path := filepath.Join(t.TempDir(), "csi.sock")
-	folder, err := lockedFolder(path)
+// patience is how long anything may take before a test gives it up.
+const patience = 10 * time.Second
+
+// holdFolder locks the folder of a file as another process would, with the right to read it alone.
+func holdFolder(t *testing.T, path string) *os.File {
+	t.Helper()
+	folder, err := openFolder(path)
 	if err != nil {
 		t.Fatal(err)
 	}
+	t.Cleanup(func() { folder.Close() })
+	if err := syscall.Flock(int(folder.Fd()), syscall.LOCK_SH|syscall.LOCK_NB); err != nil {
+		t.Fatal(err)
+	}
+	return folder
+}
+
+// within runs something that must not wait for long.
+func within(t *testing.T, limit time.Duration, what string, act func()) {
+	t.Helper()
+	done := make(chan struct{})
+	go func() {
+		defer close(done)
+		act()
+	}()
+	select {
+	case <-done:
+	case <-time.After(limit):
+		t.Fatalf("%s: not within %v", what, limit)
+	}
+}
+
+// logged is what package log says in the meantime.
+func logged(t *testing.T) *bytes.Buffer {
+	t.Helper()
+	lines, flags, before := &bytes.Buffer{}, log.Flags(), log.Writer()
+	log.SetFlags(0)
+	log.SetOutput(lines)
+	t.Cleanup(func() {
+		log.SetFlags(flags)
+		log.SetOutput(before)
+	})
+	return lines
+}
+
+// Of two processes that start together the second looks at the socket only when the first has made it.
+func TestListenWaitsForTheFolder(t *testing.T) {
+	lines := logged(t)
+	path := filepath.Join(t.TempDir(), "csi.sock")
+	folder := holdFolder(t, path)
 	made := make(chan *Socket, 1)
 	go func() {
 		listener, err := Listen(path)
@@ -31,25 +76,59 @@ func TestListenWaitsForTheFolder(t *testing.T) {
 	case <-time.After(50 * time.Millisecond):
 	}
 	folder.Close()
-	listener := <-made
-	if listener == nil {
-		return
-	}
-	if folder, err = lockedFolder(path); err != nil {
-		t.Fatal(err)
-	}
-	ended := make(chan struct{})
-	go func() {
+	if listener := <-made; listener != nil {
 		listener.Close()
-		close(ended)
-	}()
-	select {
-	case <-ended:
-		t.Error("the folder is locked, and a socket was removed")
-	case <-time.After(50 * time.Millisecond):
 	}
-	folder.Close()
-	<-ended
+	if lines.Len() > 0 {
+		t.Errorf("logged %q", lines)
+	}
+}
+
+// Where another process keeps the folder locked, the socket is made after a second, with a line.
+func TestStartInAFolderThatStaysLocked(t *testing.T) {
+	lines := logged(t)
+	path := filepath.Join(t.TempDir(), "csi.sock")
+	holdFolder(t, path)
+	begin := time.Now()
+	within(t, patience, "a start", func() {
+		socket, err := Listen(path)
+		if err != nil {
+			t.Error(err)
+			return
+		}
+		socket.Close()
+	})
+	if took := time.Since(begin); took < time.Second {
+		t.Errorf("it waited for %v", took)
+	}
+	want := filepath.Dir(path) + ": another process keeps this folder locked, and a socket is made there without the lock\n"
+	if lines.String() != want {
+		t.Errorf("logged %q", lines)
+	}
+}
+
+// Where another process has the folder locked, the end removes the socket at once, and another's socket stays.
+func TestEndInAFolderThatIsLocked(t *testing.T) {
+	for _, isOther := range []bool{false, true} {
+		path := filepath.Join(t.TempDir(), "csi.sock")
+		socket, err := Listen(path)
+		if err != nil {
+			t.Fatal(err)
+		}
+		if isOther {
+			os.Remove(path)
+			other, err := Listen(path)
+			if err != nil {
+				t.Fatal(err)
+			}
+			defer other.Close()
+		}
+		holdFolder(t, path)
+		within(t, patience, "an end", func() { socket.Close() })
+		if _, err := os.Lstat(path); (err == nil) != isOther {
+			t.Errorf("another's socket %v: %v", isOther, err)
+		}
+	}
 }
 
 // A socket of which a connection does not say that nobody answers stays: here one of datagrams, that is in use.
