@@ -32,8 +32,9 @@ const (
 type logger struct {
 	lines  *log.Logger
 	isJSON bool
-	// Where lines wait until they are written; nil in tests.
+	// Where lines wait until they are written, and what keeps down how many there are; nil in tests.
 	queue *logqueue.Queue
+	limit *lineLimit
 }
 
 // entry is a line in JSON. What a line does not have is left out.
@@ -45,6 +46,8 @@ type entry struct {
 	Address string    `json:"address,omitempty"`
 	Reason  string    `json:"reason,omitempty"`
 	Dropped uint64    `json:"dropped,omitempty"`
+	// The lines that were left out, by their messages.
+	LeftOut map[string]uint64 `json:"left_out,omitempty"`
 	// The socket over which the calls came that the line is about; that of gRPC has no name.
 	Socket string `json:"socket,omitempty"`
 	*endedCall
@@ -74,7 +77,7 @@ func newLog(out io.Writer, format string) *logger {
 		return line.String()
 	})
 	l := newLogger(queue, format)
-	l.queue = queue
+	l.queue, l.limit = queue, newLineLimit(l.leavesOut)
 	grpclog.SetLoggerV2(grpclog.NewLoggerV2(io.Discard, io.Discard, saying{l, "gRPC"}))
 	log.SetFlags(0)
 	log.SetOutput(saying{l, "library"})
@@ -89,6 +92,25 @@ func (l *logger) write(text string, line entry) {
 		}
 	}
 	l.lines.Print(text)
+}
+
+// writeFew writes a line of which others may cause any number: ten in a second, and then how many more.
+func (l *logger) writeFew(text string, line entry) {
+	if l.limit.allows(line.Message, time.Now()) {
+		l.write(text, line)
+	}
+}
+
+// end writes what waits to be written, at most so long. It is called once, at the end of the program.
+func (l *logger) end(limit time.Duration) {
+	l.limit.finish(time.Now())
+	l.queue.End(limit)
+}
+
+// leavesOut reports the lines that were left out, by their messages.
+func (l *logger) leavesOut(counts map[string]uint64) {
+	text := fmt.Sprintf("lines left out, since more than %d came in a second: %s", linesASecond, shownCounts(counts))
+	l.write(text, entry{Level: levelWarn, Message: "lines left out", LeftOut: counts})
 }
 
 // fails says why the front ends.
@@ -124,23 +146,33 @@ func (l *logger) isReady() {
 // refuses reports a call that was refused, and about which volume it was where that is logged. Nothing else of its message goes into the log: it may have
 // secrets.
 func (l *logger) refuses(socket, path string, asked *change, why *status.Status, took time.Duration) {
-	l.ends(entry{Level: levelWarn, Message: "call refused", Socket: socket}, path, asked, why, took)
+	l.writeFew(endedLine(entry{Level: levelWarn, Message: "call refused", Socket: socket}, path, asked, why, took))
 }
 
-// changes reports a change that was made.
+// changes reports a change that was made. It has a line in any case: there are no more of them than
+// csid makes.
 func (l *logger) changes(socket, path string, asked *change, took time.Duration) {
-	l.ends(entry{Level: levelInfo, Message: "change", Socket: socket}, path, asked, status.New(codes.OK, ""), took)
+	l.write(endedLine(entry{Level: levelInfo, Message: "change", Socket: socket}, path, asked, status.New(codes.OK, ""), took))
 }
 
-func (l *logger) ends(line entry, path string, asked *change, why *status.Status, took time.Duration) {
+// endedLine is the line of a call, as text and in JSON.
+func endedLine(line entry, path string, asked *change, why *status.Status, took time.Duration) (string, entry) {
 	line.endedCall, line.change = &endedCall{shownPath(path), why.Code(), why.Message(), took.Milliseconds()}, asked
 	call := line.endedCall
-	l.write(fmt.Sprintf("%s%s %d %q %d ms%s", via(line.Socket), call.Path, call.Code, call.Text, call.Milliseconds, asked.words()), line)
+	return fmt.Sprintf("%s%s %d %q %d ms%s", via(line.Socket), call.Path, call.Code, call.Text, call.Milliseconds, asked.words()), line
 }
 
 // malformed reports a frame over a socket that is no call.
 func (l *logger) malformed(socket string, fault error) {
-	l.write(via(socket)+fault.Error(), entry{Level: levelWarn, Message: "malformed call", Socket: socket, Error: fault.Error()})
+	l.writeFew(via(socket)+fault.Error(), entry{Level: levelWarn, Message: "malformed call", Socket: socket, Error: fault.Error()})
+}
+
+// closedFor gives what reports that a connection was closed for another one, where as many were open
+// as can be on the socket of an option.
+func (l *logger) closedFor(who, option string, limit int) func() {
+	return func() {
+		fmt.Fprintf(saying{l, who}, "a connection of %s without a call was closed for another one: %d were open", option, limit)
+	}
 }
 
 // via is how a line of text begins that is about a call over a socket.
@@ -159,6 +191,6 @@ type saying struct {
 
 func (s saying) Write(line []byte) (int, error) {
 	text := strings.TrimSuffix(string(line), "\n")
-	s.write(text, entry{Level: levelWarn, Message: s.who, Error: text})
+	s.writeFew(text, entry{Level: levelWarn, Message: s.who, Error: text})
 	return len(line), nil
 }

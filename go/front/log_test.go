@@ -115,6 +115,16 @@ func TestLines(t *testing.T) {
 			fields{"level": "warn", "message": "HTTP server", "error": "http: it <broke>"},
 		},
 		{
+			func(l *logger) { l.closedFor("control", "--control", 16)() },
+			"front: a connection of --control without a call was closed for another one: 16 were open\n",
+			fields{"level": "warn", "message": "control", "error": "a connection of --control without a call was closed for another one: 16 were open"},
+		},
+		{
+			func(l *logger) { l.leavesOut(map[string]uint64{"malformed call": 3, "call refused": 15}) },
+			"front: lines left out, since more than 10 came in a second: 18 (call refused 15, malformed call 3)\n",
+			fields{"level": "warn", "message": "lines left out", "left_out": fields{"call refused": 15.0, "malformed call": 3.0}},
+		},
+		{
 			func(l *logger) { l.drops(17) },
 			"front: lines dropped, since standard error did not take them: 17\n",
 			fields{"level": "warn", "message": "lines dropped", "dropped": 17.0},

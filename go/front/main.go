@@ -42,7 +42,7 @@ func main() {
 	asked, err := readOptions(os.Args[1:], os.Getenv("CSI_ENDPOINT"), os.Stdout)
 	log := newLog(os.Stderr, asked.logFormat)
 	status := run(asked, err, log)
-	log.queue.End(lastLinesTime)
+	log.end(lastLinesTime)
 	os.Exit(status)
 }
 

@@ -11,11 +11,10 @@ import (
 	"path/filepath"
 	"reflect"
 	"regexp"
+	"strconv"
 	"strings"
 	"testing"
 	"time"
-
-	"google.golang.org/grpc/codes"
 
 	"./processes"
 )
@@ -130,7 +129,7 @@ func unread(t *testing.T, csid string, errors *os.File) (*processes.Process, str
 	}
 	free.Close()
 	socket, monitor := filepath.Join(processes.Folder(t), "csi.sock"), free.Addr().String()
-	command := exec.Command(processes.FrontProgram(t), "--csid", csid, "--listen", socket, "--metrics", monitor)
+	command := exec.Command(processes.FrontProgram(t), "--csid", csid, "--listen", socket, "--metrics", monitor, "--log-changes")
 	command.Stderr = errors
 	return processes.Start(t, socket, command).Answers(t), "http://" + monitor
 }
@@ -152,16 +151,16 @@ func TestUnreadLog(t *testing.T) {
 		front := newClient(t, process.Socket)
 		for i := 0; i < calls; i++ {
 			ctx, cancel := context.WithTimeout(context.Background(), processes.Patience)
-			got := front.send(ctx, fmt.Sprintf("/a/no path %d", i), nil)
+			_, got := create(ctx, front, fmt.Sprintf("pvc-%d", i))
 			cancel()
-			if got != refused(codes.Unimplemented, "unknown method") {
+			if got != ok(ready) {
 				t.Fatalf("%s: call %d: %v", row.name, i, got)
 			}
 		}
 		processes.Eventually(t, row.dropped+" lines dropped", func() bool { return series(t, monitor)["csid_front_log_lines_dropped_total"] == row.dropped })
 		if row.name == "not read" {
 			pipe.Read(t, "front: lines dropped, since standard error did not take them: 76\n")
-			if lines := pipe.Lines(); len(lines) != 1026 || !strings.HasPrefix(lines[1024], `front: "/a/no path 1023" 12 "unknown method"`) {
+			if lines := pipe.Lines(); len(lines) != 1026 || !strings.HasSuffix(lines[1024], " ms name=pvc-1023") {
 				t.Errorf("%d lines, of which the last ones are %q", len(lines), lines[len(lines)-2:])
 			}
 		}
@@ -169,6 +168,38 @@ func TestUnreadLog(t *testing.T) {
 		if status := process.Status(t); status != 0 {
 			t.Errorf("%s: status %d", row.name, status)
 		}
+	}
+}
+
+// Of lines about calls that are refused ten are written in a second, and then how many more there
+// were; changes that were made have lines all the same.
+func TestManyLines(t *testing.T) {
+	t.Parallel()
+	const calls = 200
+	process, socket := controlled(t, startFake(t).socket, "--log-changes")
+	front := newClient(t, process.Socket)
+	begin := time.Now()
+	for i := 0; i < calls; i++ {
+		front.call(t, "/a/no path", "")
+		front.call(t, controller+"DeleteVolume", vol1)
+	}
+	if _, err := control(t, socket, fromHex(t, "0081")); err != nil {
+		t.Error(err)
+	}
+	seconds := 2 + int(time.Since(begin)/time.Second)
+	process.Terminate(t)
+	if status := process.Status(t); status != 0 {
+		t.Errorf("status %d", status)
+	}
+	text := process.Log.String()
+	refused, left, changed := strings.Count(text, `front: "/a/no path" 12 `), 0, strings.Count(text, `DeleteVolume 0 ""`)
+	for _, count := range regexp.MustCompile(`(?m)^front: lines left out, since more than 10 came in a second: ([0-9]+) \(.*\)$`).FindAllStringSubmatch(text, -1) {
+		number, _ := strconv.Atoi(count[1])
+		left += number
+	}
+	malformed := strings.Count(text, "front: control bad path length")
+	if refused > 10*seconds || refused+left+malformed != calls+1 || changed != calls {
+		t.Errorf("%d lines of refused calls in %d seconds, %d left out, %d of changes", refused, seconds, left, changed)
 	}
 }
 

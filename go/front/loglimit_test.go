@@ -1,0 +1,78 @@
+package main
+
+import (
+	"reflect"
+	"testing"
+	"time"
+)
+
+// counted is a limit, and what it reports.
+func counted() (*lineLimit, chan map[string]uint64) {
+	reports := make(chan map[string]uint64, 9)
+	return newLineLimit(func(counts map[string]uint64) { reports <- counts }), reports
+}
+
+// passed is how many of some lines of a kind pass at a time.
+func passed(l *lineLimit, lines int, kind string, now time.Time) (count int) {
+	for i := 0; i < lines; i++ {
+		if l.allows(kind, now) {
+			count++
+		}
+	}
+	return count
+}
+
+// wantsCounts waits for a report.
+func wantsCounts(t *testing.T, reports <-chan map[string]uint64, want map[string]uint64) {
+	t.Helper()
+	select {
+	case got := <-reports:
+		if !reflect.DeepEqual(got, want) {
+			t.Errorf("%v, wanted %v", got, want)
+		}
+	case <-time.After(10 * time.Second):
+		t.Fatal("no report")
+	}
+}
+
+// Ten lines pass in a second, and the others are counted by kinds. After a second in which lines were
+// counted none passes; after one without lines ten do.
+func TestLinesBeyondTen(t *testing.T) {
+	l, reports := counted()
+	// So late that no second is over before the test ends.
+	begin := time.Now().Add(time.Hour)
+	l.finish(begin)
+	if count := passed(l, 8, "a", begin) + passed(l, 5, "b", begin) + passed(l, 2, "a", begin.Add(time.Second/2)); count != 10 {
+		t.Errorf("%d passed", count)
+	}
+	l.finish(begin.Add(time.Second))
+	l.finish(begin.Add(time.Second))
+	wantsCounts(t, reports, map[string]uint64{"a": 2, "b": 3})
+	if count := passed(l, 3, "a", begin.Add(3*time.Second/2)); count != 0 {
+		t.Errorf("%d passed after a report", count)
+	}
+	l.finish(begin.Add(2 * time.Second))
+	wantsCounts(t, reports, map[string]uint64{"a": 3})
+	if count := passed(l, 12, "a", begin.Add(3*time.Second)); count != 10 {
+		t.Errorf("%d passed after a second without lines", count)
+	}
+	if len(reports) > 0 {
+		t.Errorf("reported again: %v", <-reports)
+	}
+}
+
+// What was counted is reported without a further line, once the second is over.
+func TestReportOfLinesThatWereLeftOut(t *testing.T) {
+	l, reports := counted()
+	passed(l, 12, "a", time.Now())
+	wantsCounts(t, reports, map[string]uint64{"a": 2})
+}
+
+// Without a limit each line passes, as in tests.
+func TestNoLimitOfLines(t *testing.T) {
+	var l *lineLimit
+	if count := passed(l, 20, "a", time.Now()); count != 20 {
+		t.Errorf("%d passed", count)
+	}
+	l.finish(time.Now())
+}
