@@ -401,7 +401,8 @@ class DeployTest(RowTest):
         )
         shown = dict(re.findall(r'^#(\w+)="(.*)"$', read(DEFAULTS), re.M))
         given = {name: value for it in units for name, value in it.variables().items()}
-        del given["CSI_ENDPOINT"]
+        for own in ["CSI_ENDPOINT", "GOMEMLIMIT"]:
+            del given[own]
         self.row("what it shows", shown, given)
 
     def test_metrics(self):
@@ -659,6 +660,21 @@ class DeployTest(RowTest):
             ]
             self.row("the container %s of both manifests" % name, sidecar, other.containers[name])
             self.row(name + " elects nobody", [word for word in sidecar["args"] if "election" in word], [])
+
+    def test_memory_of_the_front(self):
+        """The front may have as much memory by its unit and by the Nomad job as by the manifests, and Go
+        knows of it.
+        """
+        unit, task = Unit(UNITS[1]), Nomad().tasks()["front"]
+        mebibytes = int(re.fullmatch(r"(\d+)M", unit.all("MemoryMax")[0]).group(1))
+        self.row("the limit of the Nomad job", re.findall(r"memory_max = (\d+)", task), [str(mebibytes)])
+        told = re.findall(r'GOMEMLIMIT +. "(\w+)"', task)
+        self.row("what Go knows in it", told, [unit.variables()["GOMEMLIMIT"]])
+        for name in [MANIFEST, ETCD_MANIFEST]:
+            front = Kubernetes(name).containers["front"]
+            self.row("the limit in " + name, front["resources"]["limits"]["memory"], "%dMi" % mebibytes)
+            told = [it["value"] for it in front["env"] if it["name"] == "GOMEMLIMIT"]
+            self.row("what Go knows in " + name, told, [unit.variables()["GOMEMLIMIT"]])
 
     def test_chown(self):
         """csid and the front may give their sockets to a group (--group, --control-group), and csid the WAL

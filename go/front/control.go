@@ -16,9 +16,9 @@ import (
 	"fomaheti/sockets"
 )
 
-// The bounds of the control socket: how many connections are served at once, how long a peer may take until its next call is whole, and for taking a reply.
+// The bounds of the control socket: how long a peer may take until its next call is whole, and for
+// taking a reply.
 const (
-	maxControls  = 16
 	nextCallTime = time.Minute
 	takeTime     = 10 * time.Second
 )
@@ -35,13 +35,12 @@ const viaControl = "control"
 // control answers calls in the envelope of docs/PROTOCOL.md over a Unix socket, as csid does: who uses csictl need not wait until the front leaves csid's one
 // connection. Each connection has one call at a time, which has its turn like those of gRPC.
 type control struct {
-	handler *handler
-	socket  *sockets.Socket
-	places  chan struct{}
-	served  sync.WaitGroup
-	mutex   sync.Mutex
-	conns   map[*net.UnixConn]bool
-	isEnded bool
+	handler  *handler
+	listener *limitedListener
+	served   sync.WaitGroup
+	mutex    sync.Mutex
+	conns    map[*clientConn]bool
+	isEnded  bool
 }
 
 // startControl begins to answer at --control, if there is one.
@@ -53,16 +52,16 @@ func startControl(h *handler, asked options) (*control, error) {
 	if err != nil {
 		return nil, fmt.Errorf("--control: %w", err)
 	}
-	c := &control{handler: h, socket: socket, places: make(chan struct{}, maxControls), conns: map[*net.UnixConn]bool{}}
+	listener := limitListener(socket, maxControls, h.log.closedFor(viaControl, "--control", maxControls))
+	c := &control{handler: h, listener: listener, conns: map[*clientConn]bool{}}
 	go c.serve()
 	return c, nil
 }
 
-// serve serves connections until the socket is closed. Those that come while as many as can be are served wait in the backlog.
+// serve serves connections until the socket is closed.
 func (c *control) serve() {
 	for {
-		c.places <- struct{}{}
-		conn, err := c.socket.AcceptUnix()
+		conn, err := c.listener.take()
 		if errors.Is(err, net.ErrClosed) {
 			return
 		}
@@ -74,20 +73,17 @@ func (c *control) serve() {
 			conn.Close()
 		} else {
 			go c.serveOne(conn)
-			continue
 		}
-		<-c.places
 	}
 }
 
-func (c *control) serveOne(conn *net.UnixConn) {
+func (c *control) serveOne(conn *clientConn) {
 	c.answerAll(conn)
 	conn.Close()
 	c.remove(conn)
-	<-c.places
 }
 
-func (c *control) add(conn *net.UnixConn) bool {
+func (c *control) add(conn *clientConn) bool {
 	c.mutex.Lock()
 	defer c.mutex.Unlock()
 	if !c.isEnded {
@@ -97,7 +93,7 @@ func (c *control) add(conn *net.UnixConn) bool {
 	return !c.isEnded
 }
 
-func (c *control) remove(conn *net.UnixConn) {
+func (c *control) remove(conn *clientConn) {
 	c.mutex.Lock()
 	defer c.mutex.Unlock()
 	delete(c.conns, conn)
@@ -107,7 +103,7 @@ func (c *control) remove(conn *net.UnixConn) {
 // close removes the socket. A nil control has none.
 func (c *control) close() {
 	if c != nil {
-		c.socket.Close()
+		c.listener.Close()
 	}
 }
 
@@ -134,7 +130,7 @@ func (c *control) wait() {
 
 // answerAll answers the calls of a connection, in order, until it ends or has one that gets no reply. A fault of the envelope is answered as
 // csid answers it, and nothing of it goes to csid.
-func (c *control) answerAll(conn *net.UnixConn) {
+func (c *control) answerAll(conn *clientConn) {
 	requests := frames.NewRequests(conn)
 	for c.awaits(conn) {
 		request, err := requests.Next()
@@ -146,32 +142,39 @@ func (c *control) answerAll(conn *net.UnixConn) {
 		if err != nil {
 			return
 		}
-		answer, err := c.answer(conn, request)
-		if err != nil || c.reply(conn, answer) != nil {
+		if !c.carriesOut(conn, request) {
 			return
 		}
 	}
 }
 
+// carriesOut carries a call out, and reports whether its peer has the reply.
+func (c *control) carriesOut(conn *clientConn, request frames.Request) bool {
+	conn.begin()
+	defer conn.end()
+	answer, err := c.answer(conn, request)
+	return err == nil && c.reply(conn, answer) == nil
+}
+
 // awaits sets the time of the next call, unless the front takes no further one.
-func (c *control) awaits(conn *net.UnixConn) bool {
+func (c *control) awaits(conn *clientConn) bool {
 	c.mutex.Lock()
 	defer c.mutex.Unlock()
 	return !c.isEnded && conn.SetReadDeadline(time.Now().Add(nextCallTime)) == nil
 }
 
-func (c *control) reply(conn *net.UnixConn, answer frames.Reply) error {
+func (c *control) reply(conn *clientConn, answer frames.Reply) error {
 	conn.SetWriteDeadline(time.Now().Add(takeTime))
 	_, err := conn.Write(answer.Append(nil))
 	return err
 }
 
 // answer has a call done by csid. Where csid gives no reply there is none: whoever made the call takes it as one that csid itself left unanswered.
-func (c *control) answer(conn *net.UnixConn, request frames.Request) (frames.Reply, error) {
+func (c *control) answer(conn *clientConn, request frames.Request) (frames.Reply, error) {
 	begin := time.Now()
 	ctx, cancel := context.WithCancel(context.Background())
 	defer cancel()
-	go cancelGone(ctx, cancel, conn)
+	go cancelGone(ctx, cancel, conn.Conn.(*net.UnixConn))
 	c.handler.metrics.waiting.Inc()
 	answer, err := c.handler.reply(ctx, request.Path, request.Message)
 	c.handler.metrics.waiting.Dec()

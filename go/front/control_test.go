@@ -94,6 +94,34 @@ func TestManyControlConnections(t *testing.T) {
 	}
 }
 
+// Peers that have sent no whole call make room for one that has; those whose calls run do not.
+func TestSilentControlPeers(t *testing.T) {
+	path, let := holding(t)
+	c, socket, _ := controlled(t, path)
+	runs := dial(t, socket)
+	runs.Write(fromHex(t, shortFrame))
+	for begin := time.Now(); len(c.handler.backend.turn) == 0; time.Sleep(time.Millisecond) {
+		if time.Since(begin) > 10*time.Second {
+			t.Fatal("no call runs")
+		}
+	}
+	var silent []net.Conn
+	for i := 0; i < maxControls; i++ {
+		conn := dial(t, socket)
+		conn.Write(fromHex(t, shortFrame)[:i%2])
+		silent = append(silent, conn)
+	}
+	// The first one is closed for the last one: a reset where its byte was not read yet.
+	if got, err := io.ReadAll(silent[0]); err != nil && !frames.IsClosing(err) || len(got) > 0 {
+		t.Errorf("%x, %v", got, err)
+	}
+	close(let)
+	runs.CloseWrite()
+	if got, err := io.ReadAll(runs); err != nil || !bytes.Equal(got, notFound) {
+		t.Errorf("%x, %v", got, err)
+	}
+}
+
 // A malformed envelope is refused as csid refuses it, and csid sees nothing of it.
 func TestMalformedControlCall(t *testing.T) {
 	path, connections := csid(t, answering(notFound))
@@ -189,7 +217,7 @@ func TestEndOfControl(t *testing.T) {
 	runs, idle := dial(t, socket), dial(t, socket)
 	runs.Write(fromHex(t, shortFrame+shortFrame))
 	idle.Write([]byte{0})
-	for begin := time.Now(); len(c.handler.backend.turn) == 0 || len(c.places) < 3; time.Sleep(time.Millisecond) {
+	for begin := time.Now(); len(c.handler.backend.turn) == 0 || open(c.listener) < 2; time.Sleep(time.Millisecond) {
 		if time.Since(begin) > 10*time.Second {
 			t.Fatal("no call runs")
 		}

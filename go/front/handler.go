@@ -8,6 +8,7 @@ import (
 
 	"google.golang.org/grpc"
 	"google.golang.org/grpc/codes"
+	"google.golang.org/grpc/keepalive"
 	"google.golang.org/grpc/status"
 
 	"fomaheti/frames"
@@ -32,6 +33,10 @@ const callWorkers = 32
 // What the names and values of the headers of one call may have, with 32 bytes for each (RFC 9113, section 6.5.2). A call keeps them until it ends.
 const maxHeaderBytes = 16 << 10
 
+// anyPings lets clients send PING at any time. For too many of them grpc-go 1.33 would end its writer
+// first (grpcConn). A MinTime of 0 would stand for five minutes.
+var anyPings = keepalive.EnforcementPolicy{MinTime: -1, PermitWithoutStream: true}
+
 // bytesCodec hands messages on as they are.
 type bytesCodec struct{}
 
@@ -45,6 +50,8 @@ type handler struct {
 	messages *messages
 	metrics  *metrics
 	log      *logger
+	// Has a value for each check of health over HTTP that asks csid.
+	checks chan struct{}
 	// Whether the health service of gRPC is answered, and whether each change is logged.
 	hasHealth  bool
 	logChanges bool
@@ -56,7 +63,7 @@ type handler struct {
 func newHandler(asked options, log *logger) *handler {
 	h := &handler{
 		backend: newBackend(asked.csid, asked.late), messages: newMessages(asked.waiting << 20), metrics: newMetrics(), log: log,
-		hasHealth: asked.health, logChanges: asked.logChanges, standsBy: asked.standby > 0,
+		checks: make(chan struct{}, maxHealthChecks), hasHealth: asked.health, logChanges: asked.logChanges, standsBy: asked.standby > 0,
 	}
 	h.isWaiting.Store(h.standsBy)
 	return h
@@ -73,6 +80,7 @@ func newServer(h *handler) *grpc.Server {
 		grpc.MaxHeaderListSize(maxHeaderBytes),
 		grpc.ConnectionTimeout(greetingTime),
 		grpc.NumStreamWorkers(callWorkers),
+		grpc.KeepaliveEnforcementPolicy(anyPings),
 	)
 }
 
@@ -105,6 +113,9 @@ func (h *handler) answer(path string, stream grpc.ServerStream) (*change, error)
 		return nil, err
 	}
 	defer h.messages.giveBack(message)
+	client := clientOf(stream.Context())
+	client.begin()
+	defer client.end()
 	h.metrics.waiting.Inc()
 	body, err := h.respond(stream.Context(), path, message)
 	h.metrics.waiting.Dec()

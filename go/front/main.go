@@ -109,7 +109,8 @@ func (f *front) fails(why error, status int) int {
 // serve answers calls until something ends that.
 func (f *front) serve(listener net.Listener) int {
 	server := newServer(f.handler)
-	go func() { f.failed <- take(server, listener) }()
+	clients := limitListener(listener, maxClients, f.log.closedFor("gRPC", "--listen", maxClients))
+	go func() { f.failed <- take(server, grpcListener{clients}) }()
 	select {
 	case err := <-f.failed:
 		return f.fails(err, noSocket)

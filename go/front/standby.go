@@ -133,7 +133,7 @@ func (h *handler) isReadySoon(ctx context.Context, length time.Duration) error {
 // livez reports whether csid does anything. One that cannot serve, since another has the lock, closes each connection, and that is as it should be; a
 // Probe that waits after calls that are answered is no fault either.
 func (h *handler) livez(answer http.ResponseWriter, request *http.Request) {
-	err := h.isReadySoon(request.Context(), questionTime)
+	err := h.checkInTurn(request.Context())
 	if status.Code(err) == codes.DeadlineExceeded && h.backend.life.silence() >= questionTime {
 		http.Error(answer, "csid hangs", http.StatusServiceUnavailable)
 		return

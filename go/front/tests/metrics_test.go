@@ -1,6 +1,8 @@
 package tests
 
 import (
+	"bufio"
+	"bytes"
 	"fmt"
 	"io"
 	"net"
@@ -277,19 +279,93 @@ func TestScrapesAtOnce(t *testing.T) {
 	}
 }
 
-// A client that never sends its whole request is closed.
-func TestSilentScrape(t *testing.T) {
-	t.Parallel()
-	_, monitor := watched(t, startFake(t).socket)
+// dialMonitor makes a connection to a monitor.
+func dialMonitor(t *testing.T, monitor string) net.Conn {
+	t.Helper()
 	conn, err := net.Dial("tcp", strings.TrimPrefix(monitor, "http://"))
 	if err != nil {
 		t.Fatal(err)
 	}
-	defer conn.Close()
+	t.Cleanup(func() { conn.Close() })
 	conn.SetDeadline(time.Now().Add(processes.Patience))
-	io.WriteString(conn, "GET /metr")
-	if _, err := io.ReadAll(conn); err != nil {
-		t.Errorf("it was not closed: %v", err)
+	return conn
+}
+
+// A client that never sends its whole request is closed, also one that sends a line now and then.
+func TestSilentScrape(t *testing.T) {
+	t.Parallel()
+	_, monitor := watched(t, startFake(t).socket)
+	for name, goesOn := range map[string]bool{"silent": false, "slow": true} {
+		conn := dialMonitor(t, monitor)
+		io.WriteString(conn, "GET /metrics HTTP/1.1\r\n")
+		go func(goesOn bool) {
+			for goesOn {
+				time.Sleep(100 * time.Millisecond)
+				_, err := io.WriteString(conn, "a: b\r\n")
+				goesOn = err == nil
+			}
+		}(goesOn)
+		if _, err := io.ReadAll(conn); os.IsTimeout(err) {
+			t.Errorf("%s: it was not closed: %v", name, err)
+		}
+	}
+}
+
+// A request may have some headers, and one with more is refused.
+func TestHeadersOfARequest(t *testing.T) {
+	t.Parallel()
+	_, monitor := watched(t, startFake(t).socket)
+	for size, want := range map[int]int{7 << 10: http.StatusOK, 16 << 10: http.StatusRequestHeaderFieldsTooLarge} {
+		conn := dialMonitor(t, monitor)
+		fmt.Fprintf(conn, "GET /metrics HTTP/1.1\r\nHost: a\r\nX-Long: %s\r\n\r\n", strings.Repeat("v", size))
+		answer, err := http.ReadResponse(bufio.NewReader(conn), nil)
+		if err != nil || answer.StatusCode != want {
+			t.Errorf("%d bytes: %v, %v, wanted %d", size, answer, err, want)
+		}
+	}
+}
+
+// Headers that do not end take no memory, however many connections have them.
+func TestHeadersThatDoNotEnd(t *testing.T) {
+	t.Parallel()
+	const connections, lines = 40, 170000
+	process, monitor := watched(t, startFake(t).socket)
+	var headers bytes.Buffer
+	headers.WriteString("GET /metrics HTTP/1.1\r\n")
+	for i := 0; i < lines; i++ {
+		fmt.Fprintf(&headers, "%x:\r\n", i)
+	}
+	processes.Together(connections, func(int) {
+		conn := dialMonitor(t, monitor)
+		conn.Write(headers.Bytes())
+		io.Copy(io.Discard, conn)
+	})
+	// 489 MiB where a request may have 1 MiB.
+	if taken := process.ResidentBytes(t); taken > 128<<20 {
+		t.Errorf("the front takes %d MiB", taken>>20)
+	}
+	get(t, monitor+"/metrics")
+}
+
+// At most 64 connections are open, and those that ask nothing make room for one that does.
+func TestConnectionsToMetrics(t *testing.T) {
+	t.Parallel()
+	const connections, most = 200, 64
+	process, monitor := watched(t, startFake(t).socket)
+	get(t, monitor+"/metrics")
+	before := process.OpenFiles(t)
+	for i := 0; i < connections; i++ {
+		dialMonitor(t, monitor)
+	}
+	processes.Eventually(t, "connections that were closed for others", func() bool {
+		return strings.Contains(process.Log.String(), "\nfront: a connection of --metrics without a call was closed for another one: 64 were open\n")
+	})
+	// One more waits for room.
+	if open := process.OpenFiles(t) - before; open > most+1 {
+		t.Errorf("%d connections are open", open)
+	}
+	if status, _ := get(t, monitor+"/healthz"); status != http.StatusOK {
+		t.Errorf("status %d", status)
 	}
 }
 
