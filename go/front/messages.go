@@ -1,7 +1,6 @@
 package main
 
 import (
-	"context"
 	"io"
 	"runtime"
 	"sync"
@@ -12,43 +11,33 @@ import (
 	"google.golang.org/grpc/status"
 )
 
-// How many messages are received at once: until one has come, it may be of any length.
-const maxReceived = 16
-
-// How long a message may take while other calls wait for theirs to be received. Where no message at all came for stillTime since one waits, all that are
-// received have clients that hang: then it may take lookTime.
-const (
-	placeTime = 5 * time.Second
-	stillTime = time.Second
-	lookTime  = 50 * time.Millisecond
-)
+// How often it is looked whether a message is late.
+const lookTime = 50 * time.Millisecond
 
 // errLate ends a call whose message held up others. What was received of it is dropped, or it would have no bound.
 var errLate = status.Error(codes.Unavailable, "the message did not come in time, and other calls wait")
 
 // messages bounds what the messages of all calls take that wait for their turn or for their replies.
 type messages struct {
-	receiving chan struct{}
-	idle      chan *receiver
-	limit     int
-	mutex     sync.Mutex
-	bytes     int
-	// How many calls wait for others to be received, and when the last message came, or the first of them began to wait if that was later.
-	waiting    int
-	stillSince time.Time
+	places *places
+	idle   chan *receiver
+	limit  int
+	mutex  sync.Mutex
+	bytes  int
 }
 
 func newMessages(limit int) *messages {
-	return &messages{receiving: make(chan struct{}, maxReceived), idle: make(chan *receiver, maxReceived), limit: limit}
+	return &messages{places: newPlaces(), idle: make(chan *receiver, maxReceived), limit: limit}
 }
 
 // receive receives the message of a call, and counts it until it is given back.
 func (m *messages) receive(stream grpc.ServerStream) ([]byte, error) {
-	if err := m.place(stream.Context()); err != nil {
+	client := clientOf(stream.Context())
+	if err := m.places.take(stream.Context(), client); err != nil {
 		return nil, err
 	}
 	message, err := m.inTime(func() ([]byte, error) { return onlyMessage(stream) })
-	<-m.receiving
+	m.places.giveBack(client)
 	if err != nil {
 		return nil, err
 	}
@@ -73,32 +62,6 @@ func (m *messages) giveBack(message []byte) {
 	m.mutex.Lock()
 	defer m.mutex.Unlock()
 	m.bytes -= len(message)
-}
-
-// place waits until few enough messages are received.
-func (m *messages) place(ctx context.Context) error {
-	select {
-	case m.receiving <- struct{}{}:
-		return nil
-	default:
-	}
-	m.waits(1)
-	defer m.waits(-1)
-	select {
-	case m.receiving <- struct{}{}:
-		return nil
-	case <-ctx.Done():
-		return status.FromContextError(ctx.Err()).Err()
-	}
-}
-
-func (m *messages) waits(more int) {
-	m.mutex.Lock()
-	defer m.mutex.Unlock()
-	if m.waiting == 0 {
-		m.stillSince = time.Now()
-	}
-	m.waiting += more
 }
 
 // receiver receives messages in a goroutine of its own, which is kept for the next one: a new goroutine would have to grow its stack each time.
@@ -150,7 +113,7 @@ func (m *messages) inTime(receive func() ([]byte, error)) ([]byte, error) {
 		close(r.next)
 		return nil, errLate
 	}
-	m.came()
+	m.places.messageCame()
 	message, err := r.message, r.err
 	m.keep(r)
 	return message, err
@@ -176,24 +139,11 @@ func (m *messages) awaits(r *receiver, begin time.Time) bool {
 		case <-r.done:
 			return true
 		case <-looks.C:
-			if m.isLate(begin) {
+			if m.places.isLate(begin) {
 				return false
 			}
 		}
 	}
-}
-
-func (m *messages) came() {
-	m.mutex.Lock()
-	defer m.mutex.Unlock()
-	m.stillSince = time.Now()
-}
-
-// isLate reports whether a message that began to be received then holds up others.
-func (m *messages) isLate(begin time.Time) bool {
-	m.mutex.Lock()
-	defer m.mutex.Unlock()
-	return m.waiting > 0 && (time.Since(m.stillSince) >= stillTime || time.Since(begin) >= placeTime)
 }
 
 // onlyMessage receives the message of a call. A message that is too long is refused by RecvMsg, before it is read.

@@ -1,13 +1,9 @@
 package main
 
 import (
-	"context"
 	"io"
 	"testing"
 	"time"
-
-	"google.golang.org/grpc/codes"
-	"google.golang.org/grpc/status"
 )
 
 func TestMessagesThatWait(t *testing.T) {
@@ -52,13 +48,13 @@ func TestMessagesThatAreLate(t *testing.T) {
 			case <-time.After(stillTime / 10):
 			}
 			if why == "messages come" {
-				m.came()
+				m.places.messageCame()
 			}
 		}
 	}
 	holds("nobody waits")
-	m.came()
-	m.waits(1)
+	fill(m.places, nil)
+	waits(m.places, nil)
 	holds("messages come")
 	select {
 	case err := <-ended:
@@ -67,47 +63,6 @@ func TestMessagesThatAreLate(t *testing.T) {
 		}
 	case <-time.After(placeTime):
 		t.Error("it holds up another call")
-	}
-}
-
-// A message is late once it took 5 seconds, or none came for a second, and only where calls wait. The first that waits begins that second.
-func TestLateness(t *testing.T) {
-	rows := []struct {
-		waiting      int
-		began, still time.Duration
-		want         bool
-	}{
-		{0, time.Minute, time.Minute, false}, {1, 6 * time.Second, 0, true}, {1, 4 * time.Second, 0, false}, {1, 0, 2 * time.Second, true},
-	}
-	for _, row := range rows {
-		m := newMessages(10)
-		m.waiting, m.stillSince = row.waiting, time.Now().Add(-row.still)
-		if m.isLate(time.Now().Add(-row.began)) != row.want {
-			t.Errorf("%+v: not %v", row, row.want)
-		}
-	}
-	m := newMessages(10)
-	m.waits(1)
-	since := m.stillSince
-	m.waits(1)
-	m.waits(-1)
-	if m.stillSince != since {
-		t.Error("a further call that waits begins the second again")
-	}
-}
-
-// The call that waits is the one beyond those that are received.
-func TestCallsThatWaitForAPlace(t *testing.T) {
-	m := newMessages(10)
-	ctx, cancel := context.WithCancel(context.Background())
-	for i := 0; i < maxReceived; i++ {
-		if err := m.place(ctx); err != nil || m.waiting != 0 {
-			t.Fatal(err, m.waiting)
-		}
-	}
-	cancel()
-	if err := m.place(ctx); status.Code(err) != codes.Canceled || m.waiting != 0 {
-		t.Error(err, m.waiting)
 	}
 }
 
@@ -138,12 +93,14 @@ func TestReceiversThatAreKept(t *testing.T) {
 // The receiver of a message that is late receives no other one: it is not done.
 func TestReceiverOfALateMessage(t *testing.T) {
 	m := newMessages(10)
-	m.waiting, m.stillSince = 1, time.Now().Add(-stillTime)
+	fill(m.places, nil)
+	waits(m.places, nil)
+	m.places.stillSince = time.Now().Add(-stillTime)
 	let := make(chan struct{})
 	if _, err := m.inTime(func() ([]byte, error) { <-let; return []byte("late"), nil }); err != errLate {
 		t.Fatal(err)
 	}
-	m.waiting = 0
+	m.places.giveBack(nil)
 	ended := make(chan string)
 	go func() {
 		got, _ := m.inTime(func() ([]byte, error) { return []byte("next"), nil })

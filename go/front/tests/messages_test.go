@@ -163,11 +163,65 @@ func TestMessagesThatNeverCome(t *testing.T) {
 		}
 		return served
 	}
-	if served := ends(streams); served >= places {
-		t.Errorf("%d of those that others wait after were served", served)
+	if served := ends(streams); served >= calls {
+		t.Errorf("%d were served, and none made room", served)
 	}
 	if served := ends(begins(places)); served != places {
 		t.Errorf("%d of those that nobody waits after were served", served)
+	}
+}
+
+// silentClient has calls that send no message, and makes a new one for each that ends.
+type silentClient struct {
+	front *client
+	// Calls that have begun, and those of them that the front has ended.
+	begun, ended int32
+}
+
+func (c *silentClient) call(ctx context.Context) {
+	for ctx.Err() == nil {
+		stream, err := c.front.NewStream(ctx, &grpc.StreamDesc{ClientStreams: true}, "/a/silent")
+		if err != nil {
+			return
+		}
+		atomic.AddInt32(&c.begun, 1)
+		stream.RecvMsg(&[]byte{})
+		atomic.AddInt32(&c.ended, 1)
+	}
+}
+
+// Calls that send no message make room for one of another client that does, which need not wait
+// until they have all ended, nor for those that come in their place.
+func TestCallsWithoutAMessageThatComeAgain(t *testing.T) {
+	t.Parallel()
+	const clients, calls, probes = 4, 250, 3
+	process := processes.StartFront(t, startFake(t).socket)
+	front := newClient(t, process.Socket)
+	ctx, cancel := context.WithCancel(context.Background())
+	defer cancel()
+	var silent [clients]*silentClient
+	for i := range silent {
+		one := &silentClient{front: newClient(t, process.Socket)}
+		for call := 0; call < calls; call++ {
+			go one.call(ctx)
+		}
+		processes.Eventually(t, "calls", func() bool { return atomic.LoadInt32(&one.begun) >= calls })
+		silent[i] = one
+	}
+	ended := func() (count int32) {
+		for _, one := range silent {
+			count += atomic.LoadInt32(&one.ended)
+		}
+		return count
+	}
+	before := ended()
+	for i := 0; i < probes; i++ {
+		front.wants(t, probe, "", ok(ready))
+	}
+	// Each probe needs one place, and each second without a message empties 16. In the order of all
+	// calls it would wait for a thousand.
+	if count := ended() - before; count >= clients*calls {
+		t.Errorf("%d calls ended before %d probes were answered", count, probes)
 	}
 }
 
