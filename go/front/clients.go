@@ -201,9 +201,9 @@ func (l grpcListener) Accept() (net.Conn, error) {
 }
 
 // grpcConn is a connection of gRPC whose writes do not fail: one that would closes the connection
-// instead, and the reader of gRPC sees its end. grpc-go 1.33 writes in a goroutine of its own. Where
-// that one ends first, the reader waits for it for hours, with some 100 KiB, once 50 replies to PING
-// or SETTINGS are to be written.
+// instead, and the reader of gRPC sees its end. grpc-go 1.33 writes in a goroutine of its own.
+// Where that one ends first, the reader waits for it for hours, with some 100 KiB, once 50 replies
+// to PING or SETTINGS are to be written.
 type grpcConn struct{ *clientConn }
 
 func (c grpcConn) Write(bytes []byte) (int, error) {

@@ -39,7 +39,8 @@ func joins(t *testing.T, l *limitedListener, path string) (peer net.Conn, client
 	return peer, client
 }
 
-// isClosed reports whether the other end of a connection was closed; otherwise it has a byte to read.
+// isClosed reports whether the other end of a connection was closed; otherwise it has a byte to
+// read.
 func isClosed(t *testing.T, peer net.Conn, client *clientConn) bool {
 	t.Helper()
 	client.Conn.Write([]byte{7})

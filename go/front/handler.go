@@ -33,8 +33,8 @@ const callWorkers = 32
 // What the names and values of the headers of one call may have, with 32 bytes for each (RFC 9113, section 6.5.2). A call keeps them until it ends.
 const maxHeaderBytes = 16 << 10
 
-// anyPings lets clients send PING at any time. For too many of them grpc-go 1.33 would end its writer
-// first (grpcConn). A MinTime of 0 would stand for five minutes.
+// anyPings lets clients send PING at any time. For too many of them grpc-go 1.33 would end its
+// writer first (grpcConn). A MinTime of 0 would stand for five minutes.
 var anyPings = keepalive.EnforcementPolicy{MinTime: -1, PermitWithoutStream: true}
 
 // bytesCodec hands messages on as they are.

@@ -32,7 +32,8 @@ const (
 type logger struct {
 	lines  *log.Logger
 	isJSON bool
-	// Where lines wait until they are written, and what keeps down how many there are; nil in tests.
+	// Where lines wait until they are written, and what keeps down how many there are; nil in
+	// tests.
 	queue *logqueue.Queue
 	limit *lineLimit
 }
@@ -94,14 +95,16 @@ func (l *logger) write(text string, line entry) {
 	l.lines.Print(text)
 }
 
-// writeFew writes a line of which others may cause any number: ten in a second, and then how many more.
+// writeFew writes a line of which others may cause any number: ten in a second, and then how many
+// more.
 func (l *logger) writeFew(text string, line entry) {
 	if l.limit.allows(line.Message, time.Now()) {
 		l.write(text, line)
 	}
 }
 
-// end writes what waits to be written, at most so long. It is called once, at the end of the program.
+// end writes what waits to be written, at most so long. It is called once, at the end of the
+// program.
 func (l *logger) end(limit time.Duration) {
 	l.limit.finish(time.Now())
 	l.queue.End(limit)
@@ -167,8 +170,8 @@ func (l *logger) malformed(socket string, fault error) {
 	l.writeFew(via(socket)+fault.Error(), entry{Level: levelWarn, Message: "malformed call", Socket: socket, Error: fault.Error()})
 }
 
-// closedFor gives what reports that a connection was closed for another one, where as many were open
-// as can be on the socket of an option.
+// closedFor gives what reports that a connection was closed for another one, where as many were
+// open as can be on the socket of an option.
 func (l *logger) closedFor(who, option string, limit int) func() {
 	return func() {
 		fmt.Fprintf(saying{l, who}, "a connection of %s without a call was closed for another one: %d were open", option, limit)

@@ -8,12 +8,12 @@ import (
 	"time"
 )
 
-// How many lines about calls that were refused, and of packages, are written in a second. The others
-// are counted.
+// How many lines about calls that were refused, and of packages, are written in a second. The
+// others are counted.
 const linesASecond = 10
 
-// lineLimit lets ten lines in a second pass, and counts the others by their kinds. Once the second is
-// over it reports the counts; further lines are then only counted until a second has none.
+// lineLimit lets ten lines in a second pass, and counts the others by their kinds. Once the second
+// is over it reports the counts; further lines are then only counted until a second has none.
 type lineLimit struct {
 	report func(counts map[string]uint64)
 	mutex  sync.Mutex
@@ -48,7 +48,8 @@ func (l *lineLimit) allows(kind string, now time.Time) bool {
 	return false
 }
 
-// finish reports the lines that were counted, if any were, and begins a second in which no line passes.
+// finish reports the lines that were counted, if any were, and begins a second in which no line
+// passes.
 func (l *lineLimit) finish(now time.Time) {
 	if l == nil {
 		return

@@ -35,8 +35,8 @@ func wantsCounts(t *testing.T, reports <-chan map[string]uint64, want map[string
 	}
 }
 
-// Ten lines pass in a second, and the others are counted by kinds. After a second in which lines were
-// counted none passes; after one without lines ten do.
+// Ten lines pass in a second, and the others are counted by kinds. After a second in which lines
+// were counted none passes; after one without lines ten do.
 func TestLinesBeyondTen(t *testing.T) {
 	l, reports := counted()
 	// So late that no second is over before the test ends.

@@ -18,8 +18,8 @@ const (
 	maxHealthChecks = 4
 )
 
-// What a client of the monitor may take for its request, and the monitor for its answer. A connection
-// is kept between two scrapes, which may be a minute apart.
+// What a client of the monitor may take for its request, and the monitor for its answer. A
+// connection is kept between two scrapes, which may be a minute apart.
 const (
 	requestTime = 5 * time.Second
 	answerTime  = 2 * questionTime

@@ -22,8 +22,8 @@ const (
 )
 
 // places are what calls have while their messages are received. A free one goes to the connection
-// that has the fewest, and there to the call that waits the longest, so that no connection keeps the
-// others out, however many calls it has.
+// that has the fewest, and there to the call that waits the longest, so that no connection keeps
+// the others out, however many calls it has.
 type places struct {
 	mutex  sync.Mutex
 	free   int
@@ -66,7 +66,8 @@ func (p *places) take(ctx context.Context, client *clientConn) error {
 	}
 }
 
-// begin takes a place that is free. Where there is none, it gives the place of the call in the queue.
+// begin takes a place that is free. Where there is none, it gives the place of the call in the
+// queue.
 func (p *places) begin(client *clientConn) *list.Element {
 	p.mutex.Lock()
 	defer p.mutex.Unlock()

@@ -60,7 +60,8 @@ func TestLateness(t *testing.T) {
 	}
 }
 
-// The first call that waits begins the second in which no message comes, and a further one does not.
+// The first call that waits begins the second in which no message comes, and a further one does
+// not.
 func TestSecondWithoutAMessage(t *testing.T) {
 	p := newPlaces()
 	fill(p, nil)
@@ -75,7 +76,8 @@ func TestSecondWithoutAMessage(t *testing.T) {
 	}
 }
 
-// The call that waits is the one beyond those that are received; it waits no longer than its context.
+// The call that waits is the one beyond those that are received; it waits no longer than its
+// context.
 func TestCallsThatWaitForAPlace(t *testing.T) {
 	p := newPlaces()
 	ctx, cancel := context.WithCancel(context.Background())
@@ -90,7 +92,8 @@ func TestCallsThatWaitForAPlace(t *testing.T) {
 	}
 }
 
-// A free place goes to the connection that has the fewest, and there to the call that waits the longest.
+// A free place goes to the connection that has the fewest, and there to the call that waits the
+// longest.
 func TestOrderOfPlaces(t *testing.T) {
 	a, b, c := &clientConn{}, &clientConn{}, &clientConn{}
 	names := map[*clientConn]string{a: "a", b: "b", c: "c"}

@@ -60,7 +60,8 @@ func floods(t *testing.T, socket string, frames []byte, isEndless bool) {
 	}
 }
 
-// Of connections that send what must be answered again and again nothing is left once they are closed.
+// Of connections that send what must be answered again and again nothing is left once they are
+// closed.
 func TestConnectionsThatFlood(t *testing.T) {
 	t.Parallel()
 	process, monitor := watched(t, startFake(t).socket)

@@ -262,8 +262,8 @@ func TestHelp(t *testing.T) {
 	}
 }
 
-// A lock that another process keeps on the folder of a socket, with the right to read it alone, holds
-// up neither a start, beyond a second, nor an end.
+// A lock that another process keeps on the folder of a socket, with the right to read it alone,
+// holds up neither a start, beyond a second, nor an end.
 func TestFolderThatStaysLocked(t *testing.T) {
 	t.Parallel()
 	socket := filepath.Join(processes.Folder(t), "csi.sock")

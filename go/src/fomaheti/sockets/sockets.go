@@ -15,8 +15,8 @@ import (
 	"time"
 )
 
-// How long a start waits for the lock on the folder of its socket, and how often it tries to get it. A start that
-// keeps the lock needs it for a moment only.
+// How long a start waits for the lock on the folder of its socket, and how often it tries to get
+// it. A start that keeps the lock needs it for a moment only.
 const (
 	lockTime  = time.Second
 	lockPause = 10 * time.Millisecond
@@ -68,9 +68,9 @@ func groupNumber(group string) (int, error) {
 	return strconv.Atoi(found.Gid)
 }
 
-// Listen makes a socket. One that nobody answers on is what an earlier process left, and gives way; any other file
-// stays, and is an error. Whoever may read the folder can lock it: where another process keeps the lock for a second,
-// the socket is made without it, and package log says so.
+// Listen makes a socket. One that nobody answers on is what an earlier process left, and gives way;
+// any other file stays, and is an error. Whoever may read the folder can lock it: where another
+// process keeps the lock for a second, the socket is made without it, and package log says so.
 func Listen(path string) (*Socket, error) {
 	folder, err := openFolder(path)
 	if err != nil {
@@ -107,9 +107,10 @@ func (s *Socket) Close() (err error) {
 	return err
 }
 
-// remove removes the file of the socket, unless another one is there now. They are compared by device and inode before the
-// listener is closed, since until then no other file is given that inode. Where another process has the lock it is not
-// waited for: until the listener is closed, no process that starts puts a socket in the place of this one.
+// remove removes the file of the socket, unless another one is there now. They are compared by
+// device and inode before the listener is closed, since until then no other file is given that
+// inode. Where another process has the lock it is not waited for: until the listener is closed, no
+// process that starts puts a socket in the place of this one.
 func (s *Socket) remove() {
 	folder, err := openFolder(s.path)
 	if err != nil {
@@ -127,8 +128,8 @@ func openFolder(path string) (*os.File, error) {
 	return os.Open(filepath.Dir(path))
 }
 
-// lockSoon locks a folder, so that of two processes that start together none removes the new socket of the other. It reports
-// whether the lock could be had in time.
+// lockSoon locks a folder, so that of two processes that start together none removes the new socket
+// of the other. It reports whether the lock could be had in time.
 func lockSoon(folder *os.File) (isLocked bool, err error) {
 	for end := time.Now().Add(lockTime); ; time.Sleep(lockPause) {
 		err := lock(folder)

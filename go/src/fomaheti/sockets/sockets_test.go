@@ -57,7 +57,8 @@ func logged(t *testing.T) *bytes.Buffer {
 	return lines
 }
 
-// Of two processes that start together the second looks at the socket only when the first has made it.
+// Of two processes that start together the second looks at the socket only when the first has made
+// it.
 func TestListenWaitsForTheFolder(t *testing.T) {
 	lines := logged(t)
 	path := filepath.Join(t.TempDir(), "csi.sock")
@@ -107,7 +108,8 @@ func TestStartInAFolderThatStaysLocked(t *testing.T) {
 	}
 }
 
-// Where another process has the folder locked, the end removes the socket at once, and another's socket stays.
+// Where another process has the folder locked, the end removes the socket at once, and another's
+// socket stays.
 func TestEndInAFolderThatIsLocked(t *testing.T) {
 	for _, isOther := range []bool{false, true} {
 		path := filepath.Join(t.TempDir(), "csi.sock")
