@@ -85,6 +85,10 @@ pub record ShowNodes (number : ℕ) (rows : List Row) (nodes : List texts.Text) 
   pub numbered : AreReadOf ShowsNumber rows numbers
   pub nodes_are : map Text nodes ≡ map (λ row. column row 1) (filter (λ row. is_number number (as_number (column row 0))) rows)
 
+-- what is taken of a pool's total with a volume: its pool, and its bytes
+abbrev pub share : Volume → texts.Text × ℕ
+share v = (v.pool, v.bytes)
+
 -- ---- meta
 
 -- a number that a row of meta has

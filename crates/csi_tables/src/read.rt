@@ -2,19 +2,21 @@
 //!
 //! Where a row is none that was written, as only a disk that is not clean gives it, the read is refused.
 
-ghost use Rattle.std.specs.Prelude.{◌≡◌, ◌<◌, ◌^◌, IfOk};
+ghost use Rattle.std.specs.Prelude.{◌≡◌, ◌<◌, ◌^◌, IfOk, is_some, option_map};
 ghost use Rattle.std.specs.FinMap.{get};
 ghost use Rattle.csi_keeper.specs.Listing.{IsPageWithNodes};
 ghost use Rattle.csi_keeper.specs.State.{attached, attached_at, named, page, sizes};
-ghost use Rattle.csi_tables.specs.Reading.{TellsNext};
+ghost use Rattle.csi_tables.specs.Reading.{TellsNext, share};
 ghost use Rattle.csi_tables.specs.Refusing.{ConnReads};
 
 use crate::fault::TablesError;
 use crate::nodes::nodes_of_each;
-use crate::rows::{attachments_from, number_in, numbers_from, numbers_of, volume_of, volumes_from};
+use crate::rows::{
+    attachments_from, number_in, numbers_from, numbers_of, share_of, volume_of, volumes_from,
+};
 use csi_keeper::{Attachment, PageWithNodes, Volume};
 use csi_sql::{IdleConnection, reads};
-use csi_types::Items;
+use csi_types::{Items, Text};
 use sqlite::Alter;
 use std::alloc::Global;
 
@@ -38,6 +40,32 @@ pub(crate) fn by_number<S: Alter>(
 {
     let found = reads::by_number(conn, number)?;
     volume_of(alloc, found)
+}
+
+/// Whether a volume has a number. Nothing in its row is read as a value.
+pub(crate) fn has_volume<S: Alter>(
+    conn: &mut IdleConnection<S>,
+    number: u64,
+) -> Result<bool, TablesError>
+    requires number { number < 2 ^ 63 }
+    ensures { ConnReads S.Store conn.old conn.new
+        (λ s has. has ≡ is_some (get s.volumes number)) result }
+{
+    let found = reads::by_number(conn, number)?;
+    Ok(found.is_some())
+}
+
+/// The pool of the volume of a number, and its bytes.
+pub(crate) fn share<S: Alter>(
+    conn: &mut IdleConnection<S>,
+    number: u64,
+) -> Result<Option<(Text, u64)>, TablesError>
+    requires number { number < 2 ^ 63 }
+    ensures { ConnReads S.Store conn.old conn.new
+        (λ s found. found ≡ option_map share (get s.volumes number)) result }
+{
+    let found = reads::by_number(conn, number)?;
+    share_of(found)
 }
 
 /// The volume of a name.

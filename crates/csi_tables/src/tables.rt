@@ -1,6 +1,6 @@
 //! The keeper over the tables.
 
-ghost use Rattle.std.specs.Prelude.{◌≡◌, ◌≤◌, ◌^◌, false, IfOk, IsTrue, OnErr};
+ghost use Rattle.std.specs.Prelude.{◌≡◌, ◌≤◌, ◌^◌, false, IfOk, IsTrue, OnErr, is_some};
 ghost use Rattle.std.specs.FinMap.{get};
 ghost use Rattle.std.specs.Option.{option_map};
 ghost use Rattle.csi_keeper.specs.Listing.{IsPageWithNodes, listing};
@@ -132,6 +132,22 @@ impl<S: Alter> Keeper for Tables<S> {
             return Ok(None);
         }
         let answer = read::by_number(alloc, &mut self.conn, number);
+        self.note(&answer);
+        self.health.finish_call(store_answer(answer))
+    }
+
+    fn has_volume(&mut self, number: u64) -> Result<bool, StoreFault>
+        ensures reads { Reads (tables_model S.Store self.old) (tables_model S.Store self.new) result
+            (λ s has. has ≡ is_some (get s.volumes number)) }
+        ensures refused { TablesRefuses S.Store self.old self.new ⊥ result }
+        ensures limit { self.new.conn.step_limit ≡ self.old.conn.step_limit }
+        ensures error_only_if { 2 ^ 63 ≤ number → OnErr result (IsTrue self.old.health.is_down) }
+    {
+        self.health.start_call()?;
+        if number >= NUMBERS {
+            return Ok(false);
+        }
+        let answer = read::has_volume(&mut self.conn, number);
         self.note(&answer);
         self.health.finish_call(store_answer(answer))
     }
