@@ -3,6 +3,11 @@
 //! Each function asks that no transaction is open on the connection, and leaves it so. After `Ok` the
 //! change is made and committed; after a fault the State stays, and a stop may leave the change made.
 //! The totals are moved only once the change is committed, and that takes no memory.
+//!
+//! A change is one transaction, but a removal and a change of parameters are two: the first one reads what
+//! the row has. The total of a pool is set by the pool's name, which takes memory to hold, and nothing may
+//! fail after the commit; the other parameters are in the same column as those that change. The State is the
+//! same in between.
 
 ghost use Rattle.std.specs.Prelude.{◌≡◌, ◌<◌, ◌^◌, [], ◌∷◌, List, ℕ, IfOk, IsErrOf, IsUtf8, OnOk, option_map};
 ghost use Rattle.sqlite.specs.Held.{state};
