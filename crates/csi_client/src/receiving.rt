@@ -1,4 +1,7 @@
 //! The reply to a call.
+//!
+//! A reply is one value, [`ReceivedReply`]: its status, text and body are owned together, so that what shows
+//! a reply, or decides about another try, passes one value on.
 
 ghost use Rattle.std.specs.Prelude.{◌≡◌, None, false, IfOk, IsTrue};
 ghost use Rattle.envelope.specs.Envelope.{reply_bytes_of};

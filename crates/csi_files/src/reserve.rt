@@ -206,6 +206,10 @@ impl<S: Alter> Keeper for Reserved<S> {
         self.tables.by_number(alloc, number)
     }
 
+    fn has_volume(&mut self, number: u64) -> Result<bool, StoreFault> {
+        self.tables.has_volume(number)
+    }
+
     fn caps_of(&mut self, alloc: Global, number: u64) -> Result<Option<Items<CapKey>>, StoreFault> {
         self.tables.caps_of(alloc, number)
     }

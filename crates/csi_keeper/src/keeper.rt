@@ -1,6 +1,6 @@
 //! What keeps the State.
 
-ghost use Rattle.std.specs.Prelude.{◌≡◌};
+ghost use Rattle.std.specs.Prelude.{◌≡◌, is_some};
 ghost use Rattle.std.specs.FinMap.{get};
 ghost use Rattle.std.specs.Option.{option_map};
 ghost use Rattle.csi_keeper.specs.State.{State, IsBounded, named, used, sizes, attached, attached_at, count_at, page, published_of_page};
@@ -58,6 +58,12 @@ pub trait Keeper {
     /// The volume of a number; `None` where there is none.
     fn by_number(&mut self, alloc: Global, number: u64) -> Result<Option<Volume>, StoreFault>
         ensures { Reads (model self.old) (model self.new) result (λ s v. v ≡ get s.volumes number) };
+
+    /// Whether a volume has a number. Nothing of the volume is copied, so that a volume can be deleted where
+    /// there is no memory for a copy of it.
+    fn has_volume(&mut self, number: u64) -> Result<bool, StoreFault>
+        ensures { Reads (model self.old) (model self.new) result
+            (λ s has. has ≡ is_some (get s.volumes number)) };
 
     /// The capability keys of the volume of a number; `None` where there is none. It costs no more than
     /// `by_number`, and less where a keeper need not copy the rest of the volume.

@@ -36,6 +36,9 @@ module _ (next : ℕ) (volumes : List (ℕ × Volume)) (names : Names) (pools : 
   pub held_number : (n : ℕ) → IsKept next volumes names pools attachments spots s → fin.get (volumes_of volumes) n ≡ fin.get s.volumes n
   held_number n k = ap (λ (m : fin.FinMap nat_cmp Volume). fin.get m n) (sym k.volumes_are)
 
+  pub held_has : (n : ℕ) → IsKept next volumes names pools attachments spots s → is_some (fin.get (volumes_of volumes) n) ≡ is_some (fin.get s.volumes n)
+  held_has n k = ap is_some (held_number n k)
+
   pub held_caps : (n : ℕ) → IsKept next volumes names pools attachments spots s → option_map (λ (v : Volume). v.caps) (fin.get (volumes_of volumes) n) ≡ option_map (λ (v : Volume). v.caps) (fin.get s.volumes n)
   held_caps n k = ap (option_map (λ (v : Volume). v.caps)) (held_number n k)
 

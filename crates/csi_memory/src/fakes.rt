@@ -1,6 +1,6 @@
 //! Keepers that fail where a test asks for it.
 
-ghost use Rattle.std.specs.Prelude.{◌≡◌, ◌≢◌, ◌≤◌, ◌^◌, ◌↔◌, false, Some, Err, IfOk, IsTrue};
+ghost use Rattle.std.specs.Prelude.{◌≡◌, ◌≢◌, ◌≤◌, ◌^◌, ◌↔◌, false, Some, Err, IfOk, IsTrue, is_some};
 ghost use Rattle.std.specs.FinMap.{get};
 ghost use Rattle.std.specs.Option.{option_map};
 ghost use Rattle.csi_memory.specs.Holding.{Holds};
@@ -134,6 +134,15 @@ impl Keeper for FusedMem {
     {
         self.fuse.burn()?;
         self.keeper.by_number(alloc, number)
+    }
+
+    fn has_volume(&mut self, number: u64) -> Result<bool, StoreFault>
+        ensures reads { Reads (fused_model self.old) (fused_model self.new) result
+            (λ s has. has ≡ is_some (get s.volumes number)) }
+        ensures burns { Burns self.old self.new result }
+    {
+        self.fuse.burn()?;
+        self.keeper.has_volume(number)
     }
 
     fn caps_of(&mut self, alloc: Global, number: u64) -> Result<Option<Items<CapKey>>, StoreFault>

@@ -1,6 +1,6 @@
 //! The volumes in memory, by their numbers.
 
-ghost use Rattle.std.specs.Prelude.{◌≡◌, ℕ, IfErr, IfOk, OnOk, OnErr, map, filter, take};
+ghost use Rattle.std.specs.Prelude.{◌≡◌, ℕ, IfErr, IfOk, OnOk, OnErr, is_some, map, filter, take};
 ghost use Rattle.std.specs.BTreeMap.{values};
 ghost use Rattle.std.specs.BTreeMap.Range.{entries_between};
 ghost use Rattle.std.specs.Map.Iter.{ShowsInOrder, deref_pair};
@@ -39,6 +39,14 @@ pub(crate) fn volume_at(
         Some(volume) => Ok(Some(volume.copy(alloc, number)?)),
         None => Ok(None),
     }
+}
+
+/// Whether a volume has a number.
+#[tactic(auto, using(crate::specs::facts::Stored::get_stored))]
+pub(crate) fn has_volume(volumes: &BTreeMap<u64, StoredVolume>, number: u64) -> bool
+    ensures { result ≡ is_some (get (volumes_of (as_volumes volumes.now.entries)) number) }
+{
+    volumes.contains_key(&number)
 }
 
 /// A copy of the volume of a number, if it has a name.

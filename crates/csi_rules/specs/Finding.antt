@@ -34,3 +34,11 @@ keys_found (Some found) = Some (found.0, found.1.caps)
 
 abbrev pub caps_at : State → Option ℕ → Option (ℕ × List CapKey)
 caps_at s o = keys_found (volume_at s o)
+
+-- of a volume that was found its number
+abbrev pub number_found : Option (ℕ × Volume) → Option ℕ
+number_found None = None
+number_found (Some found) = Some found.0
+
+abbrev pub number_at : State → Option ℕ → Option ℕ
+number_at s o = number_found (volume_at s o)

@@ -1,7 +1,7 @@
 //! The volume that a request names.
 
 ghost use Rattle.std.specs.Prelude.{◌≡◌, Ok, None};
-ghost use Rattle.csi_rules.specs.Finding.{Finds, caps_at, volume_at};
+ghost use Rattle.csi_rules.specs.Finding.{Finds, caps_at, number_at, volume_at};
 ghost use Rattle.csi_rules.specs.Ids.{number_of_id};
 
 use crate::ids::number_of_id;
@@ -57,4 +57,25 @@ pub fn caps_of<K: Keeper>(
         Some(caps) => Ok(Some((number, caps))),
         None => Ok(None),
     }
+}
+
+/// The number of the volume of an id; `None` where there is none of that id. Nothing of the volume is copied,
+/// and for a text that is no volume's id the keeper is not asked.
+///
+/// # Errors
+///
+/// What the keeper answers.
+#[tactic(auto, using(csi_keeper::specs::facts::Reads::quiet_same, csi_keeper::specs::facts::Reads::quiet_then, crate::specs::facts::Finding::number_has, crate::specs::facts::Finding::number_none))]
+pub fn existing_number<K: Keeper>(keeper: &mut K, id: &Text) -> Result<Option<u64>, StoreFault>
+    ensures unasked { number_of_id id.now ≡ None → (keeper.new ≡ keeper.old) × (result ≡ Ok None) }
+    ensures finds { Finds (K.model keeper.old) (K.model keeper.new) result
+        (λ s found. found ≡ number_at s (number_of_id id.now)) }
+{
+    let Some(number) = number_of_id(id.as_str()) else {
+        return Ok(None);
+    };
+    if keeper.has_volume(number)? {
+        return Ok(Some(number));
+    }
+    Ok(None)
 }

@@ -24,7 +24,7 @@ mod topology;
 
 pub use capability::{have_keys, keys_of};
 pub use choice::{Room, choose, count, read_rooms};
-pub use finding::{caps_of, volume_of};
+pub use finding::{caps_of, existing_number, volume_of};
 pub use ids::{ID_PREFIX, decimal_of, number_of, number_of_id};
 pub use info::{CONTEXT_KEY, context_of, segments_at, signed, topology_of};
 pub use sizes::{has_size, size};

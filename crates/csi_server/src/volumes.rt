@@ -106,9 +106,14 @@ impl<K: Keeper> Service<Config> for K {
 /// last State, or what [`pending`](crate::laws::pending) says.
 ///
 /// `writes` says without any premise what is written: one reply of the envelope's table to each call that was
-/// read. It also says that a fault or a failed write is the end of reading: no piece, of at most 4,096 bytes,
-/// is read after the one in which it shows. So a fault is answered at once, also where the peer
-/// sends no more and keeps the connection open.
+/// read. It also says that a fault or a failed write is the end of reading: it shows in the last 4,096 bytes
+/// that are read.
+///
+/// # Not promised
+///
+/// That no byte is read between a fault and its answer. Within those 4,096 bytes the clauses allow one read
+/// more, which waits where the peer sends nothing and keeps the connection open. Rows of `test_bytes` show
+/// that nothing is read after a fault.
 pub fn serve<K: Keeper, R: Read, W: Write>(
     alloc: Global,
     config: &Config,

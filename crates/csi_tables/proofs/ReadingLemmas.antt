@@ -1,5 +1,5 @@
 -- What is read of cells and of rows, in order.
-use Rattle.std.proofs.Common.{◌≡◌, ◌∙◌, inl, inr, sym, ap, ap₂, subst, arith, ℕ, ◌+◌, ◌<◌, ◌==◌, true, refl, List, [], ◌∷◌, ◌++◌, append-nil, cond, filter, map, take, length, get_or, Option, Some, option_to_list}
+use Rattle.std.proofs.Common.{◌≡◌, ◌∙◌, inl, inr, sym, ap, ap₂, subst, arith, ℕ, zero, suc, add-one, ◌+◌, ◌<◌, ◌≤◌, ◌==◌, true, refl, List, [], ◌∷◌, ◌++◌, append-nil, append_assoc, drop, drop_of_length-le, cond, filter, map, take, length, get_or, Option, Some, option_to_list}
 use Rattle.std.specs.Bool.{⊤}
 use Rattle.std.specs.List.{AllByRecursion}
 use Rattle.std.proofs.lemmas.Bool.Decides.{nat_tests}
@@ -14,7 +14,7 @@ use Rattle.csi_keeper.specs.Texts.{Text}
 use Rattle.csi_keeper.specs.declared.capability.CapKey.{CapKey}
 use Rattle.csi_sql.specs.Cells.{as_blob, as_number}
 use Rattle.csi_sql.specs.Rows.{meta_row, number_value, seen_meta}
-use Rattle.csi_tables.specs.Reading.{AreReadOf, ShowNodes, ShowsNumber, is_number}
+use Rattle.csi_tables.specs.Reading.{AreNodesOf, AreReadOf, ShowNodes, ShowsNumber, is_number}
 use Rattle.csi_tables.proofs.CellLemmas.{read_more}
 use Rattle.csi_tables.proofs.PlaceLemmas.{numbers_differ, take_one, take_whole}
 
@@ -99,3 +99,28 @@ module _ (n : ℕ) (rows : List Row) (i : ℕ) (d : Row) (nodes : List Text) (at
   nodes_kept far =
       let none : cells (get_or rows i d ∷ []) ≡ [] = ap (λ b. map (λ (row : Row). column row 1) (cond b (get_or rows i d ∷ []) [])) (test ∙ numbers_differ at n far) in
       record { numbers = old.numbers ++ at ∷ []; numbered = numbered_next; nodes_are = old.nodes_are ∙ sym (next_cells ∙ ap (λ xs. cells (take i rows) ++ xs) none ∙ append-nil (cells (take i rows))) }
+
+-- ---- the nodes of each number
+
+-- the numbers from one on are it and those after it
+numbers_from : (ns : List ℕ) (i : ℕ) → i < length ns → drop i ns ≡ get_or ns i 0 ∷ drop (i + 1) ns
+numbers_from [] i low = absurd (omega (arith, low))
+numbers_from (n ∷ ns) zero low = refl
+numbers_from (n ∷ ns) (suc i) low = rw add-one (rw add-one at (numbers_from ns i (omega (arith, low))))
+
+-- with the nodes of one number more
+pub nodes_then : (ns : List ℕ) (i : ℕ) (places rest behind : List Row) (found : List (List Text)) (nodes : List Text) (now : List (List Text)) (passed : ℕ) → i < length ns
+    → ShowNodes (get_or ns i 0) (take passed rest) nodes → behind ≡ drop passed rest → now ≡ found ++ nodes ∷ []
+    → ((more : List (List Text)) → AreNodesOf (drop i ns) rest more → AreNodesOf ns places (found ++ more))
+    → (more : List (List Text)) → AreNodesOf (drop (i + 1) ns) behind more → AreNodesOf ns places (now ++ more)
+nodes_then ns i places rest behind found nodes now passed low shows cut is so more after =
+    let all : AreNodesOf (drop i ns) rest (nodes ∷ more) =
+    subst (λ (xs : List ℕ). AreNodesOf xs rest (nodes ∷ more)) (sym (numbers_from ns i low))
+    (passed, shows, subst (λ (rows : List Row). AreNodesOf (drop (i + 1) ns) rows more) cut after) in
+    subst (λ (xs : List (List Text)). AreNodesOf ns places xs) (sym (ap (λ (xs : List (List Text)). xs ++ more) is ∙ append_assoc found (nodes ∷ []) more)) (so (nodes ∷ more) all)
+
+-- and of all of them
+pub nodes_whole : (ns : List ℕ) (i : ℕ) (places rest : List Row) (found : List (List Text)) → length ns ≤ i
+    → ((more : List (List Text)) → AreNodesOf (drop i ns) rest more → AreNodesOf ns places (found ++ more)) → AreNodesOf ns places found
+nodes_whole ns i places rest found ends so =
+    subst (λ (xs : List (List Text)). AreNodesOf ns places xs) (append-nil found) (so [] (subst (λ (xs : List ℕ). AreNodesOf xs rest []) (sym (drop_of_length-le ns ends)) tt))

@@ -1,5 +1,5 @@
 -- What each query shows of the State.
-use Rattle.std.proofs.Common.{◌≡◌, ◌∙◌, refl, sym, ap, ℕ, ℤ, zero, suc, ◌==◌, ◌&&◌, pos, arith, Bool, true, false, cond, List, [], ◌∷◌, map, filter, find, take, slice_get, Option, Some, option_map, IfSome, Ordering, Less, Equal, Greater, is_eq, is_gt, bytes_eq, nat_lt}
+use Rattle.std.proofs.Common.{◌≡◌, ◌∙◌, refl, sym, ap, ℕ, ℤ, zero, suc, ◌==◌, ◌&&◌, pos, arith, Bool, true, false, cond, List, [], ◌∷◌, map, filter, find, take, slice_get, Option, None, Some, is_some, option_map, IfSome, Ordering, Less, Equal, Greater, is_eq, is_gt, bytes_eq, nat_lt}
 use Rattle.std.specs.Cmp.{nat_cmp_total, eq_by_cmp_equiv}
 use Rattle.std.specs.FinMap as fin
 use Rattle.std.specs.FinMap.{entries, entries_sorted}
@@ -32,6 +32,7 @@ use Rattle.csi_sql.specs.Shown.{IsShownOf, IsFoundBy, IsBeginningOf}
 use Rattle.csi_sql.specs.Statements.{attached_query, named_query, nodes_query, page_query, sizes_query, volume_query}
 use Rattle.csi_tables.specs.Encoding.{AreKnown}
 use Rattle.csi_tables.specs.Holding.{IsRows, IsStored, IsPlaced, IsReadable, IsReadablePlace, volume_entry, attachment_entry, node_entry}
+use Rattle.csi_tables.specs.Reading.{share}
 use Rattle.csi_tables.specs.Refusing.{HasKnownModes}
 use Rattle.csi_tables.proofs.EntryLemmas.{rises}
 use Rattle.csi_tables.proofs.SortedLemmas.{shown_by}
@@ -123,6 +124,16 @@ first_row entry shown es found are is = is ∙ ap (λ rs. slice_get rs 0) are �
     go : (es : List _) → slice_get (map entry es) 0 ≡ option_map entry (slice_get es 0)
     go [] = refl
     go (e ∷ es) = refl
+
+-- that there is a first row says the same of its value
+pub some_found : (o : Option (ℕ × Volume)) → is_some (option_map volume_entry o) ≡ is_some (option_map (λ e. e.1) o)
+some_found None = refl
+some_found (Some e) = refl
+
+-- the share of the first row's volume
+pub share_found : (o : Option (ℕ × Volume)) → option_map (λ e. share e.1) o ≡ option_map share (option_map (λ e. e.1) o)
+share_found None = refl
+share_found (Some e) = refl
 
 first_so : {E : Type 0} (P : E → Type 0) (es : List E) → AllByRecursion P es → IfSome (slice_get es 0) P
 first_so P [] all = tt

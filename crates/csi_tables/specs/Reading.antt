@@ -1,5 +1,6 @@
 -- What is read of rows, also of those that represent nothing that was written.
-use Rattle.std.specs.Prelude.{◌≡◌, ℕ, ◌==◌, Bool, false, List, [], ◌∷◌, Option, None, Some, Ok, map, filter, ⊤}
+use Rattle.std.specs.Prelude.{◌≡◌, ℕ, ◌<◌, ◌≤◌, ◌^◌, ◌==◌, Bool, false, List, [], ◌∷◌, Option, None, Some, Ok, is_some, drop, length, map, filter, take, ⊤}
+use Rattle.std.specs.Option.{option_map}
 use Rattle.sqlite.specs.Effect.{Database}
 use Rattle.sqlite.specs.Held.{Held, state}
 use Rattle.sqlite.specs.Order.{Row, column}
@@ -7,20 +8,24 @@ use Rattle.sqlite.specs.State.{HasCleanDisk}
 use Rattle.sqlite.specs.Store.{Ghosts}
 use Rattle.sqlite.specs.declared.types.Value.{Value}
 use Rattle.sqlite.specs.declared.types.Value.TheVariants.{Text, Blob}
-use Rattle.sqlite_rules.specs.Lists.{Has}
 use Rattle.csi_types.specs.Maps.{TextMap}
 use Rattle.csi_types.specs.declared.method.Method.TheVariants.{CreateVolume as Creating}
 use Rattle.csi_types.specs.declared.requests.CreateVolume.{CreateVolume}
 use Rattle.csi_types.specs.declared.requests.Request.TheVariants.{Create}
 use Rattle.csi_codec.specs.Reading.{read_request}
 use Rattle.csi_keeper.specs.Capability.{key_of}
+use Rattle.csi_keeper.specs.Listing.{listed_each}
 use Rattle.csi_keeper.specs.Texts as texts
 use Rattle.csi_keeper.specs.declared.capability.CapKey.{CapKey}
+use Rattle.csi_keeper.specs.declared.listed.Listed.{Listed}
+use Rattle.csi_keeper.specs.declared.listed.PageWithNodes.{PageWithNodes}
 use Rattle.csi_keeper.specs.declared.volume.Attachment.{Attachment}
 use Rattle.csi_keeper.specs.declared.volume.Volume.{Volume}
 use Rattle.csi_sql.specs.Tables.{schema}
 use Rattle.csi_sql.specs.Cells.{as_flag, as_number}
 use Rattle.csi_sql.specs.Rows.{number_value}
+use Rattle.csi_sql.specs.Shown.{IsFoundBy, IsNext, IsPage, IsPageWithNodes as ArePageWithNodes, IsShownOf}
+use Rattle.csi_sql.specs.Statements.{attached_query, named_query, nodes_query, sizes_query, volume_query}
 
 -- ---- bytes
 
@@ -85,13 +90,93 @@ pub record ShowNodes (number : ℕ) (rows : List Row) (nodes : List texts.Text) 
   pub numbered : AreReadOf ShowsNumber rows numbers
   pub nodes_are : map Text nodes ≡ map (λ row. column row 1) (filter (λ row. is_number number (as_number (column row 0))) rows)
 
--- ---- meta
+-- what is taken of a pool's total with a volume: its pool, and its bytes
+abbrev pub share : Volume → texts.Text × ℕ
+share v = (v.pool, v.bytes)
 
--- a number that a row of meta has
-abbrev pub IsNextIn : Database → ℕ → Type 0
-IsNextIn db n = (kept : Row) × Has (db.trees 0) kept × (column kept 3 ≡ number_value n)
+-- nodes of each number, in order: of rows that come after those of the number before it
+abbrev pub AreNodesOf : List ℕ → List Row → List (List texts.Text) → Type 0
+AreNodesOf [] rows [] = ⊤
+AreNodesOf (n ∷ ns) rows (nodes ∷ others) = (passed : ℕ) × ShowNodes n (take passed rows) nodes × AreNodesOf ns (drop passed rows) others
+AreNodesOf _ _ _ = ⊥
+
+-- the rows of a page and of its places are read as its volumes, and the nodes of each
+pub record IsPageOf (rows : List Row × List Row) (p : PageWithNodes) : Type 0 where
+  pub volumes : AreReadOf ShowsVolume rows.0 p.volumes
+  pub nodes : AreNodesOf (map (λ v. v.number) p.volumes) rows.1 p.nodes
+
+-- ---- what a read answers
+
+-- It is read of rows. They are those that are shown of the database, where the store has returned what was
+-- written to it, and else they may be any.
+pub record IsReadOfRows {S R X : Type 0} (g : Ghosts S) (old new : Held S) (Shown : Database → R → Type 0) (Of : R → X → Type 0) (x : X) : Type 0 where
+  pub rows : R
+  pub shown : HasCleanDisk (state g new) → (state g old).now.schema ≡ schema → Shown (state g old).now rows
+  pub read : Of rows x
+
+-- of a number that rows can have, and of one that no row has
+pub record TellsBelow {X : Type 0} (number : ℕ) (none : X) (Tells : X → Type 0) (x : X) : Type 0 where
+  pub small : number < 2 ^ 63 → Tells x
+  pub large : 2 ^ 63 ≤ number → x ≡ none
+
+-- the row of the volume of a number, if there is one
+abbrev pub IsRowOf : ℕ → Database → Option Row → Type 0
+IsRowOf number db found = IsFoundBy volume_query (db.trees 1) (number_value number ∷ []) found
+
+-- that there is a row
+abbrev pub HasRow : Option Row → Bool → Type 0
+HasRow found has = has ≡ is_some found
 
 module _ {S : Type 0} (g : Ghosts S) (old new : Held S) where
-  -- the number that is reported is one that is in meta
+  -- the next number
   abbrev pub TellsNext : ℕ → Type 0
-  TellsNext n = HasCleanDisk (state g new) → (state g old).now.schema ≡ schema → IsNextIn (state g old).now n
+  TellsNext n = IsReadOfRows g old new IsNext ShowsNumber n
+
+  -- the volume of a number, and whether there is one
+  abbrev pub TellsNumbered : ℕ → Option Volume → Type 0
+  TellsNumbered number found = IsReadOfRows g old new (IsRowOf number) (IsReadOf ShowsVolume) found
+
+  abbrev pub TellsExistence : ℕ → Bool → Type 0
+  TellsExistence number has = IsReadOfRows g old new (IsRowOf number) HasRow has
+
+  -- the volume of a name
+  abbrev pub TellsNamed : texts.Text → Option Volume → Type 0
+  TellsNamed name found = IsReadOfRows g old new (λ db row. IsFoundBy named_query (db.trees 1) (Text name ∷ []) row) (IsReadOf ShowsVolume) found
+
+  -- the attachments of a volume
+  abbrev pub TellsAttachments : ℕ → List Attachment → Type 0
+  TellsAttachments number xs =
+      IsReadOfRows g old new (λ db rows. IsShownOf nodes_query (db.trees 3) (number_value number ∷ []) rows) (AreReadOf ShowsAttachment) xs
+
+  -- the numbers at a node
+  abbrev pub TellsAttached : texts.Text → List ℕ → Type 0
+  TellsAttached node xs = IsReadOfRows g old new (λ db rows. IsShownOf attached_query (db.trees 3) (Text node ∷ []) rows) (AreReadOf ShowsNumber) xs
+
+  -- the bytes of a pool's volumes
+  abbrev pub TellsSizes : texts.Text → List ℕ → Type 0
+  TellsSizes pool xs = IsReadOfRows g old new (λ db rows. IsShownOf sizes_query (db.trees 1) (Text pool ∷ []) rows) (AreReadOf ShowsNumber) xs
+
+  -- a page of volumes
+  abbrev pub TellsPage : ℕ → ℕ → List Volume → Type 0
+  TellsPage after count xs = IsReadOfRows g old new (λ db rows. IsPage after count db rows) (AreReadOf ShowsVolume) xs
+
+  -- the capability keys of the volume of a number: of a volume that is told, or of none
+  abbrev pub TellsCaps : ℕ → Option (List CapKey) → Type 0
+  TellsCaps number keys = (found : Option Volume) × TellsBelow number None (TellsNumbered number) found × (keys ≡ option_map (λ v. v.caps) found)
+
+  -- how many volumes are attached at a node
+  abbrev pub TellsCount : texts.Text → ℕ → Type 0
+  TellsCount node n = (xs : List ℕ) × TellsAttached node xs × (n ≡ length xs)
+
+  -- a page of volumes with the nodes of each, and parts of it
+  abbrev pub TellsPageWithNodes : ℕ → ℕ → PageWithNodes → Type 0
+  TellsPageWithNodes after count p = IsReadOfRows g old new (λ db rows. ArePageWithNodes after count db rows.0 rows.1) IsPageOf p
+
+  abbrev pub TellsPageBelow : ℕ → ℕ → PageWithNodes → Type 0
+  TellsPageBelow after count p = TellsBelow after (record { volumes = []; nodes = [] }) (TellsPageWithNodes after count) p
+
+  abbrev pub TellsPublished : ℕ → ℕ → List (List texts.Text) → Type 0
+  TellsPublished after count nodes = (p : PageWithNodes) × TellsPageBelow after count p × (nodes ≡ p.nodes)
+
+  abbrev pub TellsListing : ℕ → ℕ → List Listed → Type 0
+  TellsListing after count xs = (p : PageWithNodes) × TellsPageBelow after count p × (xs ≡ listed_each p.volumes p.nodes)

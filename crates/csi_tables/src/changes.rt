@@ -3,6 +3,11 @@
 //! Each function asks that no transaction is open on the connection, and leaves it so. After `Ok` the
 //! change is made and committed; after a fault the State stays, and a stop may leave the change made.
 //! The totals are moved only once the change is committed, and that takes no memory.
+//!
+//! A change is one transaction, but a removal and a change of parameters are two: the first one reads what
+//! the row has. The total of a pool is set by the pool's name, which takes memory to hold, and nothing may
+//! fail after the commit; the other parameters are in the same column as those that change. The State is the
+//! same in between.
 
 ghost use Rattle.std.specs.Prelude.{◌≡◌, ◌<◌, ◌^◌, [], ◌∷◌, List, ℕ, IfOk, IsErrOf, IsUtf8, OnOk, option_map};
 ghost use Rattle.sqlite.specs.Held.{state};
@@ -16,7 +21,7 @@ ghost use Rattle.csi_tables.specs.declared.fault.TablesFault.TheVariants.{Refuse
 
 use crate::encoding::{read_back, write_caps, write_params};
 use crate::fault::TablesError;
-use crate::read::by_number;
+use crate::read::{by_number, share};
 use csi_keeper::{Attachment, CapKey, Change, Totals, Volume};
 use csi_sql::changes::{add_volume, attach, detach, detach_all, remove_volume, set_params};
 use csi_sql::{IdleConnection, reads};
@@ -149,9 +154,8 @@ pub(crate) fn unmake_attachments<S: Alter>(
 }
 
 /// Removes a volume. Its pool and its bytes are read first, so that the total takes no memory once
-/// the volume is removed.
+/// the volume is removed; the rest of its row is not read as values, which takes memory.
 pub(crate) fn unmake_volume<S: Alter>(
-    alloc: Global,
     conn: &mut IdleConnection<S>,
     totals: &mut Totals,
     number: u64,
@@ -163,12 +167,12 @@ pub(crate) fn unmake_volume<S: Alter>(
     if number >= NUMBERS {
         return make_nothing(conn);
     }
-    let found = by_number(alloc, conn, number)?;
+    let found = share(conn, number)?;
     remove_volume(conn, number)?;
-    let Some(volume) = found else {
+    let Some((pool, bytes)) = found else {
         return Ok(());
     };
-    totals.remove(&volume.pool, volume.bytes);
+    totals.remove(&pool, bytes);
     Ok(())
 }
 
@@ -222,7 +226,7 @@ pub(crate) fn make<S: Alter>(
 {
     match change {
         Change::AddVolume(volume) => make_volume(alloc, conn, totals, volume),
-        Change::RemoveVolume(number) => unmake_volume(alloc, conn, totals, *number),
+        Change::RemoveVolume(number) => unmake_volume(conn, totals, *number),
         Change::Attach(number, attachment) => make_attachment(alloc, conn, *number, attachment),
         Change::Detach(number, node) => unmake_attachment(conn, *number, node),
         Change::DetachAll(number) => unmake_attachments(conn, *number),

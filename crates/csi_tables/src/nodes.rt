@@ -3,7 +3,7 @@
 ghost use Rattle.std.specs.Prelude.{◌≡◌, ◌≢◌, ◌==◌, ◌<◌, ◌≤◌, ℕ, List, IfOk, IsErrOf, length, drop, filter, map, nat_lt, take};
 ghost use Rattle.csi_keeper.specs.State.{AttachmentKey};
 ghost use Rattle.csi_tables.specs.Places.{place_row, nodes_at, IsRisen, AreRising, AreTexts};
-ghost use Rattle.csi_tables.specs.Reading.{ShowNodes};
+ghost use Rattle.csi_tables.specs.Reading.{AreNodesOf, ShowNodes};
 ghost use Rattle.csi_tables.specs.declared.fault.TablesFault.TheVariants.{Refused};
 
 use crate::fault::TablesError;
@@ -47,6 +47,7 @@ pub(crate) fn nodes_of_each(
     ensures nodes { IfOk result (λ all. (ps : List AttachmentKey) → IsRisen ps → AreRising numbers.now
         → places.now ≡ map place_row ps
         → all ≡ map (nodes_at ps) numbers.now) }
+    ensures exact { IfOk result (λ all. AreNodesOf numbers.now places.now all) }
     ensures refused { IsErrOf result Refused → (ps : List AttachmentKey) → IsRisen ps → AreRising numbers.now
         → AreTexts ps → places.now ≢ map place_row ps }
 {

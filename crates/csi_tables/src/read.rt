@@ -2,19 +2,21 @@
 //!
 //! Where a row is none that was written, as only a disk that is not clean gives it, the read is refused.
 
-ghost use Rattle.std.specs.Prelude.{◌≡◌, ◌<◌, ◌^◌, IfOk};
+ghost use Rattle.std.specs.Prelude.{◌≡◌, ◌<◌, ◌^◌, IfOk, is_some, option_map};
 ghost use Rattle.std.specs.FinMap.{get};
 ghost use Rattle.csi_keeper.specs.Listing.{IsPageWithNodes};
 ghost use Rattle.csi_keeper.specs.State.{attached, attached_at, named, page, sizes};
-ghost use Rattle.csi_tables.specs.Reading.{TellsNext};
+ghost use Rattle.csi_tables.specs.Reading.{TellsAttached, TellsAttachments, TellsExistence, TellsNamed, TellsNext, TellsNumbered, TellsPage, TellsPageWithNodes, TellsSizes, share};
 ghost use Rattle.csi_tables.specs.Refusing.{ConnReads};
 
 use crate::fault::TablesError;
 use crate::nodes::nodes_of_each;
-use crate::rows::{attachments_from, number_in, numbers_from, numbers_of, volume_of, volumes_from};
+use crate::rows::{
+    attachments_from, number_in, numbers_from, numbers_of, share_of, volume_of, volumes_from,
+};
 use csi_keeper::{Attachment, PageWithNodes, Volume};
 use csi_sql::{IdleConnection, reads};
-use csi_types::Items;
+use csi_types::{Items, Text};
 use sqlite::Alter;
 use std::alloc::Global;
 
@@ -34,10 +36,38 @@ pub(crate) fn by_number<S: Alter>(
     number: u64,
 ) -> Result<Option<Volume>, TablesError>
     requires number { number < 2 ^ 63 }
-    ensures { ConnReads S.Store conn.old conn.new (λ s v. v ≡ get s.volumes number) result }
+    ensures reads { ConnReads S.Store conn.old conn.new (λ s v. v ≡ get s.volumes number) result }
+    ensures exact { IfOk result (TellsNumbered S.Store conn.old conn.new number) }
 {
     let found = reads::by_number(conn, number)?;
     volume_of(alloc, found)
+}
+
+/// Whether a volume has a number. Nothing in its row is read as a value.
+pub(crate) fn has_volume<S: Alter>(
+    conn: &mut IdleConnection<S>,
+    number: u64,
+) -> Result<bool, TablesError>
+    requires number { number < 2 ^ 63 }
+    ensures reads { ConnReads S.Store conn.old conn.new
+        (λ s has. has ≡ is_some (get s.volumes number)) result }
+    ensures exact { IfOk result (TellsExistence S.Store conn.old conn.new number) }
+{
+    let found = reads::by_number(conn, number)?;
+    Ok(found.is_some())
+}
+
+/// The pool of the volume of a number, and its bytes.
+pub(crate) fn share<S: Alter>(
+    conn: &mut IdleConnection<S>,
+    number: u64,
+) -> Result<Option<(Text, u64)>, TablesError>
+    requires number { number < 2 ^ 63 }
+    ensures { ConnReads S.Store conn.old conn.new
+        (λ s found. found ≡ option_map share (get s.volumes number)) result }
+{
+    let found = reads::by_number(conn, number)?;
+    share_of(found)
 }
 
 /// The volume of a name.
@@ -46,7 +76,8 @@ pub(crate) fn by_name<S: Alter>(
     conn: &mut IdleConnection<S>,
     name: &str,
 ) -> Result<Option<Volume>, TablesError>
-    ensures { ConnReads S.Store conn.old conn.new (λ s v. v ≡ named s name.now) result }
+    ensures reads { ConnReads S.Store conn.old conn.new (λ s v. v ≡ named s name.now) result }
+    ensures exact { IfOk result (TellsNamed S.Store conn.old conn.new name.now) }
 {
     let found = reads::by_name(conn, name)?;
     volume_of(alloc, found)
@@ -59,7 +90,8 @@ pub(crate) fn attachments<S: Alter>(
     number: u64,
 ) -> Result<Items<Attachment>, TablesError>
     requires number { number < 2 ^ 63 }
-    ensures { ConnReads S.Store conn.old conn.new (λ s xs. xs ≡ attached s number) result }
+    ensures reads { ConnReads S.Store conn.old conn.new (λ s xs. xs ≡ attached s number) result }
+    ensures exact { IfOk result (TellsAttachments S.Store conn.old conn.new number) }
 {
     let rows = reads::attachments(conn, number)?;
     attachments_from(alloc, &rows)
@@ -71,7 +103,8 @@ pub(crate) fn attached_at<S: Alter>(
     conn: &mut IdleConnection<S>,
     node: &str,
 ) -> Result<Items<u64>, TablesError>
-    ensures { ConnReads S.Store conn.old conn.new (λ s xs. xs ≡ attached_at s node.now) result }
+    ensures reads { ConnReads S.Store conn.old conn.new (λ s xs. xs ≡ attached_at s node.now) result }
+    ensures exact { IfOk result (TellsAttached S.Store conn.old conn.new node.now) }
 {
     let rows = reads::attached_at(conn, node)?;
     numbers_from(alloc, &rows)
@@ -83,7 +116,8 @@ pub(crate) fn sizes_in<S: Alter>(
     conn: &mut IdleConnection<S>,
     pool: &str,
 ) -> Result<Items<u64>, TablesError>
-    ensures { ConnReads S.Store conn.old conn.new (λ s xs. xs ≡ sizes s pool.now) result }
+    ensures reads { ConnReads S.Store conn.old conn.new (λ s xs. xs ≡ sizes s pool.now) result }
+    ensures exact { IfOk result (TellsSizes S.Store conn.old conn.new pool.now) }
 {
     let rows = reads::sizes_in(conn, pool)?;
     numbers_from(alloc, &rows)
@@ -97,7 +131,8 @@ pub(crate) fn page<S: Alter>(
     count: u32,
 ) -> Result<Items<Volume>, TablesError>
     requires after { after < 2 ^ 63 }
-    ensures { ConnReads S.Store conn.old conn.new (λ s xs. xs ≡ page s after count) result }
+    ensures reads { ConnReads S.Store conn.old conn.new (λ s xs. xs ≡ page s after count) result }
+    ensures exact { IfOk result (TellsPage S.Store conn.old conn.new after count) }
 {
     let rows = reads::page(conn, after, count)?;
     volumes_from(alloc, &rows)
@@ -116,7 +151,8 @@ pub fn page_with_nodes<S: Alter>(
     count: u32,
 ) -> Result<PageWithNodes, TablesError>
     requires after { after < 2 ^ 63 }
-    ensures { ConnReads S.Store conn.old conn.new (λ s p. IsPageWithNodes s after count p) result }
+    ensures reads { ConnReads S.Store conn.old conn.new (λ s p. IsPageWithNodes s after count p) result }
+    ensures exact { IfOk result (TellsPageWithNodes S.Store conn.old conn.new after count) }
 {
     let page = reads::page_with_nodes(conn, after, count)?;
     let volumes = volumes_from(alloc, &page.volumes)?;

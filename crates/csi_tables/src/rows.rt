@@ -12,7 +12,7 @@ ghost use Rattle.csi_keeper.specs.declared.volume.Volume.{Volume as Stored};
 ghost use Rattle.csi_sql.specs.Rows.{number_value};
 ghost use Rattle.csi_tables.specs.Encoding.{caps_bytes, params_bytes, AreKnown, FitCaps, FitParams};
 ghost use Rattle.csi_tables.specs.Holding.{volume_entry, node_entry, IsStored, IsPlaced, IsReadable, IsReadablePlace};
-ghost use Rattle.csi_tables.specs.Reading.{AreReadOf, HasKeys, HasParams, IsReadOf, ShowsAttachment, ShowsNumber, ShowsVolume};
+ghost use Rattle.csi_tables.specs.Reading.{AreReadOf, HasKeys, HasParams, IsReadOf, ShowsAttachment, ShowsNumber, ShowsVolume, share};
 ghost use Rattle.csi_tables.specs.declared.fault.TablesFault.TheVariants.{Refused};
 
 use crate::encoding::{read_caps, read_params};
@@ -104,6 +104,21 @@ pub(crate) fn volume_of(alloc: Global, found: Option<Row>) -> Result<Option<Volu
         Some(row) => Ok(Some(volume_from(alloc, &row)?)),
         None => Ok(None),
     }
+}
+
+/// The pool of the volume of the row, and its bytes, if there is a row.
+pub(crate) fn share_of(found: Option<Row>) -> Result<Option<(Text, u64)>, TablesError>
+    ensures ok { IfOk result (λ v. (o : Option (ℕ × Stored)) → found ≡ option_map volume_entry o
+        → v ≡ option_map (λ e. share e.1) o) }
+    ensures refused { IsErrOf result Refused → (o : Option (ℕ × Stored)) → IfSome o IsStored
+        → found ≢ option_map volume_entry o }
+{
+    let Some(row) = found else {
+        return Ok(None);
+    };
+    let bytes = number_in(&row, 2)?;
+    let pool = text_in(&row, 3)?;
+    Ok(Some((pool, bytes)))
 }
 
 fn cap_in(alloc: Global, row: &Row, at: usize) -> Result<CapKey, TablesError>

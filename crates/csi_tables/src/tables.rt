@@ -1,6 +1,6 @@
 //! The keeper over the tables.
 
-ghost use Rattle.std.specs.Prelude.{◌≡◌, ◌≤◌, ◌^◌, false, IfOk, IsTrue, OnErr};
+ghost use Rattle.std.specs.Prelude.{◌≡◌, ◌≤◌, ◌^◌, [], None, false, IfOk, IsTrue, OnErr, is_some};
 ghost use Rattle.std.specs.FinMap.{get};
 ghost use Rattle.std.specs.Option.{option_map};
 ghost use Rattle.csi_keeper.specs.Listing.{IsPageWithNodes, listing};
@@ -87,7 +87,7 @@ impl<S: Alter> Tables<S> {
 impl<S: Alter> Keeper for Tables<S> {
     ghost use Rattle.csi_keeper.specs.Keeper.{Applies, Reads};
     ghost use Rattle.csi_tables.specs.Keeping.{TablesRefuses, refuses_change, tables_model};
-    ghost use Rattle.csi_tables.specs.Reading.{TellsNext};
+    ghost use Rattle.csi_tables.specs.Reading.{TellsAttached, TellsAttachments, TellsBelow, TellsCaps, TellsCount, TellsExistence, TellsListing, TellsNamed, TellsNext, TellsNumbered, TellsPage, TellsPageBelow, TellsPublished, TellsSizes};
 
     ghost model = { λ t. tables_model S.Store t };
 
@@ -111,6 +111,7 @@ impl<S: Alter> Keeper for Tables<S> {
     fn by_name(&mut self, alloc: Global, name: &str) -> Result<Option<Volume>, StoreFault>
         ensures reads { Reads (tables_model S.Store self.old) (tables_model S.Store self.new) result
             (λ s v. v ≡ named s name.now) }
+        ensures exact { IfOk result (TellsNamed S.Store self.old.conn self.new.conn name.now) }
         ensures refused { TablesRefuses S.Store self.old self.new ⊥ result }
         ensures limit { self.new.conn.step_limit ≡ self.old.conn.step_limit }
     {
@@ -123,6 +124,8 @@ impl<S: Alter> Keeper for Tables<S> {
     fn by_number(&mut self, alloc: Global, number: u64) -> Result<Option<Volume>, StoreFault>
         ensures reads { Reads (tables_model S.Store self.old) (tables_model S.Store self.new) result
             (λ s v. v ≡ get s.volumes number) }
+        ensures exact { IfOk result (TellsBelow number None
+            (TellsNumbered S.Store self.old.conn self.new.conn number)) }
         ensures refused { TablesRefuses S.Store self.old self.new ⊥ result }
         ensures limit { self.new.conn.step_limit ≡ self.old.conn.step_limit }
         ensures error_only_if { 2 ^ 63 ≤ number → OnErr result (IsTrue self.old.health.is_down) }
@@ -136,9 +139,28 @@ impl<S: Alter> Keeper for Tables<S> {
         self.health.finish_call(store_answer(answer))
     }
 
+    fn has_volume(&mut self, number: u64) -> Result<bool, StoreFault>
+        ensures reads { Reads (tables_model S.Store self.old) (tables_model S.Store self.new) result
+            (λ s has. has ≡ is_some (get s.volumes number)) }
+        ensures exact { IfOk result (TellsBelow number false
+            (TellsExistence S.Store self.old.conn self.new.conn number)) }
+        ensures refused { TablesRefuses S.Store self.old self.new ⊥ result }
+        ensures limit { self.new.conn.step_limit ≡ self.old.conn.step_limit }
+        ensures error_only_if { 2 ^ 63 ≤ number → OnErr result (IsTrue self.old.health.is_down) }
+    {
+        self.health.start_call()?;
+        if number >= NUMBERS {
+            return Ok(false);
+        }
+        let answer = read::has_volume(&mut self.conn, number);
+        self.note(&answer);
+        self.health.finish_call(store_answer(answer))
+    }
+
     fn caps_of(&mut self, alloc: Global, number: u64) -> Result<Option<Items<CapKey>>, StoreFault>
         ensures reads { Reads (tables_model S.Store self.old) (tables_model S.Store self.new) result
             (λ s keys. keys ≡ option_map (λ v. v.caps) (get s.volumes number)) }
+        ensures exact { IfOk result (TellsCaps S.Store self.old.conn self.new.conn number) }
         ensures refused { TablesRefuses S.Store self.old self.new ⊥ result }
         ensures limit { self.new.conn.step_limit ≡ self.old.conn.step_limit }
         ensures error_only_if { 2 ^ 63 ≤ number → OnErr result (IsTrue self.old.health.is_down) }
@@ -152,6 +174,8 @@ impl<S: Alter> Keeper for Tables<S> {
     fn attachments(&mut self, alloc: Global, number: u64) -> Result<Items<Attachment>, StoreFault>
         ensures reads { Reads (tables_model S.Store self.old) (tables_model S.Store self.new) result
             (λ s xs. xs ≡ attached s number) }
+        ensures exact { IfOk result (TellsBelow number []
+            (TellsAttachments S.Store self.old.conn self.new.conn number)) }
         ensures refused { TablesRefuses S.Store self.old self.new ⊥ result }
         ensures limit { self.new.conn.step_limit ≡ self.old.conn.step_limit }
         ensures error_only_if { 2 ^ 63 ≤ number → OnErr result (IsTrue self.old.health.is_down) }
@@ -168,6 +192,7 @@ impl<S: Alter> Keeper for Tables<S> {
     fn attached_at(&mut self, alloc: Global, node: &str) -> Result<Items<u64>, StoreFault>
         ensures reads { Reads (tables_model S.Store self.old) (tables_model S.Store self.new) result
             (λ s xs. xs ≡ attached_at s node.now) }
+        ensures exact { IfOk result (TellsAttached S.Store self.old.conn self.new.conn node.now) }
         ensures refused { TablesRefuses S.Store self.old self.new ⊥ result }
         ensures limit { self.new.conn.step_limit ≡ self.old.conn.step_limit }
     {
@@ -181,6 +206,7 @@ impl<S: Alter> Keeper for Tables<S> {
     fn count_at(&mut self, alloc: Global, node: &Text) -> Result<u64, StoreFault>
         ensures reads { Reads (tables_model S.Store self.old) (tables_model S.Store self.new) result
             (λ s n. n ≡ count_at s node.now) }
+        ensures exact { IfOk result (TellsCount S.Store self.old.conn self.new.conn node.now) }
         ensures refused { TablesRefuses S.Store self.old self.new ⊥ result }
         ensures limit { self.new.conn.step_limit ≡ self.old.conn.step_limit }
     {
@@ -191,6 +217,7 @@ impl<S: Alter> Keeper for Tables<S> {
     fn sizes_in(&mut self, alloc: Global, pool: &str) -> Result<Items<u64>, StoreFault>
         ensures reads { Reads (tables_model S.Store self.old) (tables_model S.Store self.new) result
             (λ s xs. xs ≡ sizes s pool.now) }
+        ensures exact { IfOk result (TellsSizes S.Store self.old.conn self.new.conn pool.now) }
         ensures refused { TablesRefuses S.Store self.old self.new ⊥ result }
         ensures limit { self.new.conn.step_limit ≡ self.old.conn.step_limit }
     {
@@ -213,6 +240,8 @@ impl<S: Alter> Keeper for Tables<S> {
     fn page(&mut self, alloc: Global, after: u64, count: u32) -> Result<Items<Volume>, StoreFault>
         ensures reads { Reads (tables_model S.Store self.old) (tables_model S.Store self.new) result
             (λ s xs. xs ≡ page s after count) }
+        ensures exact { IfOk result (TellsBelow after []
+            (TellsPage S.Store self.old.conn self.new.conn after count)) }
         ensures refused { TablesRefuses S.Store self.old self.new ⊥ result }
         ensures limit { self.new.conn.step_limit ≡ self.old.conn.step_limit }
         ensures error_only_if { 2 ^ 63 ≤ after → OnErr result (IsTrue self.old.health.is_down) }
@@ -234,6 +263,7 @@ impl<S: Alter> Keeper for Tables<S> {
     ) -> Result<PageWithNodes, StoreFault>
         ensures reads { Reads (tables_model S.Store self.old) (tables_model S.Store self.new) result
             (λ s p. IsPageWithNodes s after count p) }
+        ensures exact { IfOk result (TellsPageBelow S.Store self.old.conn self.new.conn after count) }
         ensures refused { TablesRefuses S.Store self.old self.new ⊥ result }
         ensures limit { self.new.conn.step_limit ≡ self.old.conn.step_limit }
         ensures error_only_if { 2 ^ 63 ≤ after → OnErr result (IsTrue self.old.health.is_down) }
@@ -258,6 +288,7 @@ impl<S: Alter> Keeper for Tables<S> {
     ) -> Result<Items<Items<Text>>, StoreFault>
         ensures reads { Reads (tables_model S.Store self.old) (tables_model S.Store self.new) result
             (λ s xs. xs ≡ published_of_page s after count) }
+        ensures exact { IfOk result (TellsPublished S.Store self.old.conn self.new.conn after count) }
         ensures refused { TablesRefuses S.Store self.old self.new ⊥ result }
         ensures limit { self.new.conn.step_limit ≡ self.old.conn.step_limit }
         ensures error_only_if { 2 ^ 63 ≤ after → OnErr result (IsTrue self.old.health.is_down) }
@@ -274,6 +305,7 @@ impl<S: Alter> Keeper for Tables<S> {
     ) -> Result<Items<Listed>, StoreFault>
         ensures reads { Reads (tables_model S.Store self.old) (tables_model S.Store self.new) result
             (λ s xs. xs ≡ listing s after count) }
+        ensures exact { IfOk result (TellsListing S.Store self.old.conn self.new.conn after count) }
         ensures refused { TablesRefuses S.Store self.old self.new ⊥ result }
         ensures limit { self.new.conn.step_limit ≡ self.old.conn.step_limit }
         ensures error_only_if { 2 ^ 63 ≤ after → OnErr result (IsTrue self.old.health.is_down) }

@@ -2,7 +2,7 @@
 
 ghost use Rattle.std.specs.FinMap.{get};
 ghost use Rattle.std.specs.Option.{option_map};
-ghost use Rattle.std.specs.Prelude.{◌≡◌, ◌≢◌, ◌↔◌, true, false, Err, IfErr, IfOk, IsTrue, OnErr, OnOk};
+ghost use Rattle.std.specs.Prelude.{◌≡◌, ◌≢◌, ◌↔◌, true, false, Err, IfErr, IfOk, IsTrue, OnErr, OnOk, is_some};
 ghost use Rattle.csi_memory.specs.Holding.{mem_model};
 ghost use Rattle.csi_keeper.specs.Keeper.{Applies, IsQuiet, count_after};
 ghost use Rattle.csi_keeper.specs.Listing.{listing};
@@ -214,6 +214,15 @@ impl<M: Keeper, D: ChangeStore> Keeper for Through<M, D> {
     {
         start_call(&mut self.health, self.is_current)?;
         let answer = self.memory.by_number(alloc, number);
+        self.health.finish_call(answer)
+    }
+
+    fn has_volume(&mut self, number: u64) -> Result<bool, StoreFault>
+        ensures { ReadsThrough M.model D.model self.old self.new result
+            (λ s has. has ≡ is_some (get s.volumes number)) }
+    {
+        start_call(&mut self.health, self.is_current)?;
+        let answer = self.memory.has_volume(number);
         self.health.finish_call(answer)
     }
 

@@ -1,8 +1,9 @@
 //! Streams of calls and replies, cut into their frames as they come, in any pieces.
 //!
-//! What a frame is, and which calls a list of bytes has, is said in `envelope`. `specs/Framer.antt` says what
-//! a framer has taken, `specs/Holding.antt` what holds of it, and `specs/Prefix.antt` what it takes of a
-//! piece. [`send`] writes a frame (`specs/Writing.antt`).
+//! What a frame is, and which calls a list of bytes has, is said in `envelope`. Its types and limits have
+//! their names there alone, as `envelope::MAX_MESSAGE_BYTES`: this crate exports none of them again.
+//! `specs/Framer.antt` says what a framer has taken, `specs/Holding.antt` what holds of it, and
+//! `specs/Prefix.antt` what it takes of a piece. [`send`] writes a frame (`specs/Writing.antt`).
 //!
 //! [`Framer`] and [`ReplyFramer`] are one [`Cutter`]. It appends what may be a head, looks at it, and cuts
 //! back to where the frame or the fault ends; the body then comes as one block copy into the same buffer, the

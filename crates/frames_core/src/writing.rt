@@ -1,3 +1,8 @@
+//! Writing a frame.
+//!
+//! A failure is std's `io::Error`, and no type of this project: who sends a frame displays the error, or asks
+//! again, and does nothing else with it.
+
 ghost use Rattle.std.specs.Prelude.{OnOk};
 ghost use Rattle.std.specs.Io.KnownBytes.{Appends};
 ghost use Rattle.frames_core.specs.Writing.{WrotePrefix};

@@ -10,7 +10,7 @@ use crate::planned::Planned;
 use crate::response::PlannedResponse;
 use csi_config::Config;
 use csi_keeper::{Attachment, Change, Keeper};
-use csi_rules::caps_of;
+use csi_rules::existing_number;
 use csi_types::{DeleteVolume, Reason};
 use std::alloc::{AllocError, Global};
 
@@ -36,7 +36,7 @@ impl Planned for DeleteVolume {
     ghost names_none = { λ r. number_of_id r.volume_id ≡ None };
 
     fn plan<K: Keeper>(&self, alloc: Global, _config: &Config, keeper: &mut K) -> Planning {
-        let Some((number, _)) = caps_of(alloc, keeper, &self.volume_id)? else {
+        let Some(number) = existing_number(keeper, &self.volume_id)? else {
             return Ok(respond(PlannedResponse::deleted()));
         };
         let attachments = keeper.attachments(alloc, number)?;

@@ -1,5 +1,5 @@
 -- What is found by reads, in order.
-use Rattle.std.proofs.Common.{◌≡◌, ◌∙◌, sym, arith, subst, refl, ap, ℕ, List, Bool, Option, None, Some, Result, Ok}
+use Rattle.std.proofs.Common.{◌≡◌, ◌∙◌, sym, arith, subst, refl, ap, ℕ, List, Bool, true, false, is_some, Option, None, Some, Result, Ok}
 use Rattle.csi_keeper.specs.Keeper.{Reads, count_after}
 use Rattle.csi_keeper.specs.Model.{Model}
 use Rattle.csi_keeper.specs.State.{State}
@@ -8,7 +8,7 @@ use Rattle.csi_keeper.specs.facts.Reads.{if_ok, quiet_then}
 use Rattle.csi_rules.specs.Down.{TellsDown}
 use Rattle.csi_keeper.specs.declared.capability.CapKey.{CapKey}
 use Rattle.csi_keeper.specs.declared.volume.Volume.{Volume}
-use Rattle.csi_rules.specs.Finding.{Finds, keys_found}
+use Rattle.csi_rules.specs.Finding.{Finds, keys_found, number_found, numbered}
 
 -- what is reported of a keeper that is down, where an answer says more
 told_more : {X : Type 0} {P Q : X → Type 0} {is_down : Bool} (result : Result X StoreFault) → ((x : X) → P x → Q x) → TellsDown is_down P result
@@ -73,4 +73,27 @@ keys_so f g None n keys so is = absurd (cc)
 keys_so {Y} f g (Some found) n keys so is = ap (λ (e : ℕ × List CapKey). g e.0 e.1) (same (n, keys) (found.0, found.1.caps) is) ∙ sym (so found.0 found.1)
   where
     same : (x y : ℕ × List CapKey) → Some x ≡ Some y → x ≡ y
+    same x y e = cc
+
+-- the number of a volume that exists, and of one that does not
+pub number_has : (n : ℕ) (o : Option Volume) → true ≡ is_some o → Some n ≡ number_found (numbered n o)
+number_has n None has = absurd (cc)
+number_has n (Some v) has = refl
+
+pub number_none : (n : ℕ) (o : Option Volume) → false ≡ is_some o → None ≡ number_found (numbered n o)
+number_none n None none = refl
+number_none n (Some v) none = absurd (cc)
+
+-- no number, no volume
+pub none_numbered : (o : Option (ℕ × Volume)) → number_found o ≡ None → o ≡ None
+none_numbered None none = refl
+none_numbered (Some found) none = absurd (cc)
+
+-- what is said of the number that is found of a volume
+pub number_so : {Y : Type 0} (f : Option (ℕ × Volume) → Y) (g : ℕ → Y) (o : Option (ℕ × Volume)) (n : ℕ)
+    → ((m : ℕ) (v : Volume) → f (Some (m, v)) ≡ g m) → Some n ≡ number_found o → g n ≡ f o
+number_so f g None n so is = absurd (cc)
+number_so {Y} f g (Some found) n so is = ap g (same n found.0 is) ∙ sym (so found.0 found.1)
+  where
+    same : (x y : ℕ) → Some x ≡ Some y → x ≡ y
     same x y e = cc

@@ -1,4 +1,7 @@
 //! The SELECTs of rows of volumes and of attachments.
+//!
+//! All seven are arms of one function: one clause says what each of them shows, so that the text of a query
+//! is matched with its meaning once.
 
 ghost use Rattle.std.specs.Prelude.{◌≡◌};
 ghost use Rattle.csi_sql.specs.Refusing.{NothingRefuses};

@@ -34,23 +34,23 @@ returns-then-number-ge-NUMBERS-clause-stored g c =
 
 pub returns-in_err-stands-clause-changes : goal.returns-in_err-stands-clause-changes
 returns-in_err-stands-clause-changes g c =
-    unmade (SetMutable c.args.number c.args.mutable.now) c.from_residual.result c.in_err-stands.field-0.0 c.in_err-stands.ensures c.from_residual.ensures.1
+    unmade (SetMutable c.args.number c.args.mutable.now) c.from_residual.result c.in_err-stands.field-0.0 c.in_err-stands.ensures.reads c.from_residual.ensures.1
 
 pub returns-in_default-clause-changes : goal.returns-in_default-clause-changes
 returns-in_default-clause-changes g c =
-    changes_never (SetMutable c.args.number c.args.mutable.now) c.in_ok-stands.ensures
-    (λ clean s held allowed. true≢false (sym (subst (λ (o : Option Volume). IsSome o) (sym (c.in_ok-stands.ensures.value clean s held) ∙ none_stands c.in_ok-stands.stands (sym c.params_of.ensures ∙ c.in_default.is)) allowed)))
+    changes_never (SetMutable c.args.number c.args.mutable.now) c.in_ok-stands.ensures.reads
+    (λ clean s held allowed. true≢false (sym (subst (λ (o : Option Volume). IsSome o) (sym (c.in_ok-stands.ensures.reads.value clean s held) ∙ none_stands c.in_ok-stands.stands (sym c.params_of.ensures ∙ c.in_default.is)) allowed)))
 
 pub returns-in_default-clause-stored : goal.returns-in_default-clause-stored
 returns-in_default-clause-stored g c clean s held h =
-    subst IsStorable (sym (none_set c.args.number c.args.mutable.now s (sym (c.in_ok-stands.ensures.value clean s held) ∙ none_stands c.in_ok-stands.stands (sym c.params_of.ensures ∙ c.in_default.is)))) h
+    subst IsStorable (sym (none_set c.args.number c.args.mutable.now s (sym (c.in_ok-stands.ensures.reads.value clean s held) ∙ none_stands c.in_ok-stands.stands (sym c.params_of.ensures ∙ c.in_default.is)))) h
 
 pub returns-in_err-params-clause-changes : goal.returns-in_err-params-clause-changes
 returns-in_err-params-clause-changes g c = record {
   made = search rules;
-  failed = on_err c.from_residual-in_err-params.result (fails_quiet g.S.Store (SetMutable c.args.number c.args.mutable.now) c.args.conn.now c.by_number.new.conn (is_quiet g.S.Store c.args.conn.now c.by_number.new.conn c.by_number.ensures.undone c.by_number.ensures.survives));
+  failed = on_err c.from_residual-in_err-params.result (fails_quiet g.S.Store (SetMutable c.args.number c.args.mutable.now) c.args.conn.now c.by_number.new.conn (is_quiet g.S.Store c.args.conn.now c.by_number.new.conn c.by_number.ensures.reads.undone c.by_number.ensures.reads.survives));
   refused = search rules;
-  limit = c.by_number.ensures.survives.limit;
+  limit = c.by_number.ensures.reads.survives.limit;
 }
 
 pub returns-in_err-set_params-clause-changes : goal.returns-in_err-set_params-clause-changes
@@ -62,10 +62,10 @@ returns-in_err-set_params-clause-changes g c =
     let fits = subst (λ (p : TextMap). FitParams p m) (sym found.2) c.in_ok-params.ensures.fits in
     let bytes : c.deref.result.now ≡ params_bytes v.params m = c.deref.ensures.value ∙ c.in_ok-params.ensures.bytes ∙ ap (λ (p : TextMap). params_bytes p m) (sym found.2) in
     let e = c.in_err-set_params.field-0.0 in
-    changes_not_behind g.S.Store c.read_back.ensures (SetMutable n m) (SetsParams n (params_bytes v.params m)) (λ old new h. h.schema) c.by_number.ensures
-    (λ clean s held old new has p allowed h. rows_mutable s n m v old new has p (sym (c.in_ok-stands.ensures.value (omega (arith, clean, c.set_params.ensures.survives.clean)) s held) ∙ found.1) fits h)
+    changes_not_behind g.S.Store c.read_back.ensures (SetMutable n m) (SetsParams n (params_bytes v.params m)) (λ old new h. h.schema) c.by_number.ensures.reads
+    (λ clean s held old new has p allowed h. rows_mutable s n m v old new has p (sym (c.in_ok-stands.ensures.reads.value (omega (arith, clean, c.set_params.ensures.survives.clean)) s held) ∙ found.1) fits h)
     c.from_residual-in_err-set_params.result e
-    (λ clean s held shows now limit why. (v, stands_in s n v (state g.S.Store c.args.conn.now).now.trees shows.rows (sym (c.in_ok-stands.ensures.value clean s held) ∙ found.1), e, refuses_same (texts.text texts.SetParams) (number_value n ∷ Blob (params_bytes v.params m) ∷ []) (state g.S.Store c.args.conn.now) (state g.S.Store c.by_number.new.conn) e now limit why))
+    (λ clean s held shows now limit why. (v, stands_in s n v (state g.S.Store c.args.conn.now).now.trees shows.rows (sym (c.in_ok-stands.ensures.reads.value clean s held) ∙ found.1), e, refuses_same (texts.text texts.SetParams) (number_value n ∷ Blob (params_bytes v.params m) ∷ []) (state g.S.Store c.args.conn.now) (state g.S.Store c.by_number.new.conn) e now limit why))
     (rw bytes at c.in_err-set_params.ensures) c.from_residual-in_err-set_params.ensures.1
 
 pub returns-clause-changes : goal.returns-clause-changes
@@ -76,12 +76,12 @@ returns-clause-changes g c =
     let v = found.0 in
     let fits = subst (λ (p : TextMap). FitParams p m) (sym found.2) c.in_ok-params.ensures.fits in
     let bytes : c.deref.result.now ≡ params_bytes v.params m = c.deref.ensures.value ∙ c.in_ok-params.ensures.bytes ∙ ap (λ (p : TextMap). params_bytes p m) (sym found.2) in
-    changes_behind g.S.Store c.read_back.ensures (SetMutable n m) (SetsParams n (params_bytes v.params m)) (λ old new h. h.schema) c.by_number.ensures
-    (λ clean s held old new has p allowed h. rows_mutable s n m v old new has p (sym (c.in_ok-stands.ensures.value (omega (arith, clean, c.set_params.ensures.survives.clean)) s held) ∙ found.1) fits h)
+    changes_behind g.S.Store c.read_back.ensures (SetMutable n m) (SetsParams n (params_bytes v.params m)) (λ old new h. h.schema) c.by_number.ensures.reads
+    (λ clean s held old new has p allowed h. rows_mutable s n m v old new has p (sym (c.in_ok-stands.ensures.reads.value (omega (arith, clean, c.set_params.ensures.survives.clean)) s held) ∙ found.1) fits h)
     g.met.S.Store.settled (rw bytes at c.in_ok-set_params.ensures)
 
 pub returns-clause-stored : goal.returns-clause-stored
 returns-clause-stored g c clean s held h =
     let found = one_stands c.in_ok-stands.stands c.in-Some.params (sym c.params_of.ensures ∙ c.in-Some.is) in
-    storable_mutable s c.args.number c.args.mutable.now found.0 (sym (c.in_ok-stands.ensures.value (omega (arith, clean, c.set_params.ensures.survives.clean)) s held) ∙ found.1)
+    storable_mutable s c.args.number c.args.mutable.now found.0 (sym (c.in_ok-stands.ensures.reads.value (omega (arith, clean, c.set_params.ensures.survives.clean)) s held) ∙ found.1)
     (subst (λ (p : TextMap). FitParams p c.args.mutable.now) (sym found.2) c.in_ok-params.ensures.fits) h

@@ -7,7 +7,7 @@ use Rattle.csi_tables.proofs.RefusalLemmas.{has_next, read_as, unread}
 use Rattle.csi_tables.proofs.read.next_number.Goals as goal
 
 pub returns-clause-exact : goal.returns-clause-exact
-returns-clause-exact g c = if_ok (λ n is clean has. let it = (c.in_ok-row.ensures.ok clean).what has in (it.0, it.1, sym (ap (λ (r : Row). column r 0) it.2) ∙ is)) c.number_in.result c.number_in.ensures.ok
+returns-clause-exact g c = if_ok (λ n is. record { rows = c.in_ok-row.row; shown = λ clean ours. (c.in_ok-row.ensures.ok clean).what ours; read = is }) c.number_in.result c.number_in.ensures.ok
 
 pub returns-clause-reads : goal.returns-clause-reads
 returns-clause-reads g c =

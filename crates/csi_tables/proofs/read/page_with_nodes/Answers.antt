@@ -1,6 +1,8 @@
-use Rattle.std.proofs.Common.{◌≡◌, ◌∙◌, ap, map, sym, subst, ℕ, Result, Err, refl}
+use Rattle.std.proofs.Common.{◌≡◌, ◌∙◌, ap, map, sym, subst, subst₂, List, ℕ, Result, Err, refl}
 use Rattle.sqlite.specs.Held.{state}
 use Rattle.csi_keeper.specs.declared.volume.Volume.{Volume}
+use Rattle.sqlite.specs.Order.{Row}
+use Rattle.csi_tables.specs.Reading.{AreNodesOf, AreReadOf, ShowsVolume}
 use Rattle.csi_tables.specs.Places.{nodes_at, AreRising}
 use Rattle.csi_tables.specs.declared.fault.TablesFault.TheVariants.{NoMemory, Refused}
 use Rattle.csi_tables.proofs.PageLemmas.{page_with_nodes_rows}
@@ -9,8 +11,8 @@ use Rattle.csi_tables.proofs.CellLemmas.{handed_on}
 use Rattle.csi_tables.proofs.RefusalLemmas.{failed_after, read_as, unread}
 use Rattle.csi_tables.proofs.read.page_with_nodes.Goals as goal
 
-pub returns : goal.returns
-returns g c =
+pub returns-clause-reads : goal.returns-clause-reads
+returns-clause-reads g c =
     read_as _ c.in_ok-page.ensures
     (λ s shows what.
     let it = page_with_nodes_rows s (state g.S.Store c.args.conn.now).now.trees shows.rows c.args.after c.args.count c.in_ok-page.page.volumes.items c.in_ok-page.page.places.items what.shown what.placed in
@@ -22,8 +24,8 @@ returns g c =
     })
     (λ s shows known what is. absurd (cc (is)))
 
-pub returns-in_err-nodes : goal.returns-in_err-nodes
-returns-in_err-nodes g c =
+pub returns-in_err-nodes-clause-reads : goal.returns-in_err-nodes-clause-reads
+returns-in_err-nodes-clause-reads g c =
     failed_after c.from_residual-in_err-nodes.result c.in_err-nodes.field-0.0 c.in_ok-page.ensures c.from_residual-in_err-nodes.ensures.1
     (λ s shows known what is.
     let it = page_with_nodes_rows s (state g.S.Store c.args.conn.now).now.trees shows.rows c.args.after c.args.count c.in_ok-page.page.volumes.items c.in_ok-page.page.places.items what.shown what.placed in
@@ -32,17 +34,32 @@ returns-in_err-nodes g c =
     c.nodes_of_each.ensures.refused (handed_on c.from_residual-in_err-nodes.result c.nodes_of_each.result c.in_err-nodes.field-0.0 Refused c.from_residual-in_err-nodes.ensures.1 is c.in_err-nodes.was)
     it.placed it.risen (subst AreRising (sym ns) it.rising) it.texts (c.deref-3.ensures.value ∙ it.places_are))
 
-pub returns-in_err-numbers : goal.returns-in_err-numbers
-returns-in_err-numbers g c =
+pub returns-in_err-numbers-clause-reads : goal.returns-in_err-numbers-clause-reads
+returns-in_err-numbers-clause-reads g c =
     failed_after c.from_residual-in_err-numbers.result NoMemory c.in_ok-page.ensures c.from_residual-in_err-numbers.ensures.1
     (λ s shows known what is. let no : ◌≡◌ {A = Result ℕ _} (Err NoMemory) (Err Refused) = handed_on c.from_residual-in_err-numbers.result (Err NoMemory) NoMemory Refused c.from_residual-in_err-numbers.ensures.1 is refl in absurd (cc (no)))
 
-pub returns-in_err-volumes : goal.returns-in_err-volumes
-returns-in_err-volumes g c =
+pub returns-in_err-volumes-clause-reads : goal.returns-in_err-volumes-clause-reads
+returns-in_err-volumes-clause-reads g c =
     failed_after c.from_residual-in_err-volumes.result c.in_err-volumes.field-0.0 c.in_ok-page.ensures c.from_residual-in_err-volumes.ensures.1
     (λ s shows known what is.
     let it = page_readable s (state g.S.Store c.args.conn.now).now.trees shows.rows known c.args.after c.args.count c.in_ok-page.page.volumes.items what.shown in
     c.volumes_from.ensures.refused (handed_on c.from_residual-in_err-volumes.result c.volumes_from.result c.in_err-volumes.field-0.0 Refused c.from_residual-in_err-volumes.ensures.1 is c.in_err-volumes.was) it.0 it.1 (c.deref.ensures.value ∙ it.2))
 
-pub returns-in_err-page : goal.returns-in_err-page
-returns-in_err-page g c = unread c.from_residual.result c.in_err-page.field-0.0 (λ s shows none. none) c.in_err-page.ensures c.from_residual.ensures.1
+pub returns-in_err-page-clause-reads : goal.returns-in_err-page-clause-reads
+returns-in_err-page-clause-reads g c = unread c.from_residual.result c.in_err-page.field-0.0 (λ s shows none. none) c.in_err-page.ensures c.from_residual.ensures.1
+
+pub returns-clause-exact : goal.returns-clause-exact
+returns-clause-exact g c =
+    let page = c.in_ok-page.page in
+    let volumes = c.in_ok-volumes.volumes in
+    let nodes = c.in_ok-nodes.nodes in
+    let ns = c.deref-2.ensures.value ∙ c.in_ok-numbers.ensures ∙ ap (map (λ (v : Volume). v.number)) c.as_slice.ensures in
+    record {
+      rows = (page.volumes.items, page.places.items);
+      shown = λ clean ours. (c.in_ok-page.ensures.ok clean).what ours;
+      read = record {
+        volumes = subst (λ (rows : List Row). AreReadOf ShowsVolume rows volumes) c.deref.ensures.value c.in_ok-volumes.ensures.exact;
+        nodes = subst₂ (λ (xs : List ℕ) (rows : List Row). AreNodesOf xs rows nodes) ns c.deref-3.ensures.value c.in_ok-nodes.ensures.exact;
+      };
+    }

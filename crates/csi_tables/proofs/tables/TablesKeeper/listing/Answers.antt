@@ -1,4 +1,4 @@
-use Rattle.std.proofs.Common.{◌∙◌, ap, arith, List}
+use Rattle.std.proofs.Common.{◌∙◌, ap, arith, refl, List, []}
 use Rattle.csi_keeper.specs.Listing.{listed_each}
 use Rattle.csi_keeper.specs.declared.volume.Volume.{Volume}
 use Rattle.csi_keeper.specs.facts.Listings.{listed_page}
@@ -21,3 +21,13 @@ returns-clause-reads g c =
 
 pub returns-in_err-listed_each-clause-error_only_if : goal.returns-in_err-listed_each-clause-error_only_if
 returns-in_err-listed_each-clause-error_only_if g c far = absurd (omega (arith, far, c.if-after-ge-NUMBERS.false))
+
+pub returns-then-after-ge-NUMBERS-clause-exact : goal.returns-then-after-ge-NUMBERS-clause-exact
+returns-then-after-ge-NUMBERS-clause-exact g c = (record { volumes = []; nodes = [] }, record { small = λ near. absurd (omega (arith, near, c.if-after-ge-NUMBERS.true)); large = λ far. refl }, c.new.ensures)
+
+pub returns-clause-exact : goal.returns-clause-exact
+returns-clause-exact g c = (
+  c.in_ok-volumes.field-0,
+  c.in_ok-volumes.ensures.exact,
+  c.in_ok-listed_each.ensures ∙ ap (λ (vs : List Volume). listed_each vs c.in_ok-volumes.field-0.nodes) c.as_slice.ensures,
+)
