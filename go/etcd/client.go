@@ -42,7 +42,8 @@ func connect(asked options) (*clientv3.Client, error) {
 		Password:             password,
 		MaxCallSendMsgSize:   maxRequestBytes,
 		// With windows that are set, grpc does not measure the connection by a ping after each answer.
-		DialOptions: []grpc.DialOption{grpc.WithChainUnaryInterceptor(sendOnce), grpc.WithDisableRetry(),
+		DialOptions: []grpc.DialOption{grpc.WithChainUnaryInterceptor(sendOnce, checkUnary), grpc.WithChainStreamInterceptor(checkStream),
+			grpc.WithDisableRetry(),
 			grpc.WithInitialWindowSize(answerWindow), grpc.WithInitialConnWindowSize(answerWindow)},
 		LogConfig: &zap.Config{Level: zap.NewAtomicLevelAt(zap.FatalLevel), Encoding: "json", EncoderConfig: zap.NewProductionEncoderConfig()},
 	})

@@ -52,12 +52,12 @@ type moody struct {
 	came   int32
 }
 
-func (m *moody) Txn(context.Context, *pb.TxnRequest) (*pb.TxnResponse, error) {
+func (m *moody) Txn(_ context.Context, asked *pb.TxnRequest) (*pb.TxnResponse, error) {
 	came := int(atomic.AddInt32(&m.came, 1))
 	if came <= len(m.errors) {
 		return nil, m.errors[came-1]
 	}
-	return &pb.TxnResponse{Header: &pb.ResponseHeader{}, Succeeded: true}, nil
+	return &pb.TxnResponse{Header: &pb.ResponseHeader{}, Succeeded: true, Responses: responses(asked.Success)}, nil
 }
 
 // start starts the etcd, and makes a client of it.
@@ -94,6 +94,7 @@ func startServer(t *testing.T, kv pb.KVServer, members int, options ...grpc.Dial
 	for i := 0; i < members; i++ {
 		endpoints = append(endpoints, address)
 	}
+	options = append(options, grpc.WithChainStreamInterceptor(checkStream))
 	client, err := clientv3.New(clientv3.Config{Endpoints: endpoints, DialOptions: options,
 		LogConfig: &zap.Config{Level: zap.NewAtomicLevelAt(zap.FatalLevel), Encoding: "json"}})
 	if err != nil {
