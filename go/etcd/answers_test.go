@@ -140,7 +140,7 @@ var (
 		return err
 	}
 	makesNew = func(t *term) error {
-		return makeNew(options{endpoints: t.client.Endpoints(), timeout: t.timeout, name: "x"}, io.Discard)
+		return makeNew(newMembers(options{endpoints: t.client.Endpoints(), timeout: t.timeout, name: "x"}, nil), io.Discard)
 	}
 )
 
@@ -210,7 +210,7 @@ func TestMalformedAnswers(t *testing.T) {
 // begin is a term before it, by the program's own client.
 func (l *lacking) begin(t *testing.T) *term {
 	t.Helper()
-	client, err := connect(options{endpoints: []string{listening(t, l)}, timeout: 5 * time.Second})
+	client, err := newMembers(options{endpoints: []string{listening(t, l)}, timeout: 5 * time.Second}, t.Logf).connect()
 	if err != nil {
 		t.Fatal(err)
 	}

@@ -123,7 +123,7 @@ func TestSentOnce(t *testing.T) {
 	}
 	for _, row := range rows {
 		server := &moody{errors: []error{row.err}}
-		client, err := connect(options{endpoints: []string{listening(t, server)}, timeout: 5 * time.Second})
+		client, err := newMembers(options{endpoints: []string{listening(t, server)}, timeout: 5 * time.Second}, t.Logf).connect()
 		if err != nil {
 			t.Fatal(err)
 		}
