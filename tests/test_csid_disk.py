@@ -222,8 +222,8 @@ class DiskTest(CsidTest):
         self.row("integrity_check", tables.ask("PRAGMA integrity_check"), [("ok",)])
 
     def test_file_alone_after_a_refusal(self):
-        """The disk fills after a create, so that the next one is refused, and csid ends. The first one is in the
-        log then: a copy of both files has it, and one of the file alone does not.
+        """The disk fills after a create, so that the next one is refused, and csid ends. The first one is in
+        the log then: a copy of both files has it, and one of the file alone does not.
         """
         disk = self.enterContext(small_disk(self.folder))
         tables = Tables(self.csid, disk).new()
@@ -233,7 +233,7 @@ class DiskTest(CsidTest):
         process.stdin.write(controller("CreateVolume", CREATE_A))
         self.row("a create", process.stdout.read(len(reply(VOLUME_1))), reply(VOLUME_1))
         fill(disk)
-        # The log has 256 KiB of zeros ahead, which this volume does not fit into: 3,000 file systems of 120 letters.
+        # The log has 256 KiB of zeros ahead, into which 3,000 file systems of 120 letters do not fit.
         mounts = [b"%0120d" % number for number in range(3000)]
         more = CREATE_B + b"".join(
             bytes.fromhex("1a 80 01 12 7a 0a 78") + name + bytes.fromhex("1a 02 08 01") for name in mounts

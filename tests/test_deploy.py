@@ -277,7 +277,8 @@ class DeployTest(RowTest):
                 [True],
             )
         job = re.search(r'\njob "[\w-]+" \{\n(.*?)\n  group ', nomad.text, re.S).group(1)
-        self.row("where the job may run", re.findall(r'^  datacenters = \["[\w*-]+"\]$', job, re.M) != [], True)
+        named = re.findall(r'^  datacenters = \["([\w*-]+)"\]$', job, re.M)
+        self.row("where the job may run", len(named), 1)
 
     def test_sockets(self):
         """Each front is given the socket of its csid, and each sidecar that of its front."""

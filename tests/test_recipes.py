@@ -112,7 +112,8 @@ class RecipesTest(RecipeTest):
                 place.recipe("### A volume that the copy does not have"),
                 ["volume vol-40 1048576"],
             )
-            self.shows("and attached", place.recipe(ATTACHMENTS, 1, copies=copies), ["context readonly=false"])
+            attached = place.recipe(ATTACHMENTS, 1, copies=copies)
+            self.shows("and attached", attached, ["context readonly=false"])
             place.must("sqlite3 /var/lib/csid/volumes.db 'UPDATE meta SET next_number = 40'")
             more = "volume 40: it is vol-40 (pvc-40), 1 MiB in pool p1"
             said = "csid: volumes.db: %s\n"

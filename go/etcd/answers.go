@@ -19,7 +19,8 @@ type malformed string
 
 func (m malformed) Error() string { return "etcd's answer is malformed: " + string(m) }
 
-// checkUnary is between etcd's client and the connection, and checks each answer to a single request.
+// checkUnary is between etcd's client and the connection, and checks each answer to a single
+// request.
 func checkUnary(ctx context.Context, method string, request, reply interface{}, connection *grpc.ClientConn,
 	send grpc.UnaryInvoker, options ...grpc.CallOption) error {
 	if err := send(ctx, method, request, reply, connection, options...); err != nil {
@@ -100,7 +101,8 @@ func isAsked(asked *pb.RangeRequest, row *mvccpb.KeyValue) bool {
 	return key >= begin && key < end
 }
 
-// checkTransaction refuses an answer that has not one response of the right kind for each operation.
+// checkTransaction refuses an answer that has not one response of the right kind for each
+// operation.
 func checkTransaction(asked *pb.TxnRequest, answer *pb.TxnResponse) error {
 	operations := asked.Failure
 	if answer.Succeeded {

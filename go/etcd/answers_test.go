@@ -144,7 +144,8 @@ var (
 	}
 )
 
-// An answer that lacks a part, or has another one, is refused wherever it is read, and ends nothing else.
+// An answer that lacks a part, or has another one, is refused wherever it is read, and ends nothing
+// else.
 func TestMalformedAnswers(t *testing.T) {
 	const header, count, kind = "has no header", "responses to", "is missing, or is one to another operation"
 	const more, other = "more rows follow none", `the row "of nobody" was not asked for`

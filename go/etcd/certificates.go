@@ -12,7 +12,8 @@ import (
 	"time"
 )
 
-// How long before its end a certificate is warned of, and how often; and how often the files are looked at.
+// How long before its end a certificate is warned of, and how often; and how often the files are
+// looked at.
 const (
 	expirySoon   = 30 * 24 * time.Hour
 	warningPause = 24 * time.Hour

@@ -80,7 +80,8 @@ func TestReadCertificates(t *testing.T) {
 	}
 }
 
-// Which connections speak TLS: the scheme of the first endpoint says so, and an option where it has none.
+// Which connections speak TLS: the scheme of the first endpoint says so, and an option where it has
+// none.
 func TestIsSecure(t *testing.T) {
 	for _, c := range []struct {
 		endpoint, cacert, cert string
@@ -95,7 +96,8 @@ func TestIsSecure(t *testing.T) {
 	}
 }
 
-// A line says whose the certificates are and how long they are valid: at first, and once they are others.
+// A line says whose the certificates are and how long they are valid: at first, and once they are
+// others.
 func TestCertificatesLine(t *testing.T) {
 	folder := t.TempDir()
 	cert, key, roots := filepath.Join(folder, "cert"), filepath.Join(folder, "key"), filepath.Join(folder, "roots")

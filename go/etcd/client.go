@@ -22,7 +22,8 @@ const silence = 10 * time.Second
 // How many bytes of answers may be on their way: more than a page of rows has.
 const answerWindow = 4 << 20
 
-// connect makes a client of etcd. Files are read each time, and those of TLS at each connection too.
+// connect makes a client of etcd. Files are read each time, and those of TLS at each connection
+// too.
 func (m *members) connect() (*clientv3.Client, error) {
 	password, err := readPassword(m.asked)
 	if err != nil {

@@ -54,8 +54,8 @@ type candidate struct {
 	drop func()
 	// The leases of terms that are over, as long as etcd did not end them.
 	leases []clientv3.LeaseID
-	// The last line about who holds the lock, or why etcd does not answer, and why members could not be reached then.
-	// It does not have who refused a call: calls go to the members in turn.
+	// The last line about who holds the lock, or why etcd does not answer, and why members could not
+	// be reached then. It does not have who refused a call: calls go to the members in turn.
 	said string
 }
 

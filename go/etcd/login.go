@@ -11,9 +11,9 @@ import (
 
 const authenticatePath = "/etcdserverpb.Auth/Authenticate"
 
-// login has the token by which etcd knows the user, and puts it on each call. etcd's own client does
-// that too, but makes a connection of its own for each token, and checks it by the certificates of
-// its start.
+// login has the token by which etcd knows the user, and puts it on each call. etcd's own client
+// does that too, but makes a connection of its own for each token, and checks it by the
+// certificates of its start.
 type login struct {
 	user, password string
 	mutex          sync.Mutex

@@ -17,8 +17,8 @@ import (
 	"google.golang.org/grpc/status"
 )
 
-// members makes the connections to the members of etcd, each by the certificates that the files have
-// then, and remembers why a member could not be reached or what it refused, for lines.
+// members makes the connections to the members of etcd, each by the certificates that the files
+// have then, and remembers why a member could not be reached or what it refused, for lines.
 type members struct {
 	asked options
 	say   func(format string, parts ...interface{})
@@ -42,8 +42,8 @@ func (m *members) isSecure() bool {
 	return scheme == "https" || scheme == "" && (m.asked.cacert != "" || m.asked.cert != "")
 }
 
-// certificates reads the files, and says in a line which certificates they have where these are others than
-// the last ones.
+// certificates reads the files, and says in a line which certificates they have where these are
+// others than the last ones.
 func (m *members) certificates() (certificates, error) {
 	read, err := readCertificates(m.asked)
 	if err != nil {
@@ -59,8 +59,8 @@ func (m *members) certificates() (certificates, error) {
 	return read, nil
 }
 
-// watchCertificates looks at the files until the context ends, so that a change is a line also while no connection
-// is made. Once a day it says which certificates end soon.
+// watchCertificates looks at the files until the context ends, so that a change is a line also
+// while no connection is made. Once a day it says which certificates end soon.
 func (m *members) watchCertificates(ctx context.Context) {
 	var warned time.Time
 	for m.isSecure() && ctx.Err() == nil {
@@ -98,8 +98,8 @@ func (m *members) endpointOf(address net.Addr) string {
 	return address.String()
 }
 
-// cannotReach remembers why a member was not reached, without the addresses of a connection, of which
-// one is another each time.
+// cannotReach remembers why a member was not reached, without the addresses of a connection, of
+// which one is another each time.
 func (m *members) cannotReach(to string, err error) {
 	why := handshakeError(err)
 	var failure *net.OpError
@@ -111,7 +111,8 @@ func (m *members) cannotReach(to string, err error) {
 	m.unreached[to] = why
 }
 
-// answered is between etcd's client and the connection, and notes which member answered a call, and how.
+// answered is between etcd's client and the connection, and notes which member answered a call, and
+// how.
 func (m *members) answered(ctx context.Context, method string, request, reply interface{}, connection *grpc.ClientConn,
 	send grpc.UnaryInvoker, options ...grpc.CallOption) error {
 	var from peer.Peer
@@ -131,9 +132,9 @@ func (m *members) answered(ctx context.Context, method string, request, reply in
 	return err
 }
 
-// where says of an error which members it comes from, in parentheses: those that could not be reached, with the
-// reason, where none answered; otherwise those whose last answer it was. It is empty where the error is not
-// one of etcd.
+// where says of an error which members it comes from, in parentheses: those that could not be
+// reached, with the reason, where none answered; otherwise those whose last answer it was. It is
+// empty where the error is not one of etcd.
 func (m *members) where(err error) string {
 	if m == nil || err == nil {
 		return ""
@@ -180,8 +181,8 @@ func isSilence(err error) bool {
 	return errors.Is(err, errLeaseOver) || status.Code(err) == codes.Unavailable || strings.Contains(err.Error(), context.DeadlineExceeded.Error())
 }
 
-// memberCredentials secures each connection by the certificates that the files have then, and wants the
-// name of its own endpoint in the certificate of the member.
+// memberCredentials secures each connection by the certificates that the files have then, and wants
+// the name of its own endpoint in the certificate of the member.
 type memberCredentials struct {
 	credentials.TransportCredentials
 	members *members
@@ -210,8 +211,8 @@ func (c memberCredentials) ClientHandshake(ctx context.Context, _ string, raw ne
 	return &memberConn{conn, to, used, c.members}, info, nil
 }
 
-// memberConn is a connection whose end by an alert of TLS is noted: a member that refuses this program's
-// certificate ends the connection so, after the handshake.
+// memberConn is a connection whose end by an alert of TLS is noted: a member that refuses this
+// program's certificate ends the connection so, after the handshake.
 type memberConn struct {
 	net.Conn
 	to      string

@@ -204,9 +204,10 @@ func (t *term) leads(ctx context.Context) error {
 	}
 }
 
-// watch ends the term as soon as etcd reports that the key of the lock is gone, was made again, or does not go with the
-// lease any more. It begins after a revision at which the key was seen. Where etcd ends the watch it begins again, and
-// leaves out what was compacted: hold looks too, though less often.
+// watch ends the term as soon as etcd reports that the key of the lock is gone, was made again, or
+// does not go with the lease any more. It begins after a revision at which the key was seen. Where
+// etcd ends the watch it begins again, and leaves out what was compacted: hold looks too, though
+// less often.
 func (t *term) watch(seen int64) {
 	for t.ctx.Err() == nil {
 		seen = t.watchOver(seen)
@@ -214,8 +215,9 @@ func (t *term) watch(seen int64) {
 	}
 }
 
-// watchOver watches over one stream until that ends, and returns the last revision that was seen. It does without the
-// watcher of etcd's client, which panics where etcd creates or cancels a watch twice.
+// watchOver watches over one stream until that ends, and returns the last revision that was seen.
+// It does without the watcher of etcd's client, which panics where etcd creates or cancels a watch
+// twice.
 func (t *term) watchOver(seen int64) int64 {
 	ctx, cancel := context.WithCancel(clientv3.WithRequireLeader(t.ctx))
 	defer cancel()

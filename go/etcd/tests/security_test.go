@@ -129,7 +129,8 @@ func TestTLS(t *testing.T) {
 	missing.says(t, "csid-etcd: no lock: --cacert: open "+a.path("later.pem")+": no such file or directory")
 }
 
-// refusedByTLS wants that a program waits for the lock, and that its line says of which member and which certificate.
+// refusedByTLS wants that a program waits for the lock, and that its line says of which member and
+// which certificate.
 func refusedByTLS(t *testing.T, cluster *clusters.Cluster, words []string, why string) {
 	t.Helper()
 	p := start(t, cluster.Endpoints(), append(words, "--timeout", "1s")...)
@@ -144,8 +145,9 @@ func refusedByTLS(t *testing.T, cluster *clusters.Cluster, words []string, why s
 	}
 }
 
-// Another authority takes the place of the first one, in the order of docs/ETCD.md, "Certificates": the program leads on
-// without a restart, also with a user, and says each time which certificates are in use.
+// Another authority takes the place of the first one, in the order of docs/ETCD.md, "Certificates":
+// the program leads on without a restart, also with a user, and says each time which certificates
+// are in use.
 func TestRotation(t *testing.T) {
 	t.Parallel()
 	for _, withUser := range []bool{false, true} {
@@ -182,8 +184,8 @@ func TestRotation(t *testing.T) {
 	}
 }
 
-// rotation is an etcd whose authority is replaced. Its files are in the folder of the first one: all that trust an authority
-// read one file, which is that of etcd's --trusted-ca-file too.
+// rotation is an etcd whose authority is replaced. Its files are in the folder of the first one:
+// all that trust an authority read one file, which is that of etcd's --trusted-ca-file too.
 type rotation struct {
 	first, second *authority
 	cluster       *clusters.Cluster
@@ -227,7 +229,8 @@ func (r *rotation) replace(t *testing.T, name string) {
 	}
 }
 
-// restart ends the member, which reads its file of authorities at its start alone, and starts it again.
+// restart ends the member, which reads its file of authorities at its start alone, and starts it
+// again.
 func (r *rotation) restart(t *testing.T) {
 	t.Helper()
 	r.cluster.Members[0].Kill()
