@@ -38,7 +38,6 @@ func (l *login) renew(ctx context.Context, connection *grpc.ClientConn) error {
 	if l.user == "" {
 		return nil
 	}
-	l.set("")
 	asked := &pb.AuthenticateRequest{Name: l.user, Password: l.password}
 	got, err := pb.NewAuthClient(connection).Authenticate(ctx, asked, grpc.WaitForReady(true))
 	switch {

@@ -116,7 +116,7 @@ func (m *members) cannotReach(to string, err error) {
 func (m *members) answered(ctx context.Context, method string, request, reply interface{}, connection *grpc.ClientConn,
 	send grpc.UnaryInvoker, options ...grpc.CallOption) error {
 	var from peer.Peer
-	err := send(ctx, method, request, reply, connection, append(options, grpc.Peer(&from))...)
+	err := send(ctx, method, request, reply, connection, append(options[:len(options):len(options)], grpc.Peer(&from))...)
 	if from.Addr == nil {
 		return err
 	}

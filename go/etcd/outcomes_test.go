@@ -78,6 +78,9 @@ func listening(t *testing.T, kv pb.KVServer) (address string) {
 	if lender, is := kv.(pb.LeaseServer); is {
 		pb.RegisterLeaseServer(server, lender)
 	}
+	if guard, is := kv.(pb.AuthServer); is {
+		pb.RegisterAuthServer(server, guard)
+	}
 	if teller, is := kv.(pb.WatchServer); is {
 		pb.RegisterWatchServer(server, teller)
 	}
