@@ -2,6 +2,7 @@ package main
 
 import (
 	"context"
+	"strings"
 	"sync"
 
 	"go.etcd.io/etcd/etcdserver/api/v3rpc/rpctypes"
@@ -9,7 +10,11 @@ import (
 	"google.golang.org/grpc"
 )
 
-const authenticatePath = "/etcdserverpb.Auth/Authenticate"
+// The service of etcd that gives tokens, and its method.
+const (
+	authService      = "/etcdserverpb.Auth"
+	authenticatePath = authService + "/Authenticate"
+)
 
 // login has the token by which etcd knows the user, and puts it on each call. etcd's own client
 // does that too, but makes a connection of its own for each token, and checks it by the
@@ -20,11 +25,12 @@ type login struct {
 	token          string
 }
 
-// GetRequestMetadata is the token, where there is one (credentials.PerRPCCredentials).
-func (l *login) GetRequestMetadata(context.Context, ...string) (map[string]string, error) {
+// GetRequestMetadata is the token, where there is one (credentials.PerRPCCredentials). A call for
+// another token has none: etcd refuses it for one that it does not know any more.
+func (l *login) GetRequestMetadata(_ context.Context, services ...string) (map[string]string, error) {
 	l.mutex.Lock()
 	defer l.mutex.Unlock()
-	if l.token == "" {
+	if l.token == "" || len(services) == 1 && strings.HasSuffix(services[0], authService) {
 		return nil, nil
 	}
 	return map[string]string{rpctypes.TokenFieldNameGRPC: l.token}, nil

@@ -85,7 +85,10 @@ type guarded struct {
 	asked []string
 }
 
-func (g *guarded) Authenticate(_ context.Context, asked *pb.AuthenticateRequest) (*pb.AuthenticateResponse, error) {
+func (g *guarded) Authenticate(ctx context.Context, asked *pb.AuthenticateRequest) (*pb.AuthenticateResponse, error) {
+	if said, _ := metadata.FromIncomingContext(ctx); len(said.Get("token")) > 0 {
+		return nil, rpctypes.ErrGRPCInvalidAuthToken
+	}
 	if asked.Name != "csid" || asked.Password != "secret" {
 		return nil, rpctypes.ErrGRPCAuthFailed
 	}
