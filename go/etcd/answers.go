@@ -9,10 +9,10 @@ import (
 	"google.golang.org/grpc"
 )
 
-// Each answer of etcd is checked as it comes in, once for all that read it: a header, a row or a
+// Each answer of etcd is checked as it comes in, once for all that read it: a revision, a row or a
 // response that etcd always sends is there, and none of their readers has to look. An answer that
 // lacks one comes from something that is not etcd. Of a change it says nothing: its outcome is
-// unknown.
+// unknown. A revision that is missing would look like an older snapshot, which ends service.
 
 // malformed is what an answer of etcd lacks.
 type malformed string
@@ -53,18 +53,19 @@ func (s checkedStream) RecvMsg(reply interface{}) error {
 func checkAnswer(request, reply interface{}) error {
 	switch answer := reply.(type) {
 	case *pb.RangeResponse:
-		if answer.Header == nil {
-			return malformed("a reading has no header")
+		if answer.Header.GetRevision() <= 0 {
+			return malformed("a reading has no revision")
 		}
 		return checkRows(request.(*pb.RangeRequest), answer)
 	case *pb.TxnResponse:
-		if answer.Header == nil {
-			return malformed("a transaction has no header")
+		if answer.Header.GetRevision() <= 0 {
+			return malformed("a transaction has no revision")
 		}
 		return checkTransaction(request.(*pb.TxnRequest), answer)
 	case *pb.LeaseGrantResponse:
-		if answer.Header == nil {
-			return malformed("a lease has no header")
+		// A key with the lease 0 would have none, and stay for ever.
+		if answer.Header.GetRevision() <= 0 || answer.ID == 0 || answer.TTL <= 0 {
+			return malformed("a lease has no revision, no id or no length")
 		}
 	case *pb.WatchResponse:
 		for _, event := range answer.Events {
@@ -87,6 +88,9 @@ func checkRows(asked *pb.RangeRequest, answer *pb.RangeResponse) error {
 	for _, row := range answer.Kvs {
 		if !isAsked(asked, row) {
 			return malformed(fmt.Sprintf("the row %q was not asked for", row.Key))
+		}
+		if row.CreateRevision <= 0 || row.ModRevision <= 0 {
+			return malformed(fmt.Sprintf("the row %q has no revision", row.Key))
 		}
 	}
 	return nil

@@ -18,7 +18,7 @@ func responses(operations []*pb.RequestOp) (all []*pb.ResponseOp) {
 		response := &pb.ResponseOp{}
 		switch asked := operation.Request.(type) {
 		case *pb.RequestOp_RequestRange:
-			read := &pb.RangeResponse{Kvs: []*mvccpb.KeyValue{{Key: asked.RequestRange.Key}}}
+			read := &pb.RangeResponse{Kvs: []*mvccpb.KeyValue{{Key: asked.RequestRange.Key, CreateRevision: 10, ModRevision: 10}}}
 			response.Response = &pb.ResponseOp_ResponseRange{ResponseRange: read}
 		case *pb.RequestOp_RequestPut:
 			response.Response = &pb.ResponseOp_ResponsePut{ResponsePut: &pb.PutResponse{}}
@@ -40,7 +40,7 @@ type lacking struct {
 }
 
 func (l *lacking) Range(_ context.Context, asked *pb.RangeRequest) (*pb.RangeResponse, error) {
-	reply := &pb.RangeResponse{Header: &pb.ResponseHeader{Revision: 100}, Kvs: []*mvccpb.KeyValue{{Key: asked.Key}}}
+	reply := &pb.RangeResponse{Header: &pb.ResponseHeader{Revision: 100}, Kvs: []*mvccpb.KeyValue{{Key: asked.Key, CreateRevision: 10, ModRevision: 10}}}
 	l.take(reply)
 	return reply, nil
 }
@@ -75,6 +75,22 @@ func noHeader(reply interface{}) {
 		reply.Header = nil
 	}
 }
+
+func noRevision(reply interface{}) {
+	if reply, is := reply.(*pb.RangeResponse); is {
+		reply.Header.Revision = 0
+	}
+}
+
+func noRowRevision(reply interface{}) {
+	if reply, is := reply.(*pb.RangeResponse); is {
+		reply.Kvs[0].CreateRevision = 0
+	}
+}
+
+func noID(reply interface{}) { reply.(*pb.LeaseGrantResponse).ID = 0 }
+
+func noLength(reply interface{}) { reply.(*pb.LeaseGrantResponse).TTL = 0 }
 
 func noResponses(reply interface{}) {
 	if reply, is := reply.(*pb.TxnResponse); is {
@@ -147,7 +163,7 @@ var (
 // An answer that lacks a part, or has another one, is refused wherever it is read, and ends nothing
 // else.
 func TestMalformedAnswers(t *testing.T) {
-	const header, count, kind = "has no header", "responses to", "is missing, or is one to another operation"
+	const header, count, kind = "has no revision", "responses to", "is missing, or is one to another operation"
 	const more, other = "more rows follow none", `the row "of nobody" was not asked for`
 	made, refused, full := lacking{}, lacking{isRefusing: true}, lacking{isFull: true}
 	cases := []struct {
@@ -158,6 +174,10 @@ func TestMalformedAnswers(t *testing.T) {
 		want   string
 	}{
 		{"a lease without a header", made, asksLease, noHeader, header},
+		{"a lease without an id", made, asksLease, noID, header},
+		{"a lease without a length", made, asksLease, noLength, header},
+		{"a reading without a revision", made, asksGet, noRevision, header},
+		{"the own key without its revision", made, asksLeads, noRowRevision, header},
 		{"the queue without a header", made, asksQueue, noHeader, header},
 		{"the queue with another row", made, asksQueue, anotherRow, other},
 		{"the own key without a header", made, asksLeads, noHeader, header},

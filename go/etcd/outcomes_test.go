@@ -57,7 +57,7 @@ func (m *moody) Txn(_ context.Context, asked *pb.TxnRequest) (*pb.TxnResponse, e
 	if came <= len(m.errors) {
 		return nil, m.errors[came-1]
 	}
-	return &pb.TxnResponse{Header: &pb.ResponseHeader{}, Succeeded: true, Responses: responses(asked.Success)}, nil
+	return &pb.TxnResponse{Header: &pb.ResponseHeader{Revision: 200}, Succeeded: true, Responses: responses(asked.Success)}, nil
 }
 
 // start starts the etcd, and makes a client of it.
