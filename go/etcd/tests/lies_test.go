@@ -187,7 +187,6 @@ func TestLies(t *testing.T) {
 		t.Errorf("%d lies", lies)
 	}
 	p.saysThatItLeads(t)
-	cluster.Ctl(t, "put", name+"/meta", `{"format_no":2,"next_number":1}`)
 	p.dial(t).commits(t, addVolume(1, "a"))
 	if log := p.Log.String(); strings.Contains(log, "panic") || hasEnded(p.Process) || !strings.Contains(log, "etcd's answer is malformed: ") {
 		t.Errorf("it has ended: %v: %s", hasEnded(p.Process), log)
