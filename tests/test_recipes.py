@@ -130,46 +130,38 @@ class RecipesTest(RecipeTest):
         """After the copy vol-1 went from n1 to n2, vol-2 was detached and deleted, vol-3 attached at n1, and
         vol-40 created and attached read-only at n2. vol-4 is as it was.
         """
+        detached, attached = "vol-1 rw n1\nvol-2 rw n1\n", "vol-1 rw n2\nvol-3 rw n1\nvol-40 ro n2\n"
         with Place(self.csictl, self.csid) as place:
-            for name in ["a", "b", "c", "d"]:
-                place.call(*create(name))
-            for volume in ["vol-1", "vol-2"]:
-                place.call(*publish(volume, "n1"))
-            place.recipe("### A copy of a file that is served")
-            place.must("systemctl stop csid-front")
-            copies = place.copies()
-            place.recipe("### A restore", 0, copies=copies)
-            place.orchestrator(
-                "vol-1\nvol-3\nvol-4\nvol-40\n", "vol-40 ro n2\nvol-3 rw n1\nvol-1 rw n2\n"
-            )
-            missing, left = "vol-40\n", "vol-2\n"
-            detached, attached = "vol-1 rw n1\nvol-2 rw n1\n", "vol-1 rw n2\nvol-3 rw n1\nvol-40 ro n2\n"
-            compare = "### A restore", 1
-            self.row(
-                "the differences",
-                place.recipe(*compare, copies=copies),
-                (missing + left + detached + attached, "", 0),
-            )
+            copies = self.begin_restore(place)
+            place.orchestrator("vol-1\nvol-3\nvol-4\nvol-40\n", attached)
+
+            def compared(name, came):
+                self.row(name, place.recipe("### A restore", 1, copies=copies), (came, "", 0))
+
+            compared("the differences", "vol-40\nvol-2\n" + detached + attached)
             self.shows("what is detached", place.recipe(ATTACHMENTS, 0, copies=copies), [])
-            self.shows(
-                "what is created",
-                place.recipe("### A volume that the copy does not have"),
-                ["volume vol-40 1048576"],
-            )
-            self.shows(
-                "what is attached",
-                place.recipe(ATTACHMENTS, 1, copies=copies),
-                ["context readonly=false", "context readonly=false", "context readonly=true"],
-            )
-            self.row("compared again", place.recipe(*compare, copies=copies), (left, "", 0))
+            made = place.recipe("### A volume that the copy does not have")
+            self.shows("what is created", made, ["volume vol-40 1048576"])
+            readonly = ["context readonly=%s" % it for it in ("false", "false", "true")]
+            self.shows("what is attached", place.recipe(ATTACHMENTS, 1, copies=copies), readonly)
+            compared("compared again", "vol-2\n")
             self.row("the number", place.recipe("### A restore", 2), ("41\n" + has(5, 3, 41), "", 0))
             place.must("systemctl start csid")
-            self.row(
-                "a second node for a single writer",
-                place.call(*publish("vol-3", "n2")),
-                "9 FAILED_PRECONDITION volume is published elsewhere\n",
-            )
+            elsewhere = "9 FAILED_PRECONDITION volume is published elsewhere\n"
+            self.row("a second node for a writer", place.call(*publish("vol-3", "n2")), elsewhere)
             self.row("the one that is left", place.call("DeleteVolume", "--volume", "vol-2"), "0 OK\n")
+
+    def begin_restore(self, place):
+        """Four volumes, of which the first two are attached at n1, a copy, and step 1 of a restore of it."""
+        for name in ["a", "b", "c", "d"]:
+            place.call(*create(name))
+        for volume in ["vol-1", "vol-2"]:
+            place.call(*publish(volume, "n1"))
+        place.recipe("### A copy of a file that is served")
+        place.must("systemctl stop csid-front")
+        copies = place.copies()
+        place.recipe("### A restore", 0, copies=copies)
+        return copies
 
     def test_attachments_of_kubernetes(self):
         """The block that writes `attached`, over what kubectl prints of two volumes and three attachments."""

@@ -160,62 +160,72 @@ var (
 	}
 )
 
+// What is said of malformed answers.
+const (
+	saysRevision = "has no revision"
+	saysCount    = "responses to"
+	saysKind     = "is missing, or is one to another operation"
+	saysRows     = "more rows follow none"
+	saysOther    = `the row "of nobody" was not asked for`
+)
+
+// How an etcd answers whose answers are whole.
+var willing, refusing, withoutSpace = lacking{}, lacking{isRefusing: true}, lacking{isFull: true}
+
+var malformedCases = []struct {
+	name   string
+	server lacking
+	ask    func(t *term) error
+	take   func(reply interface{})
+	want   string
+}{
+	{"a lease without a header", willing, asksLease, noHeader, saysRevision},
+	{"a lease without an id", willing, asksLease, noID, saysRevision},
+	{"a lease without a length", willing, asksLease, noLength, saysRevision},
+	{"a reading without a revision", willing, asksGet, noRevision, saysRevision},
+	{"the own key without its revision", willing, asksLeads, noRowRevision, saysRevision},
+	{"the queue without a header", willing, asksQueue, noHeader, saysRevision},
+	{"the queue with another row", willing, asksQueue, anotherRow, saysOther},
+	{"the own key without a header", willing, asksLeads, noHeader, saysRevision},
+	{"a reading without a header", willing, asksGet, noHeader, saysRevision},
+	{"a reading of another row", willing, asksGet, anotherRow, saysOther},
+	{"a change that was made, without a header", willing, attaches, noHeader, saysRevision},
+	{"a change that was made, without responses", willing, attaches, noResponses, saysCount},
+	{"a change that was made, of another kind", willing, attaches, anotherKind, saysKind},
+	{"a change that was refused, without a header", refusing, attaches, noHeader, saysRevision},
+	{"a change that was refused, without responses", refusing, attaches, noResponses, saysCount},
+	{"a change that was refused, without one", refusing, attaches, oneLess, saysCount},
+	{"a change that was refused, with an empty one", refusing, attaches, emptyResponse, saysKind},
+	{"a change that was refused, of another kind", refusing, attaches, anotherKind, saysKind},
+	{"the row of a change without a header", willing, modifies, noHeader, saysRevision},
+	{"a reading after no space, without a header", withoutSpace, attaches, noHeader, saysRevision},
+	{"a fence without a header", willing, fences, noHeader, saysRevision},
+	{"a fence without a response", willing, fences, noResponses, saysCount},
+	{"a walk without a header", willing, walks, noHeader, saysRevision},
+	{"a walk without responses", willing, walks, noResponses, saysCount},
+	{"a walk without the last one", willing, walks, oneLess, saysCount},
+	{"a walk with an empty one", willing, walks, emptyResponse, saysKind},
+	{"a walk of another kind", willing, walks, anotherKind, saysKind},
+	{"a walk that is refused, without responses", refusing, walks, noResponses, saysCount},
+	{"a page without a header", willing, pages, noHeader, saysRevision},
+	{"a page of no rows that is not the last", willing, pages, moreAfterNone, saysRows},
+	{"a page of another row", willing, pages, anotherRow, saysOther},
+	{"an import that looks, without a header", willing, looks, noHeader, saysRevision},
+	{"an import without a header", willing, imports, noHeader, saysRevision},
+	{"an import that is refused, without responses", refusing, imports, noResponses, saysCount},
+	{"an import that is refused, with an empty one", refusing, imports, emptyResponse, saysKind},
+	{"an import that is refused, of another kind", refusing, imports, anotherKind, saysKind},
+	{"an export without a header", willing, beginsExport, noHeader, saysRevision},
+	{"an export of no rows that is not at its end", willing, exports, moreAfterNone, saysRows},
+	{"a first row without a header", willing, makesNew, noHeader, saysRevision},
+	{"a first row that is there, without a response", refusing, makesNew, noResponses, saysCount},
+	{"a first row that is there, of another kind", refusing, makesNew, anotherKind, saysKind},
+}
+
 // An answer that lacks a part, or has another one, is refused wherever it is read, and ends nothing
 // else.
 func TestMalformedAnswers(t *testing.T) {
-	const header, count, kind = "has no revision", "responses to", "is missing, or is one to another operation"
-	const more, other = "more rows follow none", `the row "of nobody" was not asked for`
-	made, refused, full := lacking{}, lacking{isRefusing: true}, lacking{isFull: true}
-	cases := []struct {
-		name   string
-		server lacking
-		ask    func(t *term) error
-		take   func(reply interface{})
-		want   string
-	}{
-		{"a lease without a header", made, asksLease, noHeader, header},
-		{"a lease without an id", made, asksLease, noID, header},
-		{"a lease without a length", made, asksLease, noLength, header},
-		{"a reading without a revision", made, asksGet, noRevision, header},
-		{"the own key without its revision", made, asksLeads, noRowRevision, header},
-		{"the queue without a header", made, asksQueue, noHeader, header},
-		{"the queue with another row", made, asksQueue, anotherRow, other},
-		{"the own key without a header", made, asksLeads, noHeader, header},
-		{"a reading without a header", made, asksGet, noHeader, header},
-		{"a reading of another row", made, asksGet, anotherRow, other},
-		{"a change that was made, without a header", made, attaches, noHeader, header},
-		{"a change that was made, without responses", made, attaches, noResponses, count},
-		{"a change that was made, of another kind", made, attaches, anotherKind, kind},
-		{"a change that was refused, without a header", refused, attaches, noHeader, header},
-		{"a change that was refused, without responses", refused, attaches, noResponses, count},
-		{"a change that was refused, without one", refused, attaches, oneLess, count},
-		{"a change that was refused, with an empty one", refused, attaches, emptyResponse, kind},
-		{"a change that was refused, of another kind", refused, attaches, anotherKind, kind},
-		{"the row of a change without a header", made, modifies, noHeader, header},
-		{"a reading after no space, without a header", full, attaches, noHeader, header},
-		{"a fence without a header", made, fences, noHeader, header},
-		{"a fence without a response", made, fences, noResponses, count},
-		{"a walk without a header", made, walks, noHeader, header},
-		{"a walk without responses", made, walks, noResponses, count},
-		{"a walk without the last one", made, walks, oneLess, count},
-		{"a walk with an empty one", made, walks, emptyResponse, kind},
-		{"a walk of another kind", made, walks, anotherKind, kind},
-		{"a walk that is refused, without responses", refused, walks, noResponses, count},
-		{"a page without a header", made, pages, noHeader, header},
-		{"a page of no rows that is not the last", made, pages, moreAfterNone, more},
-		{"a page of another row", made, pages, anotherRow, other},
-		{"an import that looks, without a header", made, looks, noHeader, header},
-		{"an import without a header", made, imports, noHeader, header},
-		{"an import that is refused, without responses", refused, imports, noResponses, count},
-		{"an import that is refused, with an empty one", refused, imports, emptyResponse, kind},
-		{"an import that is refused, of another kind", refused, imports, anotherKind, kind},
-		{"an export without a header", made, beginsExport, noHeader, header},
-		{"an export of no rows that is not at its end", made, exports, moreAfterNone, more},
-		{"a first row without a header", made, makesNew, noHeader, header},
-		{"a first row that is there, without a response", refused, makesNew, noResponses, count},
-		{"a first row that is there, of another kind", refused, makesNew, anotherKind, kind},
-	}
-	for _, c := range cases {
+	for _, c := range malformedCases {
 		c := c
 		t.Run(c.name, func(t *testing.T) {
 			server := c.server
