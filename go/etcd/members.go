@@ -79,7 +79,7 @@ func (m *members) watchCertificates(ctx context.Context) {
 func (m *members) dial(ctx context.Context, to string) (net.Conn, error) {
 	conn, err := endpoint.Dialer(ctx, to)
 	if err != nil {
-		m.cannotReach(to, err)
+		m.cannotReach(ctx, to, err)
 		return nil, err
 	}
 	m.mutex.Lock()
@@ -98,9 +98,12 @@ func (m *members) endpointOf(address net.Addr) string {
 	return address.String()
 }
 
-// cannotReach remembers why a member was not reached, without the addresses of a connection, of
-// which one is another each time.
-func (m *members) cannotReach(to string, err error) {
+// cannotReach remembers why a member was not reached, unless the attempt was given up. It leaves out
+// the addresses of a connection, of which one is another each time.
+func (m *members) cannotReach(ctx context.Context, to string, err error) {
+	if ctx.Err() == context.Canceled {
+		return
+	}
 	why := handshakeError(err)
 	var failure *net.OpError
 	if errors.As(err, &failure) {
@@ -199,13 +202,13 @@ func (c memberCredentials) ClientHandshake(ctx context.Context, _ string, raw ne
 	used, err := c.members.certificates()
 	if err != nil {
 		raw.Close()
-		c.members.cannotReach(to, err)
+		c.members.cannotReach(ctx, to, err)
 		return nil, nil, err
 	}
 	_, host, _ := endpoint.ParseEndpoint(to)
 	conn, info, err := credentials.NewTLS(used.settings()).ClientHandshake(ctx, host, raw)
 	if err != nil {
-		c.members.cannotReach(to, err)
+		c.members.cannotReach(ctx, to, err)
 		return nil, nil, err
 	}
 	return &memberConn{conn, to, used, c.members}, info, nil
@@ -228,7 +231,7 @@ func (c *memberConn) Read(into []byte) (int, error) {
 		if c.used.leaf != nil {
 			own = "--cert " + named(c.used.leaf)
 		}
-		c.members.cannotReach(c.to, fmt.Errorf("it refuses %s: %v", own, failure.Err))
+		c.members.cannotReach(context.Background(), c.to, fmt.Errorf("it refuses %s: %v", own, failure.Err))
 	}
 	return count, err
 }

@@ -67,7 +67,10 @@ func TestUnreachedMember(t *testing.T) {
 	c := &candidate{members: m, state: &leadership{}, say: func(_ string, parts ...interface{}) { lines = append(lines, parts[0].(string)) }}
 	c.waits(context.DeadlineExceeded)
 	c.waits(context.DeadlineExceeded)
-	m.cannotReach(address, errors.New("another reason"))
+	ctx, cancel := context.WithCancel(context.Background())
+	m.cannotReach(ctx, address, errors.New("another reason"))
+	cancel()
+	m.cannotReach(ctx, address, errors.New("given up"))
 	c.waits(context.DeadlineExceeded)
 	delete(m.unreached, address)
 	c.waits(context.DeadlineExceeded)
