@@ -1,7 +1,9 @@
 # csid and its front as a CSI controller plugin of Nomad. The folder of the allocation, /alloc, is shared by the two tasks. Both run as
 # root without any capability, since Nomad's folder /csi is root's.
 job "pools-controller" {
-  type = "service"
+  # Where the clients are that may run it. Nomad wants it before its version 1.5.
+  datacenters = ["dc1"]
+  type        = "service"
 
   group "controller" {
     count = 1
@@ -104,6 +106,11 @@ greatest_bytes = 1099511627776
 [[pool]]
 name = "p1"
 bytes = 10995116277760
+
+# Where volumes are attached, one for each client that runs the node plugin: the id is what that answers to NodeGetInfo.
+[[node]]
+id = "client-1"
+max_volumes = 100
 TOML
       }
     }

@@ -221,6 +221,40 @@ class DiskTest(CsidTest):
         self.row("the next opening", tables.run(listing + more), (one + reply(VOLUME_2), "", 0))
         self.row("integrity_check", tables.ask("PRAGMA integrity_check"), [("ok",)])
 
+    def test_file_alone_after_a_refusal(self):
+        """The disk fills after a create, so that the next one is refused, and csid ends. The first one is in
+        the log then: a copy of both files has it, and one of the file alone does not.
+        """
+        disk = self.enterContext(small_disk(self.folder))
+        tables = Tables(self.csid, disk).new()
+        process = subprocess.Popen(
+            tables.command, stdin=subprocess.PIPE, stdout=subprocess.PIPE, stderr=subprocess.PIPE, bufsize=0
+        )
+        process.stdin.write(controller("CreateVolume", CREATE_A))
+        self.row("a create", process.stdout.read(len(reply(VOLUME_1))), reply(VOLUME_1))
+        fill(disk)
+        # The log has 256 KiB of zeros ahead, into which 3,000 file systems of 120 letters do not fit.
+        mounts = [b"%0120d" % number for number in range(3000)]
+        more = CREATE_B + b"".join(
+            bytes.fromhex("1a 80 01 12 7a 0a 78") + name + bytes.fromhex("1a 02 08 01") for name in mounts
+        )
+        out, error = process.communicate(controller("CreateVolume", more), timeout=SECONDS)
+        came = out, error.decode(), process.returncode
+        self.row("one on the full disk", came, (refusal(13, "store refused"), "", 0))
+        both, alone = Tables(self.csid, self.folder, "both.db"), Tables(self.csid, self.folder, "alone.db")
+        for copy in both, alone:
+            shutil.copy(tables.path, copy.path)
+        shutil.copy(tables.path + "-wal", both.path + "-wal")
+        self.row("both files", self.listed(both), (["vol-1"], "", 0))
+        self.row("the file alone", self.listed(alone), ([], "", 0))
+
+    def listed(self, tables):
+        """The ids that a listing of tables has, what it says, and its status."""
+        done = subprocess.run(
+            [self.csid, "--list-tables", tables.path], capture_output=True, text=True, timeout=SECONDS
+        )
+        return re.findall(r"^vol-\d+", done.stdout, re.M), done.stderr, done.returncode
+
     def test_refused_commit(self):
         """A disk that takes no commit: the change is refused, and nothing is answered until the file is
         opened again.

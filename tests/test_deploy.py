@@ -259,6 +259,27 @@ class DeployTest(RowTest):
                 list(user),
             )
 
+    def test_nodes(self):
+        """Each configuration has a pool and a node, as volumes are created and attached with it as it is; and
+        Nomad is told where the job may run, which it wants before its version 1.5.
+        """
+        nomad = Nomad()
+        for where, text in [
+            ("the manifest", Kubernetes().config()),
+            ("the manifest over etcd", Kubernetes(ETCD_MANIFEST).config()),
+            ("the Nomad job", nomad.config()),
+        ]:
+            config = toml(text)
+            self.row("pools of " + where, [bool(pool["name"]) for pool in config.get("pool", [])], [True])
+            self.row(
+                "nodes of " + where,
+                [bool(node["id"]) and node["max_volumes"] > 0 for node in config.get("node", [])],
+                [True],
+            )
+        job = re.search(r'\njob "[\w-]+" \{\n(.*?)\n  group ', nomad.text, re.S).group(1)
+        named = re.findall(r'^  datacenters = \["([\w*-]+)"\]$', job, re.M)
+        self.row("where the job may run", len(named), 1)
+
     def test_sockets(self):
         """Each front is given the socket of its csid, and each sidecar that of its front."""
         for where, self.csid, self.front in commands():

@@ -5,6 +5,8 @@ import glob
 import importlib.util
 import os
 import shutil
+import subprocess
+import tempfile
 
 from tests.support.processes import TOP
 from tests.support.recipes import (
@@ -20,6 +22,9 @@ from tests.support.recipes import (
     publish,
     stands,
 )
+
+
+ATTACHMENTS = "### Attachments that the copy does not have"
 
 
 class RecipesTest(RecipeTest):
@@ -96,20 +101,19 @@ class RecipesTest(RecipeTest):
             self.row("who may read it", (place.owners(), place.modes()), ({OWNER}, {"0o600"}))
             self.row("what is restored", place.rows(), ({1: "a", 2: "b"}, 3))
             self.row("what stood there", place.rows(copies + "/old/volumes.db"), ({2: "b", 3: "c"}, 4))
-            with open(place.folder + "orchestrator", "w") as file:
-                file.write("vol-40\nvol-2\nvol-3\n")
+            place.orchestrator("vol-40\nvol-2\nvol-3\n", "vol-40 rw n1\n")
             self.row(
                 "what is missing and what is left",
                 place.recipe(restore, 1, copies=copies),
-                ("vol-3\nvol-40\nvol-1\n", "", 0),
+                ("vol-3\nvol-40\nvol-1\nvol-40 rw n1\n", "", 0),
             )
-            out, errors, status = place.recipe("### A volume that the copy does not have")
-            self.row(
+            self.shows(
                 "it is made again",
-                [line for line in out.split("\n") if line and not line.startswith("0 OK")],
-                ["volume vol-40 1048576", "context readonly=false"],
+                place.recipe("### A volume that the copy does not have"),
+                ["volume vol-40 1048576"],
             )
-            self.row("without a fault", (errors, status), ("", 0))
+            attached = place.recipe(ATTACHMENTS, 1, copies=copies)
+            self.shows("and attached", attached, ["context readonly=false"])
             place.must("sqlite3 /var/lib/csid/volumes.db 'UPDATE meta SET next_number = 40'")
             more = "volume 40: it is vol-40 (pvc-40), 1 MiB in pool p1"
             said = "csid: volumes.db: %s\n"
@@ -121,6 +125,71 @@ class RecipesTest(RecipeTest):
             self.row("a start", place.recipe(restore, 3), ("", "", 0))
             place.must("systemctl stop csid-front")
             self.row("the next volume", place.call(*create("d")), "0 OK\nvolume vol-41 1048576\n")
+
+    def test_restore_of_attachments(self):
+        """After the copy vol-1 went from n1 to n2, vol-2 was detached and deleted, vol-3 attached at n1, and
+        vol-40 created and attached read-only at n2. vol-4 is as it was.
+        """
+        detached, attached = "vol-1 rw n1\nvol-2 rw n1\n", "vol-1 rw n2\nvol-3 rw n1\nvol-40 ro n2\n"
+        with Place(self.csictl, self.csid) as place:
+            copies = self.begin_restore(place)
+            place.orchestrator("vol-1\nvol-3\nvol-4\nvol-40\n", attached)
+
+            def compared(name, came):
+                self.row(name, place.recipe("### A restore", 1, copies=copies), (came, "", 0))
+
+            compared("the differences", "vol-40\nvol-2\n" + detached + attached)
+            self.shows("what is detached", place.recipe(ATTACHMENTS, 0, copies=copies), [])
+            made = place.recipe("### A volume that the copy does not have")
+            self.shows("what is created", made, ["volume vol-40 1048576"])
+            readonly = ["context readonly=%s" % it for it in ("false", "false", "true")]
+            self.shows("what is attached", place.recipe(ATTACHMENTS, 1, copies=copies), readonly)
+            compared("compared again", "vol-2\n")
+            self.row("the number", place.recipe("### A restore", 2), ("41\n" + has(5, 3, 41), "", 0))
+            place.must("systemctl start csid")
+            elsewhere = "9 FAILED_PRECONDITION volume is published elsewhere\n"
+            self.row("a second node for a writer", place.call(*publish("vol-3", "n2")), elsewhere)
+            self.row("the one that is left", place.call("DeleteVolume", "--volume", "vol-2"), "0 OK\n")
+
+    def begin_restore(self, place):
+        """Four volumes, of which the first two are attached at n1, a copy, and step 1 of a restore of it."""
+        for name in ["a", "b", "c", "d"]:
+            place.call(*create(name))
+        for volume in ["vol-1", "vol-2"]:
+            place.call(*publish(volume, "n1"))
+        place.recipe("### A copy of a file that is served")
+        place.must("systemctl stop csid-front")
+        copies = place.copies()
+        place.recipe("### A restore", 0, copies=copies)
+        return copies
+
+    def test_attachments_of_kubernetes(self):
+        """The block that writes `attached`, over what kubectl prints of two volumes and three attachments."""
+        (_, block) = blocks("### Volume ids in Kubernetes", "DEPLOY.md")
+        with tempfile.TemporaryDirectory() as folder:
+            kubectl = os.path.join(folder, "kubectl")
+            with open(kubectl, "w") as file:
+                file.write(
+                    '#!/bin/sh\ncase "$2" in\n'
+                    "persistentvolumes) printf 'pvc-b vol-2 true\\npvc-a vol-1 \\n' ;;\n"
+                    "volumeattachments) printf 'pvc-b n1\\npvc-a n2\\npvc-b n2\\npvc-x n2\\n' ;;\nesac\n"
+                )
+            os.chmod(kubectl, 0o755)
+            path = folder + ":" + os.environ["PATH"]
+            subprocess.run(
+                ["bash", "-euo", "pipefail", "-c", block],
+                cwd=folder,
+                env={**os.environ, "PATH": path},
+                check=True,
+            )
+            with open(os.path.join(folder, "attached")) as file:
+                self.row("attached", file.read(), "vol-1 rw n2\nvol-2 ro n1\nvol-2 ro n2\n")
+
+    def shows(self, name, came, wanted):
+        """What csictl shows of replies, but for their first lines."""
+        out, errors, status = came
+        shown = [line for line in out.split("\n") if line and not line.startswith("0 OK")]
+        self.row(name, (shown, errors, status), (wanted, "", 0))
 
     def test_lines(self):
         """A log that stays next to a restored file brings back what the restore was to leave after."""

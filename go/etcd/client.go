@@ -1,14 +1,14 @@
 package main
 
 import (
-	"crypto/tls"
-	"crypto/x509"
+	"context"
 	"fmt"
 	"os"
 	"strings"
 	"time"
 
 	"go.etcd.io/etcd/clientv3"
+	"go.etcd.io/etcd/etcdserver/api/v3rpc/rpctypes"
 	"go.uber.org/zap"
 	"google.golang.org/grpc"
 )
@@ -22,58 +22,60 @@ const silence = 10 * time.Second
 // How many bytes of answers may be on their way: more than a page of rows has.
 const answerWindow = 4 << 20
 
-// connect makes a client of etcd. Files are read each time, and the certificate and its key at each connection too.
-func connect(asked options) (*clientv3.Client, error) {
-	security, err := readTLS(asked)
+// connect makes a client of etcd. Files are read each time, and those of TLS at each connection
+// too.
+func (m *members) connect() (*clientv3.Client, error) {
+	password, err := readPassword(m.asked)
 	if err != nil {
 		return nil, err
 	}
-	password, err := readPassword(asked)
-	if err != nil {
-		return nil, err
-	}
-	return clientv3.New(clientv3.Config{
-		Endpoints:            asked.endpoints,
-		DialTimeout:          asked.timeout,
+	login := &login{user: m.asked.user, password: password}
+	settings := clientv3.Config{
+		Endpoints:            m.asked.endpoints,
+		DialTimeout:          m.asked.timeout,
 		DialKeepAliveTime:    silence,
-		DialKeepAliveTimeout: asked.timeout,
-		TLS:                  security,
-		Username:             asked.user,
-		Password:             password,
+		DialKeepAliveTimeout: m.asked.timeout,
 		MaxCallSendMsgSize:   maxRequestBytes,
-		// With windows that are set, grpc does not measure the connection by a ping after each answer.
-		DialOptions: []grpc.DialOption{grpc.WithChainUnaryInterceptor(sendOnce), grpc.WithDisableRetry(),
-			grpc.WithInitialWindowSize(answerWindow), grpc.WithInitialConnWindowSize(answerWindow)},
-		LogConfig: &zap.Config{Level: zap.NewAtomicLevelAt(zap.FatalLevel), Encoding: "json", EncoderConfig: zap.NewProductionEncoderConfig()},
-	})
+		DialOptions:          m.dialOptions(login),
+		LogConfig:            noLog,
+	}
+	if m.isSecure() {
+		used, err := m.certificates()
+		if err != nil {
+			return nil, err
+		}
+		// Without this the client would ask for no TLS. What is used are the credentials of the options.
+		settings.TLS = used.settings()
+		settings.DialOptions = append(settings.DialOptions, grpc.WithTransportCredentials(m.credentials()))
+	}
+	client, err := clientv3.New(settings)
+	if err != nil {
+		return nil, err
+	}
+	ctx, cancel := context.WithTimeout(context.Background(), m.asked.timeout)
+	defer cancel()
+	if err := login.renew(ctx, client.ActiveConnection()); err != nil {
+		client.Close()
+		return nil, rpctypes.Error(err)
+	}
+	return client, nil
 }
 
-// readTLS is what connections are secured by; nil where no option asks for it.
-func readTLS(asked options) (*tls.Config, error) {
-	if asked.cacert == "" && asked.cert == "" {
-		return nil, nil
+// noLog is a log of etcd's client that has no lines: csid-etcd writes its own.
+var noLog = &zap.Config{Level: zap.NewAtomicLevelAt(zap.FatalLevel), Encoding: "json", EncoderConfig: zap.NewProductionEncoderConfig()}
+
+// dialOptions is what each connection has but for its security.
+func (m *members) dialOptions(login *login) []grpc.DialOption {
+	return []grpc.DialOption{
+		grpc.WithContextDialer(m.dial),
+		grpc.WithPerRPCCredentials(login),
+		grpc.WithChainUnaryInterceptor(login.unary, sendOnce, m.answered, checkUnary),
+		grpc.WithChainStreamInterceptor(login.stream, checkStream),
+		grpc.WithDisableRetry(),
+		// With windows that are set, grpc does not measure the connection by a ping after each answer.
+		grpc.WithInitialWindowSize(answerWindow),
+		grpc.WithInitialConnWindowSize(answerWindow),
 	}
-	security := &tls.Config{MinVersion: tls.VersionTLS12}
-	if asked.cacert != "" {
-		text, err := os.ReadFile(asked.cacert)
-		if err != nil {
-			return nil, fmt.Errorf("--cacert: %w", err)
-		}
-		security.RootCAs = x509.NewCertPool()
-		if !security.RootCAs.AppendCertsFromPEM(text) {
-			return nil, fmt.Errorf("--cacert: %s has no certificate", asked.cacert)
-		}
-	}
-	if asked.cert != "" {
-		if _, err := tls.LoadX509KeyPair(asked.cert, asked.key); err != nil {
-			return nil, fmt.Errorf("--cert, --key: %w", err)
-		}
-		security.GetClientCertificate = func(*tls.CertificateRequestInfo) (*tls.Certificate, error) {
-			pair, err := tls.LoadX509KeyPair(asked.cert, asked.key)
-			return &pair, err
-		}
-	}
-	return security, nil
 }
 
 // readPassword is the password of the user: the first line of its file, or what the command line has.

@@ -70,15 +70,15 @@ func (r *reading) get(key string, more ...clientv3.OpOption) (read *clientv3.Get
 }
 
 // export prints all rows at one revision as SQL. Until all are judged and printed there is no COMMIT: what ends before changes no tables.
-func export(asked options, to io.Writer, lines *log.Logger) error {
-	client, err := connect(asked)
+func export(m *members, to io.Writer, lines *log.Logger) error {
+	client, err := m.connect()
 	if err != nil {
 		return err
 	}
 	defer client.Close()
-	r := &reading{client: client, timeout: asked.timeout}
+	r := &reading{client: client, timeout: m.asked.timeout}
 	out := bufio.NewWriter(to)
-	found, err := r.print(keys{asked.name}, out)
+	found, err := r.print(keys{m.asked.name}, out)
 	if err == nil {
 		err = printed(out, "COMMIT;")
 	}

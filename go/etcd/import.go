@@ -89,18 +89,18 @@ func readLine(text []byte, k keys) (line, tableRow, error) {
 }
 
 // importRows puts the rows of standard input into etcd, where there is nothing below the name of the plugin, and nobody leads or waits.
-func importRows(asked options, in io.Reader, out io.Writer) error {
-	k := keys{asked.name}
+func importRows(m *members, in io.Reader, out io.Writer) error {
+	k := keys{m.asked.name}
 	rows, found, err := readLines(in, k)
 	if err != nil {
 		return fmt.Errorf("%w; nothing was written", err)
 	}
-	client, err := connect(asked)
+	client, err := m.connect()
 	if err != nil {
 		return fmt.Errorf("%w; nothing was written", err)
 	}
 	defer client.Close()
-	i := &importing{client: client, keys: k, timeout: asked.timeout}
+	i := &importing{client: client, keys: k, timeout: m.asked.timeout}
 	if err := i.look(); err != nil {
 		return i.stopped(err, len(rows))
 	}

@@ -135,8 +135,9 @@ func (r *reading) readAll(k keys) (volumes []*listed, err error) {
 }
 
 // list prints the volumes that are chosen, and what pools and nodes have of them. It needs no lock.
-func list(asked options, to io.Writer) error {
-	client, err := connect(asked)
+func list(m *members, to io.Writer) error {
+	asked := m.asked
+	client, err := m.connect()
 	if err != nil {
 		return err
 	}

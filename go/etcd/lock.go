@@ -45,6 +45,7 @@ func (l *leadership) set(term *term, why refusal) {
 // waits without a deadline.
 type candidate struct {
 	asked     options
+	members   *members
 	keys      keys
 	revisions *revisions
 	state     *leadership
@@ -53,7 +54,8 @@ type candidate struct {
 	drop func()
 	// The leases of terms that are over, as long as etcd did not end them.
 	leases []clientv3.LeaseID
-	// The last line about who holds the lock, or why etcd does not answer.
+	// The last line about who holds the lock, or why etcd does not answer, and why members could not
+	// be reached then. It does not have who refused a call: calls go to the members in turn.
 	said string
 }
 
@@ -71,17 +73,20 @@ func (c *candidate) run(ctx context.Context) {
 }
 
 // report writes a line, unless it is the last one again.
-func (c *candidate) report(line string) {
-	if line != c.said {
-		c.say("%s", frames.Text(line))
-		c.said = line
+func (c *candidate) report(line string) { c.reportError(line, nil) }
+
+// reportError writes a line with the members that an error comes from.
+func (c *candidate) reportError(line string, err error) {
+	if what := line + c.members.reasons(err); what != c.said {
+		c.say("%s", frames.Text(line+c.members.where(err)))
+		c.said = what
 	}
 }
 
 // campaign gets a lease, queues up by a key, and leads when it is its turn. It ends when the lease or the key is lost, or with an error where it got
 // no lease. Certificates and the password are read each time.
 func (c *candidate) campaign(ending context.Context) error {
-	client, err := connect(c.asked)
+	client, err := c.members.connect()
 	if err != nil {
 		return err
 	}
@@ -118,7 +123,7 @@ func (c *candidate) campaign(ending context.Context) error {
 	} else if ending.Err() != nil {
 		err = errEnding
 	}
-	c.stop(err.Error(), refuse("waiting for the lock: %v", err))
+	c.stop(err, refuse("waiting for the lock: %v", err))
 	return nil
 }
 
@@ -187,7 +192,7 @@ func (c *candidate) hold(t *term) error {
 // waits says why there is no lock, where there is an error.
 func (c *candidate) waits(err error) {
 	if err != nil {
-		c.report(fmt.Sprintf("no lock: %v", err))
+		c.reportError(fmt.Sprintf("no lock: %v", err), err)
 		c.state.set(nil, refuse("waiting for the lock: %v", err))
 	}
 }
@@ -195,7 +200,7 @@ func (c *candidate) waits(err error) {
 // lead begins to lead, unless an older snapshot was seen. The lock is kept then, so that no other program leads either.
 func (c *candidate) lead(t *term, queue queue, isLeading bool) bool {
 	if err := c.revisions.check(queue.least, queue.revision); err != nil {
-		c.stop(err.Error(), err.(refusal))
+		c.stop(err, err.(refusal))
 		return false
 	}
 	if !isLeading {
@@ -208,15 +213,15 @@ func (c *candidate) lead(t *term, queue queue, isLeading bool) bool {
 }
 
 // stop ends leading, where this program does, and closes the connection of csid at once.
-func (c *candidate) stop(why string, answer refusal) {
+func (c *candidate) stop(why error, answer refusal) {
 	before, _ := c.state.current()
 	c.state.set(nil, answer)
 	if before == nil {
-		c.report("no lock: " + why)
+		c.reportError(fmt.Sprintf("no lock: %v", why), why)
 		return
 	}
 	c.drop()
-	c.report("leads no more: " + why)
+	c.reportError(fmt.Sprintf("leads no more: %v", why), why)
 }
 
 // putKey puts the key of this program, where it is not there yet.

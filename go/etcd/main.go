@@ -92,8 +92,9 @@ func serve(asked options, socket *sockets.Socket, revisions *revisions, stop <-c
 	ctx, cancel := context.WithCancel(context.Background())
 	defer cancel()
 	state := &leadership{}
-	server := &server{state: state, isExisting: asked.isExisting, say: lines.Printf}
-	candidate := &candidate{asked: asked, keys: keys{asked.name}, revisions: revisions, state: state, say: lines.Printf, drop: server.drop}
+	members := newMembers(asked, lines.Printf)
+	server := &server{state: state, members: members, isExisting: asked.isExisting, say: lines.Printf}
+	candidate := &candidate{asked: asked, members: members, keys: keys{asked.name}, revisions: revisions, state: state, say: lines.Printf, drop: server.drop}
 	candidate.begin()
 	ended, broken := make(chan struct{}), make(chan error, 1)
 	saving, saved := make(chan struct{}), make(chan struct{})
@@ -101,6 +102,7 @@ func serve(asked options, socket *sockets.Socket, revisions *revisions, stop <-c
 		defer close(ended)
 		candidate.run(ctx)
 	}()
+	go members.watchCertificates(ctx)
 	go func() { broken <- server.accept(socket) }()
 	go func() {
 		defer close(saved)

@@ -42,21 +42,22 @@ func checkFormat(row meta) error {
 
 // once makes the first row, brings rows from a file of csid into etcd or from there into one, or lists them. It neither has the lock nor a socket.
 func once(asked options, lines *log.Logger) int {
+	// What is printed is all that was asked for: nothing is said of certificates.
+	m := newMembers(asked, func(string, ...interface{}) {})
+	var how string
+	var err error
 	switch {
 	case asked.isNew:
-		return report("--new", makeNew(asked, os.Stdout), lines)
+		how, err = "--new", makeNew(m, os.Stdout)
 	case asked.isExport:
-		return report("--export", export(asked, os.Stdout, lines), lines)
+		how, err = "--export", export(m, os.Stdout, lines)
 	case asked.isList:
-		return report("--list", list(asked, os.Stdout), lines)
+		how, err = "--list", list(m, os.Stdout)
 	default:
-		return report("--import", importRows(asked, os.Stdin, os.Stdout), lines)
+		how, err = "--import", importRows(m, os.Stdin, os.Stdout)
 	}
-}
-
-func report(how string, err error, lines *log.Logger) int {
 	if err != nil {
-		lines.Printf("%s: %v", how, err)
+		lines.Printf("%s: %v%s", how, err, m.where(err))
 		return failed
 	}
 	return done
@@ -65,8 +66,9 @@ func report(how string, err error, lines *log.Logger) int {
 var errNotEnded = errors.New("rows are there, and meta is not: an import was not ended")
 
 // makeNew makes the first row where there is none yet, and leaves rows that stand.
-func makeNew(asked options, to io.Writer) error {
-	client, err := connect(asked)
+func makeNew(m *members, to io.Writer) error {
+	asked := m.asked
+	client, err := m.connect()
 	if err != nil {
 		return err
 	}

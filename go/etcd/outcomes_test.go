@@ -52,12 +52,12 @@ type moody struct {
 	came   int32
 }
 
-func (m *moody) Txn(context.Context, *pb.TxnRequest) (*pb.TxnResponse, error) {
+func (m *moody) Txn(_ context.Context, asked *pb.TxnRequest) (*pb.TxnResponse, error) {
 	came := int(atomic.AddInt32(&m.came, 1))
 	if came <= len(m.errors) {
 		return nil, m.errors[came-1]
 	}
-	return &pb.TxnResponse{Header: &pb.ResponseHeader{}, Succeeded: true}, nil
+	return &pb.TxnResponse{Header: &pb.ResponseHeader{Revision: 200}, Succeeded: true, Responses: responses(asked.Success)}, nil
 }
 
 // start starts the etcd, and makes a client of it.
@@ -78,6 +78,9 @@ func listening(t *testing.T, kv pb.KVServer) (address string) {
 	if lender, is := kv.(pb.LeaseServer); is {
 		pb.RegisterLeaseServer(server, lender)
 	}
+	if guard, is := kv.(pb.AuthServer); is {
+		pb.RegisterAuthServer(server, guard)
+	}
 	if teller, is := kv.(pb.WatchServer); is {
 		pb.RegisterWatchServer(server, teller)
 	}
@@ -94,6 +97,7 @@ func startServer(t *testing.T, kv pb.KVServer, members int, options ...grpc.Dial
 	for i := 0; i < members; i++ {
 		endpoints = append(endpoints, address)
 	}
+	options = append(options, grpc.WithChainStreamInterceptor(checkStream))
 	client, err := clientv3.New(clientv3.Config{Endpoints: endpoints, DialOptions: options,
 		LogConfig: &zap.Config{Level: zap.NewAtomicLevelAt(zap.FatalLevel), Encoding: "json"}})
 	if err != nil {
@@ -122,7 +126,7 @@ func TestSentOnce(t *testing.T) {
 	}
 	for _, row := range rows {
 		server := &moody{errors: []error{row.err}}
-		client, err := connect(options{endpoints: []string{listening(t, server)}, timeout: 5 * time.Second})
+		client, err := newMembers(options{endpoints: []string{listening(t, server)}, timeout: 5 * time.Second}, t.Logf).connect()
 		if err != nil {
 			t.Fatal(err)
 		}

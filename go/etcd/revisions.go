@@ -9,6 +9,8 @@ import (
 	"strings"
 	"sync"
 	"time"
+
+	"fomaheti/files"
 )
 
 // How often the file of the revision is written at most.
@@ -147,8 +149,9 @@ func (r *revisions) save() error {
 	return nil
 }
 
+// replace writes PATH.new, and gives it the name PATH.
 func replace(path string, text []byte) error {
-	file, err := os.OpenFile(path+".new", os.O_WRONLY|os.O_CREATE|os.O_TRUNC, 0o600)
+	file, err := files.Create(path+".new", 0o600)
 	if err != nil {
 		return err
 	}

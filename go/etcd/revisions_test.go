@@ -1,10 +1,15 @@
 package main
 
 import (
+	"errors"
 	"os"
+	"os/signal"
 	"path/filepath"
+	"strings"
 	"testing"
 	"time"
+
+	"golang.org/x/sys/unix"
 )
 
 // The greatest revision is in the file over a stop, and a lower one is refused from then on.
@@ -148,32 +153,79 @@ func TestSaveAgain(t *testing.T) {
 
 // A file that could not be written whole does not take the place of the old one.
 func TestNotWrittenWhole(t *testing.T) {
-	if _, err := os.Stat("/dev/full"); err != nil {
-		t.Skipf("left out: a full disk: %v", err)
-	}
 	path := filepath.Join(t.TempDir(), "revision")
 	r := &revisions{path: path}
-	for _, row := range []struct {
+	for _, c := range []struct {
 		revision int64
 		isFull   bool
 		want     string
 	}{{7, false, "7\n"}, {8, true, "7\n"}, {9, false, "9\n"}} {
-		if row.isFull {
-			if err := os.Symlink("/dev/full", path+".new"); err != nil {
-				t.Fatal(err)
-			}
+		r.answered(c.revision)
+		save := r.save
+		if c.isFull {
+			save = func() error { return withoutRoom(t, r.save) }
 		}
-		r.answered(row.revision)
-		if err := r.save(); (err != nil) != row.isFull {
-			t.Errorf("%d: %v", row.revision, err)
+		if err := save(); (err != nil) != c.isFull {
+			t.Errorf("%d: %v", c.revision, err)
 		}
 		if at, err := os.Lstat(path); err != nil || !at.Mode().IsRegular() {
-			t.Fatalf("%d: another thing stands in its place, %v", row.revision, err)
+			t.Fatalf("%d: another thing stands in its place, %v", c.revision, err)
 		}
-		if text, err := os.ReadFile(path); err != nil || string(text) != row.want {
-			t.Errorf("%d: the file has %q, %v", row.revision, text, err)
+		if text, err := os.ReadFile(path); err != nil || string(text) != c.want {
+			t.Errorf("%d: the file has %q, %v", c.revision, text, err)
 		}
-		os.Remove(path + ".new")
+	}
+}
+
+// withoutRoom does something while no file can have a byte.
+func withoutRoom(t *testing.T, do func() error) error {
+	t.Helper()
+	signal.Ignore(unix.SIGXFSZ)
+	defer signal.Reset(unix.SIGXFSZ)
+	var before unix.Rlimit
+	if err := unix.Getrlimit(unix.RLIMIT_FSIZE, &before); err != nil {
+		t.Fatal(err)
+	}
+	if err := unix.Setrlimit(unix.RLIMIT_FSIZE, &unix.Rlimit{Cur: 0, Max: before.Max}); err != nil {
+		t.Fatal(err)
+	}
+	defer unix.Setrlimit(unix.RLIMIT_FSIZE, &before)
+	return do()
+}
+
+// A link at PATH.new is not followed: what it points to keeps its bytes, and the link is reported.
+func TestLinkIsNotFollowed(t *testing.T) {
+	folder := t.TempDir()
+	path, other := filepath.Join(folder, "revision"), filepath.Join(folder, "other")
+	if err := os.WriteFile(other, []byte("other"), 0o600); err != nil {
+		t.Fatal(err)
+	}
+	if err := os.Symlink(other, path+".new"); err != nil {
+		t.Fatal(err)
+	}
+	r := &revisions{path: path}
+	r.answered(7)
+	if err := r.save(); !errors.Is(err, os.ErrExist) || !strings.Contains(err.Error(), path+".new") {
+		t.Errorf("a link: %v", err)
+	}
+	if text, err := os.ReadFile(other); err != nil || string(text) != "other" {
+		t.Errorf("behind the link is %q, %v", text, err)
+	}
+	if _, err := os.Lstat(path); err == nil {
+		t.Error("the link became the file")
+	}
+	// Once it is gone, and also over what a kill left, the file is written.
+	if err := os.Remove(path + ".new"); err != nil {
+		t.Fatal(err)
+	}
+	if err := os.WriteFile(path+".new", []byte("12345"), 0o600); err != nil {
+		t.Fatal(err)
+	}
+	if err := r.save(); err != nil {
+		t.Fatal(err)
+	}
+	if text, err := os.ReadFile(path); err != nil || string(text) != "7\n" {
+		t.Errorf("after that the file has %q, %v", text, err)
 	}
 }
 

@@ -21,7 +21,8 @@ const (
 
 // server answers the calls of csid: of the newest connection alone, in order.
 type server struct {
-	state *leadership
+	state   *leadership
+	members *members
 	// Whether rows must be there: none is made first.
 	isExisting bool
 	say        func(format string, parts ...interface{})
@@ -102,7 +103,7 @@ func (s *server) serve(c, before *connection) {
 		}
 		answer, err := s.answer(c, request)
 		if err != nil {
-			s.say("%s: %s", request.Path, frames.Text(err.Error()))
+			s.say("%s: %s", request.Path, frames.Text(err.Error()+s.members.where(err)))
 			return
 		}
 		if err := c.reply(answer); err != nil {
@@ -136,7 +137,7 @@ func (s *server) answer(c *connection, request frames.Request) (frames.Reply, er
 		return frames.Reply{}, errOver
 	}
 	if errors.As(err, &why) {
-		s.say("%s %d %q", request.Path, why.code, why.text)
+		s.say("%s %d %q%s", request.Path, why.code, why.text, frames.Text(s.members.where(why)))
 		return refused(why), nil
 	}
 	return frames.Reply{Body: body}, err

@@ -8,6 +8,8 @@ import (
 	"go.etcd.io/etcd/clientv3"
 	"go.etcd.io/etcd/etcdserver/api/v3rpc/rpctypes"
 	pb "go.etcd.io/etcd/etcdserver/etcdserverpb"
+	"go.etcd.io/etcd/mvcc/mvccpb"
+	"google.golang.org/grpc"
 	"google.golang.org/grpc/codes"
 )
 
@@ -202,24 +204,48 @@ func (t *term) leads(ctx context.Context) error {
 	}
 }
 
-// watch ends the term as soon as etcd reports that the key of the lock is gone, was made again, or does not go with the lease any more. It begins after a
-// revision at which the key was seen. Where etcd ends the watch it begins again, and leaves out what was compacted: hold looks too, though less often.
+// watch ends the term as soon as etcd reports that the key of the lock is gone, was made again, or
+// does not go with the lease any more. It begins after a revision at which the key was seen. Where
+// etcd ends the watch it begins again, and leaves out what was compacted: hold looks too, though
+// less often.
 func (t *term) watch(seen int64) {
 	for t.ctx.Err() == nil {
-		ctx, cancel := context.WithCancel(clientv3.WithRequireLeader(t.ctx))
-		for report := range t.client.Watch(ctx, t.key, clientv3.WithRev(seen+1)) {
-			for _, event := range report.Events {
-				if event.Type == clientv3.EventTypeDelete || event.Kv.CreateRevision != t.created || event.Kv.Lease != int64(t.lease.id) {
-					t.loses()
-				}
-				seen = event.Kv.ModRevision
-			}
-			if compacted := report.CompactRevision; compacted > seen {
-				seen = compacted
-			}
-		}
-		cancel()
+		seen = t.watchOver(seen)
 		pause(t.ctx, waitingPause)
+	}
+}
+
+// watchOver watches over one stream until that ends, and returns the last revision that was seen.
+// It does without the watcher of etcd's client, which panics where etcd creates or cancels a watch
+// twice.
+func (t *term) watchOver(seen int64) int64 {
+	ctx, cancel := context.WithCancel(clientv3.WithRequireLeader(t.ctx))
+	defer cancel()
+	stream, err := pb.NewWatchClient(t.client.ActiveConnection()).Watch(ctx, grpc.WaitForReady(true))
+	if err != nil {
+		return seen
+	}
+	create := &pb.WatchCreateRequest{Key: []byte(t.key), StartRevision: seen + 1}
+	if err := stream.Send(&pb.WatchRequest{RequestUnion: &pb.WatchRequest_CreateRequest{CreateRequest: create}}); err != nil {
+		return seen
+	}
+	for {
+		report, err := stream.Recv()
+		if err != nil {
+			return seen
+		}
+		for _, event := range report.Events {
+			if event.Type == mvccpb.DELETE || event.Kv.CreateRevision != t.created || event.Kv.Lease != int64(t.lease.id) {
+				t.loses()
+			}
+			seen = event.Kv.ModRevision
+		}
+		if compacted := report.CompactRevision; compacted > seen {
+			seen = compacted
+		}
+		if report.Canceled {
+			return seen
+		}
 	}
 }
 

@@ -9,7 +9,6 @@ import (
 	"testing"
 	"time"
 
-	"go.etcd.io/etcd/clientv3"
 	"go.etcd.io/etcd/etcdserver/api/v3rpc/rpctypes"
 	pb "go.etcd.io/etcd/etcdserver/etcdserverpb"
 	"go.etcd.io/etcd/mvcc/mvccpb"
@@ -357,29 +356,7 @@ type keyed struct {
 	// The revisions from which watches were asked for, and what is reported to each of them until it ends. Nothing is reported to a watch beyond these.
 	froms   chan int64
 	watches [][]*pb.WatchResponse
-	// A value comes each time that the program has received events. The client drops what was not received when its watch is canceled.
-	received chan struct{}
-	mutex    sync.Mutex
-}
-
-// observed is a client's watcher that reports to the server what the program has received.
-type observed struct {
-	clientv3.Watcher
-	server *keyed
-}
-
-func (o observed) Watch(ctx context.Context, key string, options ...clientv3.OpOption) clientv3.WatchChan {
-	reports := make(chan clientv3.WatchResponse)
-	go func() {
-		defer close(reports)
-		for report := range o.Watcher.Watch(ctx, key, options...) {
-			reports <- report
-			if len(report.Events) > 0 {
-				o.server.received <- struct{}{}
-			}
-		}
-	}()
-	return reports
+	mutex   sync.Mutex
 }
 
 func (k *keyed) Range(context.Context, *pb.RangeRequest) (*pb.RangeResponse, error) {
@@ -415,12 +392,6 @@ func (k *keyed) Watch(stream pb.Watch_WatchServer) error {
 		sent.Header = &pb.ResponseHeader{Revision: 100}
 		if err := stream.Send(&sent); err != nil {
 			return err
-		}
-		if len(sent.Events) > 0 {
-			select {
-			case <-k.received:
-			case <-stream.Context().Done():
-			}
 		}
 	}
 	<-stream.Context().Done()
@@ -499,18 +470,19 @@ func TestWatch(t *testing.T) {
 		{"put again, and the watch ended", [][]*pb.WatchResponse{{reports(event(put, 10, 60)), canceled}}, []int64{51, 61}, false},
 		{"ended", [][]*pb.WatchResponse{{canceled}, {canceled}}, []int64{51, 51, 51}, false},
 		{"compacted", [][]*pb.WatchResponse{{compacted}}, []int64{51, 71}, false},
+		{"an event without a key, and then deleted", [][]*pb.WatchResponse{{reports(&mvccpb.Event{Type: gone})}, {reports(event(gone, 0, 60))}}, []int64{51, 51}, true},
+		{"created twice, and then deleted", [][]*pb.WatchResponse{{{Created: true}, reports(event(gone, 0, 60))}}, []int64{51}, true},
+		{"canceled twice", [][]*pb.WatchResponse{{canceled, canceled}}, []int64{51, 51}, false},
 		{"ended, and then deleted", [][]*pb.WatchResponse{{canceled}, {reports(event(gone, 0, 60))}}, []int64{51, 51}, true},
 	}
 	for _, row := range rows {
 		row := row
 		t.Run(row.name, func(t *testing.T) {
 			t.Parallel()
-			server := &keyed{watches: row.watches, froms: make(chan int64, 9), received: make(chan struct{}, 9)}
+			server := &keyed{watches: row.watches, froms: make(chan int64, 9)}
 			ctx, cancel := context.WithCancel(context.Background())
 			defer cancel()
-			client := startServer(t, server, 1)
-			client.Watcher = observed{client.Watcher, server}
-			held := &term{client: client, lease: &lease{id: 7}, ctx: ctx, end: cancel, key: "k", created: 10, gone: make(chan struct{}, 1)}
+			held := &term{client: startServer(t, server, 1), lease: &lease{id: 7}, ctx: ctx, end: cancel, key: "k", created: 10, gone: make(chan struct{}, 1)}
 			ended := make(chan struct{})
 			go func() {
 				defer close(ended)

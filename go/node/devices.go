@@ -12,6 +12,8 @@ import (
 
 	"google.golang.org/grpc/codes"
 	"google.golang.org/grpc/status"
+
+	"fomaheti/files"
 )
 
 // How long a loop device may be held open by others when it is detached.
@@ -35,7 +37,7 @@ func (devices) supports(use *capability, _ bool) error {
 // create makes the file under another name first, so that one with the volume's name has the volume's size.
 func (devices) create(data string, bytes int64) error {
 	unfinished := data + ".new"
-	file, err := os.Create(unfinished)
+	file, err := files.Create(unfinished, 0o666)
 	if err != nil {
 		return err
 	}

@@ -421,6 +421,12 @@ class Place:
         out = self.shell("csictl call --socket /run/csid/csid.sock --method " + " ".join(words))[0]
         return re.sub(r"^0 OK \S+", "0 OK", out)
 
+    def orchestrator(self, volumes, attachments):
+        """The files of what the orchestrator has, in the folder of the file."""
+        for name, text in [("orchestrator", volumes), ("attached", attachments)]:
+            with open(self.folder + name, "w") as file:
+                file.write(text)
+
     def copies(self):
         """The one folder below /root."""
         (name,) = os.listdir(self.top + "/root")

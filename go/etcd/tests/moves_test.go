@@ -329,5 +329,5 @@ func TestImportLongRows(t *testing.T) {
 	}
 	cluster.Ctl(t, "del", "--prefix", name+"/")
 	moves(t, firstRow+long(2, 400000)+metaRow, "--import", cluster.Endpoints()).wants(t, "a row that is too long", 1, "",
-		"csid-etcd: --import: volumes/00000000000000000002: etcdserver: request is too large; 1 of 3 rows were written: remove them, and start again\n")
+		"csid-etcd: --import: volumes/00000000000000000002: etcdserver: request is too large; 1 of 3 rows were written: remove them, and start again ("+cluster.Endpoints()+")\n")
 }

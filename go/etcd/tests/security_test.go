@@ -7,10 +7,12 @@ import (
 	"crypto/x509"
 	"crypto/x509/pkix"
 	"encoding/pem"
+	"fmt"
 	"math/big"
 	"net"
 	"os"
 	"path/filepath"
+	"regexp"
 	"strings"
 	"testing"
 	"time"
@@ -109,20 +111,142 @@ func TestTLS(t *testing.T) {
 	plain := start(t, strings.ReplaceAll(cluster.Endpoints(), "https://", ""), append(words, "--timeout", "1s")...)
 	plain.says(t, "csid-etcd: waits for the lock, which ")
 	others := newAuthority(t)
-	for name, words := range map[string][]string{
-		"no certificate": words[:2], "another authority": others.client(t, "csid"),
-		"an etcd of another authority": append([]string{"--cacert", others.path("ca.pem")}, words[2:]...),
+	own := others.client(t, "csid")
+	const unknown = `its certificate "CN=etcd" until %s is refused: x509: signed by unknown authority "CN=ca"`
+	for name, row := range map[string]struct {
+		words []string
+		why   string
+	}{
+		"no certificate":                     {words[:2], "it refuses no certificate: tls: "},
+		"a certificate of another authority": {append(words[:2:2], own[2:]...), `it refuses --cert "CN=csid" until %s: tls: `},
+		"another authority":                  {own, unknown},
+		"an etcd of another authority":       {append(own[:2:2], words[2:]...), unknown},
 	} {
-		other := start(t, cluster.Endpoints(), append(words, "--timeout", "1s")...)
-		other.says(t, "csid-etcd: no lock: ")
-		dialled := other.dial(t)
-		if reply, err := dialled.call(readPath, nil); err != nil || reply.Code != codes.FailedPrecondition || !strings.HasPrefix(reply.Text, "waiting for the lock: ") {
-			t.Errorf("%s: %v, %v", name, reply, err)
-		}
+		t.Run(name, func(t *testing.T) { refusedByTLS(t, cluster, row.words, row.why) })
 	}
 	// Files that are not there yet are waited for.
 	missing := start(t, cluster.Endpoints(), "--cacert", a.path("later.pem"))
 	missing.says(t, "csid-etcd: no lock: --cacert: open "+a.path("later.pem")+": no such file or directory")
+}
+
+// refusedByTLS wants that a program waits for the lock, and that its line says of which member and
+// which certificate.
+func refusedByTLS(t *testing.T, cluster *clusters.Cluster, words []string, why string) {
+	t.Helper()
+	p := start(t, cluster.Endpoints(), append(words, "--timeout", "1s")...)
+	// The certificates of the test end within two hours.
+	why = regexp.QuoteMeta(why)
+	why = strings.ReplaceAll(why, "%s", `[0-9]{4}-[0-9]{2}-[0-9]{2}T[0-9:]{8}Z`)
+	line := regexp.MustCompile(`csid-etcd: no lock: .* \(.*https://127\.0\.0\.1:[0-9]+: ` + why)
+	processes.Eventually(t, "the certificate in "+line.String(), func() bool { return line.MatchString(p.Log.String()) })
+	dialled := p.dial(t)
+	if reply, err := dialled.call(readPath, nil); err != nil || reply.Code != codes.FailedPrecondition || !strings.HasPrefix(reply.Text, "waiting for the lock: ") {
+		t.Errorf("%v, %v", reply, err)
+	}
+}
+
+// Another authority takes the place of the first one, in the order of docs/ETCD.md, "Certificates":
+// the program leads on without a restart, also with a user, and says each time which certificates
+// are in use.
+func TestRotation(t *testing.T) {
+	t.Parallel()
+	for _, withUser := range []bool{false, true} {
+		withUser := withUser
+		t.Run(map[bool]string{false: "by certificates", true: "by a password"}[withUser], func(t *testing.T) {
+			t.Parallel()
+			r := newRotation(t)
+			words := append([]string{"--lease", "60", "--timeout", "20s"}, r.words...)
+			if withUser {
+				r.addUser(t)
+				words = append(words, "--user", "csid:first")
+			}
+			p := start(t, r.cluster.Endpoints(), words...).leads(t)
+			l := p.dial(t)
+			l.wants(t, makePath, "", codes.OK, "")
+			for i, step := range []func(){
+				func() { r.trust(t, r.first, r.second) },
+				func() { r.replace(t, "etcd"); r.replace(t, "csid"); r.replace(t, "root") },
+				func() { r.trust(t, r.second) },
+			} {
+				step()
+				r.restart(t)
+				l.commits(t, addVolume(uint64(i+1), fmt.Sprint("a", i)))
+			}
+			said := p.Log.String()
+			if strings.Count(said, "leads, from revision ") != 1 || strings.Contains(said, "leads no more") {
+				t.Errorf("it did not lead all the time: %s", said)
+			}
+			p.says(t, `csid-etcd: certificates: --cert "CN=csid" until `)
+			if got := strings.Count(said, "csid-etcd: certificates: "); got < 4 {
+				t.Errorf("%d lines of certificates: %s", got, said)
+			}
+		})
+	}
+}
+
+// rotation is an etcd whose authority is replaced. Its files are in the folder of the first one:
+// all that trust an authority read one file, which is that of etcd's --trusted-ca-file too.
+type rotation struct {
+	first, second *authority
+	cluster       *clusters.Cluster
+	words         []string
+}
+
+func newRotation(t *testing.T) *rotation {
+	t.Helper()
+	r := &rotation{first: newAuthority(t), second: newAuthority(t)}
+	r.cluster = secure(t, r.first, 1)
+	r.words = r.first.client(t, "csid")
+	for _, name := range []string{"etcd", "csid", "root"} {
+		r.second.sign(t, name, &x509.Certificate{ExtKeyUsage: []x509.ExtKeyUsage{x509.ExtKeyUsageServerAuth, x509.ExtKeyUsageClientAuth}})
+	}
+	return r
+}
+
+// trust makes the file of authorities.
+func (r *rotation) trust(t *testing.T, trusted ...*authority) {
+	t.Helper()
+	var all []byte
+	for _, a := range trusted {
+		all = append(all, pem.EncodeToMemory(&pem.Block{Type: "CERTIFICATE", Bytes: a.cert.Raw})...)
+	}
+	if err := os.WriteFile(r.first.path("ca.pem"), all, 0o600); err != nil {
+		t.Fatal(err)
+	}
+}
+
+// replace replaces a certificate and its key by those of the second authority.
+func (r *rotation) replace(t *testing.T, name string) {
+	t.Helper()
+	for _, file := range []string{name + ".pem", name + ".key"} {
+		text, err := os.ReadFile(r.second.path(file))
+		if err != nil {
+			t.Fatal(err)
+		}
+		if err := os.WriteFile(r.first.path(file), text, 0o600); err != nil {
+			t.Fatal(err)
+		}
+	}
+}
+
+// restart ends the member, which reads its file of authorities at its start alone, and starts it
+// again.
+func (r *rotation) restart(t *testing.T) {
+	t.Helper()
+	r.cluster.Members[0].Kill()
+	r.cluster.Members[0].Start(t)
+	processes.Eventually(t, "etcd after its start", func() bool { return r.cluster.Try("endpoint", "health") == nil })
+}
+
+// addUser adds a user with a password, and enables authentication.
+func (r *rotation) addUser(t *testing.T) {
+	t.Helper()
+	for _, words := range [][]string{
+		{"user", "add", "root:secret"}, {"role", "add", "csid"}, {"role", "grant-permission", "csid", "readwrite", name + "/", "--prefix"},
+		{"user", "add", "csid:first"}, {"user", "grant-role", "csid", "csid"}, {"auth", "enable"},
+	} {
+		r.cluster.Ctl(t, words...)
+	}
 }
 
 // A user whose role may read and write below NAME/ has all rights that the program needs, with a password of a file that may change.
@@ -145,7 +269,7 @@ func TestUser(t *testing.T) {
 	cluster.Words = []string{"--user", "root:secret"}
 	write("wrong\n")
 	p := start(t, cluster.Endpoints(), "--user", "csid", "--password-file", password, "--lease", "3")
-	p.says(t, "csid-etcd: no lock: etcdserver: authentication failed, invalid user ID or password\n")
+	p.says(t, "csid-etcd: no lock: etcdserver: authentication failed, invalid user ID or password ("+cluster.Endpoints()+")\n")
 	write("first\n")
 	p.leads(t)
 	l := p.dial(t)
@@ -166,8 +290,8 @@ func TestUser(t *testing.T) {
 	waiting.says(t, "csid-etcd: waits for the lock, which ")
 	before := len(p.Log.String())
 	cluster.Type(t, "between\n", "user", "passwd", "csid", "--interactive=false")
-	p.says(t, "csid-etcd: leads no more: etcdserver: authentication failed, invalid user ID or password\n")
-	waiting.says(t, "csid-etcd: no lock: etcdserver: authentication failed, invalid user ID or password\n")
+	p.says(t, "csid-etcd: leads no more: etcdserver: authentication failed, invalid user ID or password ("+cluster.Endpoints()+")\n")
+	waiting.says(t, "csid-etcd: no lock: etcdserver: authentication failed, invalid user ID or password ("+cluster.Endpoints()+")\n")
 	seen := len(waiting.Log.String())
 	write("between\n")
 	processes.Eventually(t, "that the other one stands for the lock again", func() bool {
@@ -187,7 +311,7 @@ func TestUser(t *testing.T) {
 	cluster.Members[0].Kill()
 	cluster.Members[0].Start(t)
 	processes.Eventually(t, "that it leads no more", func() bool { return strings.Contains(p.Log.String()[before:], "leads no more: ") })
-	p.says(t, "csid-etcd: no lock: etcdserver: authentication failed, invalid user ID or password\n")
+	p.says(t, "csid-etcd: no lock: etcdserver: authentication failed, invalid user ID or password ("+cluster.Endpoints()+")\n")
 	write("second\n")
 	p.leadsSince(t, before)
 	l = p.dial(t)
@@ -211,5 +335,5 @@ func TestUser(t *testing.T) {
 	cluster.Ctl(t, "role", "revoke-permission", "csid", name+"/", "--prefix")
 	cluster.Ctl(t, "role", "grant-permission", "csid", "read", name+"/", "--prefix")
 	moves(t, threeRows, "--import", cluster.Endpoints(), words...).wants(t, "an import by a user who may only read", 1, "",
-		"csid-etcd: --import: volumes/00000000000000000001: etcdserver: permission denied; nothing was written\n")
+		"csid-etcd: --import: volumes/00000000000000000001: etcdserver: permission denied; nothing was written ("+cluster.Endpoints()+")\n")
 }

@@ -1,0 +1,142 @@
+package main
+
+import (
+	"context"
+	"fmt"
+
+	pb "go.etcd.io/etcd/etcdserver/etcdserverpb"
+	"go.etcd.io/etcd/mvcc/mvccpb"
+	"google.golang.org/grpc"
+)
+
+// Each answer of etcd is checked as it comes in, once for all that read it: a revision, a row or a
+// response that etcd always sends is there, and none of their readers has to look. An answer that
+// lacks one comes from something that is not etcd. Of a change it says nothing: its outcome is
+// unknown. A revision that is missing would look like an older snapshot, which ends service.
+
+// malformed is what an answer of etcd lacks.
+type malformed string
+
+func (m malformed) Error() string { return "etcd's answer is malformed: " + string(m) }
+
+// checkUnary is between etcd's client and the connection, and checks each answer to a single
+// request.
+func checkUnary(ctx context.Context, method string, request, reply interface{}, connection *grpc.ClientConn,
+	send grpc.UnaryInvoker, options ...grpc.CallOption) error {
+	if err := send(ctx, method, request, reply, connection, options...); err != nil {
+		return err
+	}
+	return checkAnswer(request, reply)
+}
+
+// checkStream is the same for streams.
+func checkStream(ctx context.Context, description *grpc.StreamDesc, connection *grpc.ClientConn, method string,
+	open grpc.Streamer, options ...grpc.CallOption) (grpc.ClientStream, error) {
+	stream, err := open(ctx, description, connection, method, options...)
+	if err != nil {
+		return nil, err
+	}
+	return checkedStream{stream}, nil
+}
+
+type checkedStream struct{ grpc.ClientStream }
+
+func (s checkedStream) RecvMsg(reply interface{}) error {
+	if err := s.ClientStream.RecvMsg(reply); err != nil {
+		return err
+	}
+	return checkAnswer(nil, reply)
+}
+
+// checkAnswer refuses an answer that lacks a part which this program reads, or has another one than
+// its request asks for. Of a stream the request is nil.
+func checkAnswer(request, reply interface{}) error {
+	switch answer := reply.(type) {
+	case *pb.RangeResponse:
+		if answer.Header.GetRevision() <= 0 {
+			return malformed("a reading has no revision")
+		}
+		return checkRows(request.(*pb.RangeRequest), answer)
+	case *pb.TxnResponse:
+		if answer.Header.GetRevision() <= 0 {
+			return malformed("a transaction has no revision")
+		}
+		return checkTransaction(request.(*pb.TxnRequest), answer)
+	case *pb.LeaseGrantResponse:
+		// A key with the lease 0 would have none, and stay for ever.
+		if answer.Header.GetRevision() <= 0 || answer.ID == 0 || answer.TTL <= 0 {
+			return malformed("a lease has no revision, no id or no length")
+		}
+	case *pb.WatchResponse:
+		for _, event := range answer.Events {
+			if event.Kv == nil {
+				return malformed("an event has no key")
+			}
+		}
+	}
+	return nil
+}
+
+// checkRows refuses rows that were not asked for, and a page that has none and is not the last one.
+func checkRows(asked *pb.RangeRequest, answer *pb.RangeResponse) error {
+	if answer.More && len(answer.Kvs) == 0 {
+		return malformed("more rows follow none")
+	}
+	if asked.Limit > 0 && int64(len(answer.Kvs)) > asked.Limit {
+		return malformed(fmt.Sprintf("%d rows, and %d were asked for", len(answer.Kvs), asked.Limit))
+	}
+	for _, row := range answer.Kvs {
+		if !isAsked(asked, row) {
+			return malformed(fmt.Sprintf("the row %q was not asked for", row.Key))
+		}
+		if row.CreateRevision <= 0 || row.ModRevision <= 0 {
+			return malformed(fmt.Sprintf("the row %q has no revision", row.Key))
+		}
+	}
+	return nil
+}
+
+// isAsked reports whether a reading asks for a row: by its key, or by a range without its end.
+func isAsked(asked *pb.RangeRequest, row *mvccpb.KeyValue) bool {
+	key, begin, end := string(row.Key), string(asked.Key), string(asked.RangeEnd)
+	if end == "" {
+		return key == begin
+	}
+	return key >= begin && key < end
+}
+
+// checkTransaction refuses an answer that has not one response of the right kind for each
+// operation.
+func checkTransaction(asked *pb.TxnRequest, answer *pb.TxnResponse) error {
+	operations := asked.Failure
+	if answer.Succeeded {
+		operations = asked.Success
+	}
+	if len(answer.Responses) != len(operations) {
+		return malformed(fmt.Sprintf("%d responses to %d operations", len(answer.Responses), len(operations)))
+	}
+	for i, response := range answer.Responses {
+		if !isOfKind(operations[i], response) {
+			return malformed(fmt.Sprintf("response %d is missing, or is one to another operation", i+1))
+		}
+		if read := response.GetResponseRange(); read != nil {
+			if err := checkRows(operations[i].GetRequestRange(), read); err != nil {
+				return err
+			}
+		}
+	}
+	return nil
+}
+
+// isOfKind reports whether a response is there, and is one to this operation.
+func isOfKind(operation *pb.RequestOp, response *pb.ResponseOp) bool {
+	switch operation.Request.(type) {
+	case *pb.RequestOp_RequestRange:
+		return response.GetResponseRange() != nil
+	case *pb.RequestOp_RequestPut:
+		return response.GetResponsePut() != nil
+	case *pb.RequestOp_RequestDeleteRange:
+		return response.GetResponseDeleteRange() != nil
+	}
+	return false
+}

@@ -1,0 +1,144 @@
+package main
+
+import (
+	"crypto/ecdsa"
+	"crypto/elliptic"
+	"crypto/rand"
+	"crypto/x509"
+	"crypto/x509/pkix"
+	"encoding/pem"
+	"fmt"
+	"math/big"
+	"net"
+	"os"
+	"path/filepath"
+	"reflect"
+	"strings"
+	"testing"
+	"time"
+)
+
+// certify writes a new certificate, which signs itself, and its key.
+func certify(t *testing.T, cert, key, name string, until time.Time) {
+	t.Helper()
+	pair, err := ecdsa.GenerateKey(elliptic.P256(), rand.Reader)
+	if err != nil {
+		t.Fatal(err)
+	}
+	asked := &x509.Certificate{SerialNumber: big.NewInt(1), Subject: pkix.Name{CommonName: name}, NotBefore: until.AddDate(-1, 0, 0), NotAfter: until,
+		IPAddresses: []net.IP{net.IPv4(127, 0, 0, 1)}}
+	der, err := x509.CreateCertificate(rand.Reader, asked, asked, &pair.PublicKey, pair)
+	if err != nil {
+		t.Fatal(err)
+	}
+	secret, err := x509.MarshalECPrivateKey(pair)
+	if err != nil {
+		t.Fatal(err)
+	}
+	for path, block := range map[string]*pem.Block{cert: {Type: "CERTIFICATE", Bytes: der}, key: {Type: "EC PRIVATE KEY", Bytes: secret}} {
+		if err := os.WriteFile(path, pem.EncodeToMemory(block), 0o600); err != nil {
+			t.Fatal(err)
+		}
+	}
+}
+
+// What the files of --cacert, --cert and --key have, and why they are refused.
+func TestReadCertificates(t *testing.T) {
+	folder := t.TempDir()
+	cert, key, empty := filepath.Join(folder, "cert"), filepath.Join(folder, "key"), filepath.Join(folder, "empty")
+	certify(t, cert, key, "a", time.Now().AddDate(1, 0, 0))
+	if err := os.WriteFile(empty, nil, 0o600); err != nil {
+		t.Fatal(err)
+	}
+	cases := []struct {
+		name  string
+		asked options
+		roots int
+		isOwn bool
+		want  string
+	}{
+		{"none", options{}, 0, false, ""},
+		{"roots", options{cacert: cert}, 1, false, ""},
+		{"its own", options{cert: cert, key: key}, 0, true, ""},
+		{"both", options{cacert: cert, cert: cert, key: key}, 1, true, ""},
+		{"no certificate", options{cacert: empty}, 0, false, "--cacert: " + empty + " has no certificate"},
+		{"no file of roots", options{cacert: folder + "/none"}, 0, false, "--cacert: open "},
+		{"no file of its own", options{cert: folder + "/none", key: key}, 0, false, "--cert, --key: open "},
+		{"no key", options{cacert: cert, cert: cert, key: empty}, 0, false, "--cert, --key: "},
+	}
+	for _, c := range cases {
+		t.Run(c.name, func(t *testing.T) {
+			got, err := readCertificates(c.asked)
+			if (err == nil) != (c.want == "") || err != nil && !strings.HasPrefix(err.Error(), c.want) {
+				t.Fatalf("%v, wanted %q", err, c.want)
+			}
+			settings := got.settings()
+			if err == nil && (len(got.roots) != c.roots || (got.own != nil) != c.isOwn || (settings.RootCAs != nil) != (c.roots > 0) || settings.InsecureSkipVerify) {
+				t.Errorf("%+v", got)
+			}
+		})
+	}
+}
+
+// Which connections speak TLS: the scheme of the first endpoint says so, and an option where it has
+// none.
+func TestIsSecure(t *testing.T) {
+	for _, c := range []struct {
+		endpoint, cacert, cert string
+		want                   bool
+	}{
+		{"a:1", "", "", false}, {"a:1", "ca", "", true}, {"a:1", "", "own", true}, {"https://a:1", "", "", true}, {"https://a:1", "ca", "own", true},
+		{"http://a:1", "ca", "own", false},
+	} {
+		if got := newMembers(options{endpoints: []string{c.endpoint}, cacert: c.cacert, cert: c.cert}, nil).isSecure(); got != c.want {
+			t.Errorf("%+v: %v", c, got)
+		}
+	}
+}
+
+// A line says whose the certificates are and how long they are valid: at first, and once they are
+// others.
+func TestCertificatesLine(t *testing.T) {
+	folder := t.TempDir()
+	cert, key, roots := filepath.Join(folder, "cert"), filepath.Join(folder, "key"), filepath.Join(folder, "roots")
+	first, second := time.Date(2031, 1, 2, 3, 4, 5, 0, time.UTC), time.Date(2032, 1, 2, 3, 4, 5, 0, time.UTC)
+	certify(t, roots, filepath.Join(folder, "other"), "root", second)
+	certify(t, cert, key, "csid", first)
+	var lines []string
+	m := newMembers(options{endpoints: []string{"a"}, cacert: roots, cert: cert, key: key}, func(format string, parts ...interface{}) {
+		lines = append(lines, fmt.Sprintf(format, parts...))
+	})
+	for i := 0; i < 3; i++ {
+		if i == 2 {
+			certify(t, cert, key, "csid", second)
+		}
+		if _, err := m.certificates(); err != nil {
+			t.Fatal(err)
+		}
+	}
+	want := []string{
+		`certificates: --cert "CN=csid" until 2031-01-02T03:04:05Z, --cacert "CN=root" until 2032-01-02T03:04:05Z`,
+		`certificates: --cert "CN=csid" until 2032-01-02T03:04:05Z, --cacert "CN=root" until 2032-01-02T03:04:05Z`,
+	}
+	if !reflect.DeepEqual(lines, want) {
+		t.Errorf("%q, wanted %q", lines, want)
+	}
+}
+
+// A certificate that ends within 30 days is warned of, and one that is over.
+func TestExpiryWarnings(t *testing.T) {
+	until := time.Date(2031, 1, 31, 0, 0, 0, 0, time.UTC)
+	c := certificates{leaf: &x509.Certificate{Subject: pkix.Name{CommonName: "csid"}, NotAfter: until}}
+	const line = `certificate: --cert "CN=csid" until 2031-01-31T00:00:00Z: `
+	for _, row := range []struct {
+		left time.Duration
+		want []string
+	}{
+		{30 * 24 * time.Hour, nil}, {30*24*time.Hour - 1, []string{line + "it ends in 29 days"}}, {time.Hour, []string{line + "it ends in 0 days"}},
+		{-1, []string{line + "it is over"}},
+	} {
+		if got := c.warnings(until.Add(-row.left)); !reflect.DeepEqual(got, row.want) {
+			t.Errorf("%v before its end: %q, wanted %q", row.left, got, row.want)
+		}
+	}
+}

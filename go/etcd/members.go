@@ -1,0 +1,237 @@
+package main
+
+import (
+	"context"
+	"errors"
+	"fmt"
+	"net"
+	"strings"
+	"sync"
+	"time"
+
+	"go.etcd.io/etcd/clientv3/balancer/resolver/endpoint"
+	"google.golang.org/grpc"
+	"google.golang.org/grpc/codes"
+	"google.golang.org/grpc/credentials"
+	"google.golang.org/grpc/peer"
+	"google.golang.org/grpc/status"
+)
+
+// members makes the connections to the members of etcd, each by the certificates that the files
+// have then, and remembers why a member could not be reached or what it refused, for lines.
+type members struct {
+	asked options
+	say   func(format string, parts ...interface{})
+	mutex sync.Mutex
+	// The certificates of the last connection.
+	last certificates
+	// The endpoint, as the options have it, of each address that was reached.
+	reached map[string]string
+	// By endpoint: why the last connection to it failed, and the last error that it answered. Both
+	// are forgotten once it answers a call.
+	unreached, refused map[string]string
+}
+
+func newMembers(asked options, say func(format string, parts ...interface{})) *members {
+	return &members{asked: asked, say: say, reached: map[string]string{}, unreached: map[string]string{}, refused: map[string]string{}}
+}
+
+// isSecure reports whether connections speak TLS: the first endpoint says so, or else an option.
+func (m *members) isSecure() bool {
+	_, _, scheme := endpoint.ParseEndpoint(m.asked.endpoints[0])
+	return scheme == "https" || scheme == "" && (m.asked.cacert != "" || m.asked.cert != "")
+}
+
+// certificates reads the files, and says in a line which certificates they have where these are
+// others than the last ones.
+func (m *members) certificates() (certificates, error) {
+	read, err := readCertificates(m.asked)
+	if err != nil {
+		return read, err
+	}
+	m.mutex.Lock()
+	isNew := !read.equal(m.last)
+	m.last = read
+	m.mutex.Unlock()
+	if isNew && read.line() != "" {
+		m.say("%s", read.line())
+	}
+	return read, nil
+}
+
+// watchCertificates looks at the files until the context ends, so that a change is a line also
+// while no connection is made. Once a day it says which certificates end soon.
+func (m *members) watchCertificates(ctx context.Context) {
+	var warned time.Time
+	for m.isSecure() && ctx.Err() == nil {
+		// A connection says why files cannot be read.
+		if read, err := m.certificates(); err == nil && time.Since(warned) >= warningPause {
+			warned = time.Now()
+			for _, line := range read.warnings(warned) {
+				m.say("%s", line)
+			}
+		}
+		pause(ctx, filesPause)
+	}
+}
+
+// dial connects to a member.
+func (m *members) dial(ctx context.Context, to string) (net.Conn, error) {
+	conn, err := endpoint.Dialer(ctx, to)
+	if err != nil {
+		m.cannotReach(ctx, to, err)
+		return nil, err
+	}
+	m.mutex.Lock()
+	defer m.mutex.Unlock()
+	m.reached[conn.RemoteAddr().String()] = to
+	return conn, nil
+}
+
+// endpointOf is the endpoint of an address; the address itself where none is known.
+func (m *members) endpointOf(address net.Addr) string {
+	m.mutex.Lock()
+	defer m.mutex.Unlock()
+	if to, is := m.reached[address.String()]; is {
+		return to
+	}
+	return address.String()
+}
+
+// cannotReach remembers why a member was not reached, unless the attempt was given up. It leaves out
+// the addresses of a connection, of which one is another each time.
+func (m *members) cannotReach(ctx context.Context, to string, err error) {
+	if ctx.Err() == context.Canceled {
+		return
+	}
+	why := handshakeError(err)
+	var failure *net.OpError
+	if errors.As(err, &failure) {
+		why = failure.Err.Error()
+	}
+	m.mutex.Lock()
+	defer m.mutex.Unlock()
+	m.unreached[to] = why
+}
+
+// answered is between etcd's client and the connection, and notes which member answered a call, and
+// how.
+func (m *members) answered(ctx context.Context, method string, request, reply interface{}, connection *grpc.ClientConn,
+	send grpc.UnaryInvoker, options ...grpc.CallOption) error {
+	var from peer.Peer
+	err := send(ctx, method, request, reply, connection, append(options[:len(options):len(options)], grpc.Peer(&from))...)
+	if from.Addr == nil {
+		return err
+	}
+	to := m.endpointOf(from.Addr)
+	m.mutex.Lock()
+	defer m.mutex.Unlock()
+	delete(m.refused, to)
+	if err != nil {
+		m.refused[to] = status.Convert(err).Message()
+	} else {
+		delete(m.unreached, to)
+	}
+	return err
+}
+
+// where says of an error which members it comes from, in parentheses: those that could not be
+// reached, with the reason, where none answered; otherwise those whose last answer it was. It is
+// empty where the error is not one of etcd.
+func (m *members) where(err error) string {
+	if m == nil || err == nil {
+		return ""
+	}
+	m.mutex.Lock()
+	defer m.mutex.Unlock()
+	var found []string
+	for _, to := range m.asked.endpoints {
+		refused := m.refused[to]
+		if why := m.unreached[to]; why != "" && isSilence(err) {
+			found = append(found, to+": "+why)
+		} else if refused != "" && strings.Contains(err.Error(), refused) {
+			found = append(found, to)
+		}
+	}
+	if len(found) == 0 && isSilence(err) {
+		found = m.asked.endpoints
+	}
+	if len(found) == 0 {
+		return ""
+	}
+	return " (" + strings.Join(found, "; ") + ")"
+}
+
+// reasons is why members could not be reached, where an error says that none answered.
+func (m *members) reasons(err error) string {
+	if m == nil || err == nil || !isSilence(err) {
+		return ""
+	}
+	m.mutex.Lock()
+	defer m.mutex.Unlock()
+	var found []string
+	for _, to := range m.asked.endpoints {
+		found = append(found, m.unreached[to])
+	}
+	return strings.Join(found, ";")
+}
+
+// isSilence reports whether an error says that no member answered in time.
+func isSilence(err error) bool {
+	if unknown, is := err.(open); is {
+		err = unknown.err
+	}
+	return errors.Is(err, errLeaseOver) || status.Code(err) == codes.Unavailable || strings.Contains(err.Error(), context.DeadlineExceeded.Error())
+}
+
+// memberCredentials secures each connection by the certificates that the files have then, and wants
+// the name of its own endpoint in the certificate of the member.
+type memberCredentials struct {
+	credentials.TransportCredentials
+	members *members
+}
+
+func (m *members) credentials() credentials.TransportCredentials {
+	return memberCredentials{credentials.NewTLS(nil), m}
+}
+
+func (c memberCredentials) Clone() credentials.TransportCredentials { return c.members.credentials() }
+
+func (c memberCredentials) ClientHandshake(ctx context.Context, _ string, raw net.Conn) (net.Conn, credentials.AuthInfo, error) {
+	to := c.members.endpointOf(raw.RemoteAddr())
+	used, err := c.members.certificates()
+	if err != nil {
+		raw.Close()
+		c.members.cannotReach(ctx, to, err)
+		return nil, nil, err
+	}
+	_, host, _ := endpoint.ParseEndpoint(to)
+	conn, info, err := credentials.NewTLS(used.settings()).ClientHandshake(ctx, host, raw)
+	if err != nil {
+		c.members.cannotReach(ctx, to, err)
+		return nil, nil, err
+	}
+	return &memberConn{conn, to, used, c.members}, info, nil
+}
+
+// memberConn is a connection whose end by an alert of TLS is noted: a member that refuses this
+// program's certificate ends the connection so, after the handshake.
+type memberConn struct {
+	net.Conn
+	to      string
+	used    certificates
+	members *members
+}
+
+func (c *memberConn) Read(into []byte) (int, error) {
+	count, err := c.Conn.Read(into)
+	var failure *net.OpError
+	if errors.As(err, &failure) && failure.Op == "remote error" {
+		own := "no certificate"
+		if c.used.leaf != nil {
+			own = "--cert " + named(c.used.leaf)
+		}
+		c.members.cannotReach(context.Background(), c.to, fmt.Errorf("it refuses %s: %v", own, failure.Err))
+	}
+	return count, err
+}

@@ -1,0 +1,138 @@
+package main
+
+import (
+	"context"
+	"errors"
+	"net"
+	"os"
+	"path/filepath"
+	"strings"
+	"testing"
+	"time"
+
+	"go.etcd.io/etcd/clientv3"
+	"go.etcd.io/etcd/etcdserver/api/v3rpc/rpctypes"
+	pb "go.etcd.io/etcd/etcdserver/etcdserverpb"
+	"google.golang.org/grpc/codes"
+	"google.golang.org/grpc/metadata"
+	"google.golang.org/grpc/status"
+)
+
+// A line has the members that an error comes from: those that refused, those that could not be
+// reached, or all that were asked where none answered; and none where the error is not etcd's.
+func TestWhere(t *testing.T) {
+	m := newMembers(options{endpoints: []string{"a:1", "b:2", "c:3"}}, t.Logf)
+	m.refused["b:2"] = "etcdserver: permission denied"
+	silence := status.Error(codes.Unavailable, "transport is closing")
+	cases := []struct {
+		name      string
+		unreached map[string]string
+		err       error
+		want      string
+	}{
+		{"nothing", nil, nil, ""},
+		{"refused", nil, rpctypes.ErrPermissionDenied, " (b:2)"},
+		{"refused, within a text", nil, errors.New("volumes/1: etcdserver: permission denied; nothing was written"), " (b:2)"},
+		{"refused, while others cannot be reached", map[string]string{"a:1": "no"}, rpctypes.ErrPermissionDenied, " (b:2)"},
+		{"not of etcd", map[string]string{"a:1": "no"}, errKeyGone, ""},
+		{"silence", nil, context.DeadlineExceeded, " (a:1; b:2; c:3)"},
+		{"silence of an open outcome", nil, open{silence}, " (a:1; b:2; c:3)"},
+		{"some cannot be reached", map[string]string{"a:1": "no", "c:3": "its certificate"}, context.DeadlineExceeded, " (a:1: no; c:3: its certificate)"},
+		{"the lease is over", map[string]string{"c:3": "no"}, errLeaseOver, " (c:3: no)"},
+	}
+	for _, c := range cases {
+		t.Run(c.name, func(t *testing.T) {
+			m.unreached = c.unreached
+			if got := m.where(c.err); got != c.want {
+				t.Errorf("%q, wanted %q", got, c.want)
+			}
+		})
+	}
+}
+
+// A member that refuses connections is named in the line of a candidate, again once the reason is
+// another one, and not any more once it answers.
+func TestUnreachedMember(t *testing.T) {
+	listener, err := net.Listen("tcp", "127.0.0.1:0")
+	if err != nil {
+		t.Fatal(err)
+	}
+	address := listener.Addr().String()
+	listener.Close()
+	m := newMembers(options{endpoints: []string{address}}, t.Logf)
+	if _, err := m.dial(context.Background(), address); err == nil {
+		t.Fatal("somebody answers")
+	}
+	var lines []string
+	c := &candidate{members: m, state: &leadership{}, say: func(_ string, parts ...interface{}) { lines = append(lines, parts[0].(string)) }}
+	c.waits(context.DeadlineExceeded)
+	c.waits(context.DeadlineExceeded)
+	ctx, cancel := context.WithCancel(context.Background())
+	m.cannotReach(ctx, address, errors.New("another reason"))
+	cancel()
+	m.cannotReach(ctx, address, errors.New("given up"))
+	c.waits(context.DeadlineExceeded)
+	delete(m.unreached, address)
+	c.waits(context.DeadlineExceeded)
+	const silent = "no lock: context deadline exceeded ("
+	want := silent + address + ": connect: connection refused)\n" + silent + address + ": another reason)\n" + silent + address + ")"
+	if got := strings.Join(lines, "\n"); got != want {
+		t.Errorf("%s\nwanted\n%s", got, want)
+	}
+}
+
+// guarded is an etcd that takes the newest token alone.
+type guarded struct {
+	moody
+	pb.AuthServer
+	asked []string
+}
+
+func (g *guarded) Authenticate(ctx context.Context, asked *pb.AuthenticateRequest) (*pb.AuthenticateResponse, error) {
+	if said, _ := metadata.FromIncomingContext(ctx); len(said.Get("token")) > 0 {
+		return nil, rpctypes.ErrGRPCInvalidAuthToken
+	}
+	if asked.Name != "csid" || asked.Password != "secret" {
+		return nil, rpctypes.ErrGRPCAuthFailed
+	}
+	g.asked = append(g.asked, "token"+strings.Repeat("+", len(g.asked)))
+	return &pb.AuthenticateResponse{Header: &pb.ResponseHeader{}, Token: g.asked[len(g.asked)-1]}, nil
+}
+
+func (g *guarded) Txn(ctx context.Context, asked *pb.TxnRequest) (*pb.TxnResponse, error) {
+	said, _ := metadata.FromIncomingContext(ctx)
+	if tokens := said.Get("token"); len(tokens) != 1 || tokens[0] != g.asked[len(g.asked)-1] {
+		return nil, rpctypes.ErrGRPCInvalidAuthToken
+	}
+	return g.moody.Txn(ctx, asked)
+}
+
+// A user has a token from the start on, and another one once etcd does not know it any more: the
+// transaction is made then, once.
+func TestLogin(t *testing.T) {
+	server := &guarded{}
+	password := filepath.Join(t.TempDir(), "password")
+	if err := os.WriteFile(password, []byte("wrong\n"), 0o600); err != nil {
+		t.Fatal(err)
+	}
+	asked := options{endpoints: []string{listening(t, server)}, timeout: 5 * time.Second, user: "csid", passwordFile: password}
+	if _, err := newMembers(asked, t.Logf).connect(); err != rpctypes.ErrAuthFailed {
+		t.Fatalf("with another password: %v", err)
+	}
+	asked.passwordFile, asked.password = "", "secret"
+	client, err := newMembers(asked, t.Logf).connect()
+	if err != nil {
+		t.Fatal(err)
+	}
+	defer client.Close()
+	for i := 1; i <= 2; i++ {
+		ctx, cancel := context.WithTimeout(context.Background(), 5*time.Second)
+		_, err := client.Txn(sentOnce(ctx)).Then(clientv3.OpPut("a", "b")).Commit()
+		cancel()
+		if err != nil || int(server.came) != i || len(server.asked) != i {
+			t.Errorf("%d: %v, %d transactions, %d tokens", i, err, server.came, len(server.asked))
+		}
+		// As after a start of etcd.
+		server.asked[len(server.asked)-1] = "forgotten"
+	}
+}

@@ -1,0 +1,194 @@
+package tests
+
+import (
+	"context"
+	"math/rand"
+	"net"
+	"reflect"
+	"strings"
+	"sync"
+	"testing"
+	"time"
+
+	pb "go.etcd.io/etcd/etcdserver/etcdserverpb"
+	"google.golang.org/grpc"
+
+	"./clusters"
+)
+
+// liar is between a csid-etcd and a member of etcd, and takes parts of its answers away while it is
+// asked to.
+type liar struct {
+	pb.KVServer
+	pb.LeaseServer
+	pb.WatchServer
+	member  *grpc.ClientConn
+	mutex   sync.Mutex
+	random  *rand.Rand
+	isLying bool
+	lies    int
+}
+
+// newLiar starts one, and says where it answers.
+func newLiar(t *testing.T, member string) (*liar, string) {
+	t.Helper()
+	conn, err := grpc.Dial(member, grpc.WithInsecure())
+	if err != nil {
+		t.Fatal(err)
+	}
+	listener, err := net.Listen("tcp", "127.0.0.1:0")
+	if err != nil {
+		t.Fatal(err)
+	}
+	l := &liar{member: conn, random: rand.New(rand.NewSource(7))}
+	server := grpc.NewServer()
+	pb.RegisterKVServer(server, l)
+	pb.RegisterLeaseServer(server, l)
+	pb.RegisterWatchServer(server, l)
+	go server.Serve(listener)
+	t.Cleanup(func() {
+		server.Stop()
+		conn.Close()
+	})
+	return l, listener.Addr().String()
+}
+
+// set begins or ends the lies, and gives how many there were.
+func (l *liar) set(isLying bool) int {
+	l.mutex.Lock()
+	defer l.mutex.Unlock()
+	l.isLying = isLying
+	return l.lies
+}
+
+// lie takes a part of every second answer away.
+func (l *liar) lie(answer interface{}) {
+	l.mutex.Lock()
+	defer l.mutex.Unlock()
+	if l.isLying && l.random.Intn(2) == 0 {
+		l.lies++
+		l.take(reflect.ValueOf(answer))
+	}
+}
+
+// take takes a part away: a field of the answer itself, or of one of its parts.
+func (l *liar) take(part reflect.Value) {
+	for part.Kind() == reflect.Ptr || part.Kind() == reflect.Interface {
+		if part.IsNil() {
+			return
+		}
+		part = part.Elem()
+	}
+	switch {
+	case part.Kind() == reflect.Slice && part.Len() > 0 && part.Type().Elem().Kind() == reflect.Ptr:
+		l.take(part.Index(l.random.Intn(part.Len())))
+	case part.Kind() == reflect.Struct:
+		field := part.Field(l.random.Intn(part.NumField()))
+		if l.random.Intn(2) == 0 && field.Kind() != reflect.Struct {
+			field.Set(reflect.Zero(field.Type()))
+		} else {
+			l.take(field)
+		}
+	}
+}
+
+func (l *liar) Range(ctx context.Context, asked *pb.RangeRequest) (*pb.RangeResponse, error) {
+	answer, err := pb.NewKVClient(l.member).Range(ctx, asked)
+	l.lie(answer)
+	return answer, err
+}
+
+func (l *liar) Txn(ctx context.Context, asked *pb.TxnRequest) (*pb.TxnResponse, error) {
+	answer, err := pb.NewKVClient(l.member).Txn(ctx, asked)
+	l.lie(answer)
+	return answer, err
+}
+
+func (l *liar) DeleteRange(ctx context.Context, asked *pb.DeleteRangeRequest) (*pb.DeleteRangeResponse, error) {
+	answer, err := pb.NewKVClient(l.member).DeleteRange(ctx, asked)
+	l.lie(answer)
+	return answer, err
+}
+
+func (l *liar) LeaseGrant(ctx context.Context, asked *pb.LeaseGrantRequest) (*pb.LeaseGrantResponse, error) {
+	answer, err := pb.NewLeaseClient(l.member).LeaseGrant(ctx, asked)
+	l.lie(answer)
+	return answer, err
+}
+
+func (l *liar) LeaseRevoke(ctx context.Context, asked *pb.LeaseRevokeRequest) (*pb.LeaseRevokeResponse, error) {
+	answer, err := pb.NewLeaseClient(l.member).LeaseRevoke(ctx, asked)
+	l.lie(answer)
+	return answer, err
+}
+
+func (l *liar) LeaseKeepAlive(stream pb.Lease_LeaseKeepAliveServer) error {
+	member, err := pb.NewLeaseClient(l.member).LeaseKeepAlive(stream.Context())
+	for err == nil {
+		var asked *pb.LeaseKeepAliveRequest
+		if asked, err = stream.Recv(); err == nil {
+			err = member.Send(asked)
+		}
+		var answer *pb.LeaseKeepAliveResponse
+		if err == nil {
+			answer, err = member.Recv()
+		}
+		if err == nil {
+			l.lie(answer)
+			err = stream.Send(answer)
+		}
+	}
+	return err
+}
+
+func (l *liar) Watch(stream pb.Watch_WatchServer) error {
+	member, err := pb.NewWatchClient(l.member).Watch(stream.Context())
+	if err != nil {
+		return err
+	}
+	go func() {
+		for asked, err := stream.Recv(); err == nil; asked, err = stream.Recv() {
+			member.Send(asked)
+		}
+	}()
+	for {
+		answer, err := member.Recv()
+		if err != nil {
+			return err
+		}
+		l.lie(answer)
+		if err := stream.Send(answer); err != nil {
+			return err
+		}
+	}
+}
+
+// A program whose peer takes parts of its answers away for a while refuses calls, or ends
+// connections, and goes on. Once the answers are whole again, it leads and makes changes.
+func TestLies(t *testing.T) {
+	t.Parallel()
+	cluster := clusters.Start(t, 1)
+	between, address := newLiar(t, cluster.Members[0].Address)
+	p := start(t, address, "--lease", "2", "--timeout", "500ms").leads(t)
+	p.dial(t).wants(t, makePath, "", 0, "")
+	between.set(true)
+	for end := time.Now().Add(15 * time.Second); time.Now().Before(end); time.Sleep(10 * time.Millisecond) {
+		l, err := dial(p.Socket)
+		if err != nil {
+			t.Fatalf("it takes no connection: %v: %s", err, p.Log)
+		}
+		l.call(readPath, nil)
+		l.call(commitPath, attach(1, "n", false))
+		l.call(commitPath, setMutable(1, ""))
+		l.call(leadPath, nil)
+		l.Close()
+	}
+	if lies := between.set(false); lies < 50 {
+		t.Errorf("%d lies", lies)
+	}
+	p.saysThatItLeads(t)
+	p.dial(t).commits(t, addVolume(1, "a"))
+	if log := p.Log.String(); strings.Contains(log, "panic") || hasEnded(p.Process) || !strings.Contains(log, "etcd's answer is malformed: ") {
+		t.Errorf("it has ended: %v: %s", hasEnded(p.Process), log)
+	}
+}
