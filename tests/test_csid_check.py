@@ -154,26 +154,26 @@ class CheckTest(CsidTest):
                 contents.append(file.read())
         self.row("both have one length", len(contents[0]), len(contents[1]))
 
-        def feed(path, versions):
-            """Gives pipes what csid reads of them: the head, the journal, the file, and then the log and the
-            file in turn. Each is opened after the end of another.
+        def feed(path, copies):
+            """Gives pipes what csid reads of them: the head and the journal, and for each copy the file, the
+            WAL, the file again, and the header of the WAL. Each is opened after the end of another.
             """
-            reads = [("", contents[0][:105]), ("-journal", b""), ("", contents[versions[0]])]
-            for version in versions[1:]:
-                reads += [("-wal", b""), ("", contents[version])]
+            reads = [("", contents[0][:105]), ("-journal", b"")]
+            for before, after in copies:
+                reads += [("", contents[before]), ("-wal", b""), ("", contents[after]), ("-wal", b"")]
             for ending, content in reads:
                 with open(path + ending, "wb") as pipe:
                     pipe.write(content)
 
         has = [(b"volumes %d, attachments 0, next number 9, format 2\n" % count, "", 0) for count in (1, 2)]
-        for name, versions, came in [
-            ("once", [0, 1, 1], has[1]),
-            ("twice", [0, 1, 0, 0], has[0]),
-            ("nine times", [0, 1] * 5 + [1], has[1]),
-            ("all the time", [0, 1] * 5 + [0], None),
+        for name, copies, came in [
+            ("once", [(0, 1), (1, 1)], has[1]),
+            ("twice", [(0, 1), (1, 0), (0, 0)], has[0]),
+            ("nine times", [(0, 1)] * 9 + [(1, 1)], has[1]),
+            ("all the time", [(0, 1)] * 10, None),
         ]:
             tables = Tables(self.csid, self.folder, name + ".db")
             for ending in "", "-journal", "-wal":
                 os.mkfifo(tables.path + ending)
-            threading.Thread(target=feed, args=(tables.path, versions), daemon=True).start()
+            threading.Thread(target=feed, args=(tables.path, copies), daemon=True).start()
             self.row("" + name, tables.check(), came or tables.says("it is written all the time"))

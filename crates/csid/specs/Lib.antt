@@ -1,3 +1,4 @@
+pub mod Copying
 pub mod Reading
 pub mod Serving
 pub mod Starting

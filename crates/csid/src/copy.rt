@@ -1,7 +1,8 @@
 //! A copy of a file of tables in memory, by reads alone.
 
-ghost use Rattle.std.specs.Prelude.{◌≡◌, false, IfErr, IfOk, IsTrue};
-ghost use Rattle.sqlite_disk.specs.Memory.{memory_is_usable};
+ghost use Rattle.std.specs.Prelude.{◌≡◌, ◌↔◌, ℕ, List, ⊤, false, IfErr, IfOk, IfSome, IsTrue};
+ghost use Rattle.sqlite_disk.specs.Memory.{memory_bytes, memory_is_usable};
+ghost use Rattle.csid.specs.Copying.{IsOfOneMoment, header_in};
 ghost use Rattle.csid.specs.Statuses.{IsOrNoMemory};
 
 use crate::existing::FileFault;
@@ -11,11 +12,14 @@ use crate::tables::{check_existing, check_path, database_failure};
 use sqlite::{Connection, Error, ErrorCode, FileStore, Files};
 use sqlite_disk::Memory;
 use std::alloc::Global;
-use std::fs;
-use std::io::{self, ErrorKind};
+use std::fs::{self, File};
+use std::io::{self, ErrorKind, Read};
 
-// How often a file is copied that is written at the same time.
+// How many times a copy is begun of a file that another process writes at the same time.
 const TRIES: usize = 10;
+
+// The length of the header of a WAL (sqlite.org/fileformat2.html, section 4.1).
+const WAL_HEADER_BYTES: usize = 32;
 
 const IS_WRITTEN: &str = "it is written all the time";
 
@@ -40,6 +44,23 @@ fn bytes_of(rt: &HostRuntime, path: &str) -> Result<Vec<u8>, Failure>
     }
 }
 
+// The first bytes of a WAL, as many as its header has; fewer where the file is shorter, none where there is
+// no file.
+fn header_of(rt: &HostRuntime, path: &str) -> Result<Vec<u8>, Failure>
+    ensures { IfErr result (λ failure. IsOrNoMemory 4 failure) }
+{
+    let mut header = Vec::new(rt.alloc());
+    let file = match File::open(rt, path) {
+        Ok(file) => file,
+        Err(error) if error.kind() == ErrorKind::NotFound => return Ok(header),
+        Err(error) => return Err(read_failure(rt.alloc(), path, &error)),
+    };
+    match file.take(WAL_HEADER_BYTES as u64).read_to_end(&mut header) {
+        Ok(_) => Ok(header),
+        Err(error) => Err(read_failure(rt.alloc(), path, &error)),
+    }
+}
+
 // The file that links lead to: SQLite keeps its WAL and its journal next to that one.
 fn real_path(rt: &HostRuntime, path: &str) -> Result<String, Failure>
     ensures { IfErr result (λ failure. IsOrNoMemory 4 failure) }
@@ -57,23 +78,106 @@ fn path_with(alloc: Global, real: &str, end: &str) -> Result<String, Failure>
     Ok(format!(in alloc; "{real}{end}")?)
 }
 
-// What a file and its WAL have at one moment. The file is read once more after its WAL: where it was written
-// while they are read, both are read again.
-fn copied(rt: &HostRuntime, path: &str, wal_path: &str) -> Result<Files<Memory>, Failure>
-    ensures usable { IfOk result (λ files. IsTrue (memory_is_usable files.log)
-        × IsTrue (memory_is_usable files.db)) }
+/// A database file and its WAL, as a copy reads them while another process may write them.
+trait DatabaseReads {
+    // The database file was read whole, and gave these bytes.
+    ghost database: { Self → Self → List ℕ → Type 0 } = { λ _ _ _. ⊤ };
+    // So was the WAL.
+    ghost wal: { Self → Self → List ℕ → Type 0 } = { λ _ _ _. ⊤ };
+    // The header of the WAL alone was read, and gave these bytes.
+    ghost wal_header: { Self → Self → List ℕ → Type 0 } = { λ _ _ _. ⊤ };
+
+    /// The bytes of the database file; none if there is no such file.
+    fn read_database(&mut self) -> Result<Vec<u8>, Failure>
+        ensures read { IfOk result (λ bytes. database self.old self.new bytes.items) }
+        ensures failure { IfErr result (λ failure. IsOrNoMemory 4 failure) };
+
+    /// The bytes of the WAL; none if there is no such file.
+    fn read_wal(&mut self) -> Result<Vec<u8>, Failure>
+        ensures read { IfOk result (λ bytes. wal self.old self.new bytes.items) }
+        ensures failure { IfErr result (λ failure. IsOrNoMemory 4 failure) };
+
+    /// The first 32 bytes of the WAL, fewer if the file is shorter.
+    fn read_wal_header(&mut self) -> Result<Vec<u8>, Failure>
+        ensures read { IfOk result (λ bytes. wal_header self.old self.new bytes.items) }
+        ensures failure { IfErr result (λ failure. IsOrNoMemory 4 failure) };
+}
+
+/// The files at a path.
+#[derive(Clone, Copy, Drop)]
+struct PathReads<'a> {
+    rt: &'a HostRuntime,
+    path: &'a str,
+    wal_path: &'a str,
+}
+
+impl DatabaseReads for PathReads<'_> {
+    fn read_database(&mut self) -> Result<Vec<u8>, Failure> {
+        bytes_of(self.rt, self.path)
+    }
+
+    fn read_wal(&mut self) -> Result<Vec<u8>, Failure> {
+        bytes_of(self.rt, self.wal_path)
+    }
+
+    fn read_wal_header(&mut self) -> Result<Vec<u8>, Failure> {
+        header_of(self.rt, self.wal_path)
+    }
+}
+
+// Whether a WAL begins with this header.
+fn has_header(wal: &[u8], header: &[u8]) -> bool
+    ensures { IsTrue result ↔ (header.now ≡ header_in wal.now) }
+{
+    header == wal.split_at(WAL_HEADER_BYTES.min(wal.len())).0
+}
+
+// Reads the database file, its WAL, the database file again, and last the header of the WAL. `None` if a
+// writer came between: the database file changed, or the WAL began again, which gives it a new header before
+// any of its frames is written over or cut off.
+fn copied_once<F: DatabaseReads>(
+    alloc: Global,
+    files: &mut F,
+) -> Result<Option<Files<Memory>>, Failure>
+    ensures usable { IfOk result (λ found. IfSome found (λ copy. IsTrue (memory_is_usable copy.log)
+        × IsTrue (memory_is_usable copy.db))) }
+    ensures moment { IfOk result (λ found. IfSome found (λ copy.
+        IsOfOneMoment F.database F.wal F.wal_header files.old files.new
+        (memory_bytes copy.log) (memory_bytes copy.db))) }
     ensures failure { IfErr result (λ failure. IsOrNoMemory 4 failure) }
 {
-    let mut db = bytes_of(rt, path)?;
-    for _ in 0..TRIES {
-        let wal = bytes_of(rt, wal_path)?;
-        let again = bytes_of(rt, path)?;
-        if again == db {
-            return files_of(rt.alloc(), wal.as_slice(), db.as_slice());
-        }
-        db = again;
+    let database = files.read_database()?;
+    let wal = files.read_wal()?;
+    let again = files.read_database()?;
+    let header = files.read_wal_header()?;
+    if again.as_slice() != database.as_slice() {
+        return Ok(None);
     }
-    Err(Failure::of_tables(rt.alloc(), path, &IS_WRITTEN))
+    if !has_header(wal.as_slice(), header.as_slice()) {
+        return Ok(None);
+    }
+    Ok(Some(files_of(alloc, wal.as_slice(), database.as_slice())?))
+}
+
+// A copy of a database file and its WAL as they were at one moment.
+fn copied<F: DatabaseReads>(
+    alloc: Global,
+    path: &str,
+    files: &mut F,
+) -> Result<Files<Memory>, Failure>
+    ensures usable { IfOk result (λ copy. IsTrue (memory_is_usable copy.log)
+        × IsTrue (memory_is_usable copy.db)) }
+    ensures moment { IfOk result (λ copy. (from : F)
+        × IsOfOneMoment F.database F.wal F.wal_header from files.new
+        (memory_bytes copy.log) (memory_bytes copy.db)) }
+    ensures failure { IfErr result (λ failure. IsOrNoMemory 4 failure) }
+{
+    for _ in 0..TRIES {
+        if let Some(copy) = copied_once(alloc, files)? {
+            return Ok(copy);
+        }
+    }
+    Err(Failure::of_tables(alloc, path, &IS_WRITTEN))
 }
 
 // Whether a journal has something to play back, which SQLite alone can do. The opening of the file itself
@@ -94,8 +198,13 @@ fn open_copy(rt: &HostRuntime, path: &str) -> Result<Connection<FileStore<Memory
         return Err(database_failure(rt.alloc(), path, &error));
     }
     let wal = path_with(rt.alloc(), real.as_str(), "-wal")?;
-    let files = copied(rt, real.as_str(), wal.as_str())?;
-    open(rt.alloc(), path, files)
+    let mut reads = PathReads {
+        rt,
+        path: real.as_str(),
+        wal_path: wal.as_str(),
+    };
+    let copy = copied(rt.alloc(), path, &mut reads)?;
+    open(rt.alloc(), path, copy)
 }
 
 /// A connection to a copy of the tables in a file, with what is in its WAL, by reads alone: no lock is taken,

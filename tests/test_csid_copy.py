@@ -1,0 +1,111 @@
+"""`csid --check-tables` reads a file and its WAL while another process writes them."""
+
+import itertools
+import os
+import sqlite3
+import threading
+
+from tests.support.rows import CsidTest
+from tests.support.tables import Tables, next_is, volume
+
+# The bytes of a WAL's header (sqlite.org/fileformat2.html, section 4.1).
+HEADER = 32
+
+
+class Moment:
+    """What a file, its WAL and the tables in them have at one moment."""
+
+    def __init__(self, path, volumes):
+        with open(path, "rb") as file:
+            self.database = file.read()
+        with open(path + "-wal", "rb") as file:
+            self.wal = file.read()
+        self.volumes = volumes
+
+
+def moments(path):
+    """A writer's moments in order, and how long its WAL was after the first of two commits. Both commits are
+    in the WAL alone; they are in the file too; the WAL has begun again with a third commit.
+    """
+    writer = sqlite3.connect(path, isolation_level=None)
+    writer.execute("PRAGMA wal_autocheckpoint = 0")
+
+    def commit(number):
+        writer.executescript("BEGIN; %s %s COMMIT;" % (volume(number, "'v%d'" % number), next_is(number + 1)))
+
+    commit(1)
+    first = os.path.getsize(path + "-wal")
+    commit(2)
+    found = [Moment(path, 2)]
+    writer.execute("PRAGMA wal_checkpoint(PASSIVE)").fetchall()
+    found.append(Moment(path, 2))
+    commit(3)
+    found.append(Moment(path, 3))
+    writer.close()
+    return found, first
+
+
+class CopyTest(CsidTest):
+    """`csid --check-tables` reads a file and its WAL while another process writes them."""
+
+    def setUp(self):
+        super().setUp()
+        self.moments, self.cut = moments(Tables(self.csid, self.folder, "made.db").new().path)
+
+    def feed(self, path, reads):
+        """Gives csid what it reads of pipes, each opened after the end of another: first the head of the file
+        and its journal.
+        """
+        reads = [("", self.moments[0].database[:105]), ("-journal", b"")] + reads
+        for ending, content in reads:
+            with open(path + ending, "wb") as pipe:
+                pipe.write(content)
+
+    def reads(self, file, low, high, again, header):
+        """The reads of one copy: the file, the WAL in two pieces, the file again, and the header of the WAL,
+        each at a moment.
+        """
+        return [
+            ("", file.database),
+            ("-wal", low.wal[: self.cut] + high.wal[self.cut :]),
+            ("", again.database),
+            ("-wal", header.wal[:HEADER]),
+        ]
+
+    def count(self, name, *copies):
+        """How many volumes csid finds in the first of these copies that it takes."""
+        tables = Tables(self.csid, self.folder, name + ".db")
+        for ending in "", "-journal", "-wal":
+            os.mkfifo(tables.path + ending)
+        reads = [read for copy in copies for read in self.reads(*copy)]
+        threading.Thread(target=self.feed, args=(tables.path, reads), daemon=True).start()
+        return tables.check()
+
+    def found(self, volumes):
+        return b"volumes %d, attachments 0, next number %d, format 2\n" % (volumes, volumes + 1), "", 0
+
+    def test_each_order_of_reads_and_writes_gives_one_moment(self):
+        last = [self.moments[-1]] * 5
+        orders = itertools.combinations_with_replacement(range(len(self.moments)), 5)
+        for order in orders:
+            copy = [self.moments[at] for at in order]
+            file, _, _, again, header = copy
+            is_one = file.database == again.database and copy[1].wal[:HEADER] == header.wal[:HEADER]
+            wanted = self.found(header.volumes if is_one else last[0].volumes)
+            with self.subTest(order=order):
+                self.assertEqual(self.count("order%d%d%d%d%d" % order, copy, last), wanted)
+
+    def test_wal_that_begins_again_behind_its_first_piece_is_read_again(self):
+        """The piece that was read has the first commit alone, and the file has both already: a copy joined of
+        them would lack a volume.
+        """
+        _, copied, begun = self.moments
+        self.assertEqual(
+            self.count("joined", (copied, copied, begun, begun, begun), [begun] * 5), self.found(3)
+        )
+
+    def test_file_that_is_written_all_the_time_is_refused(self):
+        one, other, _ = self.moments
+        tables = Tables(self.csid, self.folder, "busy.db")
+        came = self.count("busy", *[(one, one, one, other, other)] * 10)
+        self.assertEqual(came, tables.says("it is written all the time"))

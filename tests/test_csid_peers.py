@@ -1,0 +1,286 @@
+"""Peers of `csid serve` that keep others waiting, and how long they may."""
+
+import contextlib
+import os
+import subprocess
+import tempfile
+import threading
+import time
+
+from tests.support import change_stores
+from tests.support.change_stores import ChangeStore, next_frame, page
+from tests.support.frames import (
+    CREATE_A,
+    LONGEST,
+    PROBE,
+    READY,
+    VOLUME_1,
+    controller,
+    frame,
+    reply,
+)
+from tests.support.processes import SECONDS, has_ended, run, wait
+from tests.support.rows import CsidTest
+from tests.support.server import IDLE, SLOW, Server
+from tests.support.tables import BLOCK_CAPS, MANY, Tables, next_is
+
+PREEMPTED = "csid: a connection that kept another one waiting was closed\n"
+
+# More of a call than a connection must have sent to be served.
+PART = frame(PROBE, LONGEST)[:5000]
+
+
+def drip(peer, seconds):
+    """Sends a byte each quarter of a second, until the connection is closed or so many seconds are over."""
+    with contextlib.suppress(OSError):
+        for _ in range(4 * seconds):
+            peer.sendall(b"\0")
+            time.sleep(0.25)
+
+
+class PeersTest(CsidTest):
+    """Peers of `csid serve` that keep others waiting, and how long they may."""
+
+    def setUp(self):
+        super().setUp()
+        self.server = Server(self.csid, self.folder)
+        self.addCleanup(self.server.end)
+        self.peers = self.enterContext(contextlib.ExitStack())
+
+    def connect(self, given=b""):
+        """A connection that stays, and has sent this."""
+        peer = self.peers.enter_context(self.server.connect())
+        peer.sendall(given)
+        return peer
+
+    def seconds_of(self, ask):
+        begin = time.monotonic()
+        self.assertEqual(ask(), READY)
+        return time.monotonic() - begin
+
+    def test_second_is_shared_by_all_that_wait(self):
+        """Eight peers were answered and stay: each a second would be eight."""
+        held = [self.connect(frame(PROBE)) for _ in range(8)]
+        self.assertLess(self.seconds_of(lambda: self.server.ask(frame(PROBE))), 5)
+        self.assertEqual([peer.recv(4096) for peer in held], [READY] * 8)
+
+    def test_peer_with_nothing_new_is_closed_at_once_where_others_wait(self):
+        """The first one blocks for its second; those after it have none, and each is answered before."""
+        first, begin = self.connect(frame(PROBE)), time.monotonic()
+        others = [self.connect(frame(PROBE)) for _ in range(20)]
+        self.assertEqual([peer.recv(4096) for peer in [first] + others], [READY] * 21)
+        self.assertLess(time.monotonic() - begin, 8)
+        said = self.server.lines()
+        self.assertIn(IDLE, said)
+        self.assertNotIn(PREEMPTED, said)
+
+    def test_call_that_comes_byte_by_byte_keeps_others_for_a_second_in_all(self):
+        """Three peers send a part of a call and then a byte now and then: alone each may for ten seconds."""
+        for _ in range(3):
+            peer = self.connect(PART)
+            threading.Thread(target=drip, args=(peer, 40), daemon=True).start()
+        self.assertLess(self.seconds_of(lambda: self.server.ask(frame(PROBE))), 9)
+        self.assertTrue(wait(lambda: PREEMPTED in self.server.lines()))
+
+    def test_seconds_of_a_call_count_from_its_first_byte(self):
+        """Seven seconds pass before a peer has sent enough to be served: three are left to it."""
+        peer, begin = self.connect(PART[:100]), time.monotonic()
+        time.sleep(7)
+        peer.sendall(PART[100:])
+        threading.Thread(target=drip, args=(peer, 20), daemon=True).start()
+        self.assertTrue(has_ended(peer, (0, 20)))
+        self.assertTrue(9 < time.monotonic() - begin < 14)
+        self.assertTrue(wait(lambda: SLOW in self.server.lines()))
+
+    def test_peer_that_waits_alone_may_send_a_call_slowly(self):
+        """No other one is ready, so a byte now and then is well for ten seconds."""
+        peer = self.connect()
+        call = frame(PROBE)
+        for at in range(0, len(call), 4):
+            peer.sendall(call[at : at + 4])
+            time.sleep(0.5)
+        self.assertEqual(peer.recv(4096), READY)
+
+    def test_busy_peer_is_closed_between_two_calls_after_a_minute(self):
+        """It always has calls on their way, and each reply is whole."""
+
+        def send():
+            with contextlib.suppress(OSError):
+                while True:
+                    busy.sendall(frame(PROBE) * 1000)
+
+        busy = self.connect(frame(PROBE) * 1000)
+        threading.Thread(target=send, daemon=True).start()
+        other, came, begin = self.connect(frame(PROBE)), 0, time.monotonic()
+        with contextlib.suppress(OSError):
+            while piece := busy.recv(1 << 16):
+                came += len(piece)
+        took = time.monotonic() - begin
+        self.assertTrue(55 < took < 80, took)
+        self.assertEqual(came % len(READY), 0)
+        self.assertEqual(other.recv(4096), READY)
+        self.assertTrue(wait(lambda: PREEMPTED in self.server.lines()))
+
+    def test_one_that_comes_again_is_served_after_one_that_waited(self):
+        """Each connection is served in the order in which it came."""
+        first, waited = self.connect(frame(PROBE)), self.connect(frame(PROBE))
+        self.assertEqual(first.recv(4096), READY)
+        again = self.connect(frame(PROBE))
+        self.assertEqual(waited.recv(4096), READY)
+        self.assertEqual(again.recv(4096), READY)
+
+
+class SlowPeerTest(CsidTest):
+    """Peers that are slow while no other one waits."""
+
+    def test_pages_are_whole_for_a_reader_that_begins_late(self):
+        """The replies fill the socket's buffer, and csid waits in the middle of one."""
+        tables = Tables(self.csid, self.folder).new()
+        tables.script(MANY % (10, BLOCK_CAPS) + next_is(11))
+        listing = controller("ListVolumes")
+        page = tables.run(listing)[0]
+        server = Server(self.csid, self.folder)
+        self.addCleanup(server.end)
+        with server.connect() as peer:
+            threading.Thread(target=peer.sendall, args=(listing * 2000,), daemon=True).start()
+            time.sleep(3)
+            came = b""
+            while len(came) < 2000 * len(page) and (piece := peer.recv(1 << 16)):
+                came += piece
+        self.assertEqual(came == page * 2000, True)
+
+    def test_reply_must_be_taken_in_ten_seconds(self):
+        server = Server(self.csid, self.folder)
+        self.addCleanup(server.end)
+        with server.connect() as peer:
+            peer.settimeout(1)
+            with contextlib.suppress(TimeoutError):
+                while True:
+                    peer.sendall(frame(PROBE) * 1000)
+            begin = time.monotonic()
+            peer.settimeout(SECONDS)
+            with contextlib.suppress(BrokenPipeError, ConnectionResetError):
+                while True:
+                    peer.sendall(frame(PROBE) * 1000)
+            self.assertTrue(6 < time.monotonic() - begin < 20)
+
+    def test_call_whose_second_half_comes_late_is_answered(self):
+        server = Server(self.csid, self.folder)
+        self.addCleanup(server.end)
+        create = controller("CreateVolume", CREATE_A)
+        with server.connect() as peer:
+            peer.sendall(frame(PROBE) + create[:20])
+            self.assertEqual(peer.recv(4096), READY)
+            time.sleep(2.5)
+            peer.sendall(create[20:])
+            self.assertEqual(peer.recv(4096), reply(VOLUME_1))
+
+    def test_connection_may_last_longer_than_a_call(self):
+        """A call each second: the time of a call ends with its reply."""
+        server = Server(self.csid, self.folder)
+        self.addCleanup(server.end)
+        with server.connect() as peer:
+            for _ in range(12):
+                peer.sendall(frame(PROBE))
+                self.assertEqual(peer.recv(4096), READY)
+                time.sleep(1)
+
+    def test_byte_now_and_then_does_not_make_the_time_of_a_call_longer(self):
+        """The peer has not sent enough to be served."""
+        server = Server(self.csid, self.folder)
+        self.addCleanup(server.end)
+        with server.connect() as peer:
+            begin = time.monotonic()
+            with contextlib.suppress(OSError):
+                for byte in frame(PROBE)[:25]:
+                    peer.sendall(bytes([byte]))
+                    time.sleep(0.8)
+            self.assertTrue(has_ended(peer, (0, 5)))
+            self.assertTrue(9 < time.monotonic() - begin < 16)
+
+    def test_each_silent_peer_has_its_own_time(self):
+        """The second one comes when half of the first one's time is over."""
+        server = Server(self.csid, self.folder, "--idle", "4")
+        self.addCleanup(server.end)
+        with server.connect() as first:
+            begin = time.monotonic()
+            time.sleep(2)
+            with server.connect() as second:
+                self.assertTrue(has_ended(first, (0, 10)))
+                self.assertTrue(3 < time.monotonic() - begin < 5.5)
+                self.assertTrue(has_ended(second, (0, 10)))
+                self.assertTrue(5 < time.monotonic() - begin < 9)
+
+    def test_first_call_above_4096_bytes_is_in_the_tables(self):
+        """A connection with so many bytes of a call is served before the call is whole."""
+        parameters = bytes.fromhex("22 8420 0a01 6b 12fe1f") + b"v" * 4094
+        server = Server(self.csid, self.folder)
+        self.assertEqual(server.ask(controller("CreateVolume", CREATE_A + parameters)), reply(VOLUME_1))
+        server.end()
+        self.assertEqual(Tables(self.csid, self.folder).ask("SELECT count(*) FROM volumes"), [(1,)])
+
+
+class LastPeerTest(CsidTest):
+    """The end of `csid serve --connections`."""
+
+    def test_silent_last_peer_is_closed_without_idle(self):
+        server = Server(self.csid, self.folder, "--connections", "1")
+        begun = server.lines()
+        with server.connect() as peer:
+            self.assertTrue(has_ended(peer, (5, 25)))
+        server.process.wait(SECONDS)
+        self.assertEqual(server.end()[:2], (begun + IDLE, 0))
+
+
+class DrippingStore(ChangeStore):
+    """A change store that answers each call by a byte in two seconds."""
+
+    def serve(self, peer):
+        with peer, peer.makefile("rb") as stream, contextlib.suppress(OSError):
+            while next_frame(stream):
+                for byte in page(token=b"t" * 64):
+                    peer.sendall(bytes([byte]))
+                    time.sleep(2)
+
+
+class SlowChangeStoreTest(CsidTest):
+    """A change store that is slow to answer."""
+
+    def test_reply_that_comes_byte_by_byte_is_given_up_after_thirty_seconds(self):
+        path = os.path.join(self.folder, "log.sock")
+        log, said = DrippingStore(path), tempfile.TemporaryFile()
+        self.addCleanup(log.end)
+        command = [self.csid, "serve", "--socket", os.path.join(self.folder, "csid.sock"), "--log", path]
+        begin = time.monotonic()
+        process = subprocess.Popen(command, stdin=subprocess.DEVNULL, stderr=said)
+        self.addCleanup(process.wait)
+        self.addCleanup(process.kill)
+        line = ("csid: %s: no reply came\n" % path).encode()
+        self.assertTrue(
+            change_stores.wait(lambda: os.pread(said.fileno(), 4096, 0) == line, 2 * SECONDS)
+        )
+        self.assertGreater(time.monotonic() - begin, 25)
+
+
+class KindTest(CsidTest):
+    """Tables that are no regular file."""
+
+    def test_named_pipe_is_refused(self):
+        tables = Tables(self.csid, self.folder)
+        os.mkfifo(tables.path)
+        self.assertEqual(tables.run(), tables.says("it is no regular file"))
+
+    def test_named_pipe_is_refused_before_the_socket_is_made(self):
+        tables, path = Tables(self.csid, self.folder), os.path.join(self.folder, "csid.sock")
+        os.mkfifo(tables.path)
+        for words in [], ["--existing"]:
+            with self.subTest(words=words):
+                command = [self.csid, "serve", "--socket", path, "--tables", tables.path] + words
+                self.assertEqual(run(command, input=b""), tables.says("it is no regular file"))
+                self.assertFalse(os.path.exists(path))
+
+    def test_named_pipe_for_a_wal_is_refused(self):
+        tables = Tables(self.csid, self.folder).new()
+        os.unlink(tables.path + "-wal")
+        os.mkfifo(tables.path + "-wal")
+        self.assertEqual(tables.run(), tables.says("it is no regular file"))
