@@ -463,24 +463,6 @@ CHANGES = [
         1,
     ),
     (
-        ["unpublish", "vol-1", "n1"],
-        "ControllerUnpublishVolume",
-        ID + NODE,
-        ok(""),
-        "unpublished vol-1 from n1\n",
-        "",
-        0,
-    ),
-    (
-        ["unpublish", "vol-1"],
-        "ControllerUnpublishVolume",
-        ID,
-        ok(""),
-        "unpublished vol-1 from all nodes\n",
-        "",
-        0,
-    ),
-    (
         ["create", "a", "--size", "1"],
         CREATE,
         "0a0161 1202 0801" + BLOCK,
@@ -498,10 +480,57 @@ CHANGES = [
         "",
         0,
     ),
+]
+
+# The calls of removals, and of the page that begins with the volume.
+DELETE = call(CONTROLLER + "DeleteVolume", ID)
+UNPUBLISH = CONTROLLER + "ControllerUnpublishVolume"
+AT_N1 = ok(entry("vol-1", GIB, [], ["n1"]))
+
+
+def look(token=""):
+    """The call for the page of one entry after a token."""
+    return call(CONTROLLER + "ListVolumes", "0801" + (part(2, token.encode()).hex() if token else ""))
+
+
+# Each row: words, the token of the page, its reply, the call after it, the reply to that, standard output,
+# standard error, status.
+REMOVALS = [
+    (
+        ["unpublish", "vol-1", "n1"],
+        "",
+        AT_N1,
+        call(UNPUBLISH, ID + NODE),
+        ok(""),
+        "unpublished vol-1 from n1\n",
+        "",
+        0,
+    ),
+    (
+        ["unpublish", "vol-1"],
+        "",
+        AT_N1,
+        call(UNPUBLISH, ID),
+        ok(""),
+        "unpublished vol-1 from all nodes\n",
+        "",
+        0,
+    ),
+    (
+        ["unpublish", "vol-22", "n2"],
+        "21",
+        ok(THREE[1]),
+        call(UNPUBLISH, "0a06766f6c2d3232 12026e32"),
+        ok(""),
+        "unpublished vol-22 from n2\n",
+        "",
+        0,
+    ),
     (
         ["unpublish", "v 1", "n 1"],
-        "ControllerUnpublishVolume",
-        "0a03762031 12036e2031",
+        "",
+        ok(entry("v 1", MIB, [], ["n 1"])),
+        call(UNPUBLISH, "0a03762031 12036e2031"),
         ok(""),
         "unpublished v%201 from n%201\n",
         "",
@@ -509,25 +538,116 @@ CHANGES = [
     ),
     (
         ["unpublish", "v 1"],
-        "ControllerUnpublishVolume",
-        "0a03762031",
+        "",
+        ok(entry("v 1", MIB, [], ["n 1"])),
+        call(UNPUBLISH, "0a03762031"),
         ok(""),
         "unpublished v%201 from all nodes\n",
         "",
         0,
     ),
-    (["delete", "vol-1"], "DeleteVolume", ID, ok(""), "deleted vol-1\n", "", 0),
-    (["delete", " "], "DeleteVolume", "0a0120", ok(""), "deleted %20\n", "", 0),
+    (["delete", "vol-1"], "", AT_N1, DELETE, ok(""), "deleted vol-1\n", "", 0),
+    (
+        ["delete", "vol-3"],
+        "2",
+        ok(THREE[2] + "120133"),
+        call(CONTROLLER + "DeleteVolume", "0a05766f6c2d33"),
+        ok(""),
+        "deleted vol-3\n",
+        "",
+        0,
+    ),
+    (
+        ["delete", " "],
+        "",
+        ok(entry(" ", MIB)),
+        call(CONTROLLER + "DeleteVolume", "0a0120"),
+        ok(""),
+        "deleted %20\n",
+        "",
+        0,
+    ),
     (
         ["delete", "vol-1"],
-        "DeleteVolume",
-        ID,
+        "",
+        AT_N1,
+        DELETE,
         refusal(9, "volume is in use"),
         "9 FAILED_PRECONDITION volume is in use\n",
         "",
         1,
     ),
-    (["delete", "vol-1"], "DeleteVolume", ID, CLOSED, "", "csictl: PATH: closed without a reply\n", 5),
+    (["delete", "vol-1"], "", AT_N1, DELETE, CLOSED, "", "csictl: PATH: closed without a reply\n", 5),
+]
+
+NO_ID = "no volume has this id\n"
+# (a line that also says how ids look)
+NO_FORM = (
+    "no volume has this id; ids look like vol-1, and csid --list-tables or csid-etcd --list shows the name of"
+    " each\n"
+)
+
+# Each row: words, the token of the page, its reply, standard output, standard error, status. Nothing is
+# called after the page.
+NOTHING_REMOVED = [
+    (["delete", "vol-1"], "", ok(""), "", "csictl: vol-1: " + NO_ID, 1),
+    (["delete", "vol-2"], "1", ok(THREE[2]), "", "csictl: vol-2: " + NO_ID, 1),
+    (["delete", "vol-77"], "76", OUTDATED, "", "csictl: vol-77: " + NO_ID, 1),
+    (["unpublish", "vol-77"], "76", OUTDATED, "", "csictl: vol-77: " + NO_ID, 1),
+    (["unpublish", "vol-1", "n1"], "", ok(""), "", "csictl: vol-1: " + NO_ID, 1),
+    (["delete", "vol-0"], "", AT_N1, "", "csictl: vol-0: " + NO_ID, 1),
+    (["delete", "vol-01"], "", AT_N1, "", "csictl: vol-01: " + NO_ID, 1),
+    (["delete", "vol-03"], "2", ok(THREE[2]), "", "csictl: vol-03: " + NO_ID, 1),
+    (
+        ["delete", "vol-18446744073709551615"],
+        "18446744073709551614",
+        OUTDATED,
+        "",
+        "csictl: vol-18446744073709551615: " + NO_ID,
+        1,
+    ),
+    (
+        ["delete", "vol-18446744073709551616"],
+        "",
+        AT_N1,
+        "",
+        "csictl: vol-18446744073709551616: " + NO_FORM,
+        1,
+    ),
+    (["delete", "pvc-7"], "", AT_N1, "", "csictl: pvc-7: " + NO_FORM, 1),
+    (["unpublish", "pvc-7", "n1"], "", AT_N1, "", "csictl: pvc-7: " + NO_FORM, 1),
+    (["delete", "vol-"], "", AT_N1, "", "csictl: vol-: " + NO_FORM, 1),
+    (["delete", "vol-+1"], "", AT_N1, "", "csictl: vol-+1: " + NO_FORM, 1),
+    (["delete", "1"], "", AT_N1, "", "csictl: 1: " + NO_FORM, 1),
+    (["unpublish", "vol-1", "n9"], "", AT_N1, "", "csictl: vol-1: not published to n9\n", 1),
+    (["unpublish", "vol-1", ""], "", AT_N1, "", "csictl: vol-1: not published to \n", 1),
+    (["unpublish", "vol-3", "n1"], "2", ok(THREE[2]), "", "csictl: vol-3: not published to n1\n", 1),
+    (["unpublish", "vol-3"], "2", ok(THREE[2]), "", "csictl: vol-3: not published to any node\n", 1),
+    (
+        ["unpublish", "vol-1"],
+        "",
+        ok(part(1, part(1, part(2, b"vol-1"))).hex()),
+        "",
+        "csictl: vol-1: not published to any node\n",
+        1,
+    ),
+    (["delete", "vol-1"], "", ok("0a00"), "", "csictl: vol-1: " + NO_ID, 1),
+    (["delete", "vol-1"], "", OUTDATED, "10 ABORTED bad starting token\n", "", 1),
+    (["delete", "vol-2"], "1", refusal(13, "out of memory"), "13 INTERNAL out of memory\n", "", 1),
+    (["delete", "vol-1"], "", ok("0a"), "", "csictl: the body is no response of the method\n", 3),
+    (["delete", "vol-1"], "", CLOSED, "", "csictl: PATH: closed without a reply\n", 5),
+]
+
+# Each row: what it shows, the calls and their answers of each connection of `delete vol-1 --tries 2`, the
+# number of second tries.
+TRIED = [
+    ("the page is tried again", [[(look(), CLOSED)], [(look(), AT_N1), (DELETE, ok(""))]], 1),
+    ("the removal is tried again", [[(look(), AT_N1), (DELETE, CLOSED)], [(DELETE, ok(""))]], 1),
+    (
+        "each of the two calls has its tries",
+        [[(look(), CLOSED)], [(look(), AT_N1), (DELETE, CLOSED)], [(DELETE, ok(""))]],
+        2,
+    ),
 ]
 
 # Words that are refused: status 2, one line, nothing written.
@@ -569,11 +689,15 @@ class SlowPages(Pages):
             calls.read()
 
 
-class PeopleTest(CsictlTest):
-    """The commands for people."""
+class AskTest(CsictlTest):
+    """A test that runs csictl over a socket."""
 
     def ask(self, path, *words):
         return text(run([self.csictl, *words, "--socket", path], input=b""))
+
+
+class PeopleTest(AskTest):
+    """The commands for people."""
 
     def shown(self, name, words, connections, tokens, wanted):
         """Compares what comes of the pages of a server, and what it was asked."""
@@ -653,8 +777,82 @@ class PeopleTest(CsictlTest):
             (["delete", "vol-1"], "9 FAILED_PRECONDITION volume is in use\n", 1),
             (["unpublish", "vol-1"], "unpublished vol-1 from all nodes\n", 0),
             (["delete", "vol-1"], "deleted vol-1\n", 0),
-            (["delete", "vol-1"], "deleted vol-1\n", 0),
             (["volumes"], HEADINGS, 0),
         ]:
             self.row("over csid: " + " ".join(words), self.ask(server.path, *words), (out, "", status))
         server.kill()
+
+
+class RemovalTest(AskTest):
+    """`csictl unpublish` and `csictl delete` look first whether there is something to remove."""
+
+    def removed(self, name, words, connections, wanted):
+        """Compares what comes of a removal over a server that is played, and what it was asked: of each
+        connection calls and their answers.
+        """
+        pages = Pages(self.folder, [[answer for _, answer in part] for part in connections])
+        out, said, status = wanted
+        self.row(name, self.ask(pages.path, *words), (out, said.replace("PATH", pages.path), status))
+        asked = [[question for question, _ in part] for part in connections]
+        self.row("what was asked: " + name, pages.end(), asked)
+
+    def test_what_is_there_is_removed_over_the_same_connection(self):
+        for words, token, page, removal, reply, *wanted in REMOVALS:
+            self.removed(" ".join(words), words, [[(look(token), page), (removal, reply)]], wanted)
+
+    def test_where_nothing_is_there_nothing_is_called(self):
+        for words, token, page, *wanted in NOTHING_REMOVED:
+            self.removed(" ".join(words), words, [[(look(token), page)]], wanted)
+
+    def test_repeated_removal_is_not_looked_up_again(self):
+        """The try before may have removed it."""
+        for name, connections, tries in TRIED:
+            said = "csictl: PATH: closed without a reply: try 2 of 2\n" * tries
+            wanted = "deleted vol-1\n", said, 0
+            self.removed(name, ["delete", "vol-1", "--tries", "2"], connections, wanted)
+
+    def over_csid(self, rows):
+        """Compares what comes of words over csid, after two volumes were created and the first published to
+        n1. Of three ids the greatest was deleted.
+        """
+        server = Server(self.csid, os.path.join(self.folder, "p.sock"))
+        for name in ["pvc-7", "pvc-8", "pvc-9"]:
+            self.ask(server.path, "create", name, "--size", "1Mi", "--pool-topology", "zone=a")
+        self.ask(server.path, "publish", "vol-1", "n1")
+        self.ask(server.path, "delete", "vol-3")
+        for words, *wanted in rows:
+            self.row("over csid: " + " ".join(words), self.ask(server.path, *words), tuple(wanted))
+        server.kill()
+
+    def test_csid_has_nothing_to_remove(self):
+        both = (
+            "ID     SIZE   TOPOLOGY  NODES  POOL\n"
+            "vol-1  1 MiB  zone=a    n1     p1\n"
+            "vol-2  1 MiB  zone=a    -      p1\n"
+        )
+        self.over_csid(
+            [
+                (["delete", "vol-3"], "", "csictl: vol-3: " + NO_ID, 1),
+                (["delete", "vol-4"], "", "csictl: vol-4: " + NO_ID, 1),
+                (["delete", "vol-77"], "", "csictl: vol-77: " + NO_ID, 1),
+                (["delete", "pvc-7"], "", "csictl: pvc-7: " + NO_FORM, 1),
+                (["unpublish", "vol-77", "n1"], "", "csictl: vol-77: " + NO_ID, 1),
+                (["unpublish", "vol-1", "n9"], "", "csictl: vol-1: not published to n9\n", 1),
+                (["unpublish", "vol-2", "n1"], "", "csictl: vol-2: not published to n1\n", 1),
+                (["unpublish", "vol-2"], "", "csictl: vol-2: not published to any node\n", 1),
+                (["volumes"], both, "", 0),
+            ]
+        )
+
+    def test_call_does_not_look_first(self):
+        """`csictl call` shows what the server answers: OK."""
+        self.over_csid(
+            [
+                (["call", "--method", "DeleteVolume", "--volume", "vol-77"], "0 OK -\n", "", 0),
+                (["call", "--method", "ControllerUnpublishVolume", "--volume", "vol-2"], "0 OK -\n", "", 0),
+            ]
+        )
+
+    def test_volume_that_is_looked_for_by_its_name(self):
+        """`csictl volume` says how ids look."""
+        self.over_csid([(["volume", "pvc-7"], "", "csictl: pvc-7: " + NO_FORM, 1)])

@@ -53,8 +53,9 @@ fn walk(
     is_json: bool,
 ) -> Result<Ended, Failure> {
     let mut listing = first_page(rt.alloc(), arguments)?;
+    let max_entries = arguments.get_one::<i32>("max").unwrap_or(0);
     for _ in 0..MOST_PAGES {
-        let frame = page(rt.alloc(), arguments, &listing.token)?;
+        let frame = page(rt.alloc(), max_entries, &listing.token)?;
         let reply = line.call(&frame)?;
         if let Some(ended) = add_page(rt, &mut listing, &reply.as_reply(), is_json)? {
             return Ok(ended);

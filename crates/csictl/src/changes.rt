@@ -2,6 +2,7 @@
 
 use crate::failure::{Ended, Failure};
 use crate::line::SocketLine;
+use crate::lookup::look_up;
 use crate::message::frame_of_person;
 use crate::patience::Patience;
 use crate::reply::{show_lines, write};
@@ -14,7 +15,17 @@ use csi_codec::decode_response;
 use csi_types::{Method, Response, VolumeInfo};
 use std::alloc::{AllocError, Global};
 
-// The reply to the call that the arguments ask for.
+// Whether a method removes something, and answers OK also where nothing is there.
+fn is_removal(method: Method) -> bool {
+    matches!(
+        method,
+        Method::DeleteVolume | Method::ControllerUnpublishVolume
+    )
+}
+
+// The reply to the call that the arguments ask for. Before a removal the volume is looked up, once and over
+// the same connection: a try of the call that was not answered may have removed it. Where the server refuses
+// to say what is there, that is the reply.
 fn asked(
     rt: &HostRuntime,
     method: Method,
@@ -23,7 +34,13 @@ fn asked(
     let frame = frame_of_person(rt.alloc(), method, arguments)?;
     let patience = Patience::of(arguments)?;
     let path = socket::find(rt, arguments)?;
-    let mut line = SocketLine::new(rt, path.as_str(), patience, false);
+    let is_looked_up = is_removal(method);
+    let mut line = SocketLine::new(rt, path.as_str(), patience, is_looked_up);
+    if is_looked_up {
+        if let Some(refusal) = look_up(rt.alloc(), method, arguments, &mut line)? {
+            return Ok(refusal);
+        }
+    }
     line.call(&frame)
 }
 
@@ -85,12 +102,12 @@ fn line_of_body(
 }
 
 /// Makes the call of a change, again while it is not answered, and shows a line of what was done, or the
-/// refusal.
+/// refusal. A removal is made only where there is something to remove.
 ///
 /// # Errors
 ///
-/// Where the arguments ask for no call, it is not answered, its reply is malformed, writing fails, or memory
-/// is refused.
+/// Where the arguments ask for no call, there is nothing to remove, a call is not answered, its reply is
+/// malformed, writing fails, or memory is refused.
 pub(crate) fn run(
     rt: &HostRuntime,
     method: Method,

@@ -111,6 +111,18 @@ pub(crate) enum Failure {
     /// No volume has this id.
     #[error("{0}: no volume has this id")]
     NoVolume(String),
+    /// No volume has this id, which is not written as ids are: it may be the name of a volume.
+    #[error("{0}: no volume has this id; ids look like vol-1, and csid --list-tables or csid-etcd --list shows the name of each")]
+    NotAnId(String),
+    /// The volume is not published to this node.
+    #[error("{volume}: not published to {node}")]
+    NotAtNode {
+        volume: String,
+        node: String,
+    },
+    /// The volume is not published to any node.
+    #[error("{0}: not published to any node")]
+    NotPublished(String),
     /// A file, standard output or the socket failed: its name, and why.
     #[error("{0}")]
     System(Cause),
@@ -169,7 +181,10 @@ impl Failure {
             | Failure::NotPair
             | Failure::TooLong
             | Failure::NotVector { .. } => 2,
-            Failure::NoVolume(_) => 1,
+            Failure::NoVolume(_)
+            | Failure::NotAnId(_)
+            | Failure::NotAtNode { .. }
+            | Failure::NotPublished(_) => 1,
             Failure::Malformed(_) | Failure::OtherSocket(_) | Failure::BadBody | Failure::NoEnd =>
                 3,
             Failure::System(_) | Failure::ReadFailed | Failure::WriteFailed => 5,

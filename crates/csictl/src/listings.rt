@@ -4,6 +4,7 @@ use crate::call::show;
 use crate::failure::{Ended, Failure};
 use crate::groups::{nodes_text, pools_text};
 use crate::line::SocketLine;
+use crate::lookup::{entry_of, is_at, no_volume};
 use crate::pages::{Walked, walk};
 use crate::patience::Patience;
 use crate::reply::{entries_line, write};
@@ -21,19 +22,6 @@ pub(crate) enum What {
     Nodes,
     Pools,
     Volume,
-}
-
-// Whether an entry is of a volume that is published to this node.
-fn is_at(entry: &Entry, node: &str) -> bool {
-    let Some(nodes) = &entry.nodes else {
-        return false;
-    };
-    for one in nodes {
-        if one.as_str() == node {
-            return true;
-        }
-    }
-    false
 }
 
 // Takes out of a listing what is not published to the node that the arguments may name.
@@ -62,18 +50,6 @@ fn volumes_text(alloc: Global, entries: &[Entry]) -> Result<String, AllocError> 
     table.text(alloc)
 }
 
-// The entry of the volume with an id.
-fn entry_of<'e>(entries: &'e [Entry], id: &str) -> Option<&'e Entry> {
-    for entry in entries {
-        if let Some(volume) = &entry.volume {
-            if volume.id.as_str() == id {
-                return Some(entry);
-            }
-        }
-    }
-    None
-}
-
 // All that an entry says.
 fn entry_text(alloc: Global, entry: &Entry) -> Result<String, AllocError> {
     let volume = entry.volume.as_ref();
@@ -90,7 +66,7 @@ fn entry_text(alloc: Global, entry: &Entry) -> Result<String, AllocError> {
 fn volume_text(alloc: Global, entries: &[Entry], id: &str) -> Result<String, Failure> {
     match entry_of(entries, id) {
         Some(entry) => Ok(entry_text(alloc, entry)?),
-        None => Err(Failure::NoVolume(String::from_str(alloc, id)?)),
+        None => Err(no_volume(alloc, id)),
     }
 }
 
@@ -115,7 +91,7 @@ fn walked(rt: &HostRuntime, arguments: &ArgMatches<'_>) -> Result<Walked, Failur
     let patience = Patience::of(arguments)?;
     let path = socket::find(rt, arguments)?;
     let mut line = SocketLine::new(rt, path.as_str(), patience, true);
-    walk(rt.alloc(), arguments, &mut line)
+    walk(rt.alloc(), &mut line)
 }
 
 /// Asks for all pages of ListVolumes over one connection, and shows what their entries say.

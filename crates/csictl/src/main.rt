@@ -13,6 +13,7 @@ mod http2;
 mod json;
 mod line;
 mod listings;
+mod lookup;
 mod message;
 mod modes;
 mod pages;

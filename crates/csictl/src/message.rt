@@ -236,30 +236,22 @@ pub(crate) fn first_page(alloc: Global, arguments: &ArgMatches<'_>) -> Result<Li
     Ok(Listing::new(alloc, copy_text(alloc, token)?))
 }
 
-// The request for a page that begins at a token, with as many entries as the arguments say.
-fn page_request(
-    alloc: Global,
-    arguments: &ArgMatches<'_>,
-    token: &Text,
-) -> Result<Request, AllocError> {
+fn page_request(alloc: Global, max_entries: i32, token: &Text) -> Result<Request, AllocError> {
     let request = ListVolumes {
-        max_entries: arguments.get_one::<i32>("max").unwrap_or(0),
+        max_entries,
         token: copy_text(alloc, token.as_str())?,
     };
     Ok(Request::List(Boxed::new(alloc, request)?))
 }
 
-/// The frame of the call for a page that begins at a token.
+/// The frame of the call for a page that begins at a token and has at most `max_entries` entries; with 0 as
+/// many as the server puts on a page.
 ///
 /// # Errors
 ///
 /// Where the token is longer than a message, or memory was refused.
-pub(crate) fn page(
-    alloc: Global,
-    arguments: &ArgMatches<'_>,
-    token: &Text,
-) -> Result<Vec<u8>, Failure> {
-    let request = page_request(alloc, arguments, token)?;
+pub(crate) fn page(alloc: Global, max_entries: i32, token: &Text) -> Result<Vec<u8>, Failure> {
+    let request = page_request(alloc, max_entries, token)?;
     let message = encoded(alloc, &request)?;
     framed(alloc, Method::ListVolumes, &message)
 }

@@ -1,9 +1,8 @@
-//! All entries of a listing, for the commands that show what they say.
+//! Entries of a listing, for the commands for people: all entries, or the first one after a token.
 
 use crate::failure::Failure;
 use crate::line::SocketLine;
 use crate::message::{MOST_PAGES, page};
-use clap::ArgMatches;
 use csi_client::ReceivedReply;
 use csi_codec::decode_response;
 use csi_types::{Entry, Items, Method, Response, Text};
@@ -15,14 +14,17 @@ const MOST_WALKS: u32 = 5;
 // The status ABORTED: of a listing, that its token is no longer good.
 const ABORTED: u8 = 10;
 
-/// What came of asking for all pages.
+// Asks for as many entries as the server puts on a page.
+const FULL_PAGE: i32 = 0;
+
+/// What came of asking for pages.
 #[derive(Drop)]
 pub(crate) enum Walked {
-    /// The entries of all pages.
+    /// The entries of all pages that were asked for.
     All(Vec<Entry>),
     /// A page was refused.
     Refused(ReceivedReply),
-    /// A page after the first one was refused, since its token is no longer good.
+    /// A page was refused, since its token is not good (any more).
     Outdated(ReceivedReply),
 }
 
@@ -43,10 +45,11 @@ fn parts(response: Response) -> Option<(Items<Entry>, Text)> {
 }
 
 impl Pages {
-    fn new(alloc: Global) -> Pages {
+    // No entries so far. The first page begins at this token.
+    fn new(alloc: Global, token: Text) -> Pages {
         Pages {
             entries: Vec::new(alloc),
-            token: Text::new(alloc),
+            token,
         }
     }
 
@@ -72,6 +75,22 @@ impl Pages {
         self.token = token;
         self.push(entries)
     }
+
+    // Asks for the next page and takes its entries. Where the page is refused, the reply is returned.
+    fn ask(
+        &mut self,
+        alloc: Global,
+        max_entries: i32,
+        line: &mut SocketLine<'_>,
+    ) -> Result<Option<ReceivedReply>, Failure> {
+        let frame = page(alloc, max_entries, &self.token)?;
+        let reply = line.call(&frame)?;
+        if reply.status != 0 {
+            return Ok(Some(reply));
+        }
+        self.add(alloc, reply.body.as_slice())?;
+        Ok(None)
+    }
 }
 
 // A refusal of the page that begins at a token.
@@ -84,19 +103,12 @@ fn refused(reply: ReceivedReply, token: &Text) -> Walked {
 }
 
 // Asks for one page after the other.
-fn walk_once(
-    alloc: Global,
-    arguments: &ArgMatches<'_>,
-    line: &mut SocketLine<'_>,
-) -> Result<Walked, Failure> {
-    let mut pages = Pages::new(alloc);
+fn walk_once(alloc: Global, line: &mut SocketLine<'_>) -> Result<Walked, Failure> {
+    let mut pages = Pages::new(alloc, Text::new(alloc));
     for _ in 0..MOST_PAGES {
-        let frame = page(alloc, arguments, &pages.token)?;
-        let reply = line.call(&frame)?;
-        if reply.status != 0 {
+        if let Some(reply) = pages.ask(alloc, FULL_PAGE, line)? {
             return Ok(refused(reply, &pages.token));
         }
-        pages.add(alloc, reply.body.as_slice())?;
         if pages.token.is_empty() {
             return Ok(Walked::All(pages.entries));
         }
@@ -110,16 +122,29 @@ fn walk_once(
 ///
 /// Where a call is not answered, a reply is malformed or no page, the pages have no end, or memory is
 /// refused.
-pub(crate) fn walk(
-    alloc: Global,
-    arguments: &ArgMatches<'_>,
-    line: &mut SocketLine<'_>,
-) -> Result<Walked, Failure> {
+pub(crate) fn walk(alloc: Global, line: &mut SocketLine<'_>) -> Result<Walked, Failure> {
     for _ in 1..MOST_WALKS {
-        match walk_once(alloc, arguments, line)? {
+        match walk_once(alloc, line)? {
             Walked::Outdated(_) => {}
             walked => return Ok(walked),
         }
     }
-    walk_once(alloc, arguments, line)
+    walk_once(alloc, line)
+}
+
+/// Asks for the page of at most one entry after a token. `All` is empty where no volume follows.
+///
+/// # Errors
+///
+/// Where the call is not answered, the reply is malformed or no page, or memory is refused.
+pub(crate) fn first_entry(
+    alloc: Global,
+    token: Text,
+    line: &mut SocketLine<'_>,
+) -> Result<Walked, Failure> {
+    let mut pages = Pages::new(alloc, token);
+    match pages.ask(alloc, 1, line)? {
+        Some(reply) => Ok(refused(reply, &pages.token)),
+        None => Ok(Walked::All(pages.entries)),
+    }
 }
