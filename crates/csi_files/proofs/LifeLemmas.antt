@@ -7,6 +7,7 @@ use Rattle.sqlite_wal.specs.Files.{outcomes}
 use Rattle.sqlite_wal.specs.Recovery.{Image}
 use Rattle.sqlite.specs.Closing.{files_left}
 use Rattle.sqlite.specs.Files.{IsCleanLeft, image_of}
+use Rattle.sqlite.specs.declared.error.Error.{Error}
 use Rattle.sqlite.specs.declared.file.Leftover.{Leftover}
 use Rattle.sqlite.specs.declared.file.Leftover.TheVariants as leftover
 use Rattle.envelope.specs.Envelope.{ReplyBytes}
@@ -112,14 +113,14 @@ module _ {D : Type 0} (g : Ghosts D) (config : Config) (before : Files D) (unrea
   no_call (Left served now) it clean none next out s may invariant = absurd none
   no_call (NotClosed served error store) it clean none next out s may invariant = absurd none
 
-  not_made : (rest : Leftover D g) → AreAtRest g before → IsLeftUnmade before rest → IsCleanLeft rest → (next : Image) → outcomes g (files_left rest).0 (files_left rest).1 next
+  not_made : (error : Error) (rest : Leftover D g) → AreAtRest g before → IsLeftUnmade before error rest → IsCleanLeft rest → (next : Image) → outcomes g (files_left rest).0 (files_left rest).1 next
       → IsRunOver config (image_of g before) [] next
-  not_made (leftover.Unopened now) quiet it clean next out s may invariant = absurd it
-  not_made (leftover.Store now) quiet it clean next out s may invariant = absurd it
-  not_made (leftover.Files now) quiet it clean next out s (inl has) invariant =
+  not_made error (leftover.Unopened now) quiet it clean next out s may invariant = absurd it
+  not_made error (leftover.Store now) quiet it clean next out s may invariant = absurd it
+  not_made error (leftover.Files now) quiet it clean next out s (inl has) invariant =
       let same = quiet next ((it.0.kept clean (no_state _ s has)).crash next out) in
       stays_as config _ next s invariant ∣ subst (λ image. HasState image s) (sym same) has ∣₁
-  not_made (leftover.Files now) quiet it clean next out s (inr unmade) invariant =
+  not_made error (leftover.Files now) quiet it clean next out s (inr unmade) invariant =
       ∥∥₁_map (it.1 clean s (λ image may. ∣ subst (λ image. MayStart image s) (sym (quiet image may)) (inr unmade) ∣₁) next out) (λ start.
       (s, record { may = start; has = λ has. absurd (no_state _ s has (inl unmade.0)) }, none_answered config s invariant))
 

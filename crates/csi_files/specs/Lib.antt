@@ -5,5 +5,6 @@ pub mod Lives
 pub mod Making
 pub mod Over
 pub mod Path
+pub mod Reserving
 pub mod Serving
 pub mod Starting

@@ -8,6 +8,7 @@ use Rattle.sqlite_wal.specs.Reads.{AreClean}
 use Rattle.sqlite_wal.specs.Recovery.{Image}
 use Rattle.sqlite.specs.Closing.{files_left}
 use Rattle.sqlite.specs.Files.{IsCleanLeft, image_of}
+use Rattle.sqlite.specs.declared.error.Error.{Error}
 use Rattle.sqlite.specs.declared.file.Leftover.{Leftover}
 use Rattle.csi_types.specs.declared.requests.Request.{Request}
 use Rattle.csi_config.specs.declared.config.Config.{Config}
@@ -105,7 +106,7 @@ module _ {D : Type 0} (g : disk.Ghosts D) (config : Config) (before : Files D) (
         → (next : Image) → outcomes g now.log now.db next → IsRunOver config (image_of g before) session next
     pub unserved : (e : NotServed D g) → IsNotStarted g config before unread left held holds e → EndsClean e → IsUnread e
         → (next : Image) → outcomes g (files_of e).0 (files_of e).1 next → IsRunOver config (image_of g before) [] next
-    pub unmade : (rest : Leftover D g) → AreAtRest g before → IsLeftUnmade before rest → IsCleanLeft rest
+    pub unmade : (error : Error) (rest : Leftover D g) → AreAtRest g before → IsLeftUnmade before error rest → IsCleanLeft rest
         → (next : Image) → outcomes g (files_left rest).0 (files_left rest).1 next → IsRunOver config (image_of g before) [] next
 
 -- for whatever files and streams

@@ -1,5 +1,5 @@
 -- What files have of a database that is being made.
-use Rattle.std.specs.Prelude.{◌≡◌, ◌⊎◌, ◌<◌, ◌≤◌, ◌==◌, ℕ, List, length, slice_index, get_or, IsTrue}
+use Rattle.std.specs.Prelude.{◌≡◌, ◌⊎◌, ◌<◌, ◌≤◌, ◌+◌, ◌==◌, ℕ, List, [], ◌∷◌, ◌++◌, codes, length, slice_index, get_or, IsTrue}
 use Rattle.std.specs.List.{list_all}
 use Rattle.sqlite_disk.specs.declared.Disk as disk
 use Rattle.sqlite_disk.specs.declared.Files.{Files}
@@ -15,24 +15,42 @@ use Rattle.std.specs.declared.io.ErrorKind.TheVariants as kind
 use Rattle.sqlite_pages.specs.declared.error.Error.TheVariants as pages
 use Rattle.csi_files.specs.declared.making.NotLaidOut.{NotLaidOut}
 use Rattle.csi_files.specs.declared.making.NotLaidOut.TheVariants.{Failed}
-use Rattle.csi_files.specs.declared.making.TheConstants.{HEAD, WAL_WITH_FRAME_BYTES, PAGE_BYTES}
+
+-- the bytes of a page of a database that is made
+abbrev pub page_bytes : ℕ
+page_bytes = 1024
+
+-- the least bytes of a WAL that has a change: its header, and a frame's header and the smallest page
+abbrev pub wal_with_frame_bytes : ℕ
+wal_with_frame_bytes = 32 + 24 + 512
 
 -- no database is made yet: the database file is empty, or has what a stop left of its first page, of which
 -- the WAL then says
 abbrev pub IsUnmade : Image → Type 0
-IsUnmade = IsBlankFile PAGE_BYTES
+IsUnmade = IsBlankFile page_bytes
 
 -- the database file is empty, and its WAL is long enough for a change
 abbrev pub IsLost : Image → Type 0
-IsLost image = (length image.db ≡ 0) × (WAL_WITH_FRAME_BYTES ≤ length image.log)
+IsLost image = (length image.db ≡ 0) × (wal_with_frame_bytes ≤ length image.log)
 
 -- the database file is longer than a page
 abbrev pub IsLarger : Image → Type 0
-IsLarger image = PAGE_BYTES < length image.db
+IsLarger image = page_bytes < length image.db
 
--- a byte of the first page that earlier releases wrote: of its header, or 0 after it
+-- The beginning of the first page that earlier releases wrote: the magic text, pages of 1,024 bytes and how
+-- they are written, one page, format 4, UTF-8, the version of SQLite, and a leaf of no cells.
+abbrev pub first_bytes : List ℕ
+first_bytes = codes "SQLite format 3"
+    ++ 0 ∷ 4 ∷ 0 ∷ 2 ∷ 2 ∷ 0 ∷ 64 ∷ 32 ∷ 32 ∷ 0 ∷ 0 ∷ 0 ∷ 0 ∷ 0 ∷ 0 ∷ 0 ∷ 1
+    ∷ 0 ∷ 0 ∷ 0 ∷ 0 ∷ 0 ∷ 0 ∷ 0 ∷ 0 ∷ 0 ∷ 0 ∷ 0 ∷ 0 ∷ 0 ∷ 0 ∷ 0 ∷ 4
+    ∷ 0 ∷ 0 ∷ 0 ∷ 0 ∷ 0 ∷ 0 ∷ 0 ∷ 0 ∷ 0 ∷ 0 ∷ 0 ∷ 1 ∷ 0 ∷ 0 ∷ 0 ∷ 0
+    ∷ 0 ∷ 0 ∷ 0 ∷ 0 ∷ 0 ∷ 0 ∷ 0 ∷ 0 ∷ 0 ∷ 0 ∷ 0 ∷ 0 ∷ 0 ∷ 0 ∷ 0 ∷ 0
+    ∷ 0 ∷ 0 ∷ 0 ∷ 0 ∷ 0 ∷ 0 ∷ 0 ∷ 0 ∷ 0 ∷ 0 ∷ 0 ∷ 0 ∷ 0 ∷ 0 ∷ 0 ∷ 0
+    ∷ 0 ∷ 46 ∷ 118 ∷ 136 ∷ 13 ∷ 0 ∷ 0 ∷ 0 ∷ 0 ∷ 4 ∷ 0 ∷ 0 ∷ []
+
+-- a byte of that page, which is 0 after its beginning
 abbrev pub page_byte : ℕ → ℕ
-page_byte at = get_or HEAD at 0
+page_byte at = get_or first_bytes at 0
 
 -- that page begins with these bytes
 abbrev pub BeginsPage : List ℕ → Type 0
@@ -41,8 +59,8 @@ BeginsPage bytes = (i : ℕ) → i < length bytes → slice_index bytes i ≡ pa
 -- a stop may have left these bytes of it: some of 0 alone, or fewer than its own
 pub record IsPart (bytes : List ℕ) : Type 0 where
   pub some : 2 ≤ length bytes
-  pub fits : length bytes ≤ PAGE_BYTES
-  pub part : IsTrue (list_all (λ b. b == 0) bytes) ⊎ ((length bytes < PAGE_BYTES) × BeginsPage bytes)
+  pub fits : length bytes ≤ page_bytes
+  pub part : IsTrue (list_all (λ b. b == 0) bytes) ⊎ ((length bytes < page_bytes) × BeginsPage bytes)
 
 -- the database file has no more, and no WAL
 abbrev pub IsTorn : Image → Type 0
@@ -54,7 +72,7 @@ IsToMake image = IsUnmade image ⊎ IsTorn image
 
 -- a database of one page, without tables
 abbrev pub IsMade : Image → Type 0
-IsMade image = (pages : PageMap) × Recovers PAGE_BYTES image pages × IsNew PAGE_BYTES pages
+IsMade image = (pages : PageMap) × Recovers page_bytes image pages × IsNew page_bytes pages
 
 module _ {D : Type 0} (g : disk.Ghosts D) where
   -- reads return what they did, and a crash leaves nothing that it could not have left before

@@ -1,5 +1,9 @@
 -- The files at a path as disks, and why they were not closed after calls.
-use Rattle.std.specs.Prelude.{◌≡◌, ◌⊎◌, ℕ, Bool, true, false, List, Option, Result, Ok, Err, ⊤}
+use Rattle.std.specs.Prelude.{◌≡◌, ◌⊎◌, ℕ, Bool, true, false, List, Option, Result, Ok, Err, codes, nat_eq, IsTrue, ⊤}
+use Rattle.std.specs.IoError.{error_kind}
+use Rattle.std.specs.List.{starts_with}
+use Rattle.std.specs.declared.io.ErrorKind.{ErrorKind}
+use Rattle.std.specs.declared.io.ErrorKind.TheVariants as kind
 use Rattle.sqlite_disk.specs.declared.Disk as disk
 use Rattle.sqlite_disk.specs.declared.calls.Calls as calls
 use Rattle.sqlite_disk.specs.declared.start.Start as start
@@ -10,6 +14,8 @@ use Rattle.sqlite_disk.specs.Modelled.{start_of}
 use Rattle.sqlite_disk.specs.declared.Files.{Files}
 use Rattle.sqlite_std_file.specs.declared.host.Host.{Host}
 use Rattle.sqlite_std_file.specs.File.{IsFresh}
+use Rattle.sqlite_std_file.specs.declared.pair.OpenError.{OpenError}
+use Rattle.sqlite_std_file.specs.declared.pair.OpenError.TheVariants as opening
 use Rattle.sqlite.specs.declared.error.Error.{Error}
 use Rattle.sqlite.specs.declared.error.Error.TheVariants.{SqliteFailure}
 use Rattle.sqlite.specs.declared.error.ErrorCode.TheVariants.{CannotOpen, DatabaseBusy, OutOfMemory}
@@ -38,9 +44,45 @@ module _ {C S : Type 0} {g : calls.Ghosts C} {first : start.Ghosts S} where
     is_mixing = λ _. first.is_mixing;
   }
 
--- the operating system did not give the files
+-- why there are no files
+pub data NoFile : Type 0 where
+  -- SQLite takes the path for something else than a file
+  NamesNone : NoFile
+  -- the operating system did not give them
+  NotGiven : OpenError → NoFile
+  -- it gave no seed
+  NotSeeded : NoFile
+
+-- how SQLite names a failure of the operating system by the kind of its error
+abbrev pub kind_error : ErrorKind → Error
+kind_error kind.OutOfMemory = SqliteFailure OutOfMemory
+kind_error _ = SqliteFailure CannotOpen
+
+-- and why it did not give the files
+abbrev pub open_error : OpenError → Error
+open_error (opening.Io error) = kind_error (error_kind error)
+open_error opening.OutOfMemory = SqliteFailure OutOfMemory
+open_error opening.Busy = SqliteFailure DatabaseBusy
+open_error opening.HotJournal = SqliteFailure CannotOpen
+
+-- the error of a cause
+abbrev pub no_file_error : NoFile → Error
+no_file_error NamesNone = SqliteFailure CannotOpen
+no_file_error (NotGiven cause) = open_error cause
+no_file_error NotSeeded = SqliteFailure CannotOpen
+
+-- there are no files, and the error is the one of the cause
 abbrev pub IsNoFile : Error → Type 0
-IsNoFile e = (e ≡ SqliteFailure CannotOpen) ⊎ ((e ≡ SqliteFailure OutOfMemory) ⊎ (e ≡ SqliteFailure DatabaseBusy))
+IsNoFile e = (cause : NoFile) × (e ≡ no_file_error cause)
+
+-- SQLite takes a path for something else than a file
+abbrev pub NamesNoFile : List ℕ → Type 0
+NamesNoFile path = (path ≡ codes ":memory:") ⊎ IsTrue (starts_with nat_eq path (codes "file:"))
+
+-- why the files at a path were not given
+abbrev pub IsNotGiven : List ℕ → Error → Type 0
+IsNotGiven path e = (NamesNoFile path × (e ≡ no_file_error NamesNone))
+    ⊎ ((¬ NamesNoFile path) × ((cause : OpenError) × (e ≡ no_file_error (NotGiven cause))))
 
 module _ {S : Type 0} {g : calls.Ghosts Host} (first : start.Ghosts S) (config : Config) (is_existing : Bool) (unread left held holds : Option (List ℕ)) where
   -- why files that held what `first` says were not closed after calls, and what is left of them

@@ -1,17 +1,19 @@
 -- Files from which a run may start, a first one too.
-use Rattle.std.specs.Prelude.{◌≡◌, ◌⊎◌, ℕ, Bool, List, Option, IsTrue}
+use Rattle.std.specs.Prelude.{◌≡◌, ◌≢◌, ◌⊎◌, ℕ, Bool, List, Option, IsTrue}
 use Rattle.sqlite_disk.specs.declared.Disk as disk
 use Rattle.sqlite_disk.specs.declared.Files.{Files}
 use Rattle.sqlite_wal.specs.Files.{outcomes}
-use Rattle.sqlite_wal.specs.Reads.{AreClean}
+use Rattle.sqlite_wal.specs.Reads.{AreClean, tally_of_files}
 use Rattle.sqlite_wal.specs.Recovery.{Image}
 use Rattle.sqlite_trees.specs.View.{IsClean}
 use Rattle.sqlite_store.specs.FileStore.{view}
+use Rattle.sqlite_store.specs.Report.{named}
 use Rattle.sqlite_store.specs.declared.store.FileStore.{FileStore}
 use Rattle.sqlite.specs.Files.{file_state, image_of}
 use Rattle.sqlite.specs.Held.{Held}
 use Rattle.sqlite.specs.State.{HasCleanDisk}
 use Rattle.sqlite.specs.declared.error.Error.{Error}
+use Rattle.sqlite.specs.declared.error.Error.TheVariants.{SqliteFailure}
 use Rattle.sqlite.specs.declared.file.Leftover.{Leftover}
 use Rattle.sqlite.specs.declared.file.Leftover.TheVariants as left
 use Rattle.sqlite.specs.declared.error.ErrorCode.{ErrorCode}
@@ -24,7 +26,7 @@ use Rattle.csi_keeper.specs.Model.{Model}
 use Rattle.csi_keeper.specs.State.{State, first_state}
 use Rattle.csi_files.specs.Files.{HasState, image_model}
 use Rattle.csi_server.specs.Machine.{Event}
-use Rattle.csi_files.specs.Making.{IsLaidOut, IsMade, IsNotLaidOut, IsToMake, IsUnmade}
+use Rattle.csi_files.specs.Making.{AreAsBefore, IsLaidOut, IsLost, IsMade, IsNotLaidOut, IsToMake, IsUnmade}
 use Rattle.csi_files.specs.Serving.{AreUntouched, IsNotOpened, IsNotServed, Opens, RunsThen, SaysNew}
 use Rattle.csi_files.specs.declared.making.NotLaidOut.{NotLaidOut}
 use Rattle.csi_files.specs.declared.making.NotLaidOut.TheVariants.{Emptied, Failed}
@@ -82,6 +84,14 @@ module _ {D : Type 0} (g : disk.Ghosts D) where
   abbrev pub KeepsStart : Files D → Files D → Type 0
   KeepsStart before after = AreClean g after.log after.db → (s : State) → MayStartAgain before s → MayStartAgain after s
 
+  -- the error is SQLite's name of why no database was made of files, by what the disks met meanwhile; a WAL
+  -- of an empty file is the reason only where it may have changes
+  abbrev pub IsNameOf : Files D → Files D → Error → Type 0
+  IsNameOf before now error = (why : NotLaidOut)
+      × (error ≡ SqliteFailure (code_of why (named (tally_of_files g (before.log, before.db)) (tally_of_files g (now.log, now.db)))))
+      × (why ≢ Failed pages.Corrupt)
+      × (why ≡ Emptied → AreAsBefore g before now × (AreClean g now.log now.db → IsLost (image_of g before)))
+
 module _ {D : Type 0} {g : disk.Ghosts D} where
   -- the disk was truthful to the end, of files that were opened
   abbrev pub EndsClean : NotServed D g → Type 0
@@ -92,16 +102,16 @@ module _ {D : Type 0} {g : disk.Ghosts D} where
   EndsClean (Left served now) = AreClean g now.log now.db
   EndsClean (NotClosed served error store) = IsClean (view store)
 
-  -- no database was made
-  abbrev pub IsLeftUnmade : Files D → Leftover D g → Type 0
-  IsLeftUnmade before (left.Files now) = IsNotLaidOut g before now × KeepsStart g before now
-  IsLeftUnmade before (left.Unopened now) = ⊥
-  IsLeftUnmade before (left.Store now) = ⊥
+  -- no database was made, for this error
+  abbrev pub IsLeftUnmade : Files D → Error → Leftover D g → Type 0
+  IsLeftUnmade before error (left.Files now) = IsNotLaidOut g before now × KeepsStart g before now × IsNameOf g before now error
+  IsLeftUnmade before error (left.Unopened now) = ⊥
+  IsLeftUnmade before error (left.Store now) = ⊥
 
 module _ {D : Type 0} (g : disk.Ghosts D) where
   -- one was not made, or what was made was not opened
   abbrev pub IsNotMade : Files D → Error → Leftover D g → Type 0
-  IsNotMade before error rest = IsLeftUnmade before rest ⊎ ((laid : Files D) × IsLaidOut g before laid × IsNotOpened g laid error rest)
+  IsNotMade before error rest = IsLeftUnmade before error rest ⊎ ((laid : Files D) × IsLaidOut g before laid × IsNotOpened g laid error rest)
 
   -- why files are not closed after a database was made where there was none: what is said of their contents
   -- then

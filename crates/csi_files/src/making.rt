@@ -1,15 +1,14 @@
 //! How a database file is made that has none yet.
 
-ghost use Rattle.std.specs.Prelude.{◌≡◌, ◌↔◌, ◌<◌, ◌==◌, length, IfErr, IfOk, IsTrue, OnOk};
+ghost use Rattle.std.specs.Prelude.{◌≡◌, ◌≢◌, ◌↔◌, ◌<◌, ◌==◌, length, IfErr, IfOk, IsTrue, OnOk};
 ghost use Rattle.std.specs.List.{list_all};
 ghost use Rattle.std.specs.IoError.{error_kind};
 ghost use Rattle.sqlite_wal.specs.Reads.{AreClean, OnlyReads};
 ghost use Rattle.sqlite.specs.Files.{image_of};
 ghost use Rattle.sqlite_pool.specs.Opening.{AreUsable};
 ghost use Rattle.sqlite_pool.specs.Pool.{state, files};
-ghost use Rattle.csi_files.specs.Making.{AreAsBefore, BeginsPage, IsCreated, IsLaidOut, IsLarger, IsLost, IsNotCreated, IsNotLaidOut, IsPart, IsTorn, IsUnmade, not_cleared, page_byte};
+ghost use Rattle.csi_files.specs.Making.{AreAsBefore, BeginsPage, IsCreated, IsLaidOut, IsLarger, IsLost, IsNotCreated, IsNotLaidOut, IsPart, IsTorn, IsUnmade, not_cleared, page_byte, page_bytes};
 ghost use Rattle.csi_files.specs.Starting.{KeepsStart, StartsAs};
-ghost use Rattle.csi_files.specs.declared.making.TheConstants.{PAGE_BYTES};
 
 use sqlite_disk::{Disk, Files};
 use sqlite_pager::{Options, Pager};
@@ -59,7 +58,7 @@ fn options(seed: u64) -> Options {
 // The pages of files, which are not read yet.
 fn pages_of<D: Disk>(alloc: Global, pair: Files<D>, seed: u64) -> Result<Pool<D>, Files<D>>
     ensures back { IfErr result (λ left. left ≡ pair) }
-    ensures size { IfOk result (λ pool. (state pool).page_size ≡ PAGE_BYTES) }
+    ensures size { IfOk result (λ pool. (state pool).page_size ≡ page_bytes) }
     ensures files { IfOk result (λ pool. files pool ≡ (pair.log, pair.db)) }
 {
     let size = PageSize::new(PAGE_BYTES).unwrap();
@@ -77,7 +76,7 @@ fn pages_of<D: Disk>(alloc: Global, pair: Files<D>, seed: u64) -> Result<Pool<D>
 fn given_back<D: Disk>(pool: Pool<D>) -> Result<Files<D>, (Error, Files<D>)>
     ensures ok { IfOk result (λ pair. ((pair.log, pair.db) ≡ files pool) × IsTrue (D.Disk.is_usable pair.log)
         × IsTrue (D.Disk.is_usable pair.db)) }
-    ensures err { IfErr result (λ e. (e.1.log, e.1.db) ≡ files pool) }
+    ensures err { IfErr result (λ e. (e.0 ≡ Error.Io) × ((e.1.log, e.1.db) ≡ files pool)) }
 {
     let pair = pool.close();
     if pair.may_be_used() {
@@ -93,6 +92,7 @@ fn make<D: Disk>(alloc: Global, pair: Files<D>, seed: u64) -> Result<Files<D>, (
     requires db { IsTrue (D.Disk.is_usable pair.db) }
     ensures created { IfOk result (IsCreated D.Disk pair) }
     ensures not_created { IfErr result (λ e. IsNotCreated D.Disk pair e.1) }
+    ensures not_corrupt { IfErr result (λ e. e.0 ≢ Error.Corrupt) }
 {
     let mut pool = match pages_of(alloc, pair, seed) {
         Ok(pool) => pool,
@@ -261,7 +261,8 @@ fn failed(error: io::Error) -> NotLaidOut
 /// # Errors
 ///
 /// Where the log of an empty file may have changes, the files cannot be read or written, or memory is
-/// refused. The files come back: unchanged in the first case, otherwise with what a stop might have left.
+/// refused. The files come back: unchanged in the first case, otherwise with what a stop might have left. No
+/// files are called corrupt: those that hold something else than a database are left to who opens them.
 pub fn lay_out<D: Disk>(
     alloc: Global,
     mut pair: Files<D>,
@@ -275,6 +276,7 @@ pub fn lay_out<D: Disk>(
     ensures not_laid_out { IfErr result (λ e. IsNotLaidOut D.Disk pair e.1) }
     ensures starts { IfOk result (λ after. StartsAs D.Disk pair after × KeepsStart D.Disk pair after) }
     ensures kept { IfErr result (λ e. KeepsStart D.Disk pair e.1) }
+    ensures not_corrupt { IfErr result (λ e. e.0 ≢ NotLaidOut.Failed Error.Corrupt) }
     ensures emptied { IfErr result (λ e. e.0 ≡ NotLaidOut.Emptied → AreAsBefore D.Disk pair e.1
         × (AreClean D.Disk e.1.log e.1.db → IsLost (image_of D.Disk pair))) }
 {

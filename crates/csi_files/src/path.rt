@@ -7,7 +7,7 @@ ghost use Rattle.sqlite_wal.specs.Reads.{AreClean};
 ghost use Rattle.csi_server.specs.Serving.{Serves, Writes};
 ghost use Rattle.csi_server.specs.Volumes.{seen, volumes};
 ghost use Rattle.csi_files.specs.Files.{files_model};
-ghost use Rattle.csi_files.specs.Path.{AllServedAt, IsNoFile, IsNotServedAt, over_calls};
+ghost use Rattle.csi_files.specs.Path.{AllServedAt, IsNotGiven, IsNotServedAt, NotSeeded, no_file_error, open_error, over_calls};
 ghost use Rattle.csi_files.specs.Serving.{HasRefusedNone, LeavesAfter};
 ghost use Rattle.csi_files.specs.Starting.{OpensMade, StartsThen, start_model};
 
@@ -36,30 +36,39 @@ pub enum NotServedAt<D: Disk> {
     NotServed(NotServed<D>),
 }
 
+// How SQLite names why the operating system did not give the files.
+fn open_error(cause: OpenError) -> Error
+    ensures { result ≡ open_error cause }
+{
+    match cause {
+        OpenError::OutOfMemory => NO_MEMORY,
+        OpenError::Busy => BUSY,
+        OpenError::Io(error) if error.kind() == ErrorKind::OutOfMemory => NO_MEMORY,
+        OpenError::Io(_) | OpenError::HotJournal => CANNOT_OPEN,
+    }
+}
+
 // The files at a path, which are made where they are missing. SQLite takes `:memory:` and a URI for something
 // else than a file.
 fn files_at<S: Start>(rt: &HostRuntime, path: &str, start: S) -> Result<Files<FileFrom<S>>, Error>
     ensures usable { IfOk result (λ files. IsTrue (file_is_usable S.Start files.log)
         × IsTrue (file_is_usable S.Start files.db)) }
     ensures fresh { IfOk result (λ files. IsFresh true files.log × IsFresh false files.db) }
-    ensures failed { IfErr result IsNoFile }
+    ensures failed { IfErr result (IsNotGiven path.now) }
 {
     if path == ":memory:" || path.starts_with("file:") {
         return Err(CANNOT_OPEN);
     }
     match open(rt, path, start) {
         Ok(files) => Ok(files),
-        Err(OpenError::OutOfMemory) => Err(NO_MEMORY),
-        Err(OpenError::Busy) => Err(BUSY),
-        Err(OpenError::Io(error)) if error.kind() == ErrorKind::OutOfMemory => Err(NO_MEMORY),
-        Err(_) => Err(CANNOT_OPEN),
+        Err(cause) => Err(open_error(cause)),
     }
 }
 
 // How files are opened: with a seed drawn at random, which distinguishes the frames of a new WAL from
 // those of an old one.
 fn opening(rt: &HostRuntime) -> Result<Options, Error>
-    ensures { IfErr result IsNoFile }
+    ensures { IfErr result (λ e. e ≡ no_file_error NotSeeded) }
 {
     match RandomState::new(rt) {
         Ok(state) => Ok(Options::new(state.hash_one(&0u8))),

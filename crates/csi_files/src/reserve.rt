@@ -3,9 +3,11 @@
 //! An opening reads each table whole, where calls over a file take a few pages. So tables could grow, call by
 //! call, until no opening of them has enough memory, and nobody could delete a volume any more.
 
-ghost use Rattle.std.specs.Prelude.{◌≡◌, false, IfErr};
+ghost use Rattle.std.specs.Prelude.{◌≡◌, ◌≤◌, ◌<◌, false, IfErr, IfOk, OnErr, OnOk, vec_capacity, vec_len};
 ghost use Rattle.csi_keeper.specs.declared.change.StoreFault.TheVariants.{NoMemory};
+ghost use Rattle.csi_keeper.specs.State.{up_to_u64};
 ghost use Rattle.csi_tables.specs.Keeping.{is_down};
+ghost use Rattle.csi_files.specs.Reserving.{AreBlocks, IsFull, blocks_for, cap_bytes, change_bytes, volume_bytes, wanted_with};
 
 use csi_keeper::{
     Attachment, CapKey, Change, Keeper, Kind, Listed, PageFold, PageWithNodes, StoreFault, Usage,
@@ -32,7 +34,9 @@ const ROOM_BLOCKS: usize = 4;
 // Memory that is only held. The call is not inlined: otherwise a compiler may see that nobody uses it, and
 // take none.
 #[inline(never)]
-fn held(alloc: Global, bytes: usize) -> Result<Vec<u8>, AllocError> {
+fn held(alloc: Global, bytes: usize) -> Result<Vec<u8>, AllocError>
+    ensures { IfOk result (λ block. bytes ≤ vec_capacity block) }
+{
     Vec::with_capacity(alloc, bytes)
 }
 
@@ -42,7 +46,11 @@ fn held(alloc: Global, bytes: usize) -> Result<Vec<u8>, AllocError> {
 /// # Errors
 ///
 /// Where there is no memory.
-pub(crate) fn room(alloc: Global) -> Result<Vec<Vec<u8>>, AllocError> {
+#[tactic(auto, using(crate::proofs::ReserveLemmas::no_blocks, crate::proofs::ReserveLemmas::one_more))]
+pub(crate) fn room(alloc: Global) -> Result<Vec<Vec<u8>>, AllocError>
+    ensures count { IfOk result (λ blocks. vec_len blocks ≡ 4) }
+    ensures blocks { IfOk result (λ blocks. AreBlocks blocks.items) }
+{
     let mut blocks = Vec::with_capacity(alloc, ROOM_BLOCKS)?;
     for _ in 0..ROOM_BLOCKS {
         blocks.push(held(alloc, BLOCK_BYTES)?)?;
@@ -70,7 +78,12 @@ impl Drop for Reserve {
 
 impl Reserve {
     // So many bytes, as far as there is memory.
-    fn new(alloc: Global, wanted: usize) -> Reserve {
+    #[tactic(auto, using(crate::proofs::ReserveLemmas::no_blocks))]
+    fn new(alloc: Global, wanted: usize) -> Reserve
+        ensures wanted { result.wanted ≡ wanted }
+        ensures blocks { AreBlocks result.blocks.items }
+        ensures most { vec_len result.blocks ≤ blocks_for wanted }
+    {
         let mut reserve = Reserve {
             alloc,
             blocks: Vec::new(alloc),
@@ -81,7 +94,15 @@ impl Reserve {
     }
 
     // Keeps what is to be kept.
-    fn fill(&mut self) -> Result<(), AllocError> {
+    #[tactic(auto, using(crate::proofs::ReserveLemmas::one_more))]
+    fn fill(&mut self) -> Result<(), AllocError>
+        ensures full { OnOk result (IsFull self.new) }
+        ensures wanted { self.new.wanted ≡ self.old.wanted }
+        ensures blocks { AreBlocks self.old.blocks.items → AreBlocks self.new.blocks.items }
+        ensures least { vec_len self.old.blocks ≤ vec_len self.new.blocks }
+        ensures most { vec_len self.old.blocks ≤ blocks_for self.old.wanted
+            → vec_len self.new.blocks ≤ blocks_for self.old.wanted }
+    {
         for _ in self.blocks.len()..self.wanted.div_ceil(BLOCK_BYTES) {
             let _room = room(self.alloc)?;
             self.blocks.push(held(self.alloc, BLOCK_BYTES)?)?;
@@ -90,7 +111,13 @@ impl Reserve {
     }
 
     // Keeps so many bytes more.
-    fn grow(&mut self, bytes: usize) -> Result<(), AllocError> {
+    fn grow(&mut self, bytes: usize) -> Result<(), AllocError>
+        ensures full { OnOk result (IsFull self.new) }
+        ensures wanted { OnOk result (self.new.wanted ≡ wanted_with self.old bytes) }
+        ensures unchanged { OnErr result (self.new.wanted ≡ self.old.wanted) }
+        ensures blocks { AreBlocks self.old.blocks.items → AreBlocks self.new.blocks.items }
+        ensures least { vec_len self.old.blocks ≤ vec_len self.new.blocks }
+    {
         let before = self.wanted;
         self.wanted = before.saturating_add(bytes);
         let grown = self.fill();
@@ -101,18 +128,22 @@ impl Reserve {
     }
 }
 
-fn cap_bytes(cap: &CapKey) -> usize {
+fn cap_bytes(cap: &CapKey) -> usize
+    ensures { result ≡ up_to_u64 (cap_bytes cap.now) }
+{
     match &cap.kind {
         Kind::Block => CAP_BYTES,
         Kind::Mount(name) => name.len().saturating_add(CAP_BYTES),
     }
 }
 
-fn volume_bytes(volume: &Volume) -> usize {
+fn volume_bytes(volume: &Volume) -> usize
+    ensures { result ≡ up_to_u64 (volume_bytes volume.now) }
+{
     let mut bytes = ROW_BYTES
         .saturating_add(volume.name.len())
         .saturating_add(volume.pool.len());
-    for cap in volume.caps.iter() {
+    for cap in volume.caps.as_slice() {
         bytes = bytes.saturating_add(cap_bytes(cap));
     }
     bytes
@@ -121,7 +152,9 @@ fn volume_bytes(volume: &Volume) -> usize {
 }
 
 // How many bytes more an opening takes after a change.
-fn bytes_of(change: &Change) -> usize {
+fn bytes_of(change: &Change) -> usize
+    ensures { result ≡ up_to_u64 (change_bytes change.now) }
+{
     match change {
         Change::AddVolume(volume) => volume_bytes(volume),
         Change::Attach(_, attachment) => {
@@ -171,6 +204,9 @@ impl<S: Alter> Reserved<S> {
     // Keeps memory for what a change adds. One that takes away is made also where less is kept than is to be.
     fn reserve_for(&mut self, change: &Change) -> Result<(), StoreFault>
         ensures unchanged { self.new.tables ≡ self.old.tables }
+        ensures kept { OnOk result (0 < change_bytes change.now → is_down S.Store self.old.tables ≡ false
+            → IsFull self.new.reserve
+            × (self.new.reserve.wanted ≡ wanted_with self.old.reserve (change_bytes change.now))) }
         ensures refused { IfErr result (λ fault. (fault ≡ NoMemory)
             × (is_down S.Store self.old.tables ≡ false)) }
     {

@@ -48,7 +48,7 @@ fn made<D: Disk + Drop>(
     requires log { IsTrue (D.Disk.is_usable files.log) }
     requires db { IsTrue (D.Disk.is_usable files.db) }
     ensures laid_out { IfOk result (IsLaidOut D.Disk files) }
-    ensures unmade { IfErr result (λ e. IsLeftUnmade files e.1) }
+    ensures unmade { IfErr result (λ e. IsLeftUnmade files e.0 e.1) }
 {
     let before = files.tally();
     match lay_out(alloc, files, seed) {

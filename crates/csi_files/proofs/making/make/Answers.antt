@@ -16,7 +16,7 @@ pub returns-in-Ok-create-clause-not_created : goal.returns-in-Ok-create-clause-n
 returns-in-Ok-create-clause-not_created g c =
     let made = c.in-Ok-create.ensures in
     IfErr-weaker c.given_back.result _ _
-    (λ e it. not_created g.D.Disk c.in-Ok.pool c.create.new.self c.args.pair e.1 c.in-Ok.ensures.files it c.in-Ok.ensures.size made.honest made.there made.untouched made.crash)
+    (λ e it. not_created g.D.Disk c.in-Ok.pool c.create.new.self c.args.pair e.1 c.in-Ok.ensures.files it.1 c.in-Ok.ensures.size made.honest made.there made.untouched made.crash)
     c.given_back.ensures.err
 
 pub returns-in-Err-Corrupt-clause-created : goal.returns-in-Err-Corrupt-clause-created
@@ -30,13 +30,13 @@ pub returns-in-Err-Corrupt-clause-not_created : goal.returns-in-Err-Corrupt-clau
 returns-in-Err-Corrupt-clause-not_created g c =
     let left = c.in-Err-Corrupt.ensures in
     IfErr-weaker c.given_back-in-Err-Corrupt.result _ _
-    (λ e it. not_created g.D.Disk c.in-Ok.pool c.create.new.self c.args.pair e.1 c.in-Ok.ensures.files it c.in-Ok.ensures.size left.honest left.there left.untouched left.crash)
+    (λ e it. not_created g.D.Disk c.in-Ok.pool c.create.new.self c.args.pair e.1 c.in-Ok.ensures.files it.1 c.in-Ok.ensures.size left.honest left.there left.untouched left.crash)
     c.given_back-in-Err-Corrupt.ensures.err
 
-pub returns-in-Err-create : goal.returns-in-Err-create
-returns-in-Err-create g c =
+pub returns-in-Err-create-clause-not_created : goal.returns-in-Err-create-clause-not_created
+returns-in-Err-create-clause-not_created g c =
     let left = c.in-Err-create.ensures in
-    record { created = tt; not_created = not_created g.D.Disk c.in-Ok.pool c.create.new.self c.args.pair c.close.result c.in-Ok.ensures.files c.close.ensures c.in-Ok.ensures.size left.honest left.there left.untouched left.crash }
+    not_created g.D.Disk c.in-Ok.pool c.create.new.self c.args.pair c.close.result c.in-Ok.ensures.files c.close.ensures c.in-Ok.ensures.size left.honest left.there left.untouched left.crash
 
-pub returns-in-Err : goal.returns-in-Err
-returns-in-Err g c = record { created = tt; not_created = subst (λ left. IsNotCreated g.D.Disk c.args.pair left) (sym c.in-Err.ensures.back) (as_it_was g.D.Disk c.args.pair) }
+pub returns-in-Err-clause-not_created : goal.returns-in-Err-clause-not_created
+returns-in-Err-clause-not_created g c = subst (λ left. IsNotCreated g.D.Disk c.args.pair left) (sym c.in-Err.ensures.back) (as_it_was g.D.Disk c.args.pair)

@@ -1,0 +1,59 @@
+-- Memory that is kept for the next opening of tables: how many bytes it takes more after a change, and the
+-- blocks that are kept.
+use Rattle.std.specs.Prelude.{ℕ, ◌+◌, ◌≤◌, All, List, length, sum_by, vec_capacity, vec_len}
+use Rattle.std.specs.Global.{Vec}
+use Rattle.std.specs.Int.{div_ceil}
+use Rattle.csi_types.specs.Checks.{map_bytes}
+use Rattle.csi_keeper.specs.State.{up_to_u64}
+use Rattle.csi_keeper.specs.declared.capability.CapKey.{CapKey}
+use Rattle.csi_keeper.specs.declared.capability.Kind.{Kind}
+use Rattle.csi_keeper.specs.declared.capability.Kind.TheVariants.{Block, Mount}
+use Rattle.csi_keeper.specs.declared.change.Change.{Change}
+use Rattle.csi_keeper.specs.declared.change.Change.TheVariants.{AddVolume, RemoveVolume, Attach, Detach, DetachAll, SetMutable}
+use Rattle.csi_keeper.specs.declared.volume.Volume.{Volume}
+use Rattle.csi_files.specs.declared.reserve.Reserve.{Reserve}
+
+-- ---- bytes
+
+-- a capability takes 4 bytes, and those of the name of its file system
+abbrev pub kind_bytes : Kind → ℕ
+kind_bytes Block = 4
+kind_bytes (Mount name) = length name + 4
+
+abbrev pub cap_bytes : CapKey → ℕ
+cap_bytes key = kind_bytes key.kind
+
+-- a row takes 256 bytes, and those of what is in it
+abbrev pub volume_bytes : Volume → ℕ
+volume_bytes v = 256 + length v.name + length v.pool + sum_by cap_bytes v.caps + map_bytes v.params + map_bytes v.mutable
+
+-- how many bytes an opening takes more after a change; none after one that takes away
+abbrev pub change_bytes : Change → ℕ
+change_bytes (AddVolume v) = volume_bytes v
+change_bytes (Attach n a) = 256 + length a.node + cap_bytes a.cap
+change_bytes (SetMutable n m) = map_bytes m
+change_bytes (RemoveVolume n) = 0
+change_bytes (Detach n node) = 0
+change_bytes (DetachAll n) = 0
+
+-- ---- blocks
+
+-- the bytes of a block, 1 MiB
+abbrev pub block_bytes : ℕ
+block_bytes = 1048576
+
+-- blocks have at least so many each
+abbrev pub AreBlocks : List (Vec ℕ) → Type 0
+AreBlocks blocks = All (λ block. block_bytes ≤ vec_capacity block) blocks
+
+-- how many blocks have so many bytes
+abbrev pub blocks_for : ℕ → ℕ
+blocks_for bytes = div_ceil bytes block_bytes
+
+-- all that is to be kept is kept
+abbrev pub IsFull : Reserve → Type 0
+IsFull reserve = blocks_for reserve.wanted ≤ vec_len reserve.blocks
+
+-- what is to be kept after so many bytes more
+abbrev pub wanted_with : Reserve → ℕ → ℕ
+wanted_with reserve bytes = up_to_u64 (reserve.wanted + bytes)
