@@ -2,13 +2,9 @@
 
 import contextlib
 import os
-import subprocess
-import tempfile
 import threading
 import time
 
-from tests.support import change_stores
-from tests.support.change_stores import ChangeStore, next_frame, page
 from tests.support.frames import (
     CREATE_A,
     LONGEST,
@@ -230,36 +226,6 @@ class LastPeerTest(CsidTest):
             self.assertTrue(has_ended(peer, (5, 25)))
         server.process.wait(SECONDS)
         self.assertEqual(server.end()[:2], (begun + IDLE, 0))
-
-
-class DrippingStore(ChangeStore):
-    """A change store that answers each call by a byte in two seconds."""
-
-    def serve(self, peer):
-        with peer, peer.makefile("rb") as stream, contextlib.suppress(OSError):
-            while next_frame(stream):
-                for byte in page(token=b"t" * 64):
-                    peer.sendall(bytes([byte]))
-                    time.sleep(2)
-
-
-class SlowChangeStoreTest(CsidTest):
-    """A change store that is slow to answer."""
-
-    def test_reply_that_comes_byte_by_byte_is_given_up_after_thirty_seconds(self):
-        path = os.path.join(self.folder, "log.sock")
-        log, said = DrippingStore(path), tempfile.TemporaryFile()
-        self.addCleanup(log.end)
-        command = [self.csid, "serve", "--socket", os.path.join(self.folder, "csid.sock"), "--log", path]
-        begin = time.monotonic()
-        process = subprocess.Popen(command, stdin=subprocess.DEVNULL, stderr=said)
-        self.addCleanup(process.wait)
-        self.addCleanup(process.kill)
-        line = ("csid: %s: no reply came\n" % path).encode()
-        self.assertTrue(
-            change_stores.wait(lambda: os.pread(said.fileno(), 4096, 0) == line, 2 * SECONDS)
-        )
-        self.assertGreater(time.monotonic() - begin, 25)
 
 
 class KindTest(CsidTest):

@@ -375,8 +375,8 @@ class ServeTest(CsidTest):
         server.end()
 
     def test_peers_that_wait(self):
-        """While others wait an idle peer is given a second, and a call has a time of its own from its first
-        byte.
+        """While others wait idle peers are given a second in all, and a call has a time of its own from its
+        first byte.
         """
         server = Server(self.csid, self.folder, "--idle", "60")
         begun = server.lines()
@@ -389,7 +389,7 @@ class ServeTest(CsidTest):
             last.sendall(frame(PROBE))
             self.row("a call after three peers that were answered and stay", last.recv(4096), READY)
             took = time.monotonic() - begin
-            self.row("each was given a second", 2.5 < took < 9, True)
+            self.row("they were given less than a second each", took < 2.5, True)
             self.row(
                 "they were answered, and closed",
                 [(peer.recv(4096), peer.recv(1)) for peer in held],

@@ -1,6 +1,7 @@
 -- What the first bytes of a connection begin.
 use Rattle.std.specs.Prelude.{◌≡◌, ◌≢◌, ◌⊎◌, ◌≤◌, ◌<◌, ◌==◌, ◌++◌, Bool, true, false, Option, None, Some, IsSomeAnd, List, [], length, take, ℕ, ⊤}
 use Rattle.std.specs.Io.KnownBytes.{Consumes, IsAtEnd, Keeps}
+use Rattle.std.specs.declared.time.Instant.{Instant}
 use Rattle.envelope.specs.declared.fault.FrameWhy.{FrameWhy}
 use Rattle.envelope.specs.declared.fault.FrameWhy.TheVariants.{EndOfInput}
 use Rattle.envelope.specs.Envelope.{CallBytes, IsCall, frame}
@@ -41,19 +42,29 @@ is_known (Some Call) = true
 is_known (Some NoCall) = true
 is_known (Some Open) = false
 
--- a piece that came, the empty one at the end: it is kept, and what all of it begins is noted
-abbrev pub Notes : List ℕ → FirstBytes → FirstBytes → Type 0
-Notes piece old new = (new.sent.items ≡ old.sent.items ++ piece) × IsSomeAnd new.start (Begins new.sent.items (length piece == 0))
+-- the time of the first byte: the one that is known, else the time of this piece
+abbrev pub begun_by : Option Instant → Instant → Option Instant
+begun_by None now = Some now
+begun_by (Some begun) now = Some begun
+
+-- A piece came at a time, the empty piece at the end: it is kept, and what all bytes begin is noted, with the
+-- time of the first byte and of the last piece.
+pub record Notes (piece : List ℕ) (now : Instant) (old new : FirstBytes) : Type 0 where
+  pub sent : new.sent.items ≡ old.sent.items ++ piece
+  pub start : IsSomeAnd new.start (Begins new.sent.items (length piece == 0))
+  pub since : new.since ≡ now
+  pub begun : new.begun ≡ begun_by old.begun now
 
 -- a piece is noted, or the connection is lost
-abbrev pub Accepts : List ℕ → FirstBytes → FirstBytes → PeerInput → Type 0
-Accepts piece old new Nothing = ⊥
-Accepts piece old new Something = Notes piece old new
-Accepts piece old new Lost = ⊤
+abbrev pub Accepts : List ℕ → Instant → FirstBytes → FirstBytes → PeerInput → Type 0
+Accepts piece now old new Nothing = ⊥
+Accepts piece now old new Something = Notes piece now old new
+Accepts piece now old new Lost = ⊤
 
--- A look at what is unread, of which this is left: nothing came, or a piece of it, which is noted. Of a
--- connection that is lost nothing is said.
-abbrev pub Finds : (unread left : Option (List ℕ)) → FirstBytes → FirstBytes → PeerInput → Type 0
-Finds unread left old new Nothing = Keeps unread left × (new.sent.items ≡ old.sent.items) × (new.start ≡ Some Open)
-Finds unread left old new Something = (piece : List ℕ) × Consumes unread left piece × (piece ≡ [] → IsAtEnd left) × Notes piece old new
-Finds unread left old new Lost = ⊤
+-- A look at what is unread, of which this is left: nothing came, and the times stay, or a piece of it came,
+-- which is noted. Of a connection that is lost nothing is said.
+abbrev pub Finds : (unread left : Option (List ℕ)) → Instant → FirstBytes → FirstBytes → PeerInput → Type 0
+Finds unread left now old new Nothing = Keeps unread left × (new.sent.items ≡ old.sent.items) × (new.start ≡ Some Open)
+    × (new.since ≡ old.since) × (new.begun ≡ old.begun)
+Finds unread left now old new Something = (piece : List ℕ) × Consumes unread left piece × (piece ≡ [] → IsAtEnd left) × Notes piece now old new
+Finds unread left now old new Lost = ⊤

@@ -9,7 +9,7 @@ ghost use Rattle.csid.specs.Statuses.{IsOrNoMemory};
 use crate::console::Console;
 use crate::content::read_content;
 use crate::failure::Failure;
-use crate::memory::{files_of, memory_failure, open};
+use crate::memory::{files_of, is_no_memory, memory_failure, open};
 use crate::peer::Leadership;
 use crate::tables::{adoption_failure, keeper_over, report_content, store_failure};
 use csi_adoption::{AdoptFault, Foreign};
@@ -136,11 +136,15 @@ fn change_store_failure(alloc: Global, path: &str, error: &io::Error) -> Failure
     }
 }
 
+// Why the database in memory has no rows of a change store.
 fn rows_failure(alloc: Global, path: &str, fault: &RowsFault) -> Failure
     ensures { IsOrNoMemory 4 result }
 {
     match fault {
         RowsFault::NoMemory => Failure::NoMemory,
+        RowsFault::Refused(error) | RowsFault::Row(_, error) if is_no_memory(error) => {
+            Failure::NoMemory
+        }
         _ => Failure::of_tables(alloc, path, fault),
     }
 }

@@ -21,7 +21,7 @@ const FEW: u32 = 10;
 const SECOND_MILLIS: u64 = 1000;
 
 // How many ways there are in which a connection ends that are counted.
-const WAYS: usize = 6;
+const WAYS: usize = 7;
 
 /// How a connection ended, where all calls were not read and answered.
 #[derive(Clone, Copy, PartialEq, Eq)]
@@ -36,6 +36,8 @@ pub(crate) enum Ending {
     Crowded,
     /// A frame was malformed.
     Malformed,
+    /// It kept another connection waiting.
+    Preempted,
     /// It could not be read or written.
     Failed,
 }
@@ -46,6 +48,7 @@ const ENDINGS: [Ending; WAYS] = [
     Ending::Gone,
     Ending::Crowded,
     Ending::Malformed,
+    Ending::Preempted,
     Ending::Failed,
 ];
 
@@ -58,6 +61,7 @@ impl Ending {
             Ending::Gone => "had gone",
             Ending::Crowded => "made room for others",
             Ending::Malformed => "sent a malformed frame",
+            Ending::Preempted => "kept others waiting",
             Ending::Failed => "failed",
         }
     }
@@ -72,7 +76,8 @@ impl Ending {
             Ending::Gone => 2,
             Ending::Crowded => 3,
             Ending::Malformed => 4,
-            Ending::Failed => 5,
+            Ending::Preempted => 5,
+            Ending::Failed => 6,
         }
     }
 }

@@ -22,6 +22,9 @@ pub(crate) enum FileFault {
     /// SQLite takes its path for something else.
     #[error("csid needs the path of a file, and this is none for SQLite")]
     NoPath,
+    /// It is a named pipe, a socket or a device, an opening of which may wait for ever.
+    #[error("it is no regular file")]
+    NotRegular,
     /// There is no file.
     #[error("there is no such file, and none is made")]
     Missing,
@@ -53,6 +56,21 @@ fn wal_path(rt: &HostRuntime, path: &str) -> io::Result<String> {
 fn has_frames(rt: &HostRuntime, path: &str) -> io::Result<bool> {
     let wal = wal_path(rt, path)?;
     Ok(fs::metadata(rt, wal.as_str()).is_ok_and(|found| found.len() >= WAL_WITH_FRAME_BYTES as u64))
+}
+
+// Whether a path leads to something that is neither a regular file nor a folder.
+fn is_special(rt: &HostRuntime, path: &str) -> bool {
+    fs::metadata(rt, path).is_ok_and(|found| !found.is_file() && !found.is_dir())
+}
+
+/// Why a file or its WAL is not opened, by its kind. A folder is left to the opening, which refuses it at
+/// once.
+pub(crate) fn fault_of_kind(rt: &HostRuntime, path: &str) -> Option<FileFault> {
+    let is_special_wal = wal_path(rt, path).is_ok_and(|wal| is_special(rt, wal.as_str()));
+    if is_special_wal || is_special(rt, path) {
+        return Some(FileFault::NotRegular);
+    }
+    None
 }
 
 // Whether a file has no byte, or is missing.

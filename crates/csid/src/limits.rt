@@ -2,12 +2,20 @@
 
 use std::time::{Duration, Instant};
 
-/// A call is whole so many seconds after its first byte, as far as its peer is waited for. A reply is taken
-/// in as many.
+/// The seconds after its first byte in which a call must be complete, not counting the time that `csid` takes
+/// itself. A reply must be taken in as many seconds.
 pub(crate) const CALL_SECONDS: u64 = 10;
 
-/// A peer may do nothing for so many seconds in any case, and no longer while another one has sent a call.
+/// The seconds for which a connection that is ready waits for the peer of the one being served. All that wait
+/// share them: they count from the time since when the first of these has been ready.
 pub(crate) const WANTED_SECONDS: u64 = 1;
+
+/// The milliseconds for which the peer of a connection being served may delay a call or a reply in any case,
+/// also where others have waited longer than [`WANTED_SECONDS`].
+pub(crate) const SHORTEST_MILLIS: u64 = 100;
+
+/// The seconds after which a connection being served is closed between two calls if another one is ready.
+pub(crate) const TURN_SECONDS: u64 = 60;
 
 /// How much is left of so long a time; nothing, where it is over.
 pub(crate) fn left_of(longest: Duration, begun: Instant, now: Instant) -> Option<Duration> {

@@ -48,9 +48,9 @@ pub(crate) fn files_of(alloc: Global, wal: &[u8], db: &[u8]) -> Result<Files<Mem
     })
 }
 
-// Whether memory was refused to a database in memory. SQLite reports that of a file as a failure of its disk,
-// and a file in memory has no other one.
-fn is_no_memory(error: &Error) -> bool {
+/// Whether memory was refused to a database in memory. SQLite reports that of a file as a failure of its
+/// disk, and a file in memory has no other one.
+pub(crate) fn is_no_memory(error: &Error) -> bool {
     matches!(error, Error::SqliteFailure(ErrorCode::SystemIoFailure))
 }
 

@@ -119,9 +119,25 @@ impl FirstBytes {
         Ok(longest)
     }
 
+    /// The time that the peer has taken so far for its first call: from its first byte to the last one that
+    /// is kept here.
+    pub(crate) fn spent(&self) -> Duration {
+        match self.begun {
+            Some(begun) => self.since.saturating_duration_since(begun),
+            None => Duration::ZERO,
+        }
+    }
+
+    /// When the last byte came, which made known what the connection begins.
+    pub(crate) fn since(&self) -> Instant
+        ensures { result ≡ self.now.since }
+    {
+        self.since
+    }
+
     // Adds a piece, which is empty at the end.
     fn accept(&mut self, piece: &[u8], now: Instant) -> PeerInput
-        ensures { Accepts piece.now self.old self.new result }
+        ensures { Accepts piece.now now self.old self.new result }
     {
         if self.sent.extend_from_slice(piece).is_err() {
             return PeerInput::Lost;
@@ -134,7 +150,7 @@ impl FirstBytes {
 
     // Adds what can be read now, a piece of it.
     fn receive<R: Read>(&mut self, reader: &mut R, now: Instant) -> PeerInput
-        ensures { Finds (R.remaining reader.old) (R.remaining reader.new) self.old self.new result }
+        ensures { Finds (R.remaining reader.old) (R.remaining reader.new) now self.old self.new result }
     {
         let mut piece = [0; ENOUGH];
         match reader.read(&mut piece) {
@@ -163,7 +179,7 @@ impl Pending {
         ensures known { is_known self.old.first.start ≡ true
             → (result ≡ PeerInput.Nothing) × (self.new.first ≡ self.old.first) }
         ensures unknown { is_known self.old.first.start ≡ false
-            → Finds None None self.old.first self.new.first result }
+            → Finds None None now self.old.first self.new.first result }
     {
         if self.first.is_known() {
             return PeerInput::Nothing;

@@ -13,7 +13,7 @@ use crate::failure::{Endpoint, Failure, outcome};
 use crate::listing::list_tables;
 use crate::serving::{Answered, SilentObserver, TablesFile, serve_file};
 use crate::socket::{listen, serve_all};
-use crate::tables::{check_existing, check_path, check_wal, survey};
+use crate::tables::{check_existing, check_kind, check_path, check_wal, survey};
 use clap::ArgMatches;
 use command_line::{ArgumentsFault, arguments};
 use csi_config::Config;
@@ -93,6 +93,7 @@ fn check_serving(rt: &HostRuntime, serving: &Serving<'_>) -> Result<(), Failure>
         return Ok(());
     }
     check_path(rt, serving.tables)?;
+    check_kind(rt, serving.tables)?;
     if serving.is_existing {
         check_existing(rt, serving.tables)
     } else {

@@ -129,7 +129,7 @@ fn turn_of<'a>(
     waiting: &'a mut Waiting,
     peer: &'a Pending,
 ) -> Option<Turn<'a>> {
-    match Turn::new(console, &peer.stream, waiting) {
+    match Turn::new(console, peer, waiting) {
         Ok(turn) => Some(turn),
         Err(error) => {
             console.say_of("a connection's time cannot be limited", &error);

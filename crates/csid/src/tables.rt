@@ -10,7 +10,7 @@ ghost use Rattle.csid.specs.Taking.{IsTakenFrom};
 
 use crate::console::Console;
 use crate::content::{Content, read_content};
-use crate::existing::{FileFault, fault_of_existing, fault_of_wal};
+use crate::existing::{FileFault, fault_of_existing, fault_of_kind, fault_of_wal};
 use crate::failure::Failure;
 use crate::making::make_private;
 use csi_adoption::{AdoptError, AdoptFault, adopt};
@@ -68,6 +68,17 @@ pub(crate) fn check_path(rt: &HostRuntime, path: &str) -> Result<(), Failure>
     Ok(())
 }
 
+/// Looks whether a file and its WAL, if they exist, are of a kind that can be opened at once.
+///
+/// # Errors
+///
+/// One is a named pipe, a socket or a device, or memory is refused.
+pub(crate) fn check_kind(rt: &HostRuntime, path: &str) -> Result<(), Failure>
+    ensures { IfErr result (λ failure. IsOrNoMemory 4 failure) }
+{
+    existing_failure(rt.alloc(), path, fault_of_kind(rt, path))
+}
+
 /// Looks whether a file that must have tables has some, as far as that is seen without an opening. Nothing is
 /// changed.
 ///
@@ -96,11 +107,12 @@ pub(crate) fn check_wal(rt: &HostRuntime, path: &str) -> Result<(), Failure>
 ///
 /// # Errors
 ///
-/// Where its path is none, it has no tables and must have some, or memory is refused.
+/// Where its path is none, it is no regular file, it has no tables and must have some, or memory is refused.
 pub(crate) fn prepare(rt: &HostRuntime, path: &str, is_existing: bool) -> Result<(), Failure>
     ensures { IfErr result (λ failure. IsOrNoMemory 4 failure) }
 {
     check_path(rt, path)?;
+    check_kind(rt, path)?;
     if is_existing {
         return check_existing(rt, path);
     }

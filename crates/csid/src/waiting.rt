@@ -78,6 +78,9 @@ impl Display for Ended {
                 "a connection that had sent no call was closed, as too many wait",
             ),
             Ending::Malformed => f.write_str("a connection that sent a malformed frame was closed"),
+            Ending::Preempted => {
+                f.write_str("a connection that kept another one waiting was closed")
+            }
             Ending::Failed => f.write_str("a read of a connection failed"),
         }
     }
@@ -127,6 +130,25 @@ impl Waiting {
         ensures { result ≡ list_any is_ready self.now.pending.items }
     {
         self.pending.iter().any(|one| one.first.is_known())
+    }
+
+    /// Since when the connection has been ready that has been for the longest time; `None` where no one is.
+    pub(crate) fn ready_since(&self) -> Option<Instant> {
+        let mut earliest = None;
+        for one in self.pending.iter() {
+            if one.first.is_known() {
+                let since = one.first.since();
+                earliest = Some(earliest.map_or(since, |found: Instant| found.min(since)));
+            }
+        }
+        earliest
+    }
+
+    // How long a connection that waits may send nothing. Once no further one is taken, the last ones may not
+    // for ever, so that the program ends.
+    fn silence(&self) -> Option<Duration> {
+        let last = (self.left == 0).then_some(Duration::from_secs(CALL_SECONDS));
+        least(self.idle, last)
     }
 
     /// Has a wait also end when a connection that was taken from here can be written.
@@ -238,7 +260,7 @@ impl Waiting {
             }
             PeerInput::Lost => Some(Ending::Failed),
             PeerInput::Nothing if one.first.is_known() => None,
-            PeerInput::Nothing => one.first.patience(self.idle, now).err(),
+            PeerInput::Nothing => one.first.patience(self.silence(), now).err(),
         }
     }
 
@@ -285,7 +307,7 @@ impl Waiting {
             if !one.first.is_known() {
                 let left = one
                     .first
-                    .patience(self.idle, now)
+                    .patience(self.silence(), now)
                     .unwrap_or(Some(Duration::ZERO));
                 longest = least(longest, left);
             }
