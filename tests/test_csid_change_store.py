@@ -16,7 +16,9 @@ import time
 
 from tests import vectors as v
 from tests.support import change_stores
-from tests.support.change_stores import COMMIT, MAKE, OK, READ, SECONDS, meta, page, wait
+from tests.support.change_stores import COMMIT, MAKE, OK, READ, SECONDS, KeptChangeStore, meta, page, wait
+from tests.support.configs import LARGE_POOL
+from tests.support.processes import write
 from tests.support.rows import CsidTest
 
 
@@ -76,7 +78,8 @@ class Server:
     def __init__(self, csid, folder, *replies, words=(), log=PlayedStore):
         self.path, self.log_path = os.path.join(folder, "csid.sock"), os.path.join(folder, "log.sock")
         self.log = log(self.log_path)
-        self.log.replies += replies
+        if replies:
+            self.log.replies += replies
         self.said = tempfile.TemporaryFile()
         self.process = subprocess.Popen(
             [csid, "serve", "--socket", self.path, "--log", self.log_path, *words],
@@ -681,3 +684,51 @@ class LogTest(CsidTest):
             ]
             for name, came in late:
                 self.row(name, came.result(), (NO_STORE, True, has(0, 0, 1) + UNKNOWN))
+
+
+class SlowReaderTest(CsidTest):
+    """A client of `csid serve --log` that reads late: csid waits in the middle of a reply."""
+
+    # They fit on one page.
+    VOLUMES = range(1, 101)
+    # So many pages of 4,300 bytes are more than a socket holds.
+    LISTINGS = 200
+
+    def setUp(self):
+        super().setUp()
+        config = os.path.join(self.folder, "config.toml")
+        write(config, LARGE_POOL)
+        words = ["--config", config]
+        self.server = Server(self.csid, self.folder, words=words, log=self.change_store)
+        self.addCleanup(self.server.end)
+        page = v.page(*[v.listed(it, MIB, v.P1) for it in self.VOLUMES])
+        self.calls, self.pages = v.listing() * self.LISTINGS, page * self.LISTINGS
+
+    def change_store(self, path):
+        """A change store with volumes, which it tells fifty at a time."""
+        store = KeptChangeStore(path, page_rows=50)
+        store.volumes = {it: ("v%d" % it, MIB, "p1", BLOCK, b"") for it in self.VOLUMES}
+        store.next = len(self.VOLUMES) + 1
+        return store
+
+    def read_late(self, calls, count):
+        """So many bytes of the replies to calls, of which none is read in the first three seconds."""
+        with self.server.connect() as peer:
+            threading.Thread(target=peer.sendall, args=(calls,), daemon=True).start()
+            time.sleep(3)
+            came = bytearray()
+            while len(came) < count and (piece := peer.recv(1 << 16)):
+                came += piece
+            return bytes(came)
+
+    def test_pages_are_whole_for_a_reader_that_begins_late(self):
+        came = self.read_late(self.calls, len(self.pages))
+        self.assertEqual(came == self.pages, True)
+        self.assertEqual(self.server.lines(), has(100, 0, 101))
+
+    def test_change_after_pages_that_are_read_late_is_made_and_answered(self):
+        wanted = self.pages + v.made(101, MIB, v.P1)
+        came = self.read_late(self.calls + CREATE, len(wanted))
+        self.assertEqual(came == wanted, True)
+        self.assertEqual(self.server.log.next, 102)
+        self.assertEqual(self.server.log.volumes[101], ("a", MIB, "p1", BLOCK, b""))

@@ -1,0 +1,87 @@
+"""Who may use the files and the socket of `csid serve` at each moment while they are made, under umask 0."""
+
+import os
+import re
+import shlex
+import shutil
+
+from tests.support.frames import CREATE_A, VOLUME_1, controller, reply
+from tests.support.processes import SECONDS, run, write
+from tests.support.rows import CsidTest
+from tests.support.server import Server
+from tests.support.tables import Tables
+
+# Some of these calls are not there on each processor.
+CALLS = "trace=?open,openat,?creat,?chmod,fchmod,fchmodat,?fchmodat2,?chown,fchownat,bind,accept,accept4"
+
+# A file that is made, and one whose mode is set: its path and its mode in octal digits.
+MADE = re.compile(r'(?:open|openat|creat)\(.*?"([^"]*)", (?:\S*O_CREAT\S*, )?0([0-7]+)\) = \d')
+CHANGED = re.compile(r'chmod\w*\(.*?[<"](/[^">]*)[">], 0([0-7]+).* = 0')
+
+
+class RightsTest(CsidTest):
+    """`csid serve` under umask 0, with its system calls."""
+
+    def setUp(self):
+        super().setUp()
+        self.tables = Tables(self.csid, self.folder)
+        self.socket = os.path.join(self.folder, "csid.sock")
+        self.trace = os.path.join(self.folder, "trace")
+        self.traced = os.path.join(self.folder, "traced")
+        command = [shutil.which("strace") or "strace", "-f", "-y", "-o", self.trace, "-e", CALLS, self.csid]
+        write(self.traced, b'#!/bin/sh\nexec %s "$@"\n' % shlex.join(command).encode())
+        os.chmod(self.traced, 0o755)
+        if shutil.which("strace") is None or run([self.traced, "--version"])[2] != 0:
+            self.skipTest("strace cannot be run here")
+
+    def serve(self, *words):
+        """The system calls of a server that makes one volume and ends."""
+        server = Server(
+            self.traced, self.folder, "--connections", "1", *words, preexec_fn=lambda: os.umask(0) and None
+        )
+        self.addCleanup(server.end)
+        self.assertEqual(server.ask(controller("CreateVolume", CREATE_A)), reply(VOLUME_1))
+        self.assertEqual(server.process.wait(SECONDS), 0)
+        with open(self.trace) as lines:
+            return list(lines)
+
+    def modes(self, lines, path):
+        """The modes that a file or a socket was given one after another."""
+        steps = [found for line in lines if (found := MADE.search(line) or CHANGED.search(line))]
+        modes = [int(step[2], 8) for step in steps if step[1] == path]
+        self.assertNotEqual(modes, [], path)
+        return modes
+
+    def test_new_files_are_never_open_to_others(self):
+        lines = self.serve()
+        for path in self.tables.path, self.tables.path + "-wal":
+            with self.subTest(path=path):
+                modes = self.modes(lines, path)
+                self.assertEqual([oct(mode) for mode in modes if mode & 0o177], [])
+                self.assertEqual(oct(modes[-1]), "0o600")
+
+    def test_no_other_file_is_made(self):
+        """A temporary one would need rights of its own."""
+        made = [found[1] for line in self.serve() if (found := MADE.search(line))]
+        self.assertEqual(sorted(made), [self.tables.path, self.tables.path + "-wal"])
+
+    def test_new_wal_never_has_rights_that_its_file_has_not(self):
+        self.tables.new()
+        os.chmod(self.tables.path, 0o640)
+        os.unlink(self.tables.path + "-wal")
+        modes = self.modes(self.serve(), self.tables.path + "-wal")
+        self.assertEqual([oct(mode) for mode in modes if mode & ~0o640], [])
+        self.assertEqual(oct(modes[-1]), "0o640")
+
+    def test_socket_has_its_mode_before_a_connection_is_taken(self):
+        lines = self.serve()
+        calls = [found[1] for line in lines if (found := re.search(r"\b(bind|accept4?|f?chmod\w*)\(", line))]
+        self.assertEqual(calls[0], "bind")
+        self.assertRegex(calls[1], "^f?chmod")
+        self.assertEqual([oct(mode) for mode in self.modes(lines, self.socket)], ["0o600"])
+
+    def test_socket_has_its_group_before_the_group_has_rights(self):
+        step = re.compile(r'(chmod|chown)\w*\(.*"%s", ([-\w]+)' % re.escape(self.socket))
+        lines = self.serve("--group", str(os.getegid()))
+        steps = [found.groups() for line in lines if (found := step.search(line))]
+        self.assertEqual(steps, [("chmod", "0600"), ("chown", "-1"), ("chmod", "0660")])
