@@ -242,13 +242,17 @@ class TablesTest(CsidTest):
         for name, path in [
             ("a folder", self.folder),
             ("a missing folder", missing),
-            ("a device", "/dev/null"),
         ]:
             self.row(
                 "" + name,
                 run([self.csid, "pipe", "--tables", path], input=frame(PROBE)),
                 (b"", "csid: %s: %s\n" % (path, NO_FILE), 4),
             )
+        self.row(
+            "a device",
+            run([self.csid, "pipe", "--tables", "/dev/null"], input=frame(PROBE)),
+            (b"", "csid: /dev/null: it is no regular file\n", 4),
+        )
         for name, path in [
             ("a name of sqlite's for memory", ":memory:"),
             ("a name of sqlite's for a file", "file:x.db"),
