@@ -8,11 +8,13 @@ were the replies of csid, with the sample configuration of docs/OPERATING.md.
 
 import concurrent.futures
 import os
+import resource
 import socket
 import subprocess
 import tempfile
 import threading
 import time
+from unittest import mock
 
 from tests import vectors as v
 from tests.support import change_stores
@@ -173,6 +175,11 @@ UNKNOWN = (
 )
 ADDED = commit(v.msg(1, v.num(1, 1), v.txt(2, "a"), v.num(3, MIB), v.txt(4, "p1"), v.msg(5, BLOCK), v.msg(6)))
 
+NOT_HELD = (
+    "csid: LOG: there was no memory for a change that was made; from then on the connection was answered that"
+    " the store refused its calls\n"
+)
+
 # Each row: what it shows, the rows before it, calls, what the log is asked for, how many of the replies are
 # OK.
 CHANGES = [
@@ -238,7 +245,20 @@ class DeafStore(PlayedStore):
             for _ in range(2):
                 frame = change_stores.next_frame(stream)
                 peer.sendall(OK if frame[0] == change_stores.LEAD else self.answer(*frame))
-            self.over.wait()
+            self.end_silently(peer)
+
+    def end_silently(self, peer):
+        self.over.wait()
+
+
+class DrippingStore(DeafStore):
+    """A log that answers the same, and then sends a reply that takes minutes, a byte each half second."""
+
+    def end_silently(self, peer):
+        for byte in page(*[volume(it, "v%d" % it) for it in range(1, 20)]):
+            if self.over.wait(0.5):
+                return
+            peer.sendall(bytes([byte]))
 
 
 def stalled(csid, folder, log, call):
@@ -253,7 +273,7 @@ def stalled(csid, folder, log, call):
     took = time.monotonic() - begin
     wait(lambda: UNKNOWN in server.lines())
     server.log.over.set()
-    return came, 29 < took < 130, server.end()
+    return came, 29 < took < 60, server.end()
 
 
 def nobody(csid, folder):
@@ -675,12 +695,16 @@ class LogTest(CsidTest):
         )
 
     def test_log_that_stalls(self):
-        """A log that takes a change and does not answer it has 30 seconds."""
-        changes = [("a short change", CREATE), ("a long change", LARGE)]
+        """A log that takes a change and answers nothing, or a byte each half second, has 30 seconds."""
+        changes = [
+            ("a short change", DeafStore, CREATE),
+            ("a long change", DeafStore, LARGE),
+            ("a reply byte by byte", DrippingStore, CREATE),
+        ]
         with concurrent.futures.ThreadPoolExecutor() as pool:
             late = [
-                (name, pool.submit(stalled, self.csid, os.path.join(self.folder, name), DeafStore, call))
-                for name, call in changes
+                (name, pool.submit(stalled, self.csid, os.path.join(self.folder, name), store, call))
+                for name, store, call in changes
             ]
             for name, came in late:
                 self.row(name, came.result(), (NO_STORE, True, has(0, 0, 1) + UNKNOWN))
@@ -716,9 +740,10 @@ class SlowReaderTest(CsidTest):
         with self.server.connect() as peer:
             threading.Thread(target=peer.sendall, args=(calls,), daemon=True).start()
             time.sleep(3)
-            came = bytearray()
+            came, begin = bytearray(), time.monotonic()
             while len(came) < count and (piece := peer.recv(1 << 16)):
                 came += piece
+            self.assertLess(time.monotonic() - begin, 5)
             return bytes(came)
 
     def test_pages_are_whole_for_a_reader_that_begins_late(self):
@@ -732,3 +757,82 @@ class SlowReaderTest(CsidTest):
         self.assertEqual(came == wanted, True)
         self.assertEqual(self.server.log.next, 102)
         self.assertEqual(self.server.log.volumes[101], ("a", MIB, "p1", BLOCK, b""))
+
+
+class StarvingStore(KeptChangeStore):
+    """A change store that limits the memory of csid to what it has, while csid waits for its reply to a
+    change.
+    """
+
+    csid = None
+
+    def answer(self, path, message):
+        if self.csid is not None and path == COMMIT:
+            wait(lambda: status_of(self.csid, "State") == "S")
+            limit_memory(self.csid, 1)
+        return super().answer(path, message)
+
+
+def status_of(csid, key):
+    """The first word of a line of /proc/PID/status."""
+    with open("/proc/%d/status" % csid) as lines:
+        return next(line.split()[1] for line in lines if line.startswith(key + ":"))
+
+
+def limit_memory(csid, size):
+    resource.prlimit(csid, resource.RLIMIT_DATA, (size, resource.RLIM_INFINITY))
+
+
+class ShortMemoryTest(CsidTest):
+    """The change store makes a change, and `csid serve --log` has no memory to keep it."""
+
+    # As many entries of four bytes as a map can have. In memory they take some 90 KiB.
+    ENTRIES = [("%03x" % it, "v") for it in range(1024)]
+
+    def setUp(self):
+        super().setUp()
+        # The C library returns freed buffers to the system, and takes no memory in advance (mallopt(3)).
+        self.enterContext(mock.patch.dict(os.environ, MALLOC_MMAP_THRESHOLD_="65536", MALLOC_TOP_PAD_="0"))
+        config = os.path.join(self.folder, "config.toml")
+        write(config, LARGE_POOL)
+        self.server = Server(self.csid, self.folder, words=["--config", config], log=self.change_store)
+        self.addCleanup(self.server.end)
+
+    def change_store(self, path):
+        """A change store with one volume."""
+        store = StarvingStore(path, page_rows=1000)
+        store.volumes, store.next = {1: ("a", MIB, "p1", BLOCK, b"")}, 2
+        return store
+
+    def ask(self, peer, call):
+        peer.sendall(call)
+        return peer.recv(1 << 16)
+
+    def fill(self, peer):
+        """Creates volumes until csid needs more memory for one, so it has none left that is free."""
+        csid = self.server.process.pid
+        entries = [v.mutable(*it) for it in self.ENTRIES[:100]]
+        taken = status_of(csid, "VmData")
+        for number in range(2, 2000):
+            self.assertEqual(self.ask(peer, v.create(v.name("v%d" % number), v.BLOCK, *entries))[:1], b"\0")
+            if status_of(csid, "VmData") != taken:
+                return
+        self.fail("memory is free")
+
+    def modify(self):
+        """Changes the mutable parameters of the first volume, then lists volumes. Returns both replies."""
+        csid = self.server.process.pid
+        with self.server.connect() as peer:
+            self.fill(peer)
+            self.server.log.csid = csid
+            came = self.ask(peer, v.modify(v.vol("vol-1"), *[v.sets(*it) for it in self.ENTRIES]))
+            self.server.log.csid = None
+            limit_memory(csid, resource.RLIM_INFINITY)
+            return came, self.ask(peer, v.listing())
+
+    def test_next_connection_has_the_change(self):
+        """A create returns the existing volume only if its mutable parameters are the same."""
+        self.assertEqual(self.modify(), (v.DONE, NO_STORE))
+        params = b"".join(v.mutable(*it) for it in self.ENTRIES)
+        self.assertEqual(self.server.ask(v.create(v.name("a"), v.BLOCK, params)), MADE)
+        self.assertEqual(self.server.lines().count(NOT_HELD), 1)

@@ -3,6 +3,7 @@
 import os
 import threading
 
+from tests import vectors as v
 from tests.support.configs import LARGE_POOL
 from tests.support.frames import ANSWERED, ASKED, BLOCK, NO_MEMORY, PROBE, VOL_1, controller, frame, reply
 from tests.support.processes import (
@@ -20,7 +21,11 @@ from tests.support.server import NO_COPY, Server
 from tests.support.tables import BLOCK_CAPS, IO_FAILED, LARGE_CAPS, MANY, MIB, NEXT_9, Tables, next_is, volume
 
 
-SHORT_ENTRIES = "x'1a060a001a020801" + "%s'"
+def answers(server, calls):
+    """Makes calls over one connection, and reads replies meanwhile. Returns their statuses."""
+    with server.connect() as peer:
+        threading.Thread(target=lambda: [peer.sendall(it) for it in calls], daemon=True).start()
+        return statuses(peer, len(calls))
 
 
 class MemoryTest(CsidTest):
@@ -110,18 +115,12 @@ class MemoryTest(CsidTest):
             name = b"vol-%d" % number
             return controller("DeleteVolume", b"\x0a" + bytes([len(name)]) + name)
 
-        def answers(server, *calls):
-            """The statuses of calls, which are sent while replies are read."""
-            with server.connect() as peer:
-                threading.Thread(target=lambda: [peer.sendall(it) for it in calls], daemon=True).start()
-                return statuses(peer, len(calls))
-
         creates = [create(number) for number in range(1, most + 1)]
         listing = controller("ListVolumes", bytes.fromhex("0801"))
         for name, words in ("of the file", ["--low-memory"]), ("of memory", []):
             Tables(self.csid, self.folder).clear()
             server = Server(self.csid, self.folder, "--config", config, *words, preexec_fn=memory_of_24_mib)
-            came = answers(server, *creates)
+            came = answers(server, creates)
             made = came.index(13) if 13 in came else most
             self.row(
                 "some creates are made, then they are refused, by reads %s" % name,
@@ -129,11 +128,63 @@ class MemoryTest(CsidTest):
                 (True, {0}, {13}),
             )
             self.row("the next connection is served, by reads %s" % name, server.ask(listing)[:1], b"\0")
-            came = answers(server, *[delete(number) for number in range(1, 501)])
+            came = answers(server, [delete(number) for number in range(1, 501)])
             self.row("deletes are made, by reads %s" % name, came, [0] * 500)
             # The pages that deletes leave are free: the next connection has room for creates.
-            came = answers(server, *[delete(number) for number in range(501, made - 99)])
+            came = answers(server, [delete(number) for number in range(501, made - 99)])
             self.row("and more of them, by reads %s" % name, set(came), {0})
-            came = answers(server, *[create(number) for number in range(most + 1, most + 101)])
+            came = answers(server, [create(number) for number in range(most + 1, most + 101)])
             self.row("then there is room, by reads %s" % name, came, [0] * 100)
             server.end()
+
+
+class ReserveTest(CsidTest):
+    """`csid serve --low-memory` reserves the memory of the next opening before it makes the tables larger."""
+
+    # The longest name of a file system, and the longest ids of nodes.
+    CAP = v.cap(v.mount(3, v.fs("f" * 128)))
+    NODES = ["n%02d" % it + "n" * 253 for it in range(64)]
+
+    def serve(self, volumes, caps, size=9 * MIB):
+        """Starts csid over this many volumes, with little memory."""
+        nodes = ["[[node]]\nid = '%s'\nmax_volumes = 100000\n" % it for it in self.NODES]
+        config = os.path.join(self.folder, "config.toml")
+        pool = LARGE_POOL.replace(b"2147483648", b"%d" % (100_000 * MIB))
+        write(config, pool + "".join(nodes).encode())
+        self.tables = Tables(self.csid, self.folder).new()
+        self.tables.script(MANY % (volumes, "x'%s'" % caps.hex()) + next_is(volumes + 1))
+        words = ["--config", config, "--low-memory"]
+        server = Server(self.csid, self.folder, *words, preexec_fn=memory_of(size))
+        self.addCleanup(server.end)
+        return server
+
+    def fill(self, server, calls, least):
+        """Makes calls over one connection. At least this many succeed, then memory is refused, and the next
+        connection is answered.
+        """
+        came = answers(server, calls)
+        self.assertEqual(server.ask(v.listing(v.most(1)))[:1], b"\0")
+        made = came.count(0)
+        self.assertEqual(came, [0] * made + [13] * (len(calls) - made))
+        self.assertTrue(least <= made < len(calls), made)
+
+    def test_publications_leave_memory_for_the_next_opening(self):
+        volumes = [v.vol("vol-%d" % it) for it in range(1, 33)]
+        server = self.serve(len(volumes), self.CAP)
+        publications = [v.publish(it, v.node(node), self.CAP) for it in volumes for node in self.NODES]
+        self.fill(server, publications, 500)
+        self.assertEqual(answers(server, [v.unpublish(it) for it in volumes]), [0] * len(volumes))
+        self.assertEqual(self.tables.ask("SELECT count(*) FROM attachments"), [(0,)])
+
+    def test_mutable_parameters_leave_memory_for_the_next_opening(self):
+        volumes = [v.vol("vol-%d" % it) for it in range(1, 1001)]
+        server = self.serve(len(volumes), v.BLOCK)
+        self.fill(server, [v.modify(it, v.sets("k", "v" * 4095)) for it in volumes], 100)
+        self.assertEqual(answers(server, [v.delete(it) for it in volumes]), [0] * len(volumes))
+        self.assertEqual(self.tables.ask("SELECT count(*) FROM volumes"), [(0,)])
+
+    def test_rows_of_earlier_connections_have_memory_for_the_next_opening(self):
+        server = self.serve(62_000, v.BLOCK, 16 * MIB)
+        answers(server, [v.create(v.name("w%d" % it), v.BLOCK) for it in range(6000)])
+        self.assertEqual(server.ask(v.listing(v.most(1)))[:1], b"\0")
+        self.assertEqual(server.ask(v.delete(v.vol("vol-1"))), v.DONE)

@@ -2,6 +2,7 @@
 
 import contextlib
 import os
+import socket
 import threading
 import time
 
@@ -25,6 +26,9 @@ PREEMPTED = "csid: a connection that kept another one waiting was closed\n"
 # More of a call than a connection must have sent to be served.
 PART = frame(PROBE, LONGEST)[:5000]
 
+# A call to send in two parts: its message is an unknown field of 6,003 bytes.
+LATE = frame(PROBE, bytes.fromhex("7a f02e") + b"x" * 6000)
+
 
 def drip(peer, seconds):
     """Sends a byte each quarter of a second, until the connection is closed or so many seconds are over."""
@@ -32,6 +36,13 @@ def drip(peer, seconds):
         for _ in range(4 * seconds):
             peer.sendall(b"\0")
             time.sleep(0.25)
+
+
+def processor_seconds(pid):
+    """The time that a process has taken of a processor."""
+    with open("/proc/%d/stat" % pid) as stat:
+        user, system = stat.read().rpartition(")")[2].split()[11:13]
+    return (int(user) + int(system)) / os.sysconf("SC_CLK_TCK")
 
 
 class PeersTest(CsidTest):
@@ -55,10 +66,44 @@ class PeersTest(CsidTest):
         return time.monotonic() - begin
 
     def test_second_is_shared_by_all_that_wait(self):
-        """Eight peers were answered and stay: each a second would be eight."""
-        held = [self.connect(frame(PROBE)) for _ in range(8)]
+        """Eight peers send part of a call and stop. A second for each would be eight."""
+        held = [self.connect(PART) for _ in range(8)]
         self.assertLess(self.seconds_of(lambda: self.server.ask(frame(PROBE))), 5)
-        self.assertEqual([peer.recv(4096) for peer in held], [READY] * 8)
+        self.assertEqual([peer.recv(4096) for peer in held], [b""] * 8)
+
+    def test_second_counts_from_the_peer_that_has_waited_longest(self):
+        """A new peer connects every quarter of a second. That must not restart the second."""
+
+        def come():
+            with contextlib.suppress(OSError):
+                for _ in range(40):
+                    self.connect(frame(PROBE))
+                    time.sleep(0.25)
+
+        self.connect(PART)
+        threading.Thread(target=come, daemon=True).start()
+        self.assertLess(self.seconds_of(lambda: self.server.ask(frame(PROBE))), 5)
+
+    def count_late(self, calls):
+        """Sends each call in two parts 40 ms apart, while another peer has waited for more than a second.
+        Returns how many calls were answered.
+        """
+        first, late = self.connect(PART), self.connect(LATE[:5000])
+        self.connect(frame(PROBE))
+        self.assertEqual(first.recv(1), b"")
+        came = b""
+        with contextlib.suppress(OSError):
+            for _ in range(calls):
+                time.sleep(0.04)
+                late.sendall(LATE[5000:] + LATE[:5000])
+            late.shutdown(socket.SHUT_WR)
+            while piece := late.recv(4096):
+                came += piece
+        return came.count(READY)
+
+    def test_each_call_may_be_late_by_a_moment_where_others_wait(self):
+        """By up to 100 ms. This machine may be slow itself, so one of ten tries must succeed."""
+        self.assertTrue(any(self.count_late(5) == 5 for _ in range(10)))
 
     def test_peer_with_nothing_new_is_closed_at_once_where_others_wait(self):
         """The first one blocks for its second; those after it have none, and each is answered before."""
@@ -97,15 +142,24 @@ class PeersTest(CsidTest):
             time.sleep(0.5)
         self.assertEqual(peer.recv(4096), READY)
 
+    def connect_alone(self):
+        """The only connection of another server."""
+        folder = os.path.join(self.folder, "alone")
+        os.mkdir(folder)
+        server = Server(self.csid, folder)
+        self.addCleanup(server.end)
+        return self.peers.enter_context(server.connect())
+
     def test_busy_peer_is_closed_between_two_calls_after_a_minute(self):
-        """It always has calls on their way, and each reply is whole."""
+        """It always sends calls, and each reply is whole. A peer without others that wait is not closed."""
 
         def send():
             with contextlib.suppress(OSError):
                 while True:
                     busy.sendall(frame(PROBE) * 1000)
 
-        busy = self.connect(frame(PROBE) * 1000)
+        alone, busy = self.connect_alone(), self.connect(frame(PROBE) * 1000)
+        alone.sendall(frame(PROBE))
         threading.Thread(target=send, daemon=True).start()
         other, came, begin = self.connect(frame(PROBE)), 0, time.monotonic()
         with contextlib.suppress(OSError):
@@ -116,6 +170,10 @@ class PeersTest(CsidTest):
         self.assertEqual(came % len(READY), 0)
         self.assertEqual(other.recv(4096), READY)
         self.assertTrue(wait(lambda: PREEMPTED in self.server.lines()))
+        for _ in range(2):
+            self.assertEqual(alone.recv(4096), READY)
+            alone.sendall(frame(PROBE))
+        self.assertEqual(alone.recv(4096), READY)
 
     def test_one_that_comes_again_is_served_after_one_that_waited(self):
         """Each connection is served in the order in which it came."""
@@ -140,10 +198,11 @@ class SlowPeerTest(CsidTest):
         with server.connect() as peer:
             threading.Thread(target=peer.sendall, args=(listing * 2000,), daemon=True).start()
             time.sleep(3)
-            came = b""
+            came, begin = b"", time.monotonic()
             while len(came) < 2000 * len(page) and (piece := peer.recv(1 << 16)):
                 came += piece
         self.assertEqual(came == page * 2000, True)
+        self.assertLess(time.monotonic() - begin, 5)
 
     def test_reply_must_be_taken_in_ten_seconds(self):
         server = Server(self.csid, self.folder)
@@ -206,6 +265,36 @@ class SlowPeerTest(CsidTest):
                 self.assertTrue(3 < time.monotonic() - begin < 5.5)
                 self.assertTrue(has_ended(second, (0, 10)))
                 self.assertTrue(5 < time.monotonic() - begin < 9)
+
+    def test_idle_seconds_count_from_the_last_call(self):
+        server = Server(self.csid, self.folder, "--idle", "2")
+        self.addCleanup(server.end)
+        with server.connect() as peer:
+            for pause in 1.4, 1.4, 1.4, 0:
+                peer.sendall(frame(PROBE))
+                self.assertEqual(peer.recv(4096), READY)
+                time.sleep(pause)
+            self.assertTrue(has_ended(peer, (1, 8)))
+
+    def test_waiting_takes_no_time_of_a_processor(self):
+        """Each peer sends this much, and then neither sends nor reads any more."""
+        server = Server(self.csid, self.folder)
+        self.addCleanup(server.end)
+        for name, given in [
+            ("nothing", b""),
+            ("a part of a call", PART[:100]),
+            ("most of a call", PART),
+            ("a call", frame(PROBE)),
+            ("calls, and reads no reply", frame(PROBE) * 100_000),
+        ]:
+            with self.subTest(name=name), server.connect() as peer:
+                peer.settimeout(1.5)
+                with contextlib.suppress(TimeoutError):
+                    peer.sendall(given)
+                time.sleep(1.5)
+                begin = processor_seconds(server.process.pid)
+                time.sleep(1)
+                self.assertLess(processor_seconds(server.process.pid) - begin, 0.1)
 
     def test_first_call_above_4096_bytes_is_in_the_tables(self):
         """A connection with so many bytes of a call is served before the call is whole."""

@@ -697,6 +697,16 @@ class DeployTest(RowTest):
             told = [it["value"] for it in front["env"] if it["name"] == "GOMEMLIMIT"]
             self.row("what Go knows in " + name, told, [unit.variables()["GOMEMLIMIT"]])
 
+    def test_memory_of_csid(self):
+        """csid may have as much memory by its unit and by the Nomad job as by the manifests."""
+        limit = Unit(UNITS[0]).all("MemoryMax")[0]
+        self.row("the limit of the unit", limit, "1G")
+        task = Nomad().tasks()["csid"]
+        self.row("the limit of the Nomad job", re.findall(r"memory_max = (\d+)", task), ["1024"])
+        for name in [MANIFEST, ETCD_MANIFEST]:
+            resources = Kubernetes(name).containers["csid"]["resources"]
+            self.row("the limit in " + name, resources["limits"]["memory"], limit + "i")
+
     def test_chown(self):
         """csid and the front may give their sockets to a group (--group, --control-group), and csid the WAL
         the owner of its file: that call is the last that their units allow.

@@ -33,6 +33,15 @@ pub trait Observer {
 
     /// The database refused a call, and this is what it answered the first time, as that the disk is full.
     fn refused(&self, cause: &Error);
+
+    /// Whether the process has memory for its calls, and for a next opening of the tables, which takes
+    /// `opening` bytes. It is asked before each page of volumes that is copied into memory, and as the
+    /// tables grow. Without room the volumes are not copied, and a change that adds to the tables is refused
+    /// for want of memory.
+    ///
+    /// Memory that the system refuses by itself need not be counted. Memory that ends the process must be,
+    /// as by the limit of a control group on Linux.
+    fn has_room(&self, opening: usize) -> bool;
 }
 
 /// How calls are served over tables.
@@ -43,9 +52,10 @@ pub struct ServeOptions {
     /// Whether each read is answered from the file. Otherwise the volumes are copied into memory, and reads
     /// are answered from there.
     pub is_low_memory: bool,
-    /// How many bytes of memory are kept for the next opening while reads are answered from the file, as far
-    /// as there is memory: an opening reads each table whole. What a call adds is kept in addition, and the
-    /// call is refused for want of memory where there is none for that.
+    /// How many bytes of memory an opening of the tables takes, which reads each table whole. While reads
+    /// are answered from the file, they are held for the next opening, as far as there is memory, and what a
+    /// call adds is held in addition. The call is refused for want of memory where there is none for that, or
+    /// where the observer has no room.
     pub reserve: usize,
 }
 
@@ -82,12 +92,13 @@ fn is_blank(schema: &Schema) -> bool
 }
 
 // Serves calls over tables, and answers reads from the file.
-fn serve_file<S: Alter + Drop, R: Read, W: Write>(
+fn serve_file<S: Alter + Drop, O: Observer, R: Read, W: Write>(
     alloc: Global,
     config: &Config,
     tables: Tables<S>,
     reserve: usize,
     is_new: bool,
+    observer: &O,
     reader: &mut R,
     writer: &mut W,
 ) -> (Served, Tables<S>)
@@ -97,7 +108,7 @@ fn serve_file<S: Alter + Drop, R: Read, W: Write>(
     ensures uncopied { result.0.is_copied ≡ false }
     ensures new { result.0.is_new ≡ is_new }
 {
-    let mut reserved = Reserved::new(alloc, tables, reserve);
+    let mut reserved = Reserved::new(alloc, tables, reserve, observer);
     let end = serve(alloc, config, &mut reserved, reader, writer);
     let served = Served {
         end,
@@ -163,6 +174,39 @@ fn serve_copy<K: Keeper + Drop, R: Read, W: Write>(
     Ok((served, through.into_change_store().into_keeper()))
 }
 
+// Copies what tables have into memory, and serves calls over the copy, with the same clauses as `serve_copy`.
+fn serve_copied<S: Alter + Drop, O: Observer, R: Read, W: Write>(
+    alloc: Global,
+    config: &Config,
+    tables: Tables<S>,
+    reserve: usize,
+    room: Vec<Vec<u8>>,
+    is_new: bool,
+    observer: &O,
+    reader: &mut R,
+    writer: &mut W,
+) -> Result<(Served, Tables<S>), NotCopied<Tables<S>>>
+    ensures served { IfOk result (λ r. ServesFrom config.now (tables_model S.Store tables)
+        (tables_model S.Store r.1) r.0
+        (R.remaining reader.old) (R.remaining reader.new) (W.contents writer.old) (W.contents writer.new)) }
+    ensures new { IfOk result (λ r. r.0.is_new ≡ is_new) }
+    ensures quiet { IfErr result (λ e. IsQuiet (tables_model S.Store tables)
+        (tables_model S.Store e.keeper)) }
+    ensures why { IfErr result (λ e. IsWhy (tables_model S.Store tables)
+        (tables_model S.Store e.keeper) e.fault) }
+    ensures unread { OnErr result (reader.new ≡ reader.old) }
+    ensures unwritten { OnErr result (writer.new ≡ writer.old) }
+{
+    let reserved = Reserved::for_copy(alloc, tables, reserve, observer);
+    match serve_copy(alloc, config, reserved, room, is_new, reader, writer) {
+        Ok((served, reserved)) => Ok((served, reserved.into_tables())),
+        Err(NotCopied { fault, keeper }) => Err(NotCopied {
+            fault,
+            keeper: keeper.into_tables(),
+        }),
+    }
+}
+
 // Serves calls over tables, and answers reads from a copy in memory if they are to be and memory has room for
 // one, otherwise from the file.
 fn serve_tables<S: Alter + Drop, O: Observer, R: Read, W: Write>(
@@ -193,14 +237,18 @@ fn serve_tables<S: Alter + Drop, O: Observer, R: Read, W: Write>(
         ..
     } = *options;
     if is_low_memory {
-        return Ok(serve_file(alloc, config, tables, reserve, is_new, reader, writer));
+        return Ok(serve_file(
+            alloc, config, tables, reserve, is_new, observer, reader, writer,
+        ));
     }
     let Ok(room) = room(alloc) else {
         observer.uncopied();
-        return Ok(serve_file(alloc, config, tables, reserve, is_new, reader, writer));
+        return Ok(serve_file(
+            alloc, config, tables, reserve, is_new, observer, reader, writer,
+        ));
     };
-    let NotCopied { fault, keeper } = match serve_copy(
-        alloc, config, tables, room, is_new, reader, writer,
+    let NotCopied { fault, keeper } = match serve_copied(
+        alloc, config, tables, reserve, room, is_new, observer, reader, writer,
     ) {
         Ok(served) => return Ok(served),
         Err(error) => error,
@@ -208,7 +256,9 @@ fn serve_tables<S: Alter + Drop, O: Observer, R: Read, W: Write>(
     match fault {
         StoreFault::NoMemory => {
             observer.uncopied();
-            Ok(serve_file(alloc, config, keeper, reserve, is_new, reader, writer))
+            Ok(serve_file(
+                alloc, config, keeper, reserve, is_new, observer, reader, writer,
+            ))
         }
         StoreFault::Refused | StoreFault::Down => Err(NotCopied { fault, keeper }),
     }

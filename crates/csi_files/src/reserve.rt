@@ -1,14 +1,19 @@
 //! Memory that is kept for the next opening of tables.
 //!
 //! An opening reads each table whole, where calls over a file take a few pages. So tables could grow, call by
-//! call, until no opening of them has enough memory, and nobody could delete a volume any more.
+//! call, until no opening of them has enough memory, and no volume could be deleted any more.
+//!
+//! Where the system refuses memory, blocks are held for the next opening. Memory that is held and not used
+//! does not count for a control group, which ends a process that uses too much: so the observer is asked
+//! whether there is room.
 
-ghost use Rattle.std.specs.Prelude.{◌≡◌, ◌≤◌, ◌<◌, false, IfErr, IfOk, OnErr, OnOk, vec_capacity, vec_len};
+ghost use Rattle.std.specs.Prelude.{◌≡◌, ◌≤◌, ◌<◌, true, false, IfErr, IfOk, IsTrue, Ok, OnErr, OnOk, vec_capacity, vec_len};
 ghost use Rattle.csi_keeper.specs.declared.change.StoreFault.TheVariants.{NoMemory};
 ghost use Rattle.csi_keeper.specs.State.{up_to_u64};
 ghost use Rattle.csi_tables.specs.Keeping.{is_down};
 ghost use Rattle.csi_files.specs.Reserving.{AreBlocks, IsFull, blocks_for, cap_bytes, change_bytes, volume_bytes, wanted_with};
 
+use crate::over::Observer;
 use csi_keeper::{
     Attachment, CapKey, Change, Keeper, Kind, Listed, PageFold, PageWithNodes, StoreFault, Usage,
     Volume,
@@ -58,12 +63,18 @@ pub(crate) fn room(alloc: Global) -> Result<Vec<Vec<u8>>, AllocError>
     Ok(blocks)
 }
 
-// Memory that is kept.
+// The observer is asked again whether there is room once the next opening takes this many bytes more.
+const STEP_BYTES: usize = 1 << 18;
+
+// Memory for the next opening.
 struct Reserve {
     alloc: Global,
     blocks: Vec<Vec<u8>>,
-    // How many bytes are to be kept.
+    // How many bytes the next opening takes.
     wanted: usize,
+    // Whether blocks are held for them. They are not while a copy of the volumes is in memory: it is dropped
+    // before the next opening, and takes more than that.
+    is_held: bool,
 }
 
 impl Drop for Reserve {
@@ -72,15 +83,17 @@ impl Drop for Reserve {
             alloc: _,
             blocks: _blocks,
             wanted: _,
+            is_held: _,
         } = self;
     }
 }
 
 impl Reserve {
-    // So many bytes, as far as there is memory.
+    // Memory for an opening that takes this many bytes, held as far as there is memory if it is to be held.
     #[tactic(auto, using(crate::proofs::ReserveLemmas::no_blocks))]
-    fn new(alloc: Global, wanted: usize) -> Reserve
+    fn new(alloc: Global, wanted: usize, is_held: bool) -> Reserve
         ensures wanted { result.wanted ≡ wanted }
+        ensures held { result.is_held ≡ is_held }
         ensures blocks { AreBlocks result.blocks.items }
         ensures most { vec_len result.blocks ≤ blocks_for wanted }
     {
@@ -88,16 +101,20 @@ impl Reserve {
             alloc,
             blocks: Vec::new(alloc),
             wanted,
+            is_held,
         };
-        let _ = reserve.fill();
+        if is_held {
+            let _ = reserve.fill();
+        }
         reserve
     }
 
-    // Keeps what is to be kept.
+    // Holds all that the next opening takes.
     #[tactic(auto, using(crate::proofs::ReserveLemmas::one_more))]
     fn fill(&mut self) -> Result<(), AllocError>
         ensures full { OnOk result (IsFull self.new) }
         ensures wanted { self.new.wanted ≡ self.old.wanted }
+        ensures held { self.new.is_held ≡ self.old.is_held }
         ensures blocks { AreBlocks self.old.blocks.items → AreBlocks self.new.blocks.items }
         ensures least { vec_len self.old.blocks ≤ vec_len self.new.blocks }
         ensures most { vec_len self.old.blocks ≤ blocks_for self.old.wanted
@@ -110,16 +127,21 @@ impl Reserve {
         Ok(())
     }
 
-    // Keeps so many bytes more.
+    // The next opening takes this many bytes more, which are held if memory is held.
     fn grow(&mut self, bytes: usize) -> Result<(), AllocError>
-        ensures full { OnOk result (IsFull self.new) }
+        ensures full { OnOk result (IsTrue self.old.is_held → IsFull self.new) }
         ensures wanted { OnOk result (self.new.wanted ≡ wanted_with self.old bytes) }
+        ensures held { self.new.is_held ≡ self.old.is_held }
+        ensures unheld { self.old.is_held ≡ false → result ≡ Ok tt }
         ensures unchanged { OnErr result (self.new.wanted ≡ self.old.wanted) }
         ensures blocks { AreBlocks self.old.blocks.items → AreBlocks self.new.blocks.items }
         ensures least { vec_len self.old.blocks ≤ vec_len self.new.blocks }
     {
         let before = self.wanted;
         self.wanted = before.saturating_add(bytes);
+        if !self.is_held {
+            return Ok(());
+        }
         let grown = self.fill();
         if grown.is_err() {
             self.wanted = before;
@@ -170,20 +192,52 @@ fn bytes_of(change: &Change) -> usize
 /// Tables, and memory for their next opening. A change that adds to them keeps memory for what it adds first,
 /// and is answered `NoMemory` where there is none, and not made; the tables are not down then. One that takes
 /// away keeps no memory.
+///
+/// Over tables that are copied into memory, a page is answered `NoMemory` where the observer has no room.
 #[derive(Drop)]
-pub(crate) struct Reserved<S: Alter> {
+pub(crate) struct Reserved<'a, S: Alter, O> {
     tables: Tables<S>,
     reserve: Reserve,
+    observer: &'a O,
+    // How many bytes the next opening takes when the observer is asked again.
+    asks_at: usize,
 }
 
-impl<S: Alter> Reserved<S> {
-    /// Tables with so many bytes for their next opening, as far as there is memory.
-    pub(crate) fn new(alloc: Global, tables: Tables<S>, wanted: usize) -> Reserved<S>
-        ensures { result.tables ≡ tables }
+impl<'a, S: Alter, O: Observer> Reserved<'a, S, O> {
+    /// Tables whose reads go to the file. Memory for their next opening, which takes `opening` bytes, is held
+    /// as far as there is memory.
+    pub(crate) fn new(
+        alloc: Global,
+        tables: Tables<S>,
+        opening: usize,
+        observer: &'a O,
+    ) -> Reserved<'a, S, O>
+        ensures tables { result.tables ≡ tables }
+        ensures held { result.reserve.is_held ≡ true }
     {
         Reserved {
             tables,
-            reserve: Reserve::new(alloc, wanted),
+            reserve: Reserve::new(alloc, opening, true),
+            observer,
+            asks_at: 0,
+        }
+    }
+
+    /// Tables that are copied into memory, and whose next opening takes `opening` bytes.
+    pub(crate) fn for_copy(
+        alloc: Global,
+        tables: Tables<S>,
+        opening: usize,
+        observer: &'a O,
+    ) -> Reserved<'a, S, O>
+        ensures tables { result.tables ≡ tables }
+        ensures unheld { result.reserve.is_held ≡ false }
+    {
+        Reserved {
+            tables,
+            reserve: Reserve::new(alloc, opening, false),
+            observer,
+            asks_at: 0,
         }
     }
 
@@ -196,32 +250,58 @@ impl<S: Alter> Reserved<S> {
 
     /// The tables.
     pub(crate) fn into_tables(self) -> Tables<S>
-        ensures { result ≡ self.tables }
+        ensures { result ≡ self.entry.tables }
     {
         self.tables
+    }
+
+    // Whether the observer has no room for a further page of a copy. Tables that are down answer `Down`
+    // instead.
+    fn lacks_room(&self) -> bool
+        ensures { IsTrue result → is_down S.Store self.now.tables ≡ false }
+    {
+        !self.reserve.is_held
+            && !self.tables.is_down()
+            && !self.observer.has_room(self.reserve.wanted)
+    }
+
+    // Whether there is room for a next opening of this many bytes. The observer is asked now and then.
+    fn has_room(&mut self, opening: usize) -> bool
+        ensures unchanged { (self.new.tables ≡ self.old.tables) × (self.new.reserve ≡ self.old.reserve) }
+    {
+        if opening < self.asks_at {
+            return true;
+        }
+        let has_room = self.observer.has_room(opening);
+        if has_room {
+            self.asks_at = opening.saturating_add(STEP_BYTES);
+        }
+        has_room
     }
 
     // Keeps memory for what a change adds. One that takes away is made also where less is kept than is to be.
     fn reserve_for(&mut self, change: &Change) -> Result<(), StoreFault>
         ensures unchanged { self.new.tables ≡ self.old.tables }
         ensures kept { OnOk result (0 < change_bytes change.now → is_down S.Store self.old.tables ≡ false
-            → IsFull self.new.reserve
+            → (IsTrue self.old.reserve.is_held → IsFull self.new.reserve)
             × (self.new.reserve.wanted ≡ wanted_with self.old.reserve (change_bytes change.now))) }
         ensures refused { IfErr result (λ fault. (fault ≡ NoMemory)
             × (is_down S.Store self.old.tables ≡ false)) }
+        ensures freeing { change_bytes change.now ≡ 0 → result ≡ Ok tt }
     {
         let bytes = bytes_of(change);
         if bytes == 0 || self.tables.is_down() {
             return Ok(());
         }
-        match self.reserve.grow(bytes) {
-            Ok(()) => Ok(()),
-            Err(_) => Err(StoreFault::NoMemory),
+        let opening = self.reserve.wanted.saturating_add(bytes);
+        if !self.has_room(opening) || self.reserve.grow(bytes).is_err() {
+            return Err(StoreFault::NoMemory);
         }
+        Ok(())
     }
 }
 
-impl<S: Alter> Keeper for Reserved<S> {
+impl<S: Alter, O: Observer> Keeper for Reserved<'_, S, O> {
     ghost use Rattle.csi_tables.specs.Keeping.{tables_model};
 
     ghost model = { λ reserved. tables_model S.Store reserved.tables };
@@ -289,6 +369,9 @@ impl<S: Alter> Keeper for Reserved<S> {
         after: u64,
         count: u32,
     ) -> Result<PageWithNodes, StoreFault> {
+        if self.lacks_room() {
+            return Err(StoreFault::NoMemory);
+        }
         self.tables.page_with_nodes(alloc, after, count)
     }
 

@@ -12,6 +12,7 @@ use crate::failure::Failure;
 use crate::memory::{files_of, is_no_memory, memory_failure, open};
 use crate::peer::Leadership;
 use crate::tables::{adoption_failure, keeper_over, report_content, store_failure};
+use crate::timed::{Deadline, TimedStream};
 use csi_adoption::{AdoptFault, Foreign};
 use csi_change_store::laws::gives_rows;
 use csi_change_store::{
@@ -27,18 +28,14 @@ use csi_through::Through;
 use sqlite::{Alter, Connection};
 use std::alloc::Global;
 use std::cell::Cell;
-use std::os::unix::net::UnixStream;
 use std::rc::Rc;
-use std::time::Duration;
 use std::{io, str};
 
-// How many seconds a change store may say nothing while its reply is waited for. After that nobody knows
-// whether a change was made.
-const LONGEST: u64 = 30;
-
-/// A peer, and whether it was asked for something. What it gives is what the peer gave.
+/// A peer whose exchanges begin a deadline, and whether it was asked for something. What it gives is what the
+/// peer gave.
 pub(crate) struct TrackedPeer<P> {
     peer: P,
+    deadline: Rc<Deadline>,
     // For who answers calls over it.
     is_asked: Rc<Cell<bool>>,
 }
@@ -47,6 +44,7 @@ impl<P: Drop> Drop for TrackedPeer<P> {
     fn drop(self) {
         let TrackedPeer {
             peer: _peer,
+            deadline: _deadline,
             is_asked: _is_asked,
         } = self;
     }
@@ -59,12 +57,13 @@ impl<P: Peer> Peer for TrackedPeer<P> {
 
     fn exchange(&mut self, alloc: Global, frame: &[u8]) -> Received {
         self.is_asked.set(true);
+        self.deadline.begin_exchange();
         self.peer.exchange(alloc, frame)
     }
 }
 
 /// The connection to a change store.
-pub(crate) type ChangeStorePeer = TrackedPeer<Channel<UnixStream, UnixStream>>;
+pub(crate) type ChangeStorePeer = TrackedPeer<Channel<TimedStream, TimedStream>>;
 
 /// What is kept in memory of a change store's volumes, and the change store.
 pub(crate) type Remote = Through<MemKeeper, RemoteChangeStore<ChangeStorePeer>>;
@@ -74,7 +73,7 @@ pub(crate) struct OpenChangeStore {
     /// Its keeper.
     pub(crate) keeper: Remote,
     /// Its connection, to ask whether it leads.
-    pub(crate) stream: UnixStream,
+    pub(crate) stream: TimedStream,
     /// Whether it was asked for a change since the last reply.
     pub(crate) is_asked: Rc<Cell<bool>>,
     /// Whether it did not lead once: what it has is read again.
@@ -101,10 +100,11 @@ impl OpenChangeStore {
 }
 
 /// Whether a change store leads, as it says itself. What was read of it is then what it has.
-pub(crate) fn leads(alloc: Global, stream: &UnixStream) -> bool {
+pub(crate) fn leads(alloc: Global, stream: &TimedStream) -> bool {
     let Ok(frame) = lead_frame(alloc) else {
         return false;
     };
+    stream.deadline().begin_exchange();
     let received = Channel::new(stream, stream).exchange(alloc, frame.as_slice());
     matches!(received, Received::Reply(reply) if reply.status == 0)
 }
@@ -112,7 +112,7 @@ pub(crate) fn leads(alloc: Global, stream: &UnixStream) -> bool {
 /// A change store, as far as the replies to a peer need it.
 #[derive(Clone, Copy, Drop)]
 pub(crate) struct ChangeStoreLeadership<'a> {
-    pub(crate) stream: &'a UnixStream,
+    pub(crate) stream: &'a TimedStream,
     /// Whether it was asked for a change since the last reply.
     pub(crate) is_asked: &'a Rc<Cell<bool>>,
     pub(crate) alloc: Global,
@@ -309,32 +309,20 @@ fn read_over_memory<P: Peer + Drop>(
     read_change_store(console, config, path, change_store, conn)
 }
 
-// A connection to a change store. It gives up what takes too long.
-fn connect(rt: &HostRuntime, path: &str) -> io::Result<UnixStream> {
-    let stream = UnixStream::connect(rt, path)?;
-    let longest = Some(Duration::from_secs(LONGEST));
-    stream.set_read_timeout(longest)?;
-    stream.set_write_timeout(longest)?;
-    Ok(stream)
-}
-
-// The line over a connection.
-fn tracked_peer(stream: &UnixStream, is_asked: Rc<Cell<bool>>) -> io::Result<ChangeStorePeer> {
-    Ok(TrackedPeer {
-        peer: Channel::new(stream.try_clone()?, stream.try_clone()?),
-        is_asked,
-    })
-}
-
-// A connection to a change store, and the line over it.
+// A connection to a change store, and the peer over it, which notes that it was asked.
 fn reach(
     rt: &HostRuntime,
     path: &str,
-    is_asked: Rc<Cell<bool>>,
-) -> io::Result<(UnixStream, ChangeStorePeer)> {
-    let stream = connect(rt, path)?;
-    let line = tracked_peer(&stream, is_asked)?;
-    Ok((stream, line))
+    is_asked: &Rc<Cell<bool>>,
+) -> io::Result<(TimedStream, ChangeStorePeer)> {
+    let deadline = Rc::new(rt.alloc(), Deadline::new(rt)?)?;
+    let stream = TimedStream::connect(rt, path, deadline.clone()?)?;
+    let peer = TrackedPeer {
+        peer: Channel::new(stream.try_clone()?, stream.try_clone()?),
+        deadline,
+        is_asked: is_asked.clone()?,
+    };
+    Ok((stream, peer))
 }
 
 /// Reads and judges all that a change store has, and says what that is.
@@ -353,11 +341,12 @@ pub(crate) fn open_change_store(
     let Ok(is_asked) = Rc::new(rt.alloc(), Cell::new(false)) else {
         return Err(Failure::NoMemory);
     };
-    let (stream, line) = match reach(rt, path, is_asked.clone()?) {
+    let (stream, peer) = match reach(rt, path, &is_asked) {
         Ok(reached) => reached,
         Err(error) => return Err(change_store_failure(rt.alloc(), path, &error)),
     };
-    let keeper = read_over_memory(console, config, path, line)?;
+    let keeper = read_over_memory(console, config, path, peer)?;
+    stream.deadline().end_rows();
     Ok(OpenChangeStore {
         keeper,
         stream,

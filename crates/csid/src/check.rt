@@ -6,7 +6,7 @@ ghost use Rattle.std.specs.Prelude.{◌≡◌, false};
 use crate::config::{checked_configuration, configuration};
 use crate::console::Console;
 use crate::content::{Content, read_content};
-use crate::copy::open_tables_copy;
+use crate::copy::{CopyTask, over_tables_copy};
 use crate::explain::explain;
 use crate::failure::Failure;
 use crate::memory::{memory_adoption_failure, memory_failure};
@@ -83,8 +83,23 @@ pub(crate) fn check_tables(
     path: &str,
     config: Option<&str>,
 ) -> Result<(), Failure> {
-    let rt = console.rt;
     let config = configuration(console, config, true)?;
-    let content = adopted(console, path, open_tables_copy(rt, path)?, &config)?;
-    tell(rt, &content)
+    over_tables_copy(console, path, CopyTask::Check(&config))?
+}
+
+/// Judges the tables on a connection, and says what they have.
+///
+/// # Errors
+///
+/// Where they are refused, the line cannot be written, or memory is refused.
+pub(crate) fn check_over<S: Alter + Drop>(
+    console: &Console<'_>,
+    path: &str,
+    conn: Connection<S>,
+    config: &Config,
+) -> Result<(), Failure>
+    requires { conn.in_transaction ≡ false }
+{
+    let content = adopted(console, path, conn, config)?;
+    tell(console.rt, &content)
 }

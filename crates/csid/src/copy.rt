@@ -5,11 +5,15 @@ ghost use Rattle.sqlite_disk.specs.Memory.{memory_bytes, memory_is_usable};
 ghost use Rattle.csid.specs.Copying.{IsOfOneMoment, header_in};
 ghost use Rattle.csid.specs.Statuses.{IsOrNoMemory};
 
+use crate::check::check_over;
+use crate::console::Console;
 use crate::existing::FileFault;
 use crate::failure::Failure;
+use crate::listing::{Chosen, list_over};
 use crate::memory::{files_of, open};
 use crate::tables::{check_existing, check_path, database_failure};
-use sqlite::{Connection, Error, ErrorCode, FileStore, Files};
+use csi_config::Config;
+use sqlite::{Alter, Connection, Error, ErrorCode, FileStore, Files};
 use sqlite_disk::Memory;
 use std::alloc::Global;
 use std::fs::{self, File};
@@ -207,25 +211,50 @@ fn open_copy(rt: &HostRuntime, path: &str) -> Result<Connection<FileStore<Memory
     open(rt.alloc(), path, copy)
 }
 
-/// A connection to a copy of the tables in a file, with what is in its WAL, by reads alone: no lock is taken,
-/// and nothing is made or changed on the disk.
+/// What is done over a copy of tables.
+#[derive(Clone, Copy)]
+pub(crate) enum CopyTask<'a> {
+    /// They are judged by a configuration.
+    Check(&'a Config),
+    /// They are listed, these of them, and in JSON or not.
+    List(&'a Chosen<'a>, bool),
+}
+
+// Does a task over the tables on a connection, if it has some. It does not know how they are stored.
+fn over_tables<S: Alter + Drop>(
+    console: &Console<'_>,
+    path: &str,
+    conn: Connection<S>,
+    task: CopyTask<'_>,
+) -> Result<Result<(), Failure>, Failure>
+    requires { conn.in_transaction ≡ false }
+    ensures failure { IfErr result (λ failure. IsOrNoMemory 4 failure) }
+{
+    if conn.schema().tables.is_empty() {
+        return Err(Failure::of_tables(console.rt.alloc(), path, &FileFault::Blank));
+    }
+    Ok(match task {
+        CopyTask::Check(config) => check_over(console, path, conn, config),
+        CopyTask::List(chosen, is_json) => list_over(console, path, conn, chosen, is_json),
+    })
+}
+
+/// Does a task over a copy of the tables in a file, with what is in its WAL, by reads alone: no lock is
+/// taken, and nothing is made or changed on the disk. The result of the task is the value.
 ///
 /// # Errors
 ///
 /// Where the path is none of a file; where there is no file, it cannot be read, is written all the time,
 /// is no database or has no tables; where a journal is next to it; or where memory is refused.
-pub(crate) fn open_tables_copy(
-    rt: &HostRuntime,
+pub(crate) fn over_tables_copy(
+    console: &Console<'_>,
     path: &str,
-) -> Result<Connection<FileStore<Memory>>, Failure>
-    ensures idle { IfOk result (λ conn. conn.in_transaction ≡ false) }
+    task: CopyTask<'_>,
+) -> Result<Result<(), Failure>, Failure>
     ensures failure { IfErr result (λ failure. IsOrNoMemory 4 failure) }
 {
-    check_path(rt, path)?;
-    check_existing(rt, path)?;
-    let conn = open_copy(rt, path)?;
-    if conn.schema().tables.is_empty() {
-        return Err(Failure::of_tables(rt.alloc(), path, &FileFault::Blank));
-    }
-    Ok(conn)
+    check_path(console.rt, path)?;
+    check_existing(console.rt, path)?;
+    let conn = open_copy(console.rt, path)?;
+    over_tables(console, path, conn, task)
 }

@@ -1,6 +1,8 @@
 //! `csid --list-tables`: the volumes of a file of tables, and how much each pool and node has of them. No
 //! configuration is read, no lock is taken, and nothing is changed.
 
+ghost use Rattle.std.specs.Prelude.{◌≡◌, false};
+
 mod cells;
 mod json;
 mod output;
@@ -8,14 +10,13 @@ mod sums;
 mod text;
 
 use crate::console::Console;
-use crate::copy::open_tables_copy;
+use crate::copy::{CopyTask, over_tables_copy};
 use crate::failure::Failure;
 use csi_keeper::{PageWithNodes, Volume};
 use csi_sql::IdleConnection;
 use csi_tables::{TablesError, TablesFault, page_with_nodes};
 use csi_types::{Items, Text};
-use sqlite::FileStore;
-use sqlite_disk::Memory;
+use sqlite::{Alter, Connection};
 use std::alloc::Global;
 
 // So many volumes are read at once.
@@ -78,13 +79,13 @@ fn visit_page<V: Visit>(
 
 /// A copy of tables in memory.
 #[derive(Drop)]
-struct TablesCopy<'a> {
+struct TablesCopy<'a, S: Alter + Drop> {
     alloc: Global,
     path: &'a str,
-    conn: IdleConnection<FileStore<Memory>>,
+    conn: IdleConnection<S>,
 }
 
-impl TablesCopy<'_> {
+impl<S: Alter + Drop> TablesCopy<'_, S> {
     // Why a page cannot be read.
     fn page_failure(&self, after: u64, error: &TablesError) -> Failure {
         let alloc = self.alloc;
@@ -143,10 +144,23 @@ pub(crate) fn list_tables(
     chosen: &Chosen<'_>,
     is_json: bool,
 ) -> Result<(), Failure> {
+    over_tables_copy(console, path, CopyTask::List(chosen, is_json))?
+}
+
+// The same over a connection to them, which does not know how they are stored.
+pub(crate) fn list_over<S: Alter + Drop>(
+    console: &Console<'_>,
+    path: &str,
+    conn: Connection<S>,
+    chosen: &Chosen<'_>,
+    is_json: bool,
+) -> Result<(), Failure>
+    requires { conn.in_transaction ≡ false }
+{
     let mut tables = TablesCopy {
         alloc: console.rt.alloc(),
         path,
-        conn: IdleConnection::new(open_tables_copy(console.rt, path)?),
+        conn: IdleConnection::new(conn),
     };
     if is_json {
         json::write(console.rt, &mut tables, chosen)

@@ -28,10 +28,12 @@ mod memory;
 mod peer;
 mod pending;
 mod ready;
+mod room;
 mod run;
 mod serving;
 mod socket;
 mod tables;
+mod timed;
 mod turn;
 mod waiting;
 

@@ -11,6 +11,7 @@ use crate::config::configuration;
 use crate::console::Console;
 use crate::failure::{Endpoint, Failure, outcome};
 use crate::listing::list_tables;
+use crate::room::MemoryGauge;
 use crate::serving::{Answered, SilentObserver, TablesFile, serve_file};
 use crate::socket::{listen, serve_all};
 use crate::tables::{check_existing, check_kind, check_path, check_wal, survey};
@@ -63,13 +64,15 @@ fn pipe_over_tables(
         is_existing: pipe.is_existing,
         is_low_memory: pipe.is_low_memory,
     };
+    let gauge = MemoryGauge::new(console.rt);
+    let observer = SilentObserver { gauge: &gauge };
     let mut reader = console.rt.stdin();
     let mut writer = console.rt.stdout();
     let answered = serve_file(
         console.rt,
         config,
         &place,
-        &SilentObserver,
+        &observer,
         &mut reader,
         &mut writer,
     )?;
@@ -112,7 +115,8 @@ fn listen_over(
     if serving.change_store.is_none() {
         survey(console, serving.tables, config, serving.is_existing);
     }
-    serve_all(console, config, serving, listener)
+    let gauge = MemoryGauge::new(console.rt);
+    serve_all(console, config, serving, &gauge, listener)
 }
 
 // Answers the calls of connections, and keeps the volumes in a file.

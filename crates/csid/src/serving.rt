@@ -6,6 +6,7 @@ ghost use Rattle.csid.specs.Serving.{IsAnswered, Says, SaysNotServed};
 
 use crate::existing::{FileFault, opening_bytes};
 use crate::failure::Failure;
+use crate::room::MemoryGauge;
 use crate::tables::{adoption_failure, database_failure, prepare, store_failure};
 use csi_config::Config;
 use csi_files::{Closed, NotServed, NotServedAt, Observer, ServeOptions, Served, serve_path};
@@ -84,14 +85,22 @@ fn outcome_failure<D: Disk + Drop>(
 }
 
 /// Where nothing reports how calls are served: the replies are the same.
-pub(crate) struct SilentObserver;
+#[derive(Clone, Copy)]
+pub(crate) struct SilentObserver<'a> {
+    /// How much memory there is.
+    pub(crate) gauge: &'a MemoryGauge,
+}
 
-impl Observer for SilentObserver {
+impl Observer for SilentObserver<'_> {
     fn made(&self) {}
 
     fn uncopied(&self) {}
 
     fn refused(&self, _cause: &Error) {}
+
+    fn has_room(&self, opening: usize) -> bool {
+        self.gauge.has_room(opening)
+    }
 }
 
 // Serves calls over the tables in a file, where `start` is what it and its WAL held.

@@ -10,6 +10,7 @@ use crate::failure::{Endpoint, Failure, outcome};
 use crate::group::group_number;
 use crate::peer::{Always, GuardedWriter, Leadership, has_gone};
 use crate::pending::{Pending, Start};
+use crate::room::MemoryGauge;
 use crate::run::FIRST_NUMBER;
 use crate::serving::{Answered, TablesFile, serve_file};
 use crate::tables::NEW_TABLES;
@@ -121,6 +122,7 @@ struct Service<'a> {
     console: &'a Console<'a>,
     config: &'a Config,
     serving: &'a Serving<'a>,
+    gauge: &'a MemoryGauge,
 }
 
 // The turn of a connection. Where there is none, that is said.
@@ -193,6 +195,7 @@ const NO_COPY: &str =
 struct Announcer<'a> {
     console: &'a Console<'a>,
     path: &'a str,
+    gauge: &'a MemoryGauge,
 }
 
 impl Observer for Announcer<'_> {
@@ -209,6 +212,10 @@ impl Observer for Announcer<'_> {
             Ok(line) => self.console.say_of(self.path, &line),
             Err(_) => self.console.say(&Failure::NoMemory),
         }
+    }
+
+    fn has_room(&self, opening: usize) -> bool {
+        self.gauge.has_room(opening)
     }
 }
 
@@ -234,6 +241,7 @@ fn answer_over_tables<R: Read, W: Write>(
         console,
         config,
         serving,
+        gauge,
     } = *service;
     let place = TablesFile {
         path: serving.tables,
@@ -243,6 +251,7 @@ fn answer_over_tables<R: Read, W: Write>(
     let announcer = Announcer {
         console,
         path: serving.tables,
+        gauge,
     };
     let failure = match serve_file(console.rt, config, &place, &announcer, reader, writer) {
         Ok(Answered { served, unclosed }) => {
@@ -445,6 +454,7 @@ pub(crate) fn serve_all(
     console: &Console<'_>,
     config: &Config,
     serving: &Serving<'_>,
+    gauge: &MemoryGauge,
     listener: UnixListener,
 ) -> Result<(), Failure>
     ensures { IfErr result (λ failure. IsOrNoMemory 7 failure) }
@@ -453,6 +463,7 @@ pub(crate) fn serve_all(
         console,
         config,
         serving,
+        gauge,
     };
     let served = serve_each(&service, listener);
     console.finish();

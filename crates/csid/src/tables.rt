@@ -248,29 +248,35 @@ fn take_from<S: Start>(
 
 // Opens and judges the tables in a file, looks what they have, and closes the file. What they have is said,
 // and why the file could not be closed.
-fn look_over(
+fn look_over<S: Start>(
     console: &Console<'_>,
     path: &str,
     config: &Config,
     is_existing: bool,
+    start: S,
 ) -> Result<(), Failure>
     ensures { IfErr result (λ failure. IsOrNoMemory 4 failure) }
 {
-    let rt = console.rt;
-    let tables = take_from(console, path, config, is_existing, Unknown)?;
-    let mut conn = tables.into_connection();
-    let content = read_content(&mut conn);
-    if let Err(failure) = disconnect(rt.alloc(), path, conn) {
+    let tables = take_from(console, path, config, is_existing, start)?;
+    let (content, conn) = content_of(tables);
+    if let Err(failure) = disconnect(console.rt.alloc(), path, conn) {
         console.say(&failure);
     }
     report_content(console, path, content);
     Ok(())
 }
 
+// What tables have, and their connection.
+fn content_of<S: Alter + Drop>(tables: Tables<S>) -> (Result<Content, Error>, Connection<S>) {
+    let mut conn = tables.into_connection();
+    let content = read_content(&mut conn);
+    (content, conn)
+}
+
 /// Opens and judges the tables in a file once, and says what they have, or why they cannot be had. The file
 /// is closed by then.
 pub(crate) fn survey(console: &Console<'_>, path: &str, config: &Config, is_existing: bool) {
-    if let Err(failure) = look_over(console, path, config, is_existing) {
+    if let Err(failure) = look_over(console, path, config, is_existing, Unknown) {
         console.say(&failure);
     }
 }

@@ -8,6 +8,7 @@ use crate::failure::Failure;
 use csi_keeper::{CapKey, Kind, Volume};
 use csi_types::{Items, Map as TextMap, Text};
 use serde_json::{Map, Value, json};
+use sqlite::Alter;
 use std::alloc::{AllocError, Global};
 
 type Json = Result<Value, AllocError>;
@@ -99,9 +100,9 @@ impl Visit for Lines<'_> {
 }
 
 /// Writes an object of three lists: `volumes`, and the sums of `pools` and `nodes` that have some.
-pub(crate) fn write(
+pub(crate) fn write<S: Alter + Drop>(
     rt: &HostRuntime,
-    tables: &mut TablesCopy<'_>,
+    tables: &mut TablesCopy<'_, S>,
     chosen: &Chosen<'_>,
 ) -> Result<(), Failure> {
     let alloc = rt.alloc();

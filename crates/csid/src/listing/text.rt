@@ -8,6 +8,7 @@ use crate::failure::Failure;
 use command_line::{Table, size_text, word};
 use csi_keeper::Volume;
 use csi_types::{Items, Text};
+use sqlite::Alter;
 use std::alloc::{AllocError, Global};
 
 // The rows of the volumes, and their sums.
@@ -41,9 +42,9 @@ fn sums_text(alloc: Global, heading: &'static str, sums: &Sums) -> Result<String
 }
 
 /// Writes a row for each volume, and then one for each pool and each node that has some.
-pub(crate) fn write(
+pub(crate) fn write<S: Alter + Drop>(
     rt: &HostRuntime,
-    tables: &mut TablesCopy<'_>,
+    tables: &mut TablesCopy<'_, S>,
     chosen: &Chosen<'_>,
 ) -> Result<(), Failure> {
     let alloc = rt.alloc();

@@ -19,6 +19,11 @@ impl Observer for Unheard {
     fn uncopied(&self) {}
 
     fn refused(&self, _cause: &Error) {}
+
+    // Memory is refused where there is none.
+    fn has_room(&self, _opening: usize) -> bool {
+        true
+    }
 }
 
 fn end_word(end: RunEnd) -> &'static str {

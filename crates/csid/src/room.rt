@@ -1,0 +1,212 @@
+//! How much memory the process may use: less than what ends it, and than what its address space may have.
+
+use std::cell::Cell;
+use std::fs;
+
+// Where control groups are mounted: those of version 2, and of version 1 the groups that limit memory.
+const GROUPS: &str = "/sys/fs/cgroup";
+
+const MEMORY_GROUPS: &str = "/sys/fs/cgroup/memory";
+
+// The bytes of a page of memory in `/proc/self/statm`.
+const PAGE_BYTES: u64 = 4096;
+
+// The bytes that are left for calls, next to an eighth of a control group's limit.
+const CALL_BYTES: u64 = 8 << 20;
+
+// The bytes of the address space that are left for calls. A call that needs more is refused, and does not end
+// the process.
+const CALL_SPACE_BYTES: u64 = 4 << 20;
+
+// How much of something the process uses, and may use at most.
+struct Limit {
+    // The most bytes.
+    most: u64,
+    // The bytes in use at the start.
+    base: u64,
+    // The bytes in use when it was looked last.
+    last: Cell<u64>,
+}
+
+impl Drop for Limit {
+    fn drop(self) {
+        let Limit {
+            most: _,
+            base: _,
+            last: _,
+        } = self;
+    }
+}
+
+impl Limit {
+    fn new(most: u64, used: u64) -> Limit {
+        Limit {
+            most,
+            base: used,
+            last: Cell::new(used),
+        }
+    }
+
+    // Whether it may grow once more as since the last look, and a next opening of tables may take these bytes
+    // after what is in use now is given back.
+    fn has_room(&self, used: u64, opening: u64) -> bool {
+        let grown = used.saturating_sub(self.last.replace(used));
+        let is_spent = used.saturating_add(grown) > self.most;
+        !is_spent && self.base.saturating_add(opening) <= self.most
+    }
+}
+
+// The bytes of memory that the process uses.
+#[derive(Clone, Copy)]
+struct Usage {
+    address_space: u64,
+    resident: u64,
+}
+
+// The bytes in a word of pages.
+fn pages(word: Option<&str>) -> Option<u64> {
+    let pages: u64 = word?.parse().ok()?;
+    Some(pages.saturating_mul(PAGE_BYTES))
+}
+
+// What the process uses; nothing, where the system does not report it.
+fn used(rt: &HostRuntime) -> Option<Usage> {
+    let text = fs::read_to_string(rt, "/proc/self/statm").ok()?;
+    let mut words = text.as_str().split(' ');
+    let address_space = pages(words.next())?;
+    Some(Usage {
+        address_space,
+        resident: pages(words.next())?,
+    })
+}
+
+// The number in a file of a control group; nothing, where there is no such file or no limit.
+fn limit_in(rt: &HostRuntime, root: &str, group: &str, file: &str) -> Option<u64> {
+    let path = format!(in rt.alloc(); "{root}{group}/{file}").ok()?;
+    let text = fs::read_to_string(rt, path.as_str()).ok()?;
+    text.as_str().trim().parse().ok()
+}
+
+// The lower one of two limits.
+fn lower(one: Option<u64>, other: Option<u64>) -> Option<u64> {
+    match (one, other) {
+        (Some(one), Some(other)) if other < one => Some(other),
+        (None, other) => other,
+        (one, _) => one,
+    }
+}
+
+// The lowest limit of a group and of those that it is in, up to the root.
+fn lowest_limit(rt: &HostRuntime, root: &str, group: &str, file: &str) -> Option<u64> {
+    let mut lowest = limit_in(rt, root, "", file);
+    let mut rest = group;
+    for _ in 0..group.len() {
+        if rest.is_empty() {
+            return lowest;
+        }
+        lowest = lower(lowest, limit_in(rt, root, rest, file));
+        rest = match rest.rsplit_once('/') {
+            Some((parent, _)) => parent,
+            None => "",
+        };
+    }
+    lowest
+}
+
+// The limit of the groups in a line `NUMBER:CONTROLLERS:GROUP`, if it is the line of memory.
+fn limit_of_line(rt: &HostRuntime, line: &str) -> Option<u64> {
+    let (number, rest) = line.split_once(':')?;
+    let (controllers, group) = rest.split_once(':')?;
+    if number == "0" && controllers.is_empty() {
+        return lowest_limit(rt, GROUPS, group, "memory.max");
+    }
+    if controllers == "memory" {
+        return lowest_limit(rt, MEMORY_GROUPS, group, "memory.limit_in_bytes");
+    }
+    None
+}
+
+// The limit of memory of the control groups of the process.
+fn group_limit(rt: &HostRuntime) -> Option<u64> {
+    let lines = fs::read_to_string(rt, "/proc/self/cgroup").ok()?;
+    let mut lowest = None;
+    for line in lines.as_str().lines() {
+        lowest = lower(lowest, limit_of_line(rt, line));
+    }
+    lowest
+}
+
+// The limit of the address space of the process, as of `ulimit -v`.
+fn address_space_limit(rt: &HostRuntime) -> Option<u64> {
+    let lines = fs::read_to_string(rt, "/proc/self/limits").ok()?;
+    for line in lines.as_str().lines() {
+        if let Some(rest) = line.strip_prefix("Max address space") {
+            return rest.split_whitespace().next()?.parse().ok();
+        }
+    }
+    None
+}
+
+// What calls leave of a control group's limit for the volumes.
+fn group_room(limit: u64) -> u64 {
+    limit.saturating_sub(limit / 8).saturating_sub(CALL_BYTES)
+}
+
+/// The memory that the process uses, and the limits that end it or refuse it more.
+pub(crate) struct MemoryGauge {
+    rt: HostRuntime,
+    address_space: Option<Limit>,
+    resident: Option<Limit>,
+}
+
+impl Drop for MemoryGauge {
+    fn drop(self) {
+        let MemoryGauge {
+            rt: _,
+            address_space: _address_space,
+            resident: _resident,
+        } = self;
+    }
+}
+
+impl MemoryGauge {
+    /// The limits as they are now: those of the control groups of the process, and of its address space. A
+    /// limit that the system does not report counts as none.
+    pub(crate) fn new(rt: &HostRuntime) -> MemoryGauge {
+        let Some(used) = used(rt) else {
+            return MemoryGauge {
+                rt: *rt,
+                address_space: None,
+                resident: None,
+            };
+        };
+        let space = address_space_limit(rt).map(|most| most.saturating_sub(CALL_SPACE_BYTES));
+        let resident = group_limit(rt).map(group_room);
+        MemoryGauge {
+            rt: *rt,
+            address_space: space.map(|most| Limit::new(most, used.address_space)),
+            resident: resident.map(|most| Limit::new(most, used.resident)),
+        }
+    }
+
+    /// Whether there is memory for what is done, and for a next opening of tables that takes `opening` bytes.
+    pub(crate) fn has_room(&self, opening: usize) -> bool {
+        if self.address_space.is_none() && self.resident.is_none() {
+            return true;
+        }
+        let Some(used) = used(&self.rt) else {
+            return true;
+        };
+        let opening = opening as u64;
+        has_room_in(&self.address_space, used.address_space, opening)
+            && has_room_in(&self.resident, used.resident, opening)
+    }
+}
+
+// Whether there is room where there is a limit.
+fn has_room_in(limit: &Option<Limit>, used: u64, opening: u64) -> bool {
+    match limit {
+        Some(limit) => limit.has_room(used, opening),
+        None => true,
+    }
+}

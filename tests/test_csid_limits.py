@@ -1,0 +1,154 @@
+"""csid under limits of its memory: a control group, by which Linux ends a process, and an address space."""
+
+import contextlib
+import os
+import resource
+import threading
+import unittest
+
+from tests.support.configs import LARGE_POOL
+from tests.support.frames import BLOCK, PROBE, READY, controller, frame
+from tests.support.processes import statuses, write
+from tests.support.rows import CsidTest
+from tests.support.server import NO_COPY, Server
+from tests.support.tables import BLOCK_CAPS, MANY, MIB, Tables, next_is
+
+
+# 4,096 bytes of parameters in entries of four bytes, which take some 90 KiB of memory: 1,024 keys of two
+# letters, in their order, each its own value too.
+LETTERS = sorted(b"0123456789ABCDEFGHIJKLMNOPQRSTUVWXYZabcdefghijklmnopqrstuvwxyz")
+KEYS = [bytes([first, second]) for first in LETTERS for second in LETTERS][:1024]
+ENTRIES = b"".join(bytes.fromhex("22080a02") + key + bytes.fromhex("1202") + key for key in KEYS)
+
+
+def own_group():
+    """The folder of this process's control group for memory, and the name of the file of a limit in it."""
+    with open("/proc/self/cgroup", encoding="ascii") as lines:
+        groups = dict(line.rstrip("\n").split(":", 2)[1:] for line in lines)
+    for root, controllers, name in (
+        ("/sys/fs/cgroup/memory", "memory", "memory.limit_in_bytes"),
+        ("/sys/fs/cgroup", "", "memory.max"),
+    ):
+        folder = root + groups.get(controllers, "")
+        if os.path.exists(os.path.join(folder, name)):
+            return folder, name
+    raise unittest.SkipTest("no control group limits memory here")
+
+
+@contextlib.contextmanager
+def memory_group(limit):
+    """A new control group with a limit, and what makes a process its member. Where no group can be made, the
+    test is skipped.
+    """
+    parent, name = own_group()
+    folder = os.path.join(parent, "csid-test-%d" % os.getpid())
+    try:
+        os.mkdir(folder)
+        write(os.path.join(folder, name), b"%d" % limit)
+    except OSError as failure:
+        raise unittest.SkipTest("no control group can be made here: %s" % failure) from failure
+    try:
+        yield lambda: write(os.path.join(folder, "cgroup.procs"), b"%d" % os.getpid())
+    finally:
+        os.rmdir(folder)
+
+
+def name_of(number):
+    return b"vol-%d" % number
+
+
+class LimitedTest(CsidTest):
+    """csid over tables of its own, with a limit that `self.enter` sets."""
+
+    def setUp(self):
+        super().setUp()
+        self.config = os.path.join(self.folder, "config.toml")
+        write(self.config, LARGE_POOL.replace(b"2147483648", b"%d" % (20_000 * MIB)))
+        self.tables = Tables(self.csid, self.folder)
+
+    def serve(self):
+        server = Server(self.csid, self.folder, "--config", self.config, preexec_fn=self.enter)
+        self.addCleanup(server.end)
+        return server
+
+    def answers(self, server, calls):
+        """The statuses of calls over one connection, sent while replies are read."""
+        with server.connect() as peer:
+            threading.Thread(target=lambda: [peer.sendall(it) for it in calls], daemon=True).start()
+            return statuses(peer, len(calls))
+
+    def creates(self, first, count):
+        return [
+            controller("CreateVolume", b"\x0a\x06%06d" % number + BLOCK + self.parameters)
+            for number in range(first, first + count)
+        ]
+
+    def deletes(self, first, count):
+        names = map(name_of, range(first, first + count))
+        return [controller("DeleteVolume", b"\x0a" + bytes([len(name)]) + name) for name in names]
+
+
+class AddressSpaceTest(LimitedTest):
+    """csid in an address space of 40 MiB, and volumes with one parameter of 4,095 bytes."""
+
+    parameters = bytes.fromhex("22 8420 0a01 6b 12fe1f") + b"v" * 4094
+
+    def enter(self):
+        resource.setrlimit(resource.RLIMIT_AS, (40 * MIB, 40 * MIB))
+
+    def test_volumes_are_deleted_after_creates_were_refused(self):
+        server = self.serve()
+        came = self.answers(server, self.creates(1, 6000))
+        made = came.count(0)
+        self.assertEqual((1000 < made < 6000, came), (True, [0] * made + [13] * (6000 - made)))
+        self.assertEqual(self.answers(server, self.deletes(1, made)), [0] * made)
+
+
+class GroupTest(LimitedTest):
+    """csid in a control group with 96 MiB, and volumes that take 90 KiB each."""
+
+    parameters = ENTRIES
+
+    def setUp(self):
+        super().setUp()
+        enter = contextlib.ExitStack()
+        self.addCleanup(enter.close)
+        self.enter = enter.enter_context(memory_group(96 * MIB))
+
+    def fill(self, count):
+        """New tables with this many volumes."""
+        self.tables.new().script(
+            MANY % (count, BLOCK_CAPS)
+            + "UPDATE volumes SET params = x'%s';" % ENTRIES.hex()
+            + next_is(count + 1)
+        )
+
+    def test_creates_are_refused_before_the_limit_ends_csid(self):
+        server = self.serve()
+        came = self.answers(server, self.creates(1, 1500))
+        made = came.count(0)
+        self.assertEqual((100 < made < 1500, came), (True, [0] * made + [13] * (1500 - made)))
+        self.assertEqual(server.process.poll(), None)
+
+    def test_volumes_are_deleted_after_creates_were_refused(self):
+        server = self.serve()
+        made = self.answers(server, self.creates(1, 1500)).count(0)
+        self.assertEqual(self.answers(server, self.deletes(1, made)), [0] * made)
+        self.assertEqual(self.answers(server, self.creates(2001, 100)), [0] * 100)
+
+    def test_file_whose_copy_does_not_fit_is_served_from_the_file(self):
+        self.fill(2000)
+        server = self.serve()
+        self.assertEqual(server.ask(frame(PROBE)), READY)
+        self.assertEqual(server.lines(), server.has(2000, 0, 2001) + server.line(NO_COPY))
+
+    def test_volumes_of_a_file_whose_copy_does_not_fit_are_deleted(self):
+        self.fill(2000)
+        server = self.serve()
+        self.assertEqual(self.answers(server, self.deletes(1, 2000)), [0] * 2000)
+
+    def test_file_that_fits_is_copied(self):
+        self.fill(300)
+        server = self.serve()
+        self.assertEqual(server.ask(frame(PROBE)), READY)
+        self.assertEqual(server.lines(), server.has(300, 0, 301))
