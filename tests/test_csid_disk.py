@@ -42,6 +42,14 @@ from tests.support.tables import (
 )
 
 
+def mounts(count):
+    """As many capabilities of a create, each a mount of a file system with a name of 120 letters."""
+    names = [b"%0120d" % number for number in range(count)]
+    return b"".join(
+        bytes.fromhex("1a 80 01 12 7a 0a 78") + name + bytes.fromhex("1a 02 08 01") for name in names
+    )
+
+
 class DiskTest(CsidTest):
     """Files that are locked, replaced or killed over, and disks that are full."""
 
@@ -221,39 +229,41 @@ class DiskTest(CsidTest):
         self.row("the next opening", tables.run(listing + more), (one + reply(VOLUME_2), "", 0))
         self.row("integrity_check", tables.ask("PRAGMA integrity_check"), [("ok",)])
 
-    def test_file_alone_after_a_refusal(self):
-        """The disk fills after a create, so that the next one is refused, and csid ends. The first one is in
-        the log then: a copy of both files has it, and one of the file alone does not.
-        """
-        disk = self.enterContext(small_disk(self.folder))
-        tables = Tables(self.csid, disk).new()
+    def refused_on_full_disk(self, tables, first):
+        """The calls of one run: a create, after which the disk is full, and a create that is refused."""
         process = subprocess.Popen(
             tables.command, stdin=subprocess.PIPE, stdout=subprocess.PIPE, stderr=subprocess.PIPE, bufsize=0
         )
-        process.stdin.write(controller("CreateVolume", CREATE_A))
+        process.stdin.write(controller("CreateVolume", first))
         self.row("a create", process.stdout.read(len(reply(VOLUME_1))), reply(VOLUME_1))
-        fill(disk)
-        # The log has 256 KiB of zeros ahead, into which 3,000 file systems of 120 letters do not fit.
-        mounts = [b"%0120d" % number for number in range(3000)]
-        more = CREATE_B + b"".join(
-            bytes.fromhex("1a 80 01 12 7a 0a 78") + name + bytes.fromhex("1a 02 08 01") for name in mounts
-        )
-        out, error = process.communicate(controller("CreateVolume", more), timeout=SECONDS)
+        filler = fill(os.path.dirname(tables.path))
+        # The log has 256 KiB of zeros ahead, into which 3,000 file systems do not fit.
+        more = controller("CreateVolume", CREATE_B + mounts(3000))
+        out, error = process.communicate(more, timeout=SECONDS)
         came = out, error.decode(), process.returncode
         self.row("one on the full disk", came, (refusal(13, "store refused"), "", 0))
-        both, alone = Tables(self.csid, self.folder, "both.db"), Tables(self.csid, self.folder, "alone.db")
-        for copy in both, alone:
-            shutil.copy(tables.path, copy.path)
-        shutil.copy(tables.path + "-wal", both.path + "-wal")
-        self.row("both files", self.listed(both), (["vol-1"], "", 0))
-        self.row("the file alone", self.listed(alone), ([], "", 0))
+        os.unlink(filler)
+
+    def test_file_alone_after_a_refusal(self):
+        """After a refused change both files have what was committed. The file alone has it unless the disk
+        has no room for the pages that it lacks; then it may have some of them, and is refused.
+        """
+        disk = self.enterContext(small_disk(self.folder))
+        for name, first, alone in [("small", CREATE_A, ["vol-1"]), ("large", CREATE_A + mounts(100), [])]:
+            tables = Tables(self.csid, disk, name + ".db").new()
+            self.refused_on_full_disk(tables, first)
+            for kind, ends, wanted in [("both", ["", "-wal"], ["vol-1"]), ("alone", [""], alone)]:
+                copy = Tables(self.csid, self.folder, "%s-%s.db" % (name, kind))
+                for end in ends:
+                    shutil.copy(tables.path + end, copy.path + end)
+                self.row("%s create, %s" % (name, kind), self.listed(copy), wanted)
 
     def listed(self, tables):
-        """The ids that a listing of tables has, what it says, and its status."""
+        """The ids that a listing of tables has; none, where the tables are refused."""
         done = subprocess.run(
             [self.csid, "--list-tables", tables.path], capture_output=True, text=True, timeout=SECONDS
         )
-        return re.findall(r"^vol-\d+", done.stdout, re.M), done.stderr, done.returncode
+        return re.findall(r"^vol-\d+", done.stdout, re.M)
 
     def test_refused_commit(self):
         """A disk that takes no commit: the change is refused, and nothing is answered until the file is

@@ -11,17 +11,14 @@ use Rattle.sqlite_wal.proofs.LogLemmas.{SeenMayStay}
 use Rattle.sqlite_trees.specs.Objects.{catalog_tree}
 use Rattle.sqlite_trees.specs.Props.{Trees-set}
 use Rattle.sqlite_trees.specs.Tree.{Trees}
-use Rattle.sqlite_trees.specs.View.{IsClean}
 use Rattle.sqlite_trees.proofs.Doubt.{clean_of}
 use Rattle.sqlite_catalog.specs.Listing.{IsSound}
 use Rattle.sqlite_catalog.proofs.ReadLemmas.{lists_once}
 use Rattle.sqlite_schema.specs.declared.schema.Schema.{Schema}
 use Rattle.sqlite_store.specs.declared.store.FileStore.{FileStore}
-use Rattle.sqlite_store.specs.FileStore.{view}
 use Rattle.sqlite_store.specs.Laws.{settled_at}
-use Rattle.sqlite.specs.Closing.{IsCopied}
-use Rattle.sqlite.specs.Effect.{Database}
-use Rattle.sqlite.specs.Files.{HoldsDatabase, IsClosed, IsOpened, file_state, image_of, over_files}
+use Rattle.sqlite.specs.Effect.{Database, IsDatabase}
+use Rattle.sqlite.specs.Files.{HoldsDatabase, IsOpened, file_state, image_of, over_files}
 use Rattle.sqlite.specs.Held.{Held}
 use Rattle.sqlite.specs.declared.error.Error.{Error}
 use Rattle.sqlite.specs.declared.file.Leftover.{Leftover}
@@ -51,11 +48,12 @@ use Rattle.csi_files.specs.declared.serving.Closed.{Closed}
 use Rattle.csi_files.specs.declared.serving.NotServed.{NotServed}
 use Rattle.csi_files.specs.declared.serving.NotServed.TheVariants.{NotOpened, Blank, NotAdopted, NotCopied, Left, NotClosed}
 use Rattle.csi_files.specs.Again.{AreFoundAgain}
-use Rattle.csi_files.specs.Files.{HasState, IsStateIn, files_model, image_model}
-use Rattle.csi_files.specs.Leaving.{GivesUp, IsFinished, IsLeft, IsUnfinished}
+use Rattle.csi_files.specs.Files.{HasState, HoldsSealed, IsStateIn, files_model, image_model}
+use Rattle.csi_files.specs.Leaving.{GivesUp, HoldsCommit, IsFinished, IsLeft, IsUnfinished}
 use Rattle.csi_files.specs.Over.{IsRead, IsUnserved, ServesOver, with_counts}
-use Rattle.csi_files.specs.Serving.{AllServed, HasNone, HasRefused, IsAsked, IsNotServed, IsStateAfter, Keeps, KeepsDatabase, LeavesAfter, ReadsAfter, Refuses, SaysNew, ServesThen, counts_model}
+use Rattle.csi_files.specs.Serving.{AllServed, HasNone, HasRefused, IsAsked, IsNotServed, IsStateAfter, Keeps, KeepsDatabase, LeavesAfter, Refuses, SaysNew, ServesThen, WasTaken, counts_model}
 use Rattle.csi_files.proofs.FirstLemmas.{first_rows}
+use Rattle.csi_files.proofs.LeaveLemmas.{database_of, each_left}
 use Rattle.csi_files.proofs.RunLemmas.{Carries, ends, run_in, same_events}
 
 not_none : schema ≡ no_schema → ⊥
@@ -102,12 +100,12 @@ module _ {D : Type 0} (g : Ghosts D) where
   -- an open of files that have a State finds it
   pub finds_state : (image : Image) (s : State) (conn : Held (FileStore D g)) → HasState image s → IsOpened conn → FindsIn image (file_state conn) → IsStateOf (file_state conn).committed s
   finds_state image s conn has opened found =
-      let same : (file_state conn).committed.trees ≡ has.db = ∥∥₁_elim has.holds (Trees-set _ _) (λ held. found.holds has.db held) in
+      let same : (file_state conn).committed.trees ≡ has.db = ∥∥₁_elim has.holds (Trees-set _ _) (λ held. found.holds has.db (database_of image has.db held)) in
       state_of (file_state conn).committed has.db s same (opened.1 opened.0.is_open).1 has.state
 
   -- files that a database was copied into have its State
   kept_state : (conn : Held (FileStore D g)) (image : Image) (s : State) → IsTrue (file_state conn).is_open → Holds (file_state conn) s
-      → ∥ HoldsDatabase image (file_state conn).committed.trees ∥₁ → HasState image s
+      → ∥ HoldsSealed image (file_state conn).committed.trees ∥₁ → HasState image s
   kept_state conn image s is_open holds held =
       let shows = holds is_open in
       record { db = (file_state conn).committed.trees; holds = held; state = inl (inr (subst (λ (d : Database). IsRows s d.trees) shows.settled shows.rows)) }
@@ -120,12 +118,36 @@ module _ {D : Type 0} (g : Ghosts D) where
     start : HasCleanDisk (file_state conn) → (s : State) → HasState was s → IsStateOf (file_state conn).committed s
     start clean s has = finds_state was s conn has (opened clean) (found clean)
 
+    -- the opening found the database of the files
+    found_trees : HasCleanDisk (file_state conn) → (db : Database) → ∥ HoldsDatabase was db.trees ∥₁ → (file_state conn).committed.trees ≡ db.trees
+    found_trees clean db held = ∥∥₁_elim held (Trees-set _ _) (λ holds. (found clean).holds db.trees holds)
+
+    found_schema : HasCleanDisk (file_state conn) → (db : Database) → ∥ HoldsDatabase was db.trees ∥₁ → IsDatabase db → (file_state conn).committed.schema ≡ db.schema
+    found_schema clean db held sound =
+        let committed = (file_state conn).committed in
+        one_schema committed.schema db.schema db.trees (subst (IsSound committed.schema) (found_trees clean db held) ((opened clean).1 (opened clean).0.is_open).1) sound
+
+    -- and the connection has its schema
+    conn_schema : HasCleanDisk (file_state conn) → (db : Database) → ∥ HoldsDatabase was db.trees ∥₁ → IsDatabase db → conn.schema ≡ db.schema
+    conn_schema clean db held sound = ap (λ (d : Database). d.schema) (opened clean).0.clean ∙ found_schema clean db held sound
+
     module _ (t : Tables (FileStore D g)) (it : IsAdopted over_files config conn t) (z : (model_of t).doubt ≡ 0) (s : State) (state_is : IsStateOf (file_state conn).committed s) where
       holds_it : (model_of t).holds s × IsInvariant config s
       holds_it = let held = it.held z in subst (λ u. (model_of t).holds u × IsInvariant config u) (one_state_of one (file_state conn).committed held.0 s held.1 state_is) (held.3, held.2)
 
       only_it : (u : State) → (model_of t).survivors u → u ≡ s
       only_it u there = one_state_of one (file_state conn).committed u s (it.settled z u there) state_is
+
+    -- tables that were adopted were of a State
+    was_taken : (t : Tables (FileStore D g)) → IsAdopted over_files config conn t → (model_of t).doubt ≡ 0 → WasTaken config was
+    was_taken t it z db held sound =
+        let clean : HasCleanDisk (file_state conn) = omega (arith, it.clean, z) in
+        let had = it.held z in
+        ∣ (
+          had.0,
+          subst₂ (λ (q : Schema) (t : Trees). IsStateOf (record { schema = q; trees = t }) had.0) (found_schema clean db held sound) (found_trees clean db held) had.1,
+          had.2,
+        ) ∣₁
 
     -- ---- calls were served
 
@@ -150,20 +172,17 @@ module _ {D : Type 0} (g : Ghosts D) where
       -- the run says so where the database had no table
       says_new : HasCleanDisk (file_state conn) → SaysNew was served
       says_new clean db held sound =
-          let committed = (file_state conn).committed in
-          let trees : committed.trees ≡ db.trees = ∥∥₁_elim held (Trees-set _ _) (λ holds. (found clean).holds db.trees holds) in
-          let schemas : committed.schema ≡ db.schema = one_schema committed.schema db.schema db.trees (subst (IsSound committed.schema) trees ((opened clean).1 (opened clean).0.is_open).1) sound in
-          let same : conn.schema ≡ db.schema = ap (λ (d : Database). d.schema) (opened clean).0.clean ∙ schemas in
+          let same = conn_schema clean db held sound in
           (λ yes. sym same ∙ blank.0 yes, λ none. blank.1 (same ∙ none))
 
       -- the files were closed
-      closed : (files : Files D) → (AreClean g files.log files.db → IsCopied back files)
+      closed : (files : Files D) → (AreClean g files.log files.db → HoldsCommit g back files)
           → Serves (volumes config) (image_model was served.is_new) (seen config (files_model g files served.refusals served.is_down)) unread left held holds served.end
       closed files copy = (
         over.run.serves.0,
         over.run.serves.1,
         λ z s has.
-            let copied : IsCopied end files = subst (λ (h : Held (FileStore D g)). IsCopied h files) over.back_is (copy (clean_of (are_clean g files.log files.db) z)) in
+            let copied : HoldsCommit g end files = subst (λ (h : Held (FileStore D g)). HoldsCommit g h files) over.back_is (copy (clean_of (are_clean g files.log files.db) z)) in
             let late : (model_of over.last).doubt ≡ 0 = copied.was_clean in
             let early : (model_of over.first).doubt ≡ 0 = omega (arith, over.run.clean, late) in
             let sure : HasCleanDisk (file_state conn) = omega (arith, over.adopted.clean, early) in
@@ -171,13 +190,13 @@ module _ {D : Type 0} (g : Ghosts D) where
             let carries : Carries first_model last_model (image_model was served.is_new) (seen config (files_model g files served.refusals served.is_down)) s = record {
               refused = (refl, refl);
               down = (refl, refl);
-              held = λ t it. (kept_state end (image_of g files) t copied.was_open it.0.0 copied.seen.both, it.1);
+              held = λ t it. (kept_state end (image_of g files) t copied.was_open it.0.0 (copied.each (image_of g files) (stays files.log, stays files.db)), it.1);
               only = λ _. only_it over.first over.adopted early s is;
               left = λ a t it there.
-                  let had = kept_state end there.0 a copied.was_open it.0.0 (copied.left there.0 there.1).both in
+                  let had = kept_state end there.0 a copied.was_open it.0.0 (copied.each there.0 there.1) in
                   inr (one_state_of one (file_state there.2.conn).committed t a there.2.state (finds_state there.0 a there.2.conn had there.2.opened there.2.found));
               tied = λ _. over.adopted.ties early;
-              ties = λ a it _ image may. ∣ (a, kept_state end image a copied.was_open it.0.0 (copied.left image may).both) ∣₁;
+              ties = λ a it _ image may. ∣ (a, kept_state end image a copied.was_open it.0.0 (copied.each image may)) ∣₁;
             } in
             ends (volumes config) first_model last_model _ _ s carries over.run.serves.0 _ held holds served.end (over.run.serves.2 late s (holds_it over.first over.adopted early s is)),
       )
@@ -195,7 +214,10 @@ module _ {D : Type 0} (g : Ghosts D) where
       serves_then Clean Leaves sure leaves = record {
         read = over.run.serves.0;
         consumed = over.run.serves.1;
-        new = λ clean. let late : (model_of over.last).doubt ≡ 0 = sure clean in says_new (omega (arith, over.adopted.clean, over.run.clean, late));
+        new = λ clean.
+            let late : (model_of over.last).doubt ≡ 0 = sure clean in
+            let early : (model_of over.first).doubt ≡ 0 = omega (arith, over.run.clean, late) in
+            (says_new (omega (arith, over.adopted.clean, early)), was_taken over.first over.adopted early);
         ended = λ clean s has.
             let late : (model_of over.last).doubt ≡ 0 = sure clean in
             let early : (model_of over.first).doubt ≡ 0 = omega (arith, over.run.clean, late) in
@@ -221,16 +243,16 @@ module _ {D : Type 0} (g : Ghosts D) where
       }
 
       -- each outcome of a crash of the closed files has the State after the run
-      closed_after : (files : Files D) → (AreClean g files.log files.db → IsCopied back files) → ServesThen config was unread left held holds served (AreClean g files.log files.db) (LeavesAfter g config files)
+      closed_after : (files : Files D) → (AreClean g files.log files.db → HoldsCommit g back files) → ServesThen config was unread left held holds served (AreClean g files.log files.db) (LeavesAfter g config files)
       closed_after files copy = serves_then (AreClean g files.log files.db) (LeavesAfter g config files) (λ clean. (copied clean).was_clean) (λ clean s events run only tied invariant image may.
           ∣ (
             state_after (volumes config) s events,
-            kept_state end image (state_after (volumes config) s events) (copied clean).was_open run.held.0.0 ((copied clean).left image may).both,
+            kept_state end image (state_after (volumes config) s events) (copied clean).was_open run.held.0.0 ((copied clean).each image may),
             record { is = inl refl; invariant = run.held.1 },
           ) ∣₁)
         where
-          copied : AreClean g files.log files.db → IsCopied end files
-          copied clean = subst (λ (h : Held (FileStore D g)). IsCopied h files) over.back_is (copy clean)
+          copied : AreClean g files.log files.db → HoldsCommit g end files
+          copied clean = subst (λ (h : Held (FileStore D g)). HoldsCommit g h files) over.back_is (copy clean)
 
       pub finished_after : (outcome : Closed D) → IsFinished g served back outcome → ServesThen config was unread left held holds outcome.served (AreClean g outcome.files.log outcome.files.db) (LeavesAfter g config outcome.files)
       finished_after outcome it =
@@ -249,18 +271,9 @@ module _ {D : Type 0} (g : Ghosts D) where
       left_after files there =
           let it : IsLeft g end files = subst (λ (h : Held (FileStore D g)). IsLeft g h files) over.back_is there in
           serves_then (AreClean g files.log files.db) (LeavesAfter g config files) it.clean (λ clean s events run only tied invariant image may.
-          ∥∥₁_map (it.each clean image may) (λ found.
+          ∥∥₁_map (each_left g end files it clean image may) (λ found.
           let rows = run.ties tied (it.clean clean) found.0 found.1 in
           (rows.0, record { db = found.0; holds = ∣ found.2 ∣₁; state = inl (inr rows.1) }, after s events run only invariant rows.0 (found.0, found.1, rows.1))))
-
-      unclosed : (store : FileStore D g) → IsClosed back store → ServesThen config was unread left held holds served (IsClean (view store)) (ReadsAfter config store)
-      unclosed store there =
-          let it : IsClosed end store = subst (λ (h : Held (FileStore D g)). IsClosed h store) over.back_is there in
-          let sure : IsClean (view store) → HasCleanDisk (file_state end) = λ clean. omega (arith, it.quiet.clean) in
-          serves_then (IsClean (view store)) (ReadsAfter config store) sure (λ clean s events run only tied invariant db may.
-          let before = it.quiet.outcomes db may in
-          let rows = run.ties tied (sure clean) db before in
-          (rows.0, rows.1, after s events run only invariant rows.0 (db, before, rows.1)))
 
       pub unfinished : (e : NotServed D g) → IsUnfinished g served back e → IsNotServed g config was unread left held holds (λ _ _. ⊥) e
       unfinished (NotOpened error rest) h = absurd h
@@ -268,7 +281,7 @@ module _ {D : Type 0} (g : Ghosts D) where
       unfinished (NotAdopted fault now) h = absurd h
       unfinished (NotCopied fault now) h = absurd h
       unfinished (Left outcome now) h = (subst HasRefused (sym h.0) h.2, subst (λ o. ServesThen config was unread left held holds o (AreClean g now.log now.db) (LeavesAfter g config now)) (sym h.0) (left_after now h.1))
-      unfinished (NotClosed outcome error store) h = ((h.2, h.3), subst (λ o. ServesThen config was unread left held holds o (IsClean (view store)) (ReadsAfter config store)) (sym h.0) (unclosed store h.1))
+      unfinished (NotClosed outcome error now) h = ((h.1.1, h.1.2), subst (λ o. ServesThen config was unread left held holds o (AreClean g now.log now.db) (LeavesAfter g config now)) (sym h.0) (left_after now h.1.0))
 
     -- ---- no call was served
 
@@ -277,12 +290,21 @@ module _ {D : Type 0} (g : Ghosts D) where
         let early : HasCleanDisk (file_state conn) = is.clean clean in
         let open_ = (opened early).0.is_open in
         let state = in_trees (file_state conn).committed s ((opened early).1 open_).1 (start early s has) in
-        ∥∥₁_map (is.each clean image may) (λ found.
+        ∥∥₁_map (each_left g conn now is clean image may) (λ found.
         record { db = found.0; holds = ∣ found.2 ∣₁; state = subst (λ db. IsStateIn db s) (sym (settled_at conn.store stays found.0 open_ found.1)) state })
+
+    keeps_blank_database : (now : Files D) → IsLeft g conn now → KeepsDatabase g was now
+    keeps_blank_database now is clean db held sound image may =
+        let early : HasCleanDisk (file_state conn) = is.clean clean in
+        let trees = found_trees early db held in
+        ∥∥₁_map (each_left g conn now is clean image may) (λ left.
+        inl (subst (HoldsDatabase image) (settled_at conn.store stays left.0 (opened early).0.is_open left.1 ∙ trees) (database_of image left.0 left.2)))
 
     has_none : (back : Held (FileStore D g)) (now : Files D) → back ≡ conn → conn.schema ≡ no_schema → IsLeft g back now → HasNone g was now
     has_none back now same blank is = record {
       state = keeps_blank now at;
+      database = keeps_blank_database now at;
+      none = λ clean db held sound. sym (conn_schema (at.clean clean) db held sound) ∙ blank;
       first = λ clean s has.
           let early = at.clean clean in
           elim (start early s has) [
@@ -301,7 +323,7 @@ module _ {D : Type 0} (g : Ghosts D) where
         let state = start early s has in
         let open_ = (opened early).0.is_open in
         let sound = ((opened early).1 open_).1 in
-        ∥∥₁_map (is.each clean image may) (λ found.
+        ∥∥₁_map (each_left g back now is clean image may) (λ found.
         let at : IsStateIn found.0 s = elim (it.crash late found.0 found.1) [
           | inl there ↦ subst (λ db. IsStateIn db s) (sym (settled_at conn.store stays found.0 open_ there)) (in_trees (file_state conn).committed s sound state)
           | inr more ↦ elim more [
@@ -319,10 +341,10 @@ module _ {D : Type 0} (g : Ghosts D) where
         let late : HasCleanDisk (file_state back) = is.clean clean in
         let early : HasCleanDisk (file_state conn) = omega (arith, it.clean, late) in
         let committed = (file_state conn).committed in
-        let trees : committed.trees ≡ db.trees = ∥∥₁_elim held (Trees-set _ _) (λ holds. (found early).holds db.trees holds) in
+        let trees = found_trees early db held in
         let open_ = (opened early).0.is_open in
-        ∥∥₁_map (is.each clean image may) (λ left. elim (it.crash late left.0 left.1) [
-          | inl there ↦ inl (subst (HoldsDatabase image) (settled_at conn.store stays left.0 open_ there ∙ trees) left.2)
+        ∥∥₁_map (each_left g back now is clean image may) (λ left. elim (it.crash late left.0 left.1) [
+          | inl there ↦ inl (subst (HoldsDatabase image) (settled_at conn.store stays left.0 open_ there ∙ trees) (database_of image left.0 left.2))
           | inr more ↦ elim more [
             | inl made ↦ inr (
               first_state 1,
@@ -359,10 +381,8 @@ module _ {D : Type 0} (g : Ghosts D) where
           let early : HasCleanDisk (file_state conn) = omega (arith, it.clean, late) in
           elim (cases_Bool (file_state back).is_open) [
             | inl on ↦
-                let committed = (file_state conn).committed in
-                let trees : committed.trees ≡ db.trees = ∥∥₁_elim held (Trees-set _ _) (λ holds. (found early).holds db.trees holds) in
-                let schemas : committed.schema ≡ db.schema = one_schema committed.schema db.schema db.trees (subst (IsSound committed.schema) trees ((opened early).1 (opened early).0.is_open).1) sound in
-                inl (subst₂ (λ (q : Schema) (t : Trees). IsFaultOf config (record { schema = q; trees = t }) fault) schemas trees (it.first late on known))
+                let schemas = found_schema early db held sound in
+                inl (subst₂ (λ (q : Schema) (t : Trees). IsFaultOf config (record { schema = q; trees = t }) fault) schemas (found_trees early db held) (it.first late on known))
             | inr off ↦ inr (it.shut late off known).0
           ];
     }
@@ -372,10 +392,17 @@ module _ {D : Type 0} (g : Ghosts D) where
         let it : IsLeft g (connection_of over_files read.last) now = subst (λ (h : Held (FileStore D g)). IsLeft g h now) read.back_is there in
         let late : (model_of read.last).doubt ≡ 0 = it.clean clean in
         let early : (model_of read.first).doubt ≡ 0 = omega (arith, read.quiet.clean, late) in
-        ∥∥₁_map (it.each clean image may) (λ found.
+        ∥∥₁_map (each_left g (connection_of over_files read.last) now it clean image may) (λ found.
         let rows = read.quiet.ties late (read.adopted.ties early) late found.0 found.1 in
         let same = only_it read.first read.adopted early s (start (omega (arith, read.adopted.clean, early)) s has) rows.0 (read.quiet.crash late rows.0 (found.0, found.1, rows.1)) in
         record { db = found.0; holds = ∣ found.2 ∣₁; state = inl (inr (subst (λ t. IsRows t found.0) same rows.1)) })
+
+    taken_read : (back : Held (FileStore D g)) (now : Files D) → IsRead over_files config conn back → IsLeft g back now → AreClean g now.log now.db → WasTaken config was
+    taken_read back now read there clean =
+        let it : IsLeft g (connection_of over_files read.last) now = subst (λ (h : Held (FileStore D g)). IsLeft g h now) read.back_is there in
+        let late : (model_of read.last).doubt ≡ 0 = it.clean clean in
+        let early : (model_of read.first).doubt ≡ 0 = omega (arith, read.quiet.clean, late) in
+        was_taken read.first read.adopted early
 
     pub given_up : (is_existing : Bool) (unread left held holds : Option (List ℕ)) (unserved : Unserved (FileStore D g)) (e : NotServed D g) → GivesUp g unserved e
         → IsUnserved over_files config conn is_existing unserved → (left ≡ unread) × (holds ≡ held) → IsNotServed g config was unread left held holds (λ _ _. ⊥) e
@@ -384,19 +411,19 @@ module _ {D : Type 0} (g : Ghosts D) where
     given_up is_existing unread left held holds (under.Blank back) (NotAdopted cause now) h u same = absurd h
     given_up is_existing unread left held holds (under.Blank back) (NotCopied cause now) h u same = absurd h
     given_up is_existing unread left held holds (under.Blank back) (Left outcome now) h u same = absurd h
-    given_up is_existing unread left held holds (under.Blank back) (NotClosed outcome error store) h u same = absurd h
+    given_up is_existing unread left held holds (under.Blank back) (NotClosed outcome error now) h u same = absurd h
     given_up is_existing unread left held holds (under.NotAdopted fault back) (Blank now) h u same = absurd h
     given_up is_existing unread left held holds (under.NotCopied fault back) (Blank now) h u same = absurd h
     given_up is_existing unread left held holds (under.NotAdopted fault back) (NotAdopted cause now) h u same = (same, refuses cause back now (subst (λ f. IsUnadopted over_files config conn f back) (sym h.0) u) h.1)
-    given_up is_existing unread left held holds (under.NotCopied fault back) (NotCopied cause now) h u same = (same, keeps_read back now u.0 h.1, subst (λ f. f ≡ Refused) (sym h.0) u.1)
+    given_up is_existing unread left held holds (under.NotCopied fault back) (NotCopied cause now) h u same = (same, keeps_read back now u.0 h.1, subst (λ f. f ≡ Refused) (sym h.0) u.1, taken_read back now u.0 h.1)
     given_up is_existing unread left held holds (under.NotAdopted fault back) (NotOpened error rest) h u same = absurd h
     given_up is_existing unread left held holds (under.NotAdopted fault back) (NotCopied cause now) h u same = absurd h
     given_up is_existing unread left held holds (under.NotAdopted fault back) (Left outcome now) h u same = absurd h
-    given_up is_existing unread left held holds (under.NotAdopted fault back) (NotClosed outcome error store) h u same = absurd h
+    given_up is_existing unread left held holds (under.NotAdopted fault back) (NotClosed outcome error now) h u same = absurd h
     given_up is_existing unread left held holds (under.NotCopied fault back) (NotOpened error rest) h u same = absurd h
     given_up is_existing unread left held holds (under.NotCopied fault back) (NotAdopted cause now) h u same = absurd h
     given_up is_existing unread left held holds (under.NotCopied fault back) (Left outcome now) h u same = absurd h
-    given_up is_existing unread left held holds (under.NotCopied fault back) (NotClosed outcome error store) h u same = absurd h
+    given_up is_existing unread left held holds (under.NotCopied fault back) (NotClosed outcome error now) h u same = absurd h
 
 module _ {D : Type 0} (g : Ghosts D) (P : Served → Type 0) where
   -- what is so of a run is so of it after the files were closed or given up
@@ -407,7 +434,7 @@ module _ {D : Type 0} (g : Ghosts D) (P : Served → Type 0) where
   all_served served conn so (Err (NotAdopted fault now)) none h = absurd h
   all_served served conn so (Err (NotCopied fault now)) none h = absurd h
   all_served served conn so (Err (Left outcome now)) none h = subst P (sym h.0) so
-  all_served served conn so (Err (NotClosed outcome error store)) none h = subst P (sym h.0) so
+  all_served served conn so (Err (NotClosed outcome error now)) none h = subst P (sym h.0) so
 
   -- there was no run
   pub none_served : (unserved : Unserved (FileStore D g)) (e : NotServed D g) → GivesUp g unserved e → AllServed g P (Err e)
@@ -416,11 +443,11 @@ module _ {D : Type 0} (g : Ghosts D) (P : Served → Type 0) where
   none_served unserved (NotAdopted fault now) h = tt
   none_served unserved (NotCopied fault now) h = tt
   none_served (under.Blank back) (Left outcome now) h = absurd h
-  none_served (under.Blank back) (NotClosed outcome error store) h = absurd h
+  none_served (under.Blank back) (NotClosed outcome error now) h = absurd h
   none_served (under.NotAdopted fault back) (Left outcome now) h = absurd h
   none_served (under.NotCopied fault back) (Left outcome now) h = absurd h
-  none_served (under.NotAdopted fault back) (NotClosed outcome error store) h = absurd h
-  none_served (under.NotCopied fault back) (NotClosed outcome error store) h = absurd h
+  none_served (under.NotAdopted fault back) (NotClosed outcome error now) h = absurd h
+  none_served (under.NotCopied fault back) (NotClosed outcome error now) h = absurd h
 
 module _ {D : Type 0} (g : Ghosts D) (is_existing : Bool) where
   -- new tables were made only where none had to exist
@@ -432,7 +459,7 @@ module _ {D : Type 0} (g : Ghosts D) (is_existing : Bool) where
   asked served conn so (Err (NotAdopted fault now)) none h = absurd h
   asked served conn so (Err (NotCopied fault now)) none h = absurd h
   asked served conn so (Err (Left outcome now)) none h = λ e. ap (λ (s : Served). s.is_new) h.0 ∙ so e
-  asked served conn so (Err (NotClosed outcome error store)) none h = λ e. ap (λ (s : Served). s.is_new) h.0 ∙ so e
+  asked served conn so (Err (NotClosed outcome error now)) none h = λ e. ap (λ (s : Served). s.is_new) h.0 ∙ so e
 
   -- there was no run
   pub unasked : (config : Config) (conn : Held (FileStore D g)) (unserved : Unserved (FileStore D g)) (e : NotServed D g) → GivesUp g unserved e → IsUnserved over_files config conn is_existing unserved
@@ -446,9 +473,9 @@ module _ {D : Type 0} (g : Ghosts D) (is_existing : Bool) where
   unasked config conn (under.Blank back) (Left outcome now) h u = absurd h
   unasked config conn (under.NotAdopted fault back) (Left outcome now) h u = absurd h
   unasked config conn (under.NotCopied fault back) (Left outcome now) h u = absurd h
-  unasked config conn (under.Blank back) (NotClosed outcome error store) h u = absurd h
-  unasked config conn (under.NotAdopted fault back) (NotClosed outcome error store) h u = absurd h
-  unasked config conn (under.NotCopied fault back) (NotClosed outcome error store) h u = absurd h
+  unasked config conn (under.Blank back) (NotClosed outcome error now) h u = absurd h
+  unasked config conn (under.NotAdopted fault back) (NotClosed outcome error now) h u = absurd h
+  unasked config conn (under.NotCopied fault back) (NotClosed outcome error now) h u = absurd h
 
 module _ {D : Type 0} (g : Ghosts D) (config : Config) (was : Image) (unread left held holds : Option (List ℕ)) (None : Error → Leftover D g → Type 0) where
   -- what is said where the files are open is said where they are opened first
@@ -458,7 +485,7 @@ module _ {D : Type 0} (g : Ghosts D) (config : Config) (was : Image) (unread lef
   not_opened_too (NotAdopted fault now) h = h
   not_opened_too (NotCopied fault now) h = h
   not_opened_too (Left served now) h = h
-  not_opened_too (NotClosed served error store) h = h
+  not_opened_too (NotClosed served error now) h = h
 
 -- files that have a State are adopted as it
 pub found_again : {D : Type 0} (g : Ghosts D) (config : Config) → OneState → AreFoundAgain g config

@@ -1,4 +1,5 @@
 mod CleanLemmas
+mod CopyLemmas
 mod FilesLemmas
 mod FirstLemmas
 mod LeaveLemmas
@@ -11,3 +12,4 @@ mod ResultLemmas
 mod RunLemmas
 mod StartingLemmas
 mod ThroughLemmas
+mod UnopenedLemmas

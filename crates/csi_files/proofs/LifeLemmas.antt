@@ -1,10 +1,20 @@
 -- Runs over files, in order, are sessions of calls.
-use Rattle.std.proofs.Common.{◌≡◌, List, [], ◌∷◌, ◌++◌, Option, ℕ, map, inl, inr, refl, sym, subst, subst₂}
+use Rattle.std.proofs.Common.{◌≡◌, List, [], ◌∷◌, ◌++◌, Option, ℕ, Bool, true, false, map, inl, inr, refl, sym, ap₂, subst, subst₂}
 use Rattle.std.proofs.Math.Logic.{∥∥₁_elim, ∥∥₁_map, ∥∥₁_prop}
 use Rattle.sqlite_disk.specs.declared.Disk.{Ghosts}
 use Rattle.sqlite_disk.specs.declared.Files.{Files}
-use Rattle.sqlite_wal.specs.Files.{outcomes}
+use Rattle.sqlite_disk.specs.Events.{Event as CallEvent, replay, settled}
+use Rattle.sqlite_disk.specs.History.{MayLeave, Reaches}
+use Rattle.sqlite_disk.specs.Modelled.{start_of}
+use Rattle.sqlite_disk.specs.declared.modelled.Modelled.{Modelled}
+use Rattle.sqlite_disk.specs.declared.start.Start.{Ghosts as Start}
+use Rattle.sqlite_std_file.specs.File.{IsFresh}
+use Rattle.sqlite_std_file.specs.contracts.host.HostCalls.TheImpl as calls
+use Rattle.sqlite_std_file.specs.declared.host.Host.{Host}
+use Rattle.sqlite_wal.specs.Files.{image_at, outcomes}
+use Rattle.sqlite_wal.specs.Reads.{AreClean}
 use Rattle.sqlite_wal.specs.Recovery.{Image}
+use Rattle.sqlite_wal.proofs.LogLemmas.{SeenMayStay}
 use Rattle.sqlite.specs.Closing.{files_left}
 use Rattle.sqlite.specs.Files.{IsCleanLeft, image_of}
 use Rattle.sqlite.specs.declared.error.Error.{Error}
@@ -24,12 +34,16 @@ use Rattle.csi_server.specs.Tries.{Exchange, IsLifeOfCalls, events_of, heard_of,
 use Rattle.csi_server.specs.Volumes.{IsPending, volumes}
 use Rattle.csi_files.specs.Files.{HasState}
 use Rattle.csi_files.specs.Leaving.{files_of}
-use Rattle.csi_files.specs.Lives.{AreAtRest, GoesOn, IsLifeOfFiles, IsRunOver, IsUnread, LivesOnce, NumbersOnce, RunsGoOn}
-use Rattle.csi_files.specs.Serving.{IsStateAfter}
-use Rattle.csi_files.specs.Starting.{EndsClean, IsLeftUnmade, IsNotStarted, MayStart}
+use Rattle.csi_files.specs.Lives.{AreAtRest, AreRuns, ClosedGoOn, GoesOn, IsLifeOfFiles, IsRunOver, IsUnread, LivesOnce, NumbersOnce, PathGoesOn, RunsGoOn}
+use Rattle.csi_files.specs.Making.{IsLaidOut}
+use Rattle.csi_files.specs.Path.{over_calls}
+use Rattle.csi_files.specs.Serving.{IsNotOpened, IsStateAfter}
+use Rattle.csi_files.specs.Starting.{EndsClean, IsLeftUnmade, IsNotStarted, IsStoreless, MayStart}
 use Rattle.csi_files.specs.declared.serving.NotServed.{NotServed}
 use Rattle.csi_files.specs.declared.serving.NotServed.TheVariants.{NotOpened, Blank, NotAdopted, NotCopied, Left, NotClosed}
-use Rattle.csi_files.proofs.StartingLemmas.{no_state}
+use Rattle.csi_files.proofs.PathLemmas.{image, read_of}
+use Rattle.csi_files.proofs.StartingLemmas.{laid_out_has, no_state}
+use Rattle.csi_files.proofs.UnopenedLemmas.{kept_unopened}
 
 -- some replies that a client heard in these sessions, and the State that a run over the files starts as in
 -- the end
@@ -111,7 +125,7 @@ module _ {D : Type 0} (g : Ghosts D) (config : Config) (before : Files D) (unrea
   no_call (NotAdopted fault now) it clean none next out s may invariant = stays_as config _ next s invariant (it.why.1.state clean s ((it.shows clean).starts s may) next out)
   no_call (NotCopied fault now) it clean none next out s may invariant = stays_as config _ next s invariant (it.why.1 clean s ((it.shows clean).starts s may) next out)
   no_call (Left served now) it clean none next out s may invariant = absurd none
-  no_call (NotClosed served error store) it clean none next out s may invariant = absurd none
+  no_call (NotClosed served error now) it clean none next out s may invariant = absurd none
 
   not_made : (error : Error) (rest : Leftover D g) → AreAtRest g before → IsLeftUnmade before error rest → IsCleanLeft rest → (next : Image) → outcomes g (files_left rest).0 (files_left rest).1 next
       → IsRunOver config (image_of g before) [] next
@@ -124,15 +138,54 @@ module _ {D : Type 0} (g : Ghosts D) (config : Config) (before : Files D) (unrea
       ∥∥₁_map (it.1 clean s (λ image may. ∣ subst (λ image. MayStart image s) (sym (quiet image may)) (inr unmade) ∣₁) next out) (λ start.
       (s, record { may = start; has = λ has. absurd (no_state _ s has (inl unmade.0)) }, none_answered config s invariant))
 
-pub runs_go_on : {D : Type 0} (g : Ghosts D) (config : Config) → RunsGoOn g config
-runs_go_on g config before unread left held holds = record {
-  closed = λ closed it clean session is next out s may invariant.
-      let run = it.ended clean s (inl may) in
-      goes_on config _ next s _ (subst (λ (events : List Event). ∥ ((t : State) × HasState next t × IsStateAfter config s events t) ∥₁) (sym (is s (inl may))) (run.2 next out));
+  not_opened : SeenMayStay g → (laid : Files D) → AreAtRest g before → IsLaidOut g before laid → AreClean g laid.log laid.db → (error : Error) (rest : Leftover D g) → IsNotOpened g laid error rest → IsCleanLeft rest
+      → IsStoreless rest → (next : Image) → outcomes g (files_left rest).0 (files_left rest).1 next → IsRunOver config (image_of g before) [] next
+  not_opened stays laid quiet is sure error rest it clean none next out s may invariant =
+      stays_as config _ next s invariant (kept_unopened g stays laid s (λ image there. ∣ laid_out_has g before laid is sure quiet s may image there ∣₁) rest clean none (it clean).1 next out)
+
+closed_go_on : {D : Type 0} (g : Ghosts D) (config : Config) → ClosedGoOn g config
+closed_go_on g config was unread left held holds closed it clean session is next out s may invariant =
+    let run = it.ended clean s (inl may) in
+    goes_on config was next s _ (subst (λ (events : List Event). ∥ ((t : State) × HasState next t × IsStateAfter config s events t) ∥₁) (sym (is s (inl may))) (run.2 next out))
+
+are_runs : {D : Type 0} (g : Ghosts D) → SeenMayStay g → (config : Config) (before : Files D) (unread left held holds : Option (List ℕ)) → AreRuns g config before unread left held holds
+are_runs g stays config before unread left held holds = record {
   refused = λ served now it clean session is next out s may invariant.
+      let start = inl ((it.shows clean).starts s may) in
+      let run = it.why.1.ended clean s start in
+      goes_on config _ next s _ (subst (λ (events : List Event). ∥ ((t : State) × HasState next t × IsStateAfter config s events t) ∥₁) (sym (is s start)) (run.2 next out));
+  unclosed = λ served error now it clean session is next out s may invariant.
       let start = inl ((it.shows clean).starts s may) in
       let run = it.why.1.ended clean s start in
       goes_on config _ next s _ (subst (λ (events : List Event). ∥ ((t : State) × HasState next t × IsStateAfter config s events t) ∥₁) (sym (is s start)) (run.2 next out));
   unserved = no_call g config before unread left held holds;
   unmade = not_made g config before unread left held holds;
+  unopened = not_opened g config before unread left held holds stays;
 }
+
+pub runs_go_on : {D : Type 0} (g : Ghosts D) → SeenMayStay g → (config : Config) → RunsGoOn g config
+runs_go_on g stays config = (closed_go_on g config, are_runs g stays config)
+
+-- ---- files at a path
+
+-- a file of which nothing was asked yet
+settled_only : (start : List ℕ) (mixes : Bool) (key : ℕ) (history : List CallEvent) (c : List ℕ) → history ≡ settled key ∷ []
+    → MayLeave mixes (replay start history).seen (replay start history).synced (replay start history).steps c → c ≡ (replay start history).seen
+settled_only start mixes key history c is (inl same) = same
+settled_only start mixes key history c is (inr reached) = subst (λ (h : List CallEvent). Reaches mixes (replay start h).synced (replay start h).steps c → c ≡ (replay start h).seen) (sym is) (λ r. r) reached
+
+module _ {S : Type 0} (first : Start S) where
+  abbrev File : Type 0
+  File = Modelled Host S calls.ghosts first
+
+  fresh_at : (files : Files File) → IsFresh true files.log → IsFresh false files.db → image_of over_calls files ≡ image_at first
+  fresh_at files log db = ap₂ image (ap₂ (read_of first.log first.db) log.0 log.1) (ap₂ (read_of first.log first.db) db.0 db.1)
+
+  only_given : (is_log : Bool) (file : File) → IsFresh is_log file → (c : List ℕ) → over_calls.may_leave file c → c ≡ over_calls.seen file
+  only_given is_log file fresh c may = settled_only (start_of first file) first.is_mixing file.key file.calls.log.events c fresh.1 may
+
+  pub path_goes_on : (config : Config) → PathGoesOn first config
+  path_goes_on config = (
+    runs_go_on over_calls (λ file. inl refl) config,
+    λ files log db. (fresh_at files log db, λ next may. ap₂ image (only_given true files.log log next.log may.0) (only_given false files.db db next.db may.1)),
+  )

@@ -13,7 +13,6 @@ use Rattle.sqlite_pool.specs.File.{in_use}
 use Rattle.sqlite_pool.specs.Stored.{Adopts, reserved, stored_size}
 use Rattle.sqlite_pool.specs.StoredLaws.{trimmed_whole}
 use Rattle.sqlite_pool.proofs.ProbeLemmas.{not_blank, size_by_file}
-use Rattle.sqlite_pool.proofs.ResealLemmas.{adopts_of}
 use Rattle.sqlite_store.specs.Listed.{catalog_rows}
 use Rattle.sqlite_store.specs.Listing.{IsOurs, file_trees}
 use Rattle.sqlite_store.specs.Opening.{IsEmptyFile}
@@ -24,6 +23,7 @@ use Rattle.sqlite_value.specs.Order.{Row}
 use Rattle.sqlite_catalog.specs.Listing.{IsSound, Lists}
 use Rattle.sqlite.specs.Files.{HoldsDatabase}
 use Rattle.csi_sql.specs.Tables.{no_schema}
+use Rattle.csi_files.specs.Files.{HoldsSealed}
 use Rattle.csi_files.specs.Making.{IsMade, IsTorn, IsUnmade}
 
 -- no rows list no table
@@ -42,12 +42,12 @@ none_sound pages = record {
 }
 
 -- files of one page hold an empty database
-pub made_holds : (image : Image) → IsMade image → (db : Trees) × HoldsDatabase image db × IsSound no_schema db
+pub made_holds : (image : Image) → IsMade image → (db : Trees) × HoldsSealed image db × IsSound no_schema db
 made_holds image (pages, found, new) =
     let file : IsEmptyFile 1024 pages = new_is_empty 1024 pages (subst (AreWhole 1024) found.shows (trimmed_whole 1024 found.stored found.whole)) new in
     let ours : IsOurs 1024 true [] pages = record { file = file.0; numbered = λ _. record { listed = file.1; spaced = refl; ordered = refl } } in (
       trees_of pages,
-      (1024, (omega arith, omega arith, refl, refl), record { pages = pages; wanted = []; schema = no_schema; found = adopts_of 1024 image pages found; ours = ours; reads = refl; sound = none_sound pages }),
+      (1024, (omega arith, omega arith, refl, refl), record { pages = pages; wanted = []; schema = no_schema; found = found; ours = ours; reads = refl; sound = none_sound pages }),
       none_sound pages,
     )
 

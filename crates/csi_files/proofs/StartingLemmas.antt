@@ -1,8 +1,9 @@
 -- Files in which a database is made start as the first State.
 use Rattle.std.proofs.Common.{◌⊎◌, ◌≡◌, ℕ, List, Option, IsTrue, inl, inr, refl, sym, subst}
-use Rattle.std.proofs.Math.Logic.{∥∥₁_elim}
+use Rattle.std.proofs.Math.Logic.{∥∥₁_elim, ∥∥₁_map}
 use Rattle.sqlite_disk.specs.declared.Disk.{Ghosts}
 use Rattle.sqlite_disk.specs.declared.Files.{Files}
+use Rattle.sqlite_wal.specs.Files.{outcomes}
 use Rattle.sqlite_wal.specs.Reads.{AreClean, are_clean}
 use Rattle.sqlite_wal.specs.Recovery.{Image}
 use Rattle.sqlite_wal.proofs.LogLemmas.{SeenMayStay}
@@ -17,10 +18,11 @@ use Rattle.csi_server.specs.Serving.{Serves}
 use Rattle.csi_server.specs.Volumes.{seen, volumes}
 use Rattle.csi_files.specs.Files.{HasState, files_model, image_model}
 use Rattle.csi_files.specs.Making.{IsLaidOut, IsMade, IsNotLaidOut, IsToMake}
-use Rattle.csi_files.specs.Serving.{SaysNew, ServesThen}
+use Rattle.csi_files.specs.Serving.{SaysNew, ServesThen, WasTaken}
 use Rattle.csi_files.specs.Starting.{KeepsStart, MayStart, SaysStart, ShowsLaidOut, StartsAs, StartsThen, start_model}
 use Rattle.csi_files.specs.declared.over.Served.{Served}
 use Rattle.csi_files.specs.declared.serving.Closed.{Closed}
+use Rattle.csi_files.proofs.LeaveLemmas.{database_of}
 use Rattle.csi_files.proofs.MakingLemmas.{not_torn}
 use Rattle.csi_files.proofs.PageLemmas.{made_holds, torn_holds_none, unmade_holds_none}
 use Rattle.csi_files.proofs.RunLemmas.{Carries, ends}
@@ -32,20 +34,27 @@ no_database : (image : Image) (db : Trees) → ∥ HoldsDatabase image db ∥₁
 no_database image db holds wanted = ∥∥₁_elim holds (λ x y. absurd x) (λ held. elim wanted [ inl unmade ↦ unmade_holds_none image db unmade held | inr torn ↦ torn_holds_none image db torn held ])
 
 pub no_state : (image : Image) (s : State) → HasState image s → ¬ IsToMake image
-no_state image s has = no_database image has.db has.holds
+no_state image s has = no_database image has.db (∥∥₁_map has.holds (database_of image has.db))
 
 -- a run over the files in which a database was made says whether one was, and whether the one that they had
 -- was without tables
-says_start : (before after : Image) (served : Served) → ShowsLaidOut before after → SaysNew after served → SaysStart before served
-says_start before after served shows says = record {
+says_start : (config : Config) (before after : Image) (served : Served) → ShowsLaidOut before after → SaysNew after served → WasTaken config after → SaysStart config before served
+says_start config before after served shows says taken = record {
+  taken = λ db held sound. taken db (subst (λ (i : Image). ∥ HoldsDatabase i db.trees ∥₁) (sym (shows.kept (no_database before db.trees held))) held) sound;
   had = λ db held sound. says db (subst (λ (i : Image). ∥ HoldsDatabase i db.trees ∥₁) (sym (shows.kept (no_database before db.trees held))) held) sound;
-  made = λ wanted. let it = made_holds after (shows.made wanted) in (says (record { schema = no_schema; trees = it.0 }) ∣ it.1 ∣₁ it.2).1 refl;
+  made = λ wanted. let it = made_holds after (shows.made wanted) in (says (record { schema = no_schema; trees = it.0 }) ∣ database_of after it.0 it.1 ∣₁ it.2).1 refl;
 }
 
 module _ {D : Type 0} (g : Ghosts D) (before after : Files D) where
   pub starts_as : IsLaidOut g before after → StartsAs g before after
   starts_as it clean s (inl has) = subst (λ (i : Image). HasState i s) (sym (it.kept clean (no_state _ s has)).seen) has
   starts_as it clean s (inr unmade) = made_state _ s (it.shown clean (inl unmade.0)) unmade.1
+
+  -- each outcome of a crash has it, if they were at rest
+  pub laid_out_has : IsLaidOut g before after → AreClean g after.log after.db → ((image : Image) → outcomes g before.log before.db image → image ≡ image_of g before)
+      → (s : State) → MayStart (image_of g before) s → (image : Image) → outcomes g after.log after.db image → HasState image s
+  laid_out_has it clean quiet s (inl has) image may = subst (λ (i : Image). HasState i s) (sym (quiet image ((it.kept clean (no_state _ s has)).crash image may))) has
+  laid_out_has it clean quiet s (inr unmade) image may = made_state image s (it.made clean (inl unmade.0) image may) unmade.1
 
   pub shows_laid_out : IsLaidOut g before after → AreClean g after.log after.db → ShowsLaidOut (image_of g before) (image_of g after)
   shows_laid_out it clean = record { made = it.shown clean; kept = λ none. (it.kept clean none).seen; starts = starts_as it clean }
@@ -97,7 +106,7 @@ pub started_then : (config : Config) (before after : Image) (unread left held ho
 started_then config before after unread left held holds served Clean Leaves shows it = record {
   read = it.read;
   consumed = it.consumed;
-  new = λ clean. says_start before after served (shows clean) (it.new clean);
+  new = λ clean. says_start config before after served (shows clean) (it.new clean).0 (it.new clean).1;
   ended = λ clean s may. it.ended clean s (elim may as (λ _. HasState after s ⊎ (IsTrue served.is_new × (s ≡ first_state 1))) [
     | inl start ↦ inl ((shows clean).starts s start)
     | inr new ↦ inr new

@@ -1,16 +1,19 @@
 -- What a database file and its WAL hold of volumes.
-use Rattle.std.specs.Prelude.{◌≡◌, ◌⊎◌, ℕ, Bool, false, IsTrue, ⊤}
+use Rattle.std.specs.Prelude.{◌≡◌, ◌⊎◌, ℕ, Bool, false, [], IsTrue, ⊤}
 use Rattle.sqlite_disk.specs.declared.Disk as disk
 use Rattle.sqlite_disk.specs.declared.Files.{Files}
 use Rattle.sqlite_wal.specs.Files.{outcomes}
-use Rattle.sqlite_wal.specs.Reads.{are_clean}
+use Rattle.sqlite_wal.specs.PageSize.{IsPageSize}
+use Rattle.sqlite_wal.specs.Reads.{AreClean, are_clean}
 use Rattle.sqlite_wal.specs.Recovery.{Image}
+use Rattle.sqlite_pool.specs.Stored.{stored_size}
 use Rattle.sqlite_trees.specs.Tree.{Trees}
 use Rattle.sqlite_trees.specs.View.{doubt}
 use Rattle.sqlite_catalog.specs.Listing.{IsSound}
 use Rattle.sqlite_store.specs.declared.store.FileStore.{FileStore}
-use Rattle.sqlite.specs.Files.{HoldsDatabase, IsOpened, file_state, image_of}
+use Rattle.sqlite.specs.Files.{IsOpened, file_state, image_of}
 use Rattle.sqlite.specs.Held.{Held}
+use Rattle.sqlite.specs.Opening.{HoldsAt}
 use Rattle.sqlite.specs.Start.{FindsIn}
 use Rattle.csi_keeper.specs.Model.{Model}
 use Rattle.csi_keeper.specs.State.{State, first_state}
@@ -22,11 +25,16 @@ use Rattle.csi_adoption.specs.Adopting.{IsStateOf}
 abbrev pub IsStateIn : Trees → State → Type 0
 IsStateIn db s = IsEitherRows s db ⊎ (IsSound no_schema db × (s ≡ first_state 1))
 
+-- Two files hold a database with these trees. If its pages end in sums, those in the WAL do too, as each run
+-- leaves them.
+abbrev pub HoldsSealed : Image → Trees → Type 0
+HoldsSealed image db = (size : ℕ) × IsPageSize (stored_size size) × HoldsAt size image db
+
 -- The contents of two files are a database of the State. Such files are not opened only for want of memory,
 -- for a failure of the disk or for a limit.
 pub record HasState (image : Image) (s : State) : Type 0 where
   pub db : Trees
-  pub holds : ∥ HoldsDatabase image db ∥₁
+  pub holds : ∥ HoldsSealed image db ∥₁
   pub state : IsStateIn db s
 
 -- What contracts see of two files by their contents, from which calls are served. Where no table was found in
@@ -41,7 +49,15 @@ image_model image is_new = record {
   is_down = false;
 }
 
+-- the database file without its WAL
+abbrev pub alone : Image → Image
+alone image = record image { log = [] }
+
 module _ {D : Type 0} (g : disk.Ghosts D) where
+  -- without its WAL the database file has the State that both files have
+  abbrev pub HasAlone : Files D → Type 0
+  HasAlone files = AreClean g files.log files.db → (s : State) → HasState (image_of g files) s → HasState (alone (image_of g files)) s
+
   -- an opening of files with these contents, over a disk that returns what they hold, may find a database of
   -- the State
   pub record MayFind (image : Image) (s : State) : Type 0 where

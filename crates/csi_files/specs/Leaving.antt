@@ -1,18 +1,22 @@
 -- What becomes of the files of a connection that is closed, or given up.
-use Rattle.std.specs.Prelude.{◌≡◌, ◌⊎◌, ◌<◌, IsTrue}
+use Rattle.std.specs.Prelude.{◌≡◌, ◌⊎◌, ℕ, ◌<◌, IsTrue}
 use Rattle.sqlite_disk.specs.declared.Disk as disk
 use Rattle.sqlite_disk.specs.declared.Files.{Files}
 use Rattle.sqlite_wal.specs.Files.{outcomes}
+use Rattle.sqlite_wal.specs.PageSize.{IsPageSize}
 use Rattle.sqlite_wal.specs.Reads.{AreClean}
-use Rattle.sqlite_wal.specs.Recovery.{Image}
+use Rattle.sqlite_wal.specs.Recovery.{Image, IsIgnored}
+use Rattle.sqlite_pool.specs.Stored.{stored_size}
 use Rattle.sqlite_trees.specs.Tree.{Trees}
 use Rattle.sqlite_trees.specs.declared.error.StoreError.{StoreError}
-use Rattle.sqlite_store.specs.FileStore.{files}
 use Rattle.sqlite_store.specs.declared.store.FileStore.{FileStore}
-use Rattle.sqlite.specs.Closing.{IsCopied, files_left}
-use Rattle.sqlite.specs.Files.{HoldsDatabase, IsClosed, file_state}
+use Rattle.sqlite.specs.Closing.{files_left}
+use Rattle.sqlite.specs.Files.{file_state}
 use Rattle.sqlite.specs.Held.{Held}
+use Rattle.sqlite.specs.Opening.{HoldsAt}
 use Rattle.sqlite.specs.State.{HasCleanDisk, store_error}
+use Rattle.sqlite.specs.declared.error.Error.{Error}
+use Rattle.csi_files.specs.Files.{HoldsSealed}
 use Rattle.csi_files.specs.declared.over.Served.{Served}
 use Rattle.csi_files.specs.declared.over.Unserved.{Unserved}
 use Rattle.csi_files.specs.declared.over.Unserved.TheVariants as under
@@ -28,15 +32,29 @@ module _ {D : Type 0} {g : disk.Ghosts D} where
   files_of (NotAdopted fault now) = (now.log, now.db)
   files_of (NotCopied fault now) = (now.log, now.db)
   files_of (Left served now) = (now.log, now.db)
-  files_of (NotClosed served error store) = files store
+  files_of (NotClosed served error now) = (now.log, now.db)
 
 module _ {D : Type 0} (g : disk.Ghosts D) where
-  -- Files of which each outcome of a crash, and so what they read as, is a database that the connection may
-  -- have left.
+  -- Each outcome of a crash, and so what the files read as, is a database that the connection may have left.
+  -- All of them have pages of one size.
   pub record IsLeft (conn : Held (FileStore D g)) (files : Files D) : Type 0 where
     pub clean : AreClean g files.log files.db → HasCleanDisk (file_state conn)
+    pub size : ℕ
+    pub allowed : ∥ IsPageSize (stored_size size) ∥₁
     pub each : AreClean g files.log files.db → (image : Image) → outcomes g files.log files.db image
-        → ∥ ((db : Trees) × (file_state conn).may_leave db × HoldsDatabase image db) ∥₁
+        → ∥ ((db : Trees) × (file_state conn).may_leave db × HoldsAt size image db) ∥₁
+
+  -- Each outcome of a crash, and so what the files read as, is the last commit. Recovery ignores what is left
+  -- of the WAL.
+  pub record HoldsCommit (conn : Held (FileStore D g)) (files : Files D) : Type 0 where
+    pub was_clean : HasCleanDisk (file_state conn)
+    pub was_open : IsTrue (file_state conn).is_open
+    pub each : (image : Image) → outcomes g files.log files.db image → ∥ HoldsSealed image (file_state conn).committed.trees ∥₁
+    pub ignored : IsIgnored (g.seen files.log)
+
+  -- the connection is closed, and its WAL was not copied for this error
+  abbrev pub IsUncopied : Held (FileStore D g) → Error → Files D → Type 0
+  IsUncopied conn error files = IsLeft conn files × (cause : StoreError) × (error ≡ store_error cause)
 
   -- a connection over which no call was served is given up
   abbrev pub GivesUp : Unserved (FileStore D g) → NotServed D g → Type 0
@@ -49,14 +67,14 @@ module _ {D : Type 0} (g : disk.Ghosts D) where
     -- the connection is closed
     pub record IsFinished (outcome : Closed D) : Type 0 where
       pub same : outcome.served ≡ served
-      pub copied : AreClean g outcome.files.log outcome.files.db → IsCopied conn outcome.files
+      pub copied : AreClean g outcome.files.log outcome.files.db → HoldsCommit conn outcome.files
       pub usable : IsTrue (g.is_usable outcome.files.log) × IsTrue (g.is_usable outcome.files.db)
 
-    -- it is given up, or its close failed
+    -- the connection is given up, or its WAL was not copied
     abbrev pub IsUnfinished : NotServed D g → Type 0
     IsUnfinished (NotOpened error left) = ⊥
     IsUnfinished (Blank files) = ⊥
     IsUnfinished (NotAdopted fault files) = ⊥
     IsUnfinished (NotCopied fault files) = ⊥
     IsUnfinished (Left outcome files) = (outcome ≡ served) × IsLeft conn files × (IsTrue served.is_down ⊎ (0 < served.refusals))
-    IsUnfinished (NotClosed outcome error store) = (outcome ≡ served) × IsClosed conn store × (cause : StoreError) × (error ≡ store_error cause)
+    IsUnfinished (NotClosed outcome error files) = (outcome ≡ served) × IsUncopied conn error files

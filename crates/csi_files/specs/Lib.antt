@@ -1,4 +1,5 @@
 pub mod Again
+pub mod Copying
 pub mod Files
 pub mod Leaving
 pub mod Lives

@@ -1,9 +1,14 @@
 -- Runs over two files, in order, with a stop after each.
-use Rattle.std.specs.Prelude.{◌≡◌, false, Option, List, [], ◌∷◌, map, ℕ, ⊤}
+use Rattle.std.specs.Prelude.{◌≡◌, true, false, Option, List, [], ◌∷◌, map, ℕ, ⊤}
 use Rattle.std.specs.Io.KnownBytes.{IsAtEnd}
 use Rattle.sqlite_disk.specs.declared.Disk as disk
 use Rattle.sqlite_disk.specs.declared.Files.{Files}
-use Rattle.sqlite_wal.specs.Files.{outcomes}
+use Rattle.sqlite_disk.specs.declared.modelled.Modelled.{Modelled}
+use Rattle.sqlite_disk.specs.declared.start.Start as start
+use Rattle.sqlite_std_file.specs.File.{IsFresh}
+use Rattle.sqlite_std_file.specs.contracts.host.HostCalls.TheImpl as calls
+use Rattle.sqlite_std_file.specs.declared.host.Host.{Host}
+use Rattle.sqlite_wal.specs.Files.{image_at, outcomes}
 use Rattle.sqlite_wal.specs.Reads.{AreClean}
 use Rattle.sqlite_wal.specs.Recovery.{Image}
 use Rattle.sqlite.specs.Closing.{files_left}
@@ -22,9 +27,11 @@ use Rattle.csi_server.specs.Tries.{Exchange, IsLifeOfCalls, events_of, tries_of}
 use Rattle.csi_server.specs.Volumes.{volumes}
 use Rattle.csi_files.specs.Files.{HasState}
 use Rattle.csi_files.specs.Leaving.{files_of}
-use Rattle.csi_files.specs.Serving.{IsStateAfter, LeavesAfter, RunsThen, counts_model}
+use Rattle.csi_files.specs.Making.{IsLaidOut}
+use Rattle.csi_files.specs.Path.{over_calls}
+use Rattle.csi_files.specs.Serving.{IsNotOpened, IsStateAfter, LeavesAfter, RunsThen, counts_model}
 use Rattle.csi_files.specs.Serving.{events_of as answered}
-use Rattle.csi_files.specs.Starting.{EndsClean, IsLeftUnmade, IsNotStarted, MayStart, StartsThen}
+use Rattle.csi_files.specs.Starting.{EndsClean, IsLeftUnmade, IsNotStarted, IsStoreless, MayStart, StartsThen}
 use Rattle.csi_files.specs.declared.over.Served.{Served}
 use Rattle.csi_files.specs.declared.serving.Closed.{Closed}
 use Rattle.csi_files.specs.declared.serving.NotServed.{NotServed}
@@ -65,7 +72,7 @@ NumbersOnce config =
     → IsLifeOfFiles config was sessions last
     → ∥ ((t : State) × GoesOn was last s t × NumbersRise s t) ∥₁
 
--- ---- what `serve_made` says of a run makes it a run of such a life
+-- ---- what `serve_made` and `serve_path` say of a run makes it a run of such a life
 
 module _ {config : Config} {unread left held holds : Option (List ℕ)} {Starts : State → Type 0} {served : Served} {Clean New : Type 0} {Leaves : State
     → List Event → Type 0} where
@@ -80,6 +87,14 @@ module _ {D : Type 0} (g : disk.Ghosts D) where
   abbrev pub AreAtRest : Files D → Type 0
   AreAtRest files = (image : Image) → outcomes g files.log files.db image → image ≡ image_of g files
 
+-- After a run over files with these contents has closed its files, each outcome of a crash is one that a run
+-- of a life leaves. It does not matter how the files were opened.
+abbrev pub ClosedGoOn : {D : Type 0} → disk.Ghosts D → Config → Type 0
+ClosedGoOn {D} g config = (was : Image) (unread left held holds : Option (List ℕ)) (closed : Closed D)
+    (it : StartsThen config was unread left held holds closed.served (AreClean g closed.files.log closed.files.db) (LeavesAfter g config closed.files))
+    (clean : AreClean g closed.files.log closed.files.db) (session : List Exchange) → Answers it clean session
+    → (next : Image) → outcomes g closed.files.log closed.files.db next → IsRunOver config was session next
+
 module _ {D : Type 0} {g : disk.Ghosts D} where
   -- the files were opened, and no call was read
   abbrev pub IsUnread : NotServed D g → Type 0
@@ -88,19 +103,18 @@ module _ {D : Type 0} {g : disk.Ghosts D} where
   IsUnread (NotAdopted fault now) = ⊤
   IsUnread (NotCopied fault now) = ⊤
   IsUnread (Left served now) = ⊥
-  IsUnread (NotClosed served error store) = ⊥
+  IsUnread (NotClosed served error now) = ⊥
 
 module _ {D : Type 0} (g : disk.Ghosts D) (config : Config) (before : Files D) (unread left held holds : Option (List ℕ)) where
-  -- What the clauses `after` and `not_served` of `serve_made` say, of a disk that was truthful: each
-  -- outcome of a crash is one that a run leaves. Of files that were not opened it is said where no database
-  -- was made in files that were at rest.
+  -- What the clause `not_served` of `serve_made` says, of a disk that was truthful: each outcome of a crash
+  -- is one that a run leaves. Files that were not opened must have been at rest before the run, and no store
+  -- made of them.
   pub record AreRuns : Type 0 where
-    pub closed : (closed : Closed D)
-        (it : StartsThen config (image_of g before) unread left held holds closed.served (AreClean g closed.files.log closed.files.db)
-        (LeavesAfter g config closed.files))
-        (clean : AreClean g closed.files.log closed.files.db) (session : List Exchange) → Answers it clean session
-        → (next : Image) → outcomes g closed.files.log closed.files.db next → IsRunOver config (image_of g before) session next
     pub refused : (served : Served) (now : Files D) (it : IsNotStarted g config before unread left held holds (Left served now))
+        (clean : AreClean g now.log now.db)
+        (session : List Exchange) → Answers it.why.1 clean session
+        → (next : Image) → outcomes g now.log now.db next → IsRunOver config (image_of g before) session next
+    pub unclosed : (served : Served) (error : Error) (now : Files D) (it : IsNotStarted g config before unread left held holds (NotClosed served error now))
         (clean : AreClean g now.log now.db)
         (session : List Exchange) → Answers it.why.1 clean session
         → (next : Image) → outcomes g now.log now.db next → IsRunOver config (image_of g before) session next
@@ -108,7 +122,19 @@ module _ {D : Type 0} (g : disk.Ghosts D) (config : Config) (before : Files D) (
         → (next : Image) → outcomes g (files_of e).0 (files_of e).1 next → IsRunOver config (image_of g before) [] next
     pub unmade : (error : Error) (rest : Leftover D g) → AreAtRest g before → IsLeftUnmade before error rest → IsCleanLeft rest
         → (next : Image) → outcomes g (files_left rest).0 (files_left rest).1 next → IsRunOver config (image_of g before) [] next
+    pub unopened : (laid : Files D) → AreAtRest g before → IsLaidOut g before laid → AreClean g laid.log laid.db
+        → (error : Error) (rest : Leftover D g) → IsNotOpened g laid error rest → IsCleanLeft rest → IsStoreless rest
+        → (next : Image) → outcomes g (files_left rest).0 (files_left rest).1 next → IsRunOver config (image_of g before) [] next
 
--- for whatever files and streams
+-- for any files and streams
 abbrev pub RunsGoOn : {D : Type 0} → disk.Ghosts D → Config → Type 0
-RunsGoOn {D} g config = (before : Files D) (unread left held holds : Option (List ℕ)) → AreRuns g config before unread left held holds
+RunsGoOn {D} g config =
+    ClosedGoOn g config × ((before : Files D) (unread left held holds : Option (List ℕ)) → AreRuns g config before unread left held holds)
+
+-- The same over the files at a path. As they are opened, they have the contents that `first` names, and a
+-- crash leaves these alone.
+abbrev pub PathGoesOn : {S : Type 0} → start.Ghosts S → Config → Type 0
+PathGoesOn {S} first config =
+    RunsGoOn {D = Modelled Host S calls.ghosts first} over_calls config
+    × ((files : Files (Modelled Host S calls.ghosts first)) → IsFresh true files.log → IsFresh false files.db
+    → (image_of over_calls files ≡ image_at first) × AreAtRest over_calls files)

@@ -6,10 +6,7 @@ use Rattle.sqlite_disk.specs.declared.Files.{Files}
 use Rattle.sqlite_wal.specs.Files.{outcomes}
 use Rattle.sqlite_wal.specs.Reads.{AreClean}
 use Rattle.sqlite_wal.specs.Recovery.{Image}
-use Rattle.sqlite_trees.specs.Tree.{Trees}
-use Rattle.sqlite_trees.specs.View.{IsClean}
 use Rattle.sqlite_trees.specs.declared.error.StoreError.{StoreError}
-use Rattle.sqlite_store.specs.FileStore.{recovers, view}
 use Rattle.sqlite_store.specs.declared.store.FileStore.{FileStore}
 use Rattle.sqlite.specs.Files.{FailsToOpenFiles, HoldsDatabase, IsCleanLeft, IsOpened, LeavesFiles, file_state}
 use Rattle.sqlite.specs.Held.{Held}
@@ -24,7 +21,7 @@ use Rattle.csi_keeper.specs.Model.{Model}
 use Rattle.csi_keeper.specs.State.{State, first_state}
 use Rattle.csi_keeper.specs.declared.change.StoreFault.TheVariants.{Refused}
 use Rattle.csi_sql.specs.Tables.{no_schema}
-use Rattle.csi_tables.specs.Holding.{IsRows}
+use Rattle.csi_adoption.specs.Adopting.{IsStateOf}
 use Rattle.csi_adoption.specs.Faults.{is_failure}
 use Rattle.csi_adoption.specs.declared.fault.AdoptFault.{AdoptFault}
 use Rattle.csi_adoption.specs.declared.fault.AdoptFault.TheVariants.{Foreign}
@@ -73,6 +70,10 @@ pub record IsStateAfter (config : Config) (s : State) (events : List Event) (t :
 abbrev pub SaysNew : Image → Served → Type 0
 SaysNew was served = (db : Database) → ∥ HoldsDatabase was db.trees ∥₁ → IsDatabase db → IsTrue served.is_new ↔ (db.schema ≡ no_schema)
 
+-- if the files had a database, it was one of a State that meets every constraint
+abbrev pub WasTaken : Config → Image → Type 0
+WasTaken config was = (db : Database) → ∥ HoldsDatabase was db.trees ∥₁ → IsDatabase db → ∥ ((s : State) × IsStateOf db s × IsInvariant config s) ∥₁
+
 module _ {D : Type 0} (g : disk.Ghosts D) where
   -- each outcome of a crash has the State that the files had
   abbrev pub Keeps : Image → Files D → Type 0
@@ -84,9 +85,11 @@ module _ {D : Type 0} (g : disk.Ghosts D) where
       → outcomes g now.log now.db image
       → ∥ (HoldsDatabase image db.trees ⊎ ((s : State) × IsStateIn db.trees s × HasState image s)) ∥₁
 
-  -- No table exists. The files keep what they had: the first State alone.
+  -- The database of the files has no table. The files keep what they had: the first State alone.
   pub record HasNone (was : Image) (now : Files D) : Type 0 where
     pub state : Keeps was now
+    pub database : KeepsDatabase was now
+    pub none : AreClean g now.log now.db → (db : Database) → ∥ HoldsDatabase was db.trees ∥₁ → IsDatabase db → db.schema ≡ no_schema
     pub first : AreClean g now.log now.db → (s : State) → HasState was s → s ≡ first_state 1
 
   -- Tables that are not adopted. The files keep what they had. Rows of a State that meets every constraint
@@ -102,11 +105,6 @@ module _ {D : Type 0} (g : disk.Ghosts D) where
   -- each outcome of a crash has the State after the calls, or one that a refused call would have made
   abbrev pub LeavesAfter : Config → Files D → State → List Event → Type 0
   LeavesAfter config now s events = (image : Image) → outcomes g now.log now.db image → ∥ ((t : State) × HasState image t × IsStateAfter config s events t) ∥₁
-
-module _ {D : Type 0} {g : disk.Ghosts D} where
-  -- so have the databases that the store reads in what a crash leaves
-  abbrev pub ReadsAfter : Config → FileStore D g → State → List Event → Type 0
-  ReadsAfter config store s events = (db : Trees) → recovers store db → (t : State) × IsRows t db × IsStateAfter config s events t
 
 module _ (config : Config) (unread left held holds : Option (List ℕ)) where
   -- Calls were served from each of these States, and this is so of the database before them and of what they
@@ -125,7 +123,7 @@ module _ (config : Config) (unread left held holds : Option (List ℕ)) where
 abbrev pub ServesThen : Config → Image → Option (List ℕ) → Option (List ℕ) → Option (List ℕ) → Option (List ℕ) → Served → Type 0
     → (State → List Event → Type 0) → Type 0
 ServesThen config was unread left held holds served Clean Leaves = RunsThen config unread left held holds
-    (image_model was served.is_new).holds served Clean (SaysNew was served) Leaves
+    (image_model was served.is_new).holds served Clean (SaysNew was served × WasTaken config was) Leaves
 
 -- nothing was read or written
 abbrev pub AreUntouched : Option (List ℕ) → Option (List ℕ) → Option (List ℕ) → Option (List ℕ) → Type 0
@@ -140,10 +138,11 @@ module _ {D : Type 0} (g : disk.Ghosts D) where
   IsNotServed config was unread left held holds Unopened (Blank now) = AreUntouched unread left held holds × HasNone g was now
   IsNotServed config was unread left held holds Unopened (NotAdopted fault now) = AreUntouched unread left held holds × Refuses g config was fault now
   IsNotServed config was unread left held holds Unopened (NotCopied fault now) = AreUntouched unread left held holds × Keeps g was now × (fault ≡ Refused)
+      × (AreClean g now.log now.db → WasTaken config was)
   IsNotServed config was unread left held holds Unopened (Left served now) = HasRefused served
       × ServesThen config was unread left held holds served (AreClean g now.log now.db) (LeavesAfter g config now)
-  IsNotServed config was unread left held holds Unopened (NotClosed served error store) = ((cause : StoreError) × (error ≡ store_error cause))
-      × ServesThen config was unread left held holds served (IsClean (view store)) (ReadsAfter config store)
+  IsNotServed config was unread left held holds Unopened (NotClosed served error now) = ((cause : StoreError) × (error ≡ store_error cause))
+      × ServesThen config was unread left held holds served (AreClean g now.log now.db) (LeavesAfter g config now)
 
   -- why files were not opened, and what is left of them
   abbrev pub IsNotOpened : Files D → Error → Leftover D g → Type 0
@@ -161,7 +160,7 @@ module _ {D : Type 0} (g : disk.Ghosts D) where
   AllServed P (Err (NotAdopted fault now)) = ⊤
   AllServed P (Err (NotCopied fault now)) = ⊤
   AllServed P (Err (Left served now)) = P served
-  AllServed P (Err (NotClosed served error store)) = P served
+  AllServed P (Err (NotClosed served error now)) = P served
 
   -- files without a table are refused where they were required to have some, and nowhere else
   abbrev pub IsAsked : Bool → Result (Closed D) (NotServed D g) → Type 0
@@ -171,4 +170,4 @@ module _ {D : Type 0} (g : disk.Ghosts D) where
   IsAsked is_existing (Err (NotAdopted fault now)) = ⊤
   IsAsked is_existing (Err (NotCopied fault now)) = ⊤
   IsAsked is_existing (Err (Left served now)) = IsTrue is_existing → served.is_new ≡ false
-  IsAsked is_existing (Err (NotClosed served error store)) = IsTrue is_existing → served.is_new ≡ false
+  IsAsked is_existing (Err (NotClosed served error now)) = IsTrue is_existing → served.is_new ≡ false

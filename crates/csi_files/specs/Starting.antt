@@ -1,12 +1,10 @@
 -- Files from which a run may start, a first one too.
-use Rattle.std.specs.Prelude.{◌≡◌, ◌≢◌, ◌⊎◌, ℕ, Bool, List, Option, IsTrue}
+use Rattle.std.specs.Prelude.{◌≡◌, ◌≢◌, ◌⊎◌, ℕ, Bool, List, Option, IsTrue, ⊤}
 use Rattle.sqlite_disk.specs.declared.Disk as disk
 use Rattle.sqlite_disk.specs.declared.Files.{Files}
 use Rattle.sqlite_wal.specs.Files.{outcomes}
 use Rattle.sqlite_wal.specs.Reads.{AreClean, tally_of_files}
 use Rattle.sqlite_wal.specs.Recovery.{Image}
-use Rattle.sqlite_trees.specs.View.{IsClean}
-use Rattle.sqlite_store.specs.FileStore.{view}
 use Rattle.sqlite_store.specs.Report.{named}
 use Rattle.sqlite_store.specs.declared.store.FileStore.{FileStore}
 use Rattle.sqlite.specs.Files.{file_state, image_of}
@@ -27,7 +25,7 @@ use Rattle.csi_keeper.specs.State.{State, first_state}
 use Rattle.csi_files.specs.Files.{HasState, image_model}
 use Rattle.csi_server.specs.Machine.{Event}
 use Rattle.csi_files.specs.Making.{AreAsBefore, IsLaidOut, IsLost, IsMade, IsNotLaidOut, IsToMake, IsUnmade}
-use Rattle.csi_files.specs.Serving.{AreUntouched, IsNotOpened, IsNotServed, Opens, RunsThen, SaysNew}
+use Rattle.csi_files.specs.Serving.{AreUntouched, IsNotOpened, IsNotServed, Opens, RunsThen, SaysNew, WasTaken}
 use Rattle.csi_files.specs.declared.making.NotLaidOut.{NotLaidOut}
 use Rattle.csi_files.specs.declared.making.NotLaidOut.TheVariants.{Emptied, Failed}
 use Rattle.csi_files.specs.declared.over.Served.{Served}
@@ -50,8 +48,10 @@ pub record ShowsLaidOut (before after : Image) : Type 0 where
   pub kept : ¬ IsToMake before → after ≡ before
   pub starts : (s : State) → MayStart before s → HasState after s
 
--- the run says whether the database that the files had was without tables, and that it was where one was made
-pub record SaysStart (was : Image) (served : Served) : Type 0 where
+-- The run says whether the database that the files had was without tables, and that it was where one was
+-- made. A database that they had was one of a State that meets every constraint.
+pub record SaysStart (config : Config) (was : Image) (served : Served) : Type 0 where
+  pub taken : WasTaken config was
   pub had : SaysNew was served
   pub made : IsToMake was → IsTrue served.is_new
 
@@ -59,7 +59,7 @@ pub record SaysStart (was : Image) (served : Served) : Type 0 where
 abbrev pub StartsThen : Config → Image → Option (List ℕ) → Option (List ℕ) → Option (List ℕ) → Option (List ℕ) → Served → Type 0
     → (State → List Event → Type 0) → Type 0
 StartsThen config was unread left held holds served Clean Leaves = RunsThen config unread left held holds
-    (start_model was served.is_new).holds served Clean (SaysStart was served) Leaves
+    (start_model was served.is_new).holds served Clean (SaysStart config was served) Leaves
 
 -- how SQLite names why no database was made, where the disk failed with this fault
 abbrev pub code_of : NotLaidOut → StoreError → ErrorCode
@@ -100,7 +100,13 @@ module _ {D : Type 0} {g : disk.Ghosts D} where
   EndsClean (NotAdopted fault now) = AreClean g now.log now.db
   EndsClean (NotCopied fault now) = AreClean g now.log now.db
   EndsClean (Left served now) = AreClean g now.log now.db
-  EndsClean (NotClosed served error store) = IsClean (view store)
+  EndsClean (NotClosed served error now) = AreClean g now.log now.db
+
+  -- no store was made of the files yet: their schema was not read
+  abbrev pub IsStoreless : Leftover D g → Type 0
+  IsStoreless (left.Files now) = ⊤
+  IsStoreless (left.Unopened now) = ⊤
+  IsStoreless (left.Store now) = ⊥
 
   -- no database was made, for this error
   abbrev pub IsLeftUnmade : Files D → Error → Leftover D g → Type 0

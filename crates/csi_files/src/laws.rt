@@ -1,11 +1,12 @@
 //! What the next run finds in files, and what many runs leave.
 
 ghost use Rattle.csi_files.specs.Again.{AreFoundAgain};
-ghost use Rattle.csi_files.specs.Lives.{LivesOnce, NumbersOnce, RunsGoOn};
+ghost use Rattle.csi_files.specs.Lives.{LivesOnce, NumbersOnce, PathGoesOn, RunsGoOn};
 
 use csi_config::Config;
 use csi_server::laws::{numbers, retry};
 use csi_tables::laws::one_state;
+use sqlite::Start;
 use sqlite_disk::Disk;
 
 /// Files that have a State of the invariant are adopted as that State over each connection that an opening of
@@ -20,10 +21,16 @@ pub fn found_again<D: Disk>(config: &Config)
 /// a life of these files: a first one too, over files that hold no database yet. What is said is of each
 /// outcome of a crash after the run.
 ///
-/// Two ends are left out: files that could not be opened once a database was in them, and files whose close
-/// failed.
+/// One end is left out: an opening that fails while it reads the schema, because memory is refused or a read
+/// fails. Nothing is written there (docs/THEOREMS.md, "From files to files").
 pub fn went_on<D: Disk>(config: &Config)
     ensures { RunsGoOn D.Disk config.now }
+{}
+
+/// As [`went_on`], of runs of [`serve_path`](crate::serve_path). The files that it opens have the contents
+/// that `S` names, and a crash before the run leaves these alone.
+pub fn went_on_at<S: Start>(config: &Config)
+    ensures { PathGoesOn S.Start config.now }
 {}
 
 /// Run after run over two files, with a stop after each: a client that repeats each of its calls until it

@@ -1,9 +1,17 @@
-//! Files that are given back as a stop would leave them.
+//! Gives the files of a connection back, as a stop would leave them or with the WAL copied.
 
-ghost use Rattle.csi_files.specs.Leaving.{IsLeft};
+ghost use Rattle.std.specs.Prelude.{◌≡◌, false, IfErr, IfOk, IsTrue};
+ghost use Rattle.sqlite.specs.Files.{file_state};
+ghost use Rattle.sqlite_wal.specs.Reads.{AreClean};
+ghost use Rattle.csi_files.specs.Leaving.{HoldsCommit, IsLeft, IsUncopied};
 
-use sqlite::{Connection, FileStore, Files};
+use crate::copying::{cause_of, copy_wal, store_error};
+use sqlite::{Connection, Error, FileStore, Files};
 use sqlite_disk::Disk;
+use sqlite_store::name_fault;
+use sqlite_trees::error::StoreError;
+use sqlite_trees::store::Store;
+use std::alloc::Global;
 
 /// The files of a connection, with no further input or output on them. What was committed may still be in the
 /// WAL alone; what was not committed is lost.
@@ -13,4 +21,66 @@ pub fn leave<D: Disk + Drop>(conn: Connection<FileStore<D>>) -> Files<D>
     ensures { IsLeft D.Disk conn result }
 {
     conn.into_store().close()
+}
+
+// As `leave`, and returns true if the store was open. A store that meets a fault shuts itself, and keeps what
+// was committed before.
+fn leave_open<D: Disk + Drop>(conn: Connection<FileStore<D>>) -> (Files<D>, bool)
+    ensures left { IsLeft D.Disk conn result.0 }
+    ensures open { AreClean D.Disk result.0.log result.0.db → IsTrue result.1
+        → IsTrue (file_state conn).is_open }
+{
+    let store = conn.into_store();
+    let is_open = !store.is_broken();
+    (store.close(), is_open)
+}
+
+/// Closes a connection: copies the WAL into the database file, which is then complete without the WAL. `seed`
+/// is for the salts of the WAL's next header.
+///
+/// # Errors
+///
+/// If a fault has shut the store, or the WAL is not copied to its end. The files are then as [`leave`] leaves
+/// them: what was committed is in the WAL, in the database file or in both.
+pub(crate) fn close<D: Disk + Drop>(
+    alloc: Global,
+    conn: Connection<FileStore<D>>,
+    seed: u64,
+) -> Result<Files<D>, (Error, Files<D>)>
+    ensures copied { IfOk result (λ files. AreClean D.Disk files.log files.db
+        → HoldsCommit D.Disk conn files) }
+    ensures usable { IfOk result (λ files. IsTrue (D.Disk.is_usable files.log)
+        × IsTrue (D.Disk.is_usable files.db)) }
+    ensures left { IfOk result (IsLeft D.Disk conn) }
+    ensures uncopied { IfErr result (λ e. IsUncopied D.Disk conn e.0 e.1) }
+{
+    let (files, is_open) = leave_open(conn);
+    if !is_open {
+        return Err((store_error(StoreError::Broken), files));
+    }
+    if !files.may_be_used() {
+        return Err((store_error(StoreError::Broken), files));
+    }
+    let before = files.tally();
+    match copy_wal(alloc, files, seed) {
+        Ok(files) => Ok(files),
+        Err((error, left)) => {
+            let cause = cause_of(error, name_fault(before, left.tally()));
+            Err((store_error(cause), left))
+        }
+    }
+}
+
+/// As [`close`], but the files come back without an error where the WAL is not copied.
+pub(crate) fn close_or_leave<D: Disk + Drop>(
+    alloc: Global,
+    conn: Connection<FileStore<D>>,
+    seed: u64,
+) -> Files<D>
+    ensures { IsLeft D.Disk conn result }
+{
+    match close(alloc, conn, seed) {
+        Ok(files) => files,
+        Err((_error, files)) => files,
+    }
 }

@@ -7,19 +7,21 @@
 //! `serve_made` over the files at a path.
 //!
 //! `specs/Files.antt` says which State the bytes of two files have (`HasState`). It is the premise of a run
-//! and what a run leaves, so runs compose: the next run begins from what is left (`laws`), unless a database
-//! could not be opened or the files could not be closed. `specs/Starting.antt` says from which files a first
-//! run may start (`MayStart`), and `specs/Serving.antt` what is left where the files are not closed. A stop
-//! is taken for a disk that freezes: what the clauses say of the outcomes of a crash of such a disk is what a
-//! stop there leaves.
+//! and what a run leaves, so runs compose: the next run begins from what is left (`laws`), unless an opening
+//! fails while it reads the schema. `specs/Starting.antt` says from which files a first run may start
+//! (`MayStart`), and `specs/Serving.antt` what is left where the files are not closed. A stop is taken for a
+//! disk that freezes: what the clauses say of the outcomes of a crash of such a disk is what a stop there
+//! leaves.
 //!
 //! `making.rt` makes a database in files that hold none; `over.rt` serves calls over a connection to any
-//! store, and `reserve.rt` keeps memory for its next opening; `leaving.rt` gives files up as they are;
-//! `serving.rt` goes from an open connection to files, `starting.rt` from files that may hold no database
-//! yet, and `path.rt` from a path. The lemmas go the same way: a run is seen through other models of its
-//! store (`RunLemmas`), as one over a copy in memory is (`ThroughLemmas`); files that are given up hold what
-//! the connection may have left (`LeaveLemmas`); the State of files is that of the tables on them
-//! (`FilesLemmas`); and files in which a database was made have the first State (`StartingLemmas`).
+//! store, and `reserve.rt` keeps memory for its next opening; `leaving.rt` gives files up as they are or
+//! closes them, and `copying.rt` copies the WAL into the database file; `serving.rt` goes from an open
+//! connection to files, `starting.rt` from files that may hold no database yet, and `path.rt` from a path.
+//! The lemmas go the same way: a run is seen through other models of its store (`RunLemmas`), as one over a
+//! copy in memory is (`ThroughLemmas`); files that are given up hold what the connection may have left
+//! (`LeaveLemmas`), as do those whose WAL is copied (`CopyLemmas`) and those that are not opened
+//! (`UnopenedLemmas`); the State of files is that of the tables on them (`FilesLemmas`); and files in which
+//! a database was made have the first State (`StartingLemmas`).
 //!
 //! ```rust
 //! match serve_made(alloc, &config, files, opening, &options, &observer, &mut reader, &mut writer) {
@@ -29,6 +31,7 @@
 //! ```
 #![tactic(auto)]
 
+mod copying;
 pub mod laws;
 mod leaving;
 mod making;

@@ -6,7 +6,7 @@ ghost use Rattle.sqlite_wal.specs.Files.{image_at};
 ghost use Rattle.sqlite_wal.specs.Reads.{AreClean};
 ghost use Rattle.csi_server.specs.Serving.{Serves, Writes};
 ghost use Rattle.csi_server.specs.Volumes.{seen, volumes};
-ghost use Rattle.csi_files.specs.Files.{files_model};
+ghost use Rattle.csi_files.specs.Files.{HasAlone, files_model};
 ghost use Rattle.csi_files.specs.Path.{AllServedAt, IsNotGiven, IsNotServedAt, NotSeeded, no_file_error, open_error, over_calls};
 ghost use Rattle.csi_files.specs.Serving.{HasRefusedNone, LeavesAfter};
 ghost use Rattle.csi_files.specs.Starting.{OpensMade, StartsThen, start_model};
@@ -110,6 +110,7 @@ pub fn serve_path<S: Start, O: Observer, R: Read, W: Write>(
         (AreClean over_calls r.files.log r.files.db) (LeavesAfter over_calls config.now r.files)) }
     ensures usable { IfOk result (λ r. IsTrue (over_calls.is_usable r.files.log)
         × IsTrue (over_calls.is_usable r.files.db)) }
+    ensures alone { IfOk result (λ r. HasAlone over_calls r.files) }
     ensures writes { AllServedAt (λ served. Writes (R.remaining reader.old) (R.remaining reader.new)
         (W.contents writer.old) (W.contents writer.new) served.end) result }
     ensures none_refused { IfOk result (λ r. HasRefusedNone r.served) }

@@ -8,12 +8,12 @@ ghost use Rattle.sqlite_wal.specs.Recovery.{Image};
 ghost use Rattle.csi_sql.specs.Tables.{no_schema};
 ghost use Rattle.csi_server.specs.Serving.{Serves, Writes};
 ghost use Rattle.csi_server.specs.Volumes.{seen, volumes};
-ghost use Rattle.csi_files.specs.Files.{files_model, image_model};
+ghost use Rattle.csi_files.specs.Files.{HasAlone, files_model, image_model};
 ghost use Rattle.csi_files.specs.Leaving.{GivesUp, IsFinished, IsUnfinished, files_of};
 ghost use Rattle.csi_files.specs.Starting.{EndsClean};
 ghost use Rattle.csi_files.specs.Serving.{AllServed, HasRefusedNone, IsAsked, IsNotServed, LeavesAfter, Opens, ServesThen};
 
-use crate::leaving::leave;
+use crate::leaving::{close, close_or_leave, leave};
 use crate::over::{Observer, ServeOptions, Served, Unserved, serve_over};
 use csi_adoption::AdoptFault;
 use csi_config::Config;
@@ -47,12 +47,13 @@ pub enum NotServed<D: Disk> {
     /// The database refused a read while the volumes were copied into memory: that fault, and the files,
     /// which keep what they had. No call was read.
     NotCopied(StoreFault, Files<D>),
-    /// Calls were served, and the store refused some: what the run came to, and the files as they were left
-    /// then. What was committed may be in the WAL alone.
+    /// Calls were served, and the store refused some: what the run came to, and the files. The WAL was copied
+    /// into the database file, if the disk and memory allowed it: what was committed is in the WAL, in the
+    /// database file or in both.
     Left(Served, Files<D>),
-    /// Calls were served, and the files were not closed: what the run came to, why, and what is left of the
-    /// files. What was committed is in the WAL, in the database file or in both.
-    NotClosed(Served, Error, FileStore<D>),
+    /// Calls were served, and the WAL was not copied into the database file: what the run came to, why, and
+    /// the files. What was committed is in the WAL, in the database file or in both.
+    NotClosed(Served, Error, Files<D>),
 }
 
 // Written out, so that what drops one has one call for it, and its proof no branch for each of its parts.
@@ -64,7 +65,7 @@ impl<D: Disk + Drop> Drop for NotServed<D> {
             NotServed::NotAdopted(_fault, _files) => {}
             NotServed::NotCopied(_, _files) => {}
             NotServed::Left(_, _files) => {}
-            NotServed::NotClosed(_, _, _store) => {}
+            NotServed::NotClosed(_, _, _files) => {}
         }
     }
 }
@@ -80,7 +81,7 @@ impl<D: Disk + Drop> NotServed<D> {
             NotServed::NotAdopted(_fault, files) => files,
             NotServed::NotCopied(_, files) => files,
             NotServed::Left(_, files) => files,
-            NotServed::NotClosed(_, _, store) => store.close(),
+            NotServed::NotClosed(_, _, files) => files,
         }
     }
 }
@@ -96,22 +97,24 @@ fn not_served<D: Disk + Drop>(unserved: Unserved<FileStore<D>>) -> NotServed<D>
     }
 }
 
-// Closes the connection to files over which calls were served. Where the store refused some, the files are
-// left as a stop would leave them.
+// Closes the connection to files over which calls were served. If the store refused some, it does not matter
+// whether the WAL is copied.
 fn finish<D: Disk + Drop>(
+    alloc: Global,
     served: Served,
     conn: Connection<FileStore<D>>,
+    seed: u64,
 ) -> Result<Closed<D>, NotServed<D>>
     ensures finished { IfOk result (IsFinished D.Disk served conn) }
     ensures none_refused { IfOk result (λ r. HasRefusedNone r.served) }
     ensures unfinished { IfErr result (IsUnfinished D.Disk served conn) }
 {
     if served.is_down | (served.refusals > 0) {
-        return Err(NotServed::Left(served, leave(conn)));
+        return Err(NotServed::Left(served, close_or_leave(alloc, conn, seed)));
     }
-    match conn.close_files() {
+    match close(alloc, conn, seed) {
         Ok(files) => Ok(Closed { served, files }),
-        Err((error, store)) => Err(NotServed::NotClosed(served, error, store)),
+        Err((error, files)) => Err(NotServed::NotClosed(served, error, files)),
     }
 }
 
@@ -122,7 +125,8 @@ fn finish<D: Disk + Drop>(
 /// copy of the volumes, reads are answered from the file. A change is committed to the file before it is
 /// answered.
 ///
-/// The clauses hold for any bytes that the files held as they were opened (`Opens`).
+/// The clauses hold for any bytes that the files held as they were opened (`Opens`). `seed` is for the salts
+/// of the WAL's next header.
 ///
 /// # Errors
 ///
@@ -131,6 +135,7 @@ pub fn serve_open<D: Disk + Drop, O: Observer, R: Read, W: Write>(
     alloc: Global,
     config: &Config,
     conn: Connection<FileStore<D>>,
+    seed: u64,
     options: &ServeOptions,
     observer: &O,
     reader: &mut R,
@@ -144,6 +149,7 @@ pub fn serve_open<D: Disk + Drop, O: Observer, R: Read, W: Write>(
         (W.contents writer.new) r.served.end) }
     ensures usable { IfOk result (λ r. IsTrue (D.Disk.is_usable r.files.log)
         × IsTrue (D.Disk.is_usable r.files.db)) }
+    ensures alone { IfOk result (λ r. HasAlone D.Disk r.files) }
     ensures writes { AllServed D.Disk (λ served. Writes (R.remaining reader.old) (R.remaining reader.new)
         (W.contents writer.old) (W.contents writer.new) served.end) result }
     ensures none_refused { IfOk result (λ r. HasRefusedNone r.served) }
@@ -166,7 +172,7 @@ pub fn serve_open<D: Disk + Drop, O: Observer, R: Read, W: Write>(
     kept(config);
     pending::<Tables<FileStore<D>>>(config);
     match serve_over(alloc, config, conn, options, observer, reader, writer) {
-        Ok((served, conn)) => finish(served, conn),
+        Ok((served, conn)) => finish(alloc, served, conn, seed),
         Err(unserved) => Err(not_served(unserved)),
     }
 }

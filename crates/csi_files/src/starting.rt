@@ -5,7 +5,7 @@ ghost use Rattle.sqlite_wal.specs.Reads.{AreClean};
 ghost use Rattle.sqlite.specs.Files.{image_of};
 ghost use Rattle.csi_server.specs.Serving.{Serves, Writes};
 ghost use Rattle.csi_server.specs.Volumes.{seen, volumes};
-ghost use Rattle.csi_files.specs.Files.{files_model};
+ghost use Rattle.csi_files.specs.Files.{HasAlone, files_model};
 ghost use Rattle.csi_files.specs.Serving.{AllServed, HasRefusedNone, IsAsked, LeavesAfter};
 ghost use Rattle.csi_files.specs.Making.{IsLaidOut};
 ghost use Rattle.csi_files.specs.Starting.{IsLeftUnmade, IsNotStarted, OpensMade, StartsThen, code_of, start_model};
@@ -92,9 +92,9 @@ pub(crate) fn open_made<D: Disk + Drop>(
 /// # Errors
 ///
 /// `NotOpened`, `Blank`, `NotAdopted` and `NotCopied`: the next run starts as this one would have, and
-/// nothing is read or written. `Left`, where the store refused a call, and `NotClosed`, where the close
-/// failed: the run is as said above, and what is left has the State after the calls, or the one that a
-/// refused call would have made.
+/// nothing is read or written. `Left`, where the store refused a call, and `NotClosed`, where the WAL was not
+/// copied into the database file: the run is as said above, and what is left has the State after the calls,
+/// or the one that a refused call would have made.
 ///
 /// # Not promised
 ///
@@ -103,8 +103,8 @@ pub(crate) fn open_made<D: Disk + Drop>(
 /// be or memory was refused.
 ///
 /// What a stop leaves of the repair of a file in which an earlier release was stopped, and that a
-/// file that was left half made is never refused for its WAL: rows show both. After `NotClosed`
-/// the State is said of the trees that the store reads and not of bytes.
+/// file that was left half made is never refused for its WAL: rows show both. If an opening fails while it
+/// reads the schema, the clauses speak of the trees that the store reads, and not of bytes.
 pub fn serve_made<D: Disk + Drop, O: Observer, R: Read, W: Write>(
     alloc: Global,
     config: &Config,
@@ -128,6 +128,7 @@ pub fn serve_made<D: Disk + Drop, O: Observer, R: Read, W: Write>(
         (AreClean D.Disk r.files.log r.files.db) (LeavesAfter D.Disk config.now r.files)) }
     ensures usable { IfOk result (λ r. IsTrue (D.Disk.is_usable r.files.log)
         × IsTrue (D.Disk.is_usable r.files.db)) }
+    ensures alone { IfOk result (λ r. HasAlone D.Disk r.files) }
     ensures writes { AllServed D.Disk (λ served. Writes (R.remaining reader.old) (R.remaining reader.new)
         (W.contents writer.old) (W.contents writer.new) served.end) result }
     ensures none_refused { IfOk result (λ r. HasRefusedNone r.served) }
@@ -137,12 +138,13 @@ pub fn serve_made<D: Disk + Drop, O: Observer, R: Read, W: Write>(
     ensures not_served { IfErr result (IsNotStarted D.Disk config.now files (R.remaining reader.old)
         (R.remaining reader.new) (W.contents writer.old) (W.contents writer.new)) }
 {
-    let laid = match made(alloc, files, opening.seed) {
+    let seed = opening.seed;
+    let laid = match made(alloc, files, seed) {
         Ok(laid) => laid,
         Err((error, left)) => return Err(NotServed::NotOpened(error, left)),
     };
     match Connection::open_files(alloc, laid, opening) {
-        Ok(conn) => serve_open(alloc, config, conn, options, observer, reader, writer),
+        Ok(conn) => serve_open(alloc, config, conn, seed, options, observer, reader, writer),
         Err((error, left)) => Err(NotServed::NotOpened(error, left)),
     }
 }

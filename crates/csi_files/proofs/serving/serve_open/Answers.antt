@@ -1,6 +1,7 @@
 use Rattle.std.proofs.Common.{ap}
 use Rattle.std.proofs.lemmas.Result.{IfOk-weaker}
 use Rattle.csi_files.proofs.FilesLemmas.{all_served, asked, finished, finished_after, given_up, none_served, unasked, unfinished}
+use Rattle.csi_files.proofs.LeaveLemmas.{has_alone}
 use Rattle.csi_files.proofs.CleanLemmas.{finished_clean, given_up_clean, unfinished_clean}
 use Rattle.csi_files.proofs.ResultLemmas.{IfErr-weaker}
 use Rattle.csi_files.proofs.serving.serve_open.Goals as goal
@@ -21,6 +22,9 @@ returns-in-Ok-clause-after g c =
 
 pub returns-in-Ok-clause-usable : goal.returns-in-Ok-clause-usable
 returns-in-Ok-clause-usable g c = IfOk-weaker c.finish.result _ _ (λ outcome it. it.usable) c.finish.ensures.finished
+
+pub returns-in-Ok-clause-alone : goal.returns-in-Ok-clause-alone
+returns-in-Ok-clause-alone g c = IfOk-weaker c.finish.result _ _ (λ outcome it. has_alone g.D.Disk outcome.files (λ clean. (it.copied clean).ignored)) c.finish.ensures.finished
 
 pub returns-in-Ok-clause-writes : goal.returns-in-Ok-clause-writes
 returns-in-Ok-clause-writes g c = all_served g.D.Disk _ c.in-Ok.served c.in-Ok.conn c.in-Ok.ensures.served.run.writes c.finish.result c.finish.ensures.finished c.finish.ensures.unfinished
