@@ -73,6 +73,16 @@ class Model:
     def __init__(self):
         self.next, self.volumes, self.attachments = 1, [], {}
 
+    def copy(self):
+        """Another model of the same volumes. A volume is replaced when it changes, so both may have it."""
+        other = Model()
+        other.next, other.volumes, other.attachments = self.next, list(self.volumes), dict(self.attachments)
+        return other
+
+    def state(self):
+        """All that the model has, as a text."""
+        return repr((self.next, self.volumes, sorted(self.attachments.items())))
+
     def of_id(self, text):
         return next((it for it in self.volumes if "vol-%d" % it.number == text), None)
 

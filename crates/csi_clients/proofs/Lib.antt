@@ -1,0 +1,11 @@
+mod AloneLemmas
+mod CallsLemmas
+mod ChangeLemmas
+mod ClientLemmas
+mod ExampleLemmas
+mod FilesLemmas
+mod GuessedIdLemmas
+mod LinearizabilityLemmas
+mod OtherVolumesLemmas
+mod RowLemmas
+mod StaysLemmas

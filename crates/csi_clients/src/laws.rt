@@ -1,0 +1,212 @@
+//! Laws of several clients: each is the contract of a function that does nothing.
+
+ghost use Rattle.std.specs.Prelude.{◌≡◌, ℕ, List, None, Some};
+ghost use Rattle.std.specs.List.{AllByRecursion};
+ghost use Rattle.envelope.specs.Envelope.{ReplyBytes};
+ghost use Rattle.csi_types.specs.Checks.{checked};
+ghost use Rattle.csi_types.specs.declared.requests.CreateVolume.{CreateVolume};
+ghost use Rattle.csi_types.specs.declared.requests.DeleteVolume.{DeleteVolume};
+ghost use Rattle.csi_types.specs.declared.requests.Request.{Request};
+ghost use Rattle.csi_types.specs.declared.responses.Response.TheVariants as response;
+ghost use Rattle.csi_keeper.specs.Invariant.{IsInvariant};
+ghost use Rattle.csi_keeper.specs.State.{State, changed};
+ghost use Rattle.csi_keeper.specs.declared.change.Change.{Change};
+ghost use Rattle.csi_keeper.specs.declared.change.Change.TheVariants.{RemoveVolume};
+ghost use Rattle.csi_machine.specs.Plan.{make, respond};
+ghost use Rattle.csi_machine.specs.Retry.{AreTriesOf, IsLife, Try, after_once, all_tries, told_once};
+ghost use Rattle.csi_machine.specs.Step.{step};
+ghost use Rattle.csi_machine.specs.Verdicts.{Told};
+ghost use Rattle.csi_machine.specs.Verdicts.Told.{Says};
+ghost use Rattle.csi_machine.specs.calls.Create.{create};
+ghost use Rattle.csi_machine.specs.calls.Delete.{delete};
+ghost use Rattle.csi_rules.specs.Ids.{number_of_id};
+ghost use Rattle.csi_clients.specs.Calls.{AreReplies, ClientExchange, IsHistoryOfCalls, tries_of_sessions};
+ghost use Rattle.csi_clients.specs.Clients.{LeaveEachOtherAlone, start};
+ghost use Rattle.csi_clients.specs.Examples.{AreTwo, IsGivenUp, given_up, given_up_refused};
+ghost use Rattle.csi_clients.specs.Files.{LivesAreLinearizable};
+ghost use Rattle.csi_clients.specs.Histories.{AreAnswered, IsHistory, Sessions};
+ghost use Rattle.csi_clients.specs.Linearizability.{IsLinearizable, IsLinearizableInFull};
+ghost use Rattle.csi_clients.specs.Objects.{AllLeaveAlone};
+ghost use Rattle.csi_clients.specs.OtherVolumes.{AreOfOtherVolumes, IsPlannedAsBefore};
+
+use csi_config::Config;
+use csi_keeper::Keeper;
+use csi_machine::laws::{kept, repeat};
+use csi_server::laws::tries;
+use csi_types::laws::{inclusions, overlays};
+
+/// What a request has done stays done while others leave its object alone.
+///
+/// From a State of the invariant, of requests that pass the checks of their arguments: a request is answered
+/// OK, or its change exists already. Then others make any requests that leave its object alone. The same
+/// request again is answered with the same body, and changes nothing. It does not matter whether the first
+/// answer was heard: the reply may be lost, or the call may be refused inside and a stop leave its change.
+///
+/// The object of a create is the volume of its name, with the mutable parameters that it gives. The object of
+/// a delete is the id, of a publish or an unpublish the volume at the node, and of a modify the parameters of
+/// the volume that it gives.
+pub fn stays_done(config: &Config)
+    ensures taken { (s : State) (r : Request) (others : List Request) (body : List ℕ)
+        → IsInvariant config.now s
+        → checked r ≡ None → AllByRecursion (λ q. checked q ≡ None) others
+        → (step config.now s r).0 ≡ Says body
+        → AllLeaveAlone config.now (step config.now s r).1 others r
+        → step config.now (after_once config.now (step config.now s r).1 others) r
+        ≡ (Says body, after_once config.now (step config.now s r).1 others) }
+    ensures found { (s : State) (r : Request) (others : List Request) (body : List ℕ)
+        → IsInvariant config.now s
+        → AllByRecursion (λ q. checked q ≡ None) others
+        → step config.now s r ≡ (Says body, s)
+        → AllLeaveAlone config.now s others r
+        → step config.now (after_once config.now s others) r
+        ≡ (Says body, after_once config.now s others) }
+{
+    kept(config);
+    repeat(config);
+    overlays();
+    inclusions();
+}
+
+/// A create does not leave the object of a delete alone if the delete guessed an id that no volume was given
+/// yet.
+///
+/// The delete is answered OK at once, since no volume has the id. If a create then gets the number of this
+/// id, the same delete again deletes the new volume.
+pub fn guessed_id(config: &Config)
+    ensures { (s : State) (d : DeleteVolume) (r : CreateVolume) (c : Change) → IsInvariant config.now s
+        → number_of_id d.volume_id ≡ Some s.next → (create config.now s r).change ≡ Some c
+        → (delete s d ≡ respond response.Delete)
+        × (delete (changed s c) d ≡ make response.Delete (RemoveVolume s.next)) }
+{}
+
+/// A request that was not made yet has later the plan that it would have had before, while others work on
+/// other volumes.
+///
+/// From a State of the invariant, after requests of others that pass the checks of their arguments: a delete,
+/// an unpublish, a modify and a question about a volume have the plan of before. So has a publish, unless its
+/// node is full in one of the two States. A create of a new name has the size, the name and the parameters of
+/// before, and takes the room and the next number of the later State. So one of the two may be refused and
+/// the other not.
+pub fn made_later(config: &Config)
+    ensures { (s : State) (r : Request) (others : List Request) → IsInvariant config.now s
+        → AllByRecursion (λ q. checked q ≡ None) others → AreOfOtherVolumes config.now s others r
+        → IsPlannedAsBefore config.now s (after_once config.now s others) r }
+{
+    kept(config);
+}
+
+/// A history of several clients is linearizable if no two of them work on one object at once.
+///
+/// From a State of the invariant each client tries requests that pass the checks of their arguments, in
+/// order, each until it is answered. A try may be refused inside, or because the store is down; an answer may
+/// be lost; between any two tries a stop may end the session, which leaves the State after its tries or the
+/// change of a refused one. A client may be gone after any try, because its process ends or it gives up.
+/// Others may make requests that change nothing at any time.
+///
+/// The tries are *separate*. A request is unsettled from its first try until it is answered or its client is
+/// gone, and in a session in which it was refused inside, until it is done or the session ends. While it is
+/// unsettled, it and each request that another client tries leave each other's objects alone. A request that
+/// changes nothing need not be left alone.
+///
+/// Then there is an order of the requests in which each is taken once. In it the requests of each client have
+/// the order of the client. Each client hears what its requests are answered in this order, and the State in
+/// the end is the State after them. The order keeps the real-time order: a request that was answered is
+/// before each one that was tried only later. It has all requests that were answered and, of each client, at
+/// most one that was tried and not answered. If all are answered it has all of them.
+pub fn linearizable(config: &Config)
+    ensures begun { (s t : State) (todo : ℕ → List Request) (sessions : Sessions)
+        (heard : ℕ → List Told) → IsInvariant config.now s
+        → ((c : ℕ) → AllByRecursion (λ r. checked r ≡ None) (todo c))
+        → IsHistory config.now s (start todo) sessions heard t
+        → IsLinearizable config.now s todo sessions heard t }
+    ensures finished { (s t : State) (todo : ℕ → List Request) (sessions : Sessions)
+        (heard : ℕ → List Told) → IsInvariant config.now s
+        → ((c : ℕ) → AllByRecursion (λ r. checked r ≡ None) (todo c))
+        → IsHistory config.now s (start todo) sessions heard t
+        → AreAnswered (start todo) sessions
+        → IsLinearizableInFull config.now s todo sessions heard t }
+{
+    kept(config);
+    repeat(config);
+    overlays();
+    inclusions();
+}
+
+/// There is a history of two clients, with a stop between the tries of one of them.
+///
+/// One client makes a request and its answer is lost; another makes its own and is answered; after a stop the
+/// first client tries again, and is answered. The two requests leave each other's objects alone where the
+/// second is tried. So [`linearizable`] does not speak of nothing.
+pub fn two_clients(config: &Config)
+    ensures { (s : State) (r q : Request) → LeaveEachOtherAlone (step config.now s r).1 q r
+        → AreTwo config.now s r q }
+{}
+
+/// There is a history of a client that gives up and of another one that goes on with the same object.
+///
+/// An attacher sends ControllerPublishVolume, hears nothing, gives up and sends ControllerUnpublishVolume for
+/// the same volume and node: they are two clients, and the first is gone. If the first request was done, the
+/// second is taken after it (`lost`). If the first was refused inside and a stop ended the session, the
+/// second is taken in the State that the stop left: the one before the first request or the one after it
+/// (`refused`). The first request never takes effect after the second. Nothing is asked of the two requests.
+pub fn gives_up(config: &Config)
+    ensures lost { (s : State) (r q : Request)
+        → IsGivenUp config.now s (step config.now s r).1 r q (given_up r q) }
+    ensures refused { (s : State) (r q : Request)
+        → IsGivenUp config.now s s r q (given_up_refused r q)
+        × IsGivenUp config.now s (step config.now s r).1 r q (given_up_refused r q) }
+{}
+
+/// The law of one client among others that only read, `csi_machine::laws::retry`, is an instance of
+/// [`linearizable`]: a single client, and tries without a client.
+pub fn retry_alone(config: &Config)
+    ensures { (s t : State) (requests : List Request) (sessions : List (List Try)) (told : List Told)
+        → IsInvariant config.now s
+        → AllByRecursion (λ r. checked r ≡ None) requests → AreTriesOf requests (all_tries sessions)
+        → IsLife config.now s sessions told t
+        → (told ≡ told_once config.now s requests) × (t ≡ after_once config.now s requests) }
+{
+    linearizable(config);
+}
+
+/// A history of calls of several clients is linearizable if no two of them work on one object at once.
+///
+/// As [`linearizable`], of calls, marks and replies in bytes, over any keeper. Each client repeats a call
+/// until it hears the reply. A call may be refused for memory or by the store, a reply may be lost, and a
+/// stop leaves what `csi_server::laws::pending` says. A call that is no request, or is refused for its
+/// arguments, is no try: anyone may make it at any time.
+///
+/// # Not promised
+///
+/// That a call is ever answered. What two clients hear that work on one object at once. That calls of a
+/// front, a sidecar or a person are separate: that is a premise (docs/DEPLOY.md, "Clients that share a
+/// front").
+pub fn linearizable_calls<K: Keeper>(config: &Config)
+    ensures begun { (s t : State) (todo : ℕ → List Request) (sessions : List (List ClientExchange))
+        (heard : ℕ → List ReplyBytes) → IsInvariant config.now s
+        → ((c : ℕ) → AllByRecursion (λ r. checked r ≡ None) (todo c))
+        → IsHistoryOfCalls config.now s (start todo) sessions heard t
+        → (answers : ℕ → List Told) × AreReplies heard answers
+        × IsLinearizable config.now s todo (tries_of_sessions sessions) answers t }
+    ensures finished { (s t : State) (todo : ℕ → List Request) (sessions : List (List ClientExchange))
+        (heard : ℕ → List ReplyBytes) → IsInvariant config.now s
+        → ((c : ℕ) → AllByRecursion (λ r. checked r ≡ None) (todo c))
+        → IsHistoryOfCalls config.now s (start todo) sessions heard t
+        → AreAnswered (start todo) (tries_of_sessions sessions)
+        → (answers : ℕ → List Told) × AreReplies heard answers
+        × IsLinearizableInFull config.now s todo (tries_of_sessions sessions) answers t }
+{
+    linearizable(config);
+    tries::<K>(config);
+}
+
+/// Runs over two files, with a stop after each, are a linearizable history of calls if no two clients work on
+/// one object at once.
+///
+/// The tries must be separate whichever State each stop leaves. After the last run the files have the State
+/// after the order of requests. The runs are those of `csi_files::laws::lived`.
+pub fn linearizable_files<K: Keeper>(config: &Config)
+    ensures { LivesAreLinearizable config.now }
+{
+    linearizable_calls::<K>(config);
+}

@@ -1,0 +1,188 @@
+"""Calls of several clients at the same time are linearizable, also while csid is killed, and while another
+csid over the same etcd takes over. The search for an order of calls finds one exactly if there is one.
+"""
+
+import os
+import shutil
+import tempfile
+
+from tests import vectors as v
+from tests.support.callers import Plugin, histories
+from tests.support.histories import NEVER, Operation, linearization
+from tests.support.model import SINGLE, Model
+from tests.support.processes import place, program
+from tests.support.replicas import Stacks
+from tests.support.rows import RowTest
+
+HISTORIES, HISTORIES_OVER_ETCD = 300, 32
+KEY = (0, "", SINGLE)
+ZONE_A = ("p1", "a")
+
+
+def create(name, mutable=None):
+    return lambda it: it.create(name, 0, 0, [KEY], {}, mutable or {}, [], [])[0]
+
+
+def publish(node, readonly=False):
+    return lambda it: it.publish("vol-1", node, KEY, readonly)[0]
+
+
+def modify(value):
+    return lambda it: it.modify("vol-1", {"i": value})[0]
+
+
+def unpublish(it):
+    return it.unpublish("vol-1", "")[0]
+
+
+def delete(it):
+    return it.delete("vol-1")[0]
+
+
+def volume(number):
+    return v.made(number, 1 << 20, ZONE_A)
+
+
+FIRST = (create("a"), 0, 1, volume(1))
+# Each row: its name, whether it is linearizable, and its operations: what is done, from when to when, and the
+# reply. A reply that nobody heard is None. The volume `vol-1` can be published at one node at a time.
+ROWS = [
+    ("no calls", True, []),
+    ("one after the other", True, [FIRST, (publish("n1"), 2, 3, v.WRITER), (unpublish, 4, 5, v.DONE)]),
+    ("a reply of no order", False, [FIRST, (publish("n1"), 2, 3, v.READER)]),
+    ("numbers in the order of time", True, [FIRST, (create("b"), 2, 3, volume(2))]),
+    ("numbers against the time", False, [(create("b"), 0, 1, volume(2)), (create("a"), 2, 3, volume(1))]),
+    ("numbers of calls that overlap", True, [(create("b"), 0, 3, volume(2)), (create("a"), 1, 2, volume(1))]),
+    ("two volumes of one name", False, [FIRST, (create("a"), 0, 3, volume(2))]),
+    ("one number twice", False, [FIRST, (create("b"), 0, 3, volume(1))]),
+    (
+        "two nodes, and one is refused",
+        True,
+        [FIRST, (publish("n1"), 2, 5, v.ELSEWHERE), (publish("n2"), 3, 4, v.WRITER)],
+    ),
+    (
+        "two nodes, and none is refused",
+        False,
+        [FIRST, (publish("n1"), 2, 5, v.WRITER), (publish("n2"), 3, 4, v.WRITER)],
+    ),
+    (
+        "a call without a reply that took effect",
+        True,
+        [FIRST, (publish("n1"), 2, 3, None), (publish("n2"), 4, 5, v.ELSEWHERE)],
+    ),
+    (
+        "a call without a reply that took no effect",
+        True,
+        [FIRST, (publish("n1"), 2, 3, None), (publish("n2"), 4, 5, v.WRITER)],
+    ),
+    (
+        "a call without a reply that takes effect after its end",
+        False,
+        [
+            FIRST,
+            (publish("n1"), 2, 3, None),
+            (unpublish, 4, 5, v.DONE),
+            (publish("n2"), 6, 7, v.ELSEWHERE),
+        ],
+    ),
+    (
+        "a call without an end takes effect late",
+        True,
+        [
+            FIRST,
+            (publish("n1"), 2, NEVER, None),
+            (unpublish, 4, 5, v.DONE),
+            (publish("n2"), 6, 7, v.ELSEWHERE),
+        ],
+    ),
+    (
+        "a change that is lost",
+        False,
+        [FIRST, (modify("1"), 2, 3, v.DONE), (create("a", {"i": "2"}), 4, 5, volume(1))],
+    ),
+    (
+        "a change that is seen",
+        True,
+        [FIRST, (modify("1"), 2, 3, v.DONE), (create("a", {"i": "2"}), 4, 5, v.NOT_COMPATIBLE)],
+    ),
+    (
+        "a volume that is deleted while it is published",
+        False,
+        [FIRST, (publish("n1"), 2, 3, v.WRITER), (delete, 4, 5, v.DONE), (unpublish, 6, 7, v.DONE)],
+    ),
+    (
+        "three clients at once, in one order alone",
+        True,
+        [
+            FIRST,
+            (publish("n1"), 2, 9, v.NO_VOLUME),
+            (delete, 2, 9, v.DONE),
+            (create("a"), 2, 9, volume(2)),
+            (modify("1"), 2, 9, v.DONE),
+        ],
+    ),
+]
+
+
+def operations_of(rows):
+    return [Operation(at, "", *row) for at, row in enumerate(rows)]
+
+
+class SearchTest(RowTest):
+    """Histories that were worked out by hand."""
+
+    def test_histories_by_hand(self):
+        for name, is_linearizable, rows in ROWS:
+            found = linearization(operations_of(rows), Model())
+            self.row(name, found is not None, is_linearizable)
+
+    def test_order_keeps_real_time(self):
+        rows = [FIRST, (delete, 2, 5, v.DONE), (publish("n1"), 3, 4, v.WRITER), (unpublish, 3, 6, v.DONE)]
+        order, model = linearization(operations_of(rows), Model())
+        self.row("the order", [it.client for it in order], [0, 2, 3, 1])
+        self.row("the model after it", (model.volumes, model.attachments, model.next), ([], {}, 2))
+
+
+class ClientsTest(RowTest):
+    """Clients that call fronts while programs are killed."""
+
+    def setUp(self):
+        super().setUp()
+        if not os.access(place("front"), os.X_OK):
+            self.skipTest("there is no front")
+        # A file in memory takes no waiting for a disk.
+        memory = "/dev/shm" if os.path.isdir("/dev/shm") else None
+        self.files = self.enterContext(tempfile.TemporaryDirectory(dir=memory))
+
+    def orders(self, fronts, count):
+        """The orders that are found of histories; None for one without an order."""
+        self.addCleanup(fronts.end)
+        return [order for _, _, order in histories(fronts, count)]
+
+    def are_linearizable(self, fronts, count):
+        orders = self.orders(fronts, count)
+        self.row("histories without an order", orders.count(None), 0)
+        self.row("histories", len(orders), count)
+
+    def plugin(self, **how):
+        return Plugin(program("csid"), place("front"), self.files, **how)
+
+    def stacks(self, **how):
+        if not shutil.which("etcd") or not os.access(place("csid-etcd"), os.X_OK):
+            self.skipTest("there is no etcd or no csid-etcd")
+        return Stacks((program("csid"), place("csid-etcd"), place("front")), self.files, **how)
+
+    def test_clients_are_linearizable(self):
+        self.are_linearizable(self.plugin(), HISTORIES)
+
+    def test_forgotten_file_is_noticed(self):
+        self.row("the last history has no order", self.orders(self.plugin(forgets=True), HISTORIES)[-1], None)
+
+    def test_clients_are_linearizable_over_takeovers(self):
+        stacks = self.stacks()
+        self.are_linearizable(stacks, HISTORIES_OVER_ETCD)
+        self.row("the lead passed over", stacks.takeovers >= HISTORIES_OVER_ETCD // 8, True)
+
+    def test_two_leaders_are_noticed(self):
+        orders = self.orders(self.stacks(is_apart=True), HISTORIES_OVER_ETCD)
+        self.row("the last history has no order", orders[-1], None)
