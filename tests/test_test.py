@@ -19,6 +19,7 @@ PLAYED = {
     "scripts/check-pages": "",
     "bench/plots": "",
     "scripts/gate": "echo '5 passed, 0 failed'",
+    "scripts/progress": "cat",
     "go/go": "exit 1",
     "tests/retries": "",
     "tests/vectors.py": "",
