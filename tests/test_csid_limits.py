@@ -3,22 +3,14 @@
 import contextlib
 import os
 import resource
-import threading
 import unittest
 
 from tests.support.configs import LARGE_POOL
 from tests.support.frames import BLOCK, PROBE, READY, controller, frame
-from tests.support.processes import statuses, write
+from tests.support.processes import write
 from tests.support.rows import CsidTest
 from tests.support.server import NO_COPY, Server
-from tests.support.tables import BLOCK_CAPS, MANY, MIB, Tables, next_is
-
-
-# 4,096 bytes of parameters in entries of four bytes, which take some 90 KiB of memory: 1,024 keys of two
-# letters, in their order, each its own value too.
-LETTERS = sorted(b"0123456789ABCDEFGHIJKLMNOPQRSTUVWXYZabcdefghijklmnopqrstuvwxyz")
-KEYS = [bytes([first, second]) for first in LETTERS for second in LETTERS][:1024]
-ENTRIES = b"".join(bytes.fromhex("22080a02") + key + bytes.fromhex("1202") + key for key in KEYS)
+from tests.support.tables import BLOCK_CAPS, MANY, MIB, SHORT_ENTRIES, Tables, next_is
 
 
 def own_group():
@@ -35,6 +27,13 @@ def own_group():
     raise unittest.SkipTest("no control group limits memory here")
 
 
+def write_limit(path, limit):
+    try:
+        write(path, b"%d" % limit)
+    except OSError as failure:
+        raise unittest.SkipTest("no control group can be limited here: %s" % failure) from failure
+
+
 @contextlib.contextmanager
 def memory_group(limit):
     """A new control group with a limit, and what makes a process its member. Where no group can be made, the
@@ -44,10 +43,10 @@ def memory_group(limit):
     folder = os.path.join(parent, "csid-test-%d" % os.getpid())
     try:
         os.mkdir(folder)
-        write(os.path.join(folder, name), b"%d" % limit)
     except OSError as failure:
         raise unittest.SkipTest("no control group can be made here: %s" % failure) from failure
     try:
+        write_limit(os.path.join(folder, name), limit)
         yield lambda: write(os.path.join(folder, "cgroup.procs"), b"%d" % os.getpid())
     finally:
         os.rmdir(folder)
@@ -71,12 +70,6 @@ class LimitedTest(CsidTest):
         self.addCleanup(server.end)
         return server
 
-    def answers(self, server, calls):
-        """The statuses of calls over one connection, sent while replies are read."""
-        with server.connect() as peer:
-            threading.Thread(target=lambda: [peer.sendall(it) for it in calls], daemon=True).start()
-            return statuses(peer, len(calls))
-
     def creates(self, first, count):
         return [
             controller("CreateVolume", b"\x0a\x06%06d" % number + BLOCK + self.parameters)
@@ -98,16 +91,16 @@ class AddressSpaceTest(LimitedTest):
 
     def test_volumes_are_deleted_after_creates_were_refused(self):
         server = self.serve()
-        came = self.answers(server, self.creates(1, 6000))
+        came = server.answers(self.creates(1, 6000))
         made = came.count(0)
         self.assertEqual((1000 < made < 6000, came), (True, [0] * made + [13] * (6000 - made)))
-        self.assertEqual(self.answers(server, self.deletes(1, made)), [0] * made)
+        self.assertEqual(server.answers(self.deletes(1, made)), [0] * made)
 
 
 class GroupTest(LimitedTest):
     """csid in a control group with 96 MiB, and volumes that take 90 KiB each."""
 
-    parameters = ENTRIES
+    parameters = SHORT_ENTRIES
 
     def setUp(self):
         super().setUp()
@@ -119,22 +112,22 @@ class GroupTest(LimitedTest):
         """New tables with this many volumes."""
         self.tables.new().script(
             MANY % (count, BLOCK_CAPS)
-            + "UPDATE volumes SET params = x'%s';" % ENTRIES.hex()
+            + "UPDATE volumes SET params = x'%s';" % SHORT_ENTRIES.hex()
             + next_is(count + 1)
         )
 
     def test_creates_are_refused_before_the_limit_ends_csid(self):
         server = self.serve()
-        came = self.answers(server, self.creates(1, 1500))
+        came = server.answers(self.creates(1, 1500))
         made = came.count(0)
         self.assertEqual((100 < made < 1500, came), (True, [0] * made + [13] * (1500 - made)))
         self.assertEqual(server.process.poll(), None)
 
     def test_volumes_are_deleted_after_creates_were_refused(self):
         server = self.serve()
-        made = self.answers(server, self.creates(1, 1500)).count(0)
-        self.assertEqual(self.answers(server, self.deletes(1, made)), [0] * made)
-        self.assertEqual(self.answers(server, self.creates(2001, 100)), [0] * 100)
+        made = server.answers(self.creates(1, 1500)).count(0)
+        self.assertEqual(server.answers(self.deletes(1, made)), [0] * made)
+        self.assertEqual(server.answers(self.creates(2001, 100)), [0] * 100)
 
     def test_file_whose_copy_does_not_fit_is_served_from_the_file(self):
         self.fill(2000)
@@ -145,7 +138,7 @@ class GroupTest(LimitedTest):
     def test_volumes_of_a_file_whose_copy_does_not_fit_are_deleted(self):
         self.fill(2000)
         server = self.serve()
-        self.assertEqual(self.answers(server, self.deletes(1, 2000)), [0] * 2000)
+        self.assertEqual(server.answers(self.deletes(1, 2000)), [0] * 2000)
 
     def test_file_that_fits_is_copied(self):
         self.fill(300)

@@ -1,7 +1,6 @@
 """csid where memory is short."""
 
 import os
-import threading
 
 from tests import vectors as v
 from tests.support.configs import LARGE_POOL
@@ -13,19 +12,22 @@ from tests.support.processes import (
     memory_of_24_mib,
     run,
     some_memory,
-    statuses,
     write,
 )
 from tests.support.rows import CsidTest
 from tests.support.server import NO_COPY, Server
-from tests.support.tables import BLOCK_CAPS, IO_FAILED, LARGE_CAPS, MANY, MIB, NEXT_9, Tables, next_is, volume
-
-
-def answers(server, calls):
-    """Makes calls over one connection, and reads replies meanwhile. Returns their statuses."""
-    with server.connect() as peer:
-        threading.Thread(target=lambda: [peer.sendall(it) for it in calls], daemon=True).start()
-        return statuses(peer, len(calls))
+from tests.support.tables import (
+    BLOCK_CAPS,
+    IO_FAILED,
+    LARGE_CAPS,
+    MANY,
+    MIB,
+    NEXT_9,
+    SHORT_ENTRIES,
+    Tables,
+    next_is,
+    volume,
+)
 
 
 class MemoryTest(CsidTest):
@@ -47,14 +49,12 @@ class MemoryTest(CsidTest):
         self.row("served", server.ask(listing), run(tables.command, input=listing)[0])
         server.process.wait(SECONDS)
         self.row("nothing is said of it", server.end()[:2], (server.has(1, 0, 3), 0))
-        # The first 1,024 keys of two letters, in their order, each its own value too.
-        letters = sorted(b"0123456789ABCDEFGHIJKLMNOPQRSTUVWXYZabcdefghijklmnopqrstuvwxyz")
-        keys = [bytes([first, second]) for first in letters for second in letters][:1024]
-        entries = b"".join(bytes.fromhex("22080a02") + key + bytes.fromhex("1202") + key for key in keys)
         config = os.path.join(self.folder, "config.toml")
         write(config, LARGE_POOL)
         tables.new().script(
-            MANY % (1000, BLOCK_CAPS) + "UPDATE volumes SET params = x'%s';" % entries.hex() + next_is(1001)
+            MANY % (1000, BLOCK_CAPS)
+            + "UPDATE volumes SET params = x'%s';" % SHORT_ENTRIES.hex()
+            + next_is(1001)
         )
         probe = controller("GetCapacity")
         # 1,048 MiB, and 8 MiB for one volume.
@@ -72,7 +72,9 @@ class MemoryTest(CsidTest):
         self.row("that is said", server.end()[0], begun + server.line(NO_COPY) * 2)
         self.row("one was deleted", tables.ask("SELECT count(*) FROM volumes"), [(999,)])
         tables.new().script(
-            MANY % (1000, BLOCK_CAPS) + "UPDATE volumes SET params = x'%s';" % entries.hex() + next_is(1001)
+            MANY % (1000, BLOCK_CAPS)
+            + "UPDATE volumes SET params = x'%s';" % SHORT_ENTRIES.hex()
+            + next_is(1001)
         )
         self.row(
             "none of it", run(low + ["--config", config], input=probe, preexec_fn=some_memory), (room, "", 0)
@@ -120,7 +122,7 @@ class MemoryTest(CsidTest):
         for name, words in ("of the file", ["--low-memory"]), ("of memory", []):
             Tables(self.csid, self.folder).clear()
             server = Server(self.csid, self.folder, "--config", config, *words, preexec_fn=memory_of_24_mib)
-            came = answers(server, creates)
+            came = server.answers(creates)
             made = came.index(13) if 13 in came else most
             self.row(
                 "some creates are made, then they are refused, by reads %s" % name,
@@ -128,12 +130,12 @@ class MemoryTest(CsidTest):
                 (True, {0}, {13}),
             )
             self.row("the next connection is served, by reads %s" % name, server.ask(listing)[:1], b"\0")
-            came = answers(server, [delete(number) for number in range(1, 501)])
+            came = server.answers([delete(number) for number in range(1, 501)])
             self.row("deletes are made, by reads %s" % name, came, [0] * 500)
             # The pages that deletes leave are free: the next connection has room for creates.
-            came = answers(server, [delete(number) for number in range(501, made - 99)])
+            came = server.answers([delete(number) for number in range(501, made - 99)])
             self.row("and more of them, by reads %s" % name, set(came), {0})
-            came = answers(server, [create(number) for number in range(most + 1, most + 101)])
+            came = server.answers([create(number) for number in range(most + 1, most + 101)])
             self.row("then there is room, by reads %s" % name, came, [0] * 100)
             server.end()
 
@@ -162,7 +164,7 @@ class ReserveTest(CsidTest):
         """Makes calls over one connection. At least this many succeed, then memory is refused, and the next
         connection is answered.
         """
-        came = answers(server, calls)
+        came = server.answers(calls)
         self.assertEqual(server.ask(v.listing(v.most(1)))[:1], b"\0")
         made = came.count(0)
         self.assertEqual(came, [0] * made + [13] * (len(calls) - made))
@@ -173,18 +175,18 @@ class ReserveTest(CsidTest):
         server = self.serve(len(volumes), self.CAP)
         publications = [v.publish(it, v.node(node), self.CAP) for it in volumes for node in self.NODES]
         self.fill(server, publications, 500)
-        self.assertEqual(answers(server, [v.unpublish(it) for it in volumes]), [0] * len(volumes))
+        self.assertEqual(server.answers([v.unpublish(it) for it in volumes]), [0] * len(volumes))
         self.assertEqual(self.tables.ask("SELECT count(*) FROM attachments"), [(0,)])
 
     def test_mutable_parameters_leave_memory_for_the_next_opening(self):
         volumes = [v.vol("vol-%d" % it) for it in range(1, 1001)]
         server = self.serve(len(volumes), v.BLOCK)
         self.fill(server, [v.modify(it, v.sets("k", "v" * 4095)) for it in volumes], 100)
-        self.assertEqual(answers(server, [v.delete(it) for it in volumes]), [0] * len(volumes))
+        self.assertEqual(server.answers([v.delete(it) for it in volumes]), [0] * len(volumes))
         self.assertEqual(self.tables.ask("SELECT count(*) FROM volumes"), [(0,)])
 
     def test_rows_of_earlier_connections_have_memory_for_the_next_opening(self):
         server = self.serve(62_000, v.BLOCK, 16 * MIB)
-        answers(server, [v.create(v.name("w%d" % it), v.BLOCK) for it in range(6000)])
+        server.answers([v.create(v.name("w%d" % it), v.BLOCK) for it in range(6000)])
         self.assertEqual(server.ask(v.listing(v.most(1)))[:1], b"\0")
         self.assertEqual(server.ask(v.delete(v.vol("vol-1"))), v.DONE)

@@ -7,8 +7,9 @@ import signal
 import socket
 import subprocess
 import tempfile
+import threading
 
-from tests.support.processes import SECONDS, wait
+from tests.support.processes import SECONDS, statuses, wait
 
 
 NEW = "no tables were there, and new ones were made"
@@ -67,6 +68,12 @@ class Server:
             except (BrokenPipeError, ConnectionResetError):
                 pass
             return replies
+
+    def answers(self, calls):
+        """Makes calls over one connection, and reads replies meanwhile. Returns their statuses."""
+        with self.connect() as peer:
+            threading.Thread(target=lambda: [peer.sendall(it) for it in calls], daemon=True).start()
+            return statuses(peer, len(calls))
 
     def lines(self):
         """What it said until now."""

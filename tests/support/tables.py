@@ -45,6 +45,13 @@ MANY = (
     "WITH RECURSIVE n (i) AS (VALUES (1) UNION ALL SELECT i + 1 FROM n WHERE i < %d) "
     "INSERT INTO volumes SELECT i, 'v' || i, 1048576, 'p1', %s, x'' FROM n;"
 )
+# 4,096 bytes of parameters in entries of four bytes, which take some 90 KiB of memory: 1,024 keys of two
+# letters, in their order, each its own value too.
+LETTERS = sorted(b"0123456789ABCDEFGHIJKLMNOPQRSTUVWXYZabcdefghijklmnopqrstuvwxyz")
+SHORT_KEYS = [bytes([first, second]) for first in LETTERS for second in LETTERS][:1024]
+SHORT_ENTRIES = b"".join(
+    bytes.fromhex("22080a02") + key + bytes.fromhex("1202") + key for key in SHORT_KEYS
+)
 NO_META = "meta has no row with the number of a format"
 OTHER_TABLES = "the tables are not those of csid"
 NO_DATABASE = "file is not a database that obeys its schema"

@@ -21,7 +21,7 @@ use Rattle.csi_keeper.specs.facts.Finite.{tied}
 use Rattle.csi_sql.specs.Cells.{as_blob, as_flag}
 use Rattle.csi_sql.specs.Deletes.{is_same}
 use Rattle.csi_sql.specs.Rows.{bool_value, number_value}
-use Rattle.csi_tables.specs.Encoding.{caps_bytes}
+use Rattle.csi_columns.specs.Encoding.{caps_bytes}
 use Rattle.csi_constraints.specs.Coding.{key_in, message_in, each_key, only}
 use Rattle.csi_constraints.specs.Kinds.{is_integer, is_text}
 use Rattle.csi_constraints.specs.Values.{if_passes, is_some_and}

@@ -35,8 +35,9 @@ use Rattle.csi_sql.specs.Cells.{as_flag, as_number, as_text}
 use Rattle.csi_sql.specs.Rows.{number_value, seen_attachment, seen_volume}
 use Rattle.csi_constraints.specs.Scans.{IsInOrder, keyed_attachment, owners}
 use Rattle.csi_constraints.specs.facts.Keyed.{keyed_attachments}
-use Rattle.csi_tables.specs.Encoding.{FitCaps}
-use Rattle.csi_tables.specs.Holding.{attachment_entry, volume_entry, IsPlaced, IsStored}
+use Rattle.csi_columns.specs.Encoding.{FitCaps}
+use Rattle.csi_columns.specs.Entries.{attachment_entry, volume_entry}
+use Rattle.csi_tables.specs.Holding.{IsPlaced, IsStored}
 use Rattle.csi_constraints.specs.Agreement.{AttachmentAgrees, OwnerAgrees, PairAgrees}
 use Rattle.csi_constraints.specs.Apart.{are_apart, NoneApart}
 use Rattle.csi_constraints.specs.Attachments.{has_flag, is_at_node, is_node}

@@ -30,7 +30,8 @@ use Rattle.csi_constraints.specs.Folds.{added_by}
 use Rattle.csi_constraints.specs.Scans.{IsInOrder, keyed_attachment, owners, owns, with_owner}
 use Rattle.csi_constraints.specs.declared.sums.Weight.TheVariants.{One}
 use Rattle.csi_constraints.specs.facts.Joins.{some_unowned}
-use Rattle.csi_tables.specs.Holding.{attachment_entry, volume_entry, IsPlaced, IsRowsOf, IsStored}
+use Rattle.csi_columns.specs.Entries.{attachment_entry, volume_entry}
+use Rattle.csi_tables.specs.Holding.{IsPlaced, IsRowsOf, IsStored}
 use Rattle.csi_constraints.specs.Agreement.{keyed_entry, AttachmentAgrees, OwnerAgrees, PairAgrees}
 use Rattle.csi_constraints.specs.Apart.{are_apart, NoneApart}
 use Rattle.csi_constraints.specs.Attachments.{has_flag, is_at_node}

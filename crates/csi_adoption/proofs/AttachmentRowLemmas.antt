@@ -40,8 +40,9 @@ use Rattle.csi_constraints.specs.Folds.{added_by}
 use Rattle.csi_constraints.specs.Scans.{keyed_attachment, owners, with_owner}
 use Rattle.csi_constraints.specs.declared.sums.Weight.TheVariants.{One}
 use Rattle.csi_constraints.specs.facts.Joins.{each_owned}
-use Rattle.csi_tables.specs.Encoding.{caps_bytes, FitCaps}
-use Rattle.csi_tables.specs.Holding.{attachment_entry, volume_entry, IsStored}
+use Rattle.csi_columns.specs.Encoding.{caps_bytes, FitCaps}
+use Rattle.csi_columns.specs.Entries.{attachment_entry, volume_entry}
+use Rattle.csi_tables.specs.Holding.{IsStored}
 use Rattle.csi_constraints.specs.Agreement.{owned_entry, OwnerAgrees}
 use Rattle.csi_constraints.specs.Coding.{key_in, keys_in}
 use Rattle.csi_constraints.specs.Joins.{is_owned}

@@ -25,7 +25,8 @@ use Rattle.csi_sql.specs.declared.formats.TheConstants.{FIRST_FORMAT}
 use Rattle.csi_constraints.specs.Folds.{IsRising, added_by}
 use Rattle.csi_constraints.specs.Scans.{IsInOrder}
 use Rattle.csi_constraints.specs.declared.sums.Weight.TheVariants.{Number, One}
-use Rattle.csi_tables.specs.Holding.{IsStored, volume_entry}
+use Rattle.csi_columns.specs.Entries.{volume_entry}
+use Rattle.csi_tables.specs.Holding.{IsStored}
 use Rattle.csi_constraints.specs.Agreement.{VolumeAgrees}
 use Rattle.csi_adoption.specs.Found.{FoundVolumes, sizes_of}
 use Rattle.csi_adoption.specs.Passing.{VolumesAreKnown, VolumesPass}

@@ -20,7 +20,8 @@ use Rattle.csi_sql.specs.declared.formats.TheConstants.{FIRST_FORMAT}
 use Rattle.csi_constraints.specs.Folds.{added_by}
 use Rattle.csi_constraints.specs.Scans.{IsInOrder}
 use Rattle.csi_constraints.specs.declared.sums.Weight.TheVariants.{Number}
-use Rattle.csi_tables.specs.Holding.{IsRowsIn, IsStored, volume_entry}
+use Rattle.csi_columns.specs.Entries.{volume_entry}
+use Rattle.csi_tables.specs.Holding.{IsRowsIn, IsStored}
 use Rattle.csi_constraints.specs.Agreement.{VolumeAgrees}
 use Rattle.csi_constraints.specs.Coded.{has_caps, has_params}
 use Rattle.csi_constraints.specs.Kinds.{has_volume_kinds}

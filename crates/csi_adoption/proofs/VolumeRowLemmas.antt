@@ -16,8 +16,9 @@ use Rattle.csi_keeper.specs.declared.capability.CapKey.{CapKey}
 use Rattle.csi_keeper.specs.declared.volume.Volume.{Volume}
 use Rattle.csi_sql.specs.Rows.{number_value, seen_volume}
 use Rattle.csi_sql.specs.Cells.{as_blob, as_number}
-use Rattle.csi_tables.specs.Encoding.{caps_bytes, params_bytes, FitCaps, FitParams}
-use Rattle.csi_tables.specs.Holding.{IsStored, volume_entry}
+use Rattle.csi_columns.specs.Encoding.{caps_bytes, params_bytes, FitCaps, FitParams}
+use Rattle.csi_columns.specs.Entries.{volume_entry}
+use Rattle.csi_tables.specs.Holding.{IsStored}
 use Rattle.csi_constraints.specs.Coded.{has_caps, has_params, keys_at, params_at}
 use Rattle.csi_constraints.specs.Coding.{are_keys, are_params, keys_in, params_in}
 use Rattle.csi_constraints.specs.Kinds.{has_volume_kinds, is_text}

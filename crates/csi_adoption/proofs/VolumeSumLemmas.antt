@@ -14,7 +14,7 @@ use Rattle.csi_keeper.specs.declared.volume.Volume.{Volume}
 use Rattle.csi_keeper.specs.facts.Sums.{count_cons, in_order, total_cons}
 use Rattle.csi_constraints.specs.Folds.{added_by, sum_after}
 use Rattle.csi_constraints.specs.declared.sums.Weight.TheVariants.{Number, One}
-use Rattle.csi_tables.specs.Holding.{volume_entry}
+use Rattle.csi_columns.specs.Entries.{volume_entry}
 use Rattle.csi_adoption.specs.Passing.{VolumesPass}
 use Rattle.csi_adoption.specs.declared.meta.Meta.{Meta}
 use Rattle.csi_adoption.proofs.SumLemmas.{count_told, sum_told}

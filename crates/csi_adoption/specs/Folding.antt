@@ -10,7 +10,7 @@ use Rattle.csi_constraints.specs.Kinds.{has_attachment_kinds, has_volume_kinds}
 use Rattle.csi_constraints.specs.Named.{FindsBroken, FindsByTest}
 use Rattle.csi_constraints.specs.Volumes.{is_in_pools, is_named, is_numbered, is_sized}
 use Rattle.csi_constraints.specs.declared.sums.Weight.TheVariants.{Number, One}
-use Rattle.csi_tables.specs.Encoding.{FitCaps, FitParams}
+use Rattle.csi_columns.specs.Encoding.{FitCaps, FitParams}
 use Rattle.csi_adoption.specs.Starting.{IsBegun, IsRisingStart, IsUnbroken}
 use Rattle.csi_adoption.specs.declared.attachments.AttachmentsFold.{AttachmentsFold}
 use Rattle.csi_adoption.specs.declared.meta.Meta.{Meta}

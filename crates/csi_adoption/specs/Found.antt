@@ -13,7 +13,8 @@ use Rattle.csi_keeper.specs.declared.volume.Volume.{Volume}
 use Rattle.csi_sql.specs.declared.formats.TheConstants.{FIRST_FORMAT}
 use Rattle.csi_constraints.specs.Folds.{added_by}
 use Rattle.csi_constraints.specs.declared.sums.Weight.TheVariants.{Number, One}
-use Rattle.csi_tables.specs.Holding.{IsStored, volume_entry}
+use Rattle.csi_columns.specs.Entries.{volume_entry}
+use Rattle.csi_tables.specs.Holding.{IsStored}
 use Rattle.csi_adoption.specs.declared.meta.Meta.{Meta}
 
 -- the bytes of a pool's volumes, as of a State that has these

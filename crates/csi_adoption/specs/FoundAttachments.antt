@@ -23,7 +23,8 @@ use Rattle.csi_constraints.specs.Scans.{IsInOrder, keyed_attachment, owners}
 use Rattle.csi_constraints.specs.Apart.{NoneApart}
 use Rattle.csi_constraints.specs.Joins.{is_owned}
 use Rattle.csi_sql.specs.Effects.{AreKeyed}
-use Rattle.csi_tables.specs.Holding.{attachment_entry, volume_entry, IsPlaced, IsRowsOf, IsStored}
+use Rattle.csi_columns.specs.Entries.{attachment_entry, volume_entry}
+use Rattle.csi_tables.specs.Holding.{IsPlaced, IsRowsOf, IsStored}
 use Rattle.csi_adoption.specs.Passing.{AttachmentsAreKnown, AttachmentsPass}
 
 -- an attachment that may be at a number and a node, next to the volumes

@@ -19,7 +19,7 @@ use Rattle.csi_sql.specs.declared.formats.TheConstants.{FIRST_FORMAT, LATEST_FOR
 use Rattle.csi_constraints.specs.Folds.{IsRising, as_integer, sum_after}
 use Rattle.csi_constraints.specs.Scans.{IsInOrder, keyed_attachment}
 use Rattle.csi_constraints.specs.declared.sums.Weight.TheVariants.{Number, One}
-use Rattle.csi_tables.specs.Encoding.{FitCaps, FitParams}
+use Rattle.csi_columns.specs.Encoding.{FitCaps, FitParams}
 use Rattle.csi_constraints.specs.Apart.{apart_named}
 use Rattle.csi_constraints.specs.Attachments.{has_flag, is_at_node}
 use Rattle.csi_constraints.specs.Coded.{has_cap, has_caps, has_params, key_at, keys_at, params_at}

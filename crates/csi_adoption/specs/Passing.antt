@@ -9,7 +9,7 @@ use Rattle.csi_sql.specs.Rows.{meta_row, seen_attachment, seen_meta, seen_volume
 use Rattle.csi_constraints.specs.Folds.{IsRising, added_by}
 use Rattle.csi_constraints.specs.Scans.{IsInOrder, keyed_attachment, owners}
 use Rattle.csi_constraints.specs.declared.sums.Weight.TheVariants.{Number, One}
-use Rattle.csi_tables.specs.Encoding.{FitCaps, FitParams}
+use Rattle.csi_columns.specs.Encoding.{FitCaps, FitParams}
 use Rattle.csi_constraints.specs.Apart.{NoneApart}
 use Rattle.csi_constraints.specs.Attachments.{has_flag, is_at_node}
 use Rattle.csi_constraints.specs.Coded.{has_cap, has_caps, has_params, key_at, keys_at, params_at}

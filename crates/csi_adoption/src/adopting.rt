@@ -24,6 +24,7 @@ ghost use Rattle.csi_adoption.specs.Judging.{AreJudged, ArePassed, IsFaultOf, Is
 use crate::attachment_faults::check_attachment;
 use crate::attachment_laws::{attachments_found, attachments_pass, owners_pass, places_pass};
 use crate::attachments::{see_apart, see_attachments, see_owners};
+use crate::content::{Content, content_of};
 use crate::fault::{AdoptFault, Foreign};
 use crate::laws::{meta_pass, totals_found, volumes_found, volumes_pass};
 use crate::meta::{Meta, judge_meta, see_meta};
@@ -142,13 +143,14 @@ fn judge_seen<S: Alter>(
     judge_joined(alloc, conn, config, tables)
 }
 
-// Judges the rows after that of meta by the constraints in their order. What is seen of the tables is large,
-// and so is passed by reference to what may fail.
+// Judges the rows after that of meta by the constraints in their order, and counts them. What is seen of the
+// tables is large, and so is passed by reference to what may fail.
 fn judge_behind<S: Alter>(
     alloc: Global,
     conn: &mut IdleConnection<S>,
     config: &Config,
     meta: Meta,
+    content: &mut Content,
 ) -> Result<VolumesSeen, AdoptFault>
     requires ours { HasCleanDisk (state S.Store conn.old) → conn.old.schema ≡ our_schema }
     ensures scans { Scans S.Store conn.old conn.new result }
@@ -159,6 +161,7 @@ fn judge_behind<S: Alter>(
 {
     let tables = see_tables(alloc, conn, config, meta)?;
     judge_seen(alloc, conn, config, meta, &tables)?;
+    *content = content_of(&tables, meta);
     let TablesSeen { volumes, .. } = tables;
     Ok(volumes)
 }
@@ -180,6 +183,7 @@ fn judge_rows<S: Alter>(
     alloc: Global,
     conn: &mut IdleConnection<S>,
     config: &Config,
+    content: &mut Content,
 ) -> Result<VolumesSeen, AdoptFault>
     requires ours { HasCleanDisk (state S.Store conn.old) → conn.old.schema ≡ our_schema }
     ensures scans { Scans S.Store conn.old conn.new result }
@@ -189,7 +193,7 @@ fn judge_rows<S: Alter>(
         → JudgesRows config.now (state S.Store conn.old).now.trees result }
 {
     let meta = see_row(conn)?;
-    judge_behind(alloc, conn, config, meta)
+    judge_behind(alloc, conn, config, meta, content)
 }
 
 // What the laws of the rows say: rows that break no constraint are those of a State that meets every
@@ -230,6 +234,7 @@ fn judge<S: Alter>(
     alloc: Global,
     conn: &mut IdleConnection<S>,
     config: &Config,
+    content: &mut Content,
 ) -> Result<Judged, AdoptFault>
     ensures scans { Scans S.Store conn.old conn.new result }
     ensures failed { JudgingFails S.Store conn.old conn.new result }
@@ -248,7 +253,7 @@ fn judge<S: Alter>(
     if !is_our_schema(conn.schema()) {
         return Err(AdoptFault::Foreign(Foreign::Schema));
     }
-    let volumes = judge_rows(alloc, conn, config)?;
+    let volumes = judge_rows(alloc, conn, config, content)?;
     let totals = totals_of(
         alloc,
         config.pools(),
@@ -287,6 +292,7 @@ fn judge_and_upgrade<S: Alter>(
     alloc: Global,
     conn: &mut IdleConnection<S>,
     config: &Config,
+    content: &mut Content,
 ) -> Result<Totals, AdoptFault>
     ensures taken { HasCleanDisk (state S.Store conn.new)
         → IfOk result (IsTaken config.now (state S.Store conn.old) (state S.Store conn.new)) }
@@ -306,7 +312,7 @@ fn judge_and_upgrade<S: Alter>(
         × IfErr result (λ fault. is_failure fault ≡ true)) }
 {
     latest();
-    let judged = judge(alloc, conn, config)?;
+    let judged = judge(alloc, conn, config, content)?;
     upgrade(conn, judged.format)?;
     Ok(judged.totals)
 }
@@ -320,6 +326,40 @@ fn roll_back<S: Alter>(conn: &mut Connection<S>)
     ensures survives { Survives (state S.Store conn.old) (state S.Store conn.new) (λ _. ⊥) }
 {
     conn.transaction().rollback();
+}
+
+// As [`adopt`], and counts the rows of tables that the database has.
+fn adopt_into<S: Alter>(
+    alloc: Global,
+    mut conn: Connection<S>,
+    config: &Config,
+    content: &mut Content,
+) -> Result<Tables<S>, AdoptError<S>>
+    requires idle { conn.in_transaction ≡ false }
+    ensures adopted { IfOk result (λ tables. IsAdopted S.Store config.now conn tables) }
+    ensures unadopted { IfErr result (λ error. IsUnadopted S.Store config.now conn error.fault error.conn) }
+{
+    rows_tell(config);
+    one_state();
+    conn.set_step_limit(None);
+    roll_back(&mut conn);
+    if is_blank(conn.schema()) {
+        return match Tables::make(alloc, conn) {
+            Ok(tables) => Ok(tables),
+            Err(MakeFault { error, conn }) => Err(AdoptError {
+                fault: AdoptFault::from(error),
+                conn,
+            }),
+        };
+    }
+    let mut conn = IdleConnection::new(conn);
+    match judge_and_upgrade(alloc, &mut conn, config, content) {
+        Ok(totals) => Ok(Tables::over(conn, totals)),
+        Err(fault) => {
+            let conn = conn.into_connection();
+            Err(AdoptError { fault, conn })
+        }
+    }
 }
 
 /// Takes the tables that a database has, and gives a keeper over them; a database that has no table
@@ -346,32 +386,38 @@ fn roll_back<S: Alter>(conn: &mut Connection<S>)
 /// rowids do not rise is answered as a failed database; `sqlite` opens no such file.
 pub fn adopt<S: Alter>(
     alloc: Global,
-    mut conn: Connection<S>,
+    conn: Connection<S>,
     config: &Config,
 ) -> Result<Tables<S>, AdoptError<S>>
     requires idle { conn.in_transaction ≡ false }
     ensures adopted { IfOk result (λ tables. IsAdopted S.Store config.now conn tables) }
     ensures unadopted { IfErr result (λ error. IsUnadopted S.Store config.now conn error.fault error.conn) }
 {
-    rows_tell(config);
-    one_state();
-    conn.set_step_limit(None);
-    roll_back(&mut conn);
-    if is_blank(conn.schema()) {
-        return match Tables::make(alloc, conn) {
-            Ok(tables) => Ok(tables),
-            Err(MakeFault { error, conn }) => Err(AdoptError {
-                fault: AdoptFault::from(error),
-                conn,
-            }),
-        };
-    }
-    let mut conn = IdleConnection::new(conn);
-    match judge_and_upgrade(alloc, &mut conn, config) {
-        Ok(totals) => Ok(Tables::over(conn, totals)),
-        Err(fault) => {
-            let conn = conn.into_connection();
-            Err(AdoptError { fault, conn })
-        }
+    let mut content = Content::NEW;
+    adopt_into(alloc, conn, config, &mut content)
+}
+
+/// As [`adopt`], and returns how much the tables have in addition. It costs no further read.
+///
+/// # Errors
+///
+/// As of [`adopt`].
+///
+/// # Not promised
+///
+/// The counts, which rows of `test_tables` show.
+pub fn adopt_and_count<S: Alter>(
+    alloc: Global,
+    conn: Connection<S>,
+    config: &Config,
+) -> Result<(Tables<S>, Content), AdoptError<S>>
+    requires idle { conn.in_transaction ≡ false }
+    ensures adopted { IfOk result (λ r. IsAdopted S.Store config.now conn r.0) }
+    ensures unadopted { IfErr result (λ error. IsUnadopted S.Store config.now conn error.fault error.conn) }
+{
+    let mut content = Content::NEW;
+    match adopt_into(alloc, conn, config, &mut content) {
+        Ok(tables) => Ok((tables, content)),
+        Err(error) => Err(error),
     }
 }

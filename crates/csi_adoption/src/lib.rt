@@ -11,16 +11,16 @@
 //! and the next number in the row of `meta` (`Meta`): what the scans find in rows (`in_volumes`,
 //! `in_attachments`) has those faults, in their order.
 //!
-//! `meta.rt`, `volumes.rt` and `attachments.rt` scan the tables, with a fold a constraint, all in one scan
-//! a table (`specs/Folding.antt` has what they begin as, what they become, and what they have found), and
-//! fill what `seen.rt` has: the first row that breaks each constraint, and the sums of pools and nodes;
-//! `starts.rt` begins the constraints, and `sums.rt` the sums. `volume_faults.rt` and
-//! `attachment_faults.rt` find the fault of a constraint, `table_faults.rt` puts them in order: each
-//! `check_` answers the first fault of its constraints, so that a `?` after each makes the first of all.
-//! `adopting.rt` calls them in order. Before the first scan a transaction is begun and undone,
-//! so that what is seen is what was committed. Attachments are scanned with their volumes, and next to one
-//! another, only once each is known to be at a node of the configuration, so that those of a volume are
-//! few. That tables of an earlier format are made ones of the latest is the last step that can fail.
+//! `meta.rt`, `volumes.rt` and `attachments.rt` scan the tables, with a fold a constraint, all in one scan a
+//! table (`specs/Folding.antt` has what they begin as, what they become, and what they have found), and fill
+//! what `seen.rt` has: the first row that breaks each constraint, and the sums of pools and nodes;
+//! `starts.rt` begins the constraints, and `sums.rt` the sums. `volume_faults.rt` and `attachment_faults.rt`
+//! find the fault of a constraint, `table_faults.rt` puts them in order: each `check_` answers the first
+//! fault of its constraints, so that a `?` after each makes the first of all. `adopting.rt` calls them in
+//! order, and `content.rt` has what is counted. Before the first scan a transaction is begun and undone, so
+//! that what is seen is what was committed. Attachments are scanned with their volumes, and next to one
+//! another, only once each is known to be at a node of the configuration, so that those of a volume are few.
+//! That tables of an earlier format are made ones of the latest is the last step that can fail.
 //!
 //! `specs/Passing.antt` says what rows that pass all constraints are. The lemmas go from rows to a State and
 //! back: a row that passes is that of a volume or an attachment (`VolumeRowLemmas`, `AttachmentRowLemmas`),
@@ -44,6 +44,7 @@ mod adopting;
 mod attachment_faults;
 pub mod attachment_laws;
 mod attachments;
+mod content;
 mod fault;
 pub mod laws;
 mod meta;
@@ -54,5 +55,6 @@ mod table_faults;
 mod volume_faults;
 mod volumes;
 
-pub use adopting::{AdoptError, adopt};
+pub use adopting::{AdoptError, adopt, adopt_and_count};
+pub use content::Content;
 pub use fault::{AdoptFault, Foreign};

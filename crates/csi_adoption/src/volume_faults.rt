@@ -8,6 +8,7 @@ use crate::fault::AdoptFault;
 use crate::seen::VolumesSeen;
 use csi_config::{Config, Pool};
 use csi_constraints::{BrokenConstraint, RowName, TextSum, VolumeConstraint};
+use csi_rules::is_overcommitted;
 use csi_types::copy_text;
 use std::alloc::Global;
 
@@ -32,7 +33,7 @@ fn full_pool<'a>(pools: &'a [Pool], bytes: &[TextSum]) -> Option<&'a Pool>
     ensures { option_copied result ≡ full_pool pools.now (sums_of bytes.now) }
 {
     for (pool, bytes) in pools.iter().zip(bytes.iter()) {
-        if bytes.sum > pool.bytes {
+        if is_overcommitted(pool, bytes.sum) {
             return Some(pool);
         }
     }

@@ -13,7 +13,7 @@ use Rattle.csi_keeper.specs.declared.change.StoreFault.{StoreFault}
 use Rattle.csi_keeper.specs.declared.change.StoreFault.TheVariants.{NoMemory, Refused}
 use Rattle.csi_keeper.specs.declared.volume.Attachment.{Attachment}
 use Rattle.csi_keeper.specs.declared.volume.Volume.{Volume}
-use Rattle.csi_tables.specs.Encoding.{caps_bytes, params_bytes}
+use Rattle.csi_columns.specs.Encoding.{caps_bytes, params_bytes}
 use Rattle.csi_change_store.specs.declared.asking.ChangeStoreCall.{ChangeStoreCall}
 use Rattle.csi_change_store.specs.declared.asking.ChangeStoreCall.TheVariants.{Read, Make, Commit, Lead}
 

@@ -6,7 +6,8 @@ use Rattle.sqlite.specs.Order.{Row}
 use Rattle.csi_keeper.specs.State.{State}
 use Rattle.csi_sql.specs.Making.{MakesTables}
 use Rattle.csi_sql.specs.Rows.{seen_volume}
-use Rattle.csi_tables.specs.Holding.{IsRows, IsStorable, attachment_entry, volume_entry}
+use Rattle.csi_columns.specs.Entries.{attachment_entry, volume_entry}
+use Rattle.csi_tables.specs.Holding.{IsRows, IsStorable}
 use Rattle.csi_change_store.specs.Pages.{PageItem, Meta, Volume, Attachment, Token, Skipped, VolumeColumns, AttachmentColumns}
 use Rattle.csi_change_store.specs.Taking.{PutsAll, kept_attachment, kept_volume}
 

@@ -6,13 +6,13 @@ ghost use Rattle.envelope.specs.declared.limits.TheConstants.{MAX_MESSAGE_BYTES}
 ghost use Rattle.pbwire.specs.Writing.{spellings};
 ghost use Rattle.csi_keeper.specs.declared.change.StoreFault.TheVariants.{Down, NoMemory, Refused};
 ghost use Rattle.std.specs.FinMap.{empty};
-ghost use Rattle.csi_tables.specs.Encoding.{params_bytes};
+ghost use Rattle.csi_columns.specs.Encoding.{params_bytes};
 ghost use Rattle.csi_change_store.specs.Asking.{asked_fields, attachment_fields, bytes_field, change_bytes, change_number, commit_frame, number_field, path_of, volume_fields};
 ghost use Rattle.csi_change_store.specs.declared.asking.ChangeStoreCall.TheVariants.{Commit};
 
 use crate::asking::{ChangeStoreCall, frame_of};
+use csi_columns::{write_caps, write_params};
 use csi_keeper::{Attachment, Change, StoreFault, Volume};
-use csi_tables::{write_caps, write_params};
 use csi_types::Map;
 use envelope::MAX_MESSAGE_BYTES;
 use pbwire::{put_bytes, put_varint};

@@ -37,7 +37,8 @@ use Rattle.csi_machine.specs.calls.Capacity.{capacity_of, served, greatest_size,
 use Rattle.csi_machine.specs.calls.Create.{create_named, made, place, place_in, is_compatible}
 use Rattle.csi_machine.specs.calls.Delete.{delete_found, delete_volume}
 use Rattle.csi_machine.specs.calls.Listing.{list_after, start_of}
-use Rattle.csi_machine.specs.calls.Publish.{publish_found, publish_node, publish_at, publish_key, has_conflict, wanted, requested_key, is_at, same_flag, target_in}
+use Rattle.csi_rules.specs.Conflict.{has_conflict}
+use Rattle.csi_machine.specs.calls.Publish.{publish_found, publish_node, publish_at, publish_key, wanted, requested_key, is_at, same_flag, target_in}
 use Rattle.csi_machine.specs.calls.Unpublish.{unpublish_number, detach_all, detach_one}
 use Rattle.csi_machine.specs.Modify.{modify_found}
 use Rattle.csi_machine.specs.Plan.{refuse, respond, make}

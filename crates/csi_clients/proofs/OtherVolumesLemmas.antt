@@ -28,7 +28,8 @@ use Rattle.csi_keeper.specs.facts.Orders.{place_total, place_exact}
 use Rattle.csi_machine.specs.declared.plan.Plan.{Plan}
 use Rattle.csi_machine.specs.calls.Create.{create_named}
 use Rattle.csi_machine.specs.calls.Delete.{delete_found, delete_volume}
-use Rattle.csi_machine.specs.calls.Publish.{Target, attach, publish_found, publish_node, publish_at, publish_key, has_conflict, wanted, requested_key, is_at, target_in}
+use Rattle.csi_rules.specs.Conflict.{has_conflict}
+use Rattle.csi_machine.specs.calls.Publish.{Target, attach, publish_found, publish_node, publish_at, publish_key, wanted, requested_key, is_at, target_in}
 use Rattle.csi_machine.specs.calls.Unpublish.{unpublish_number, detach}
 use Rattle.csi_machine.specs.Modify.{modify_found}
 use Rattle.csi_machine.specs.Plan.{after, refuse, make}

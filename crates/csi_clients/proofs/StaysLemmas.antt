@@ -42,7 +42,8 @@ use Rattle.csi_keeper.specs.facts.Orders.{place_total, place_exact}
 use Rattle.csi_machine.specs.declared.plan.Plan.{Plan}
 use Rattle.csi_machine.specs.calls.Create.{create, create_named, again_at, place, place_in, is_compatible}
 use Rattle.csi_machine.specs.calls.Delete.{delete, delete_found, delete_volume}
-use Rattle.csi_machine.specs.calls.Publish.{Target, publish, publish_found, publish_node, publish_at, publish_key, attach, has_conflict, requested_key, wanted, is_at, target_in}
+use Rattle.csi_rules.specs.Conflict.{has_conflict}
+use Rattle.csi_machine.specs.calls.Publish.{Target, publish, publish_found, publish_node, publish_at, publish_key, attach, requested_key, wanted, is_at, target_in}
 use Rattle.csi_machine.specs.calls.Unpublish.{unpublish, unpublish_number, detach_all, detach_one}
 use Rattle.csi_machine.specs.Modify.{modify, modify_found, modify_own, modify_to}
 use Rattle.csi_machine.specs.Plan.{after, refuse, respond, make}

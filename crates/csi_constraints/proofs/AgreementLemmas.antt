@@ -19,8 +19,8 @@ use Rattle.csi_keeper.specs.declared.volume.Volume.{Volume}
 use Rattle.csi_sql.specs.Cells.{as_flag}
 use Rattle.csi_sql.specs.Rows.{bool_value}
 use Rattle.csi_constraints.specs.Scans.{with_owner}
-use Rattle.csi_tables.specs.Encoding.{caps_bytes, FitCaps, ReadsBack}
-use Rattle.csi_tables.specs.Holding.{attachment_entry}
+use Rattle.csi_columns.specs.Encoding.{caps_bytes, FitCaps, ReadsBack}
+use Rattle.csi_columns.specs.Entries.{attachment_entry}
 use Rattle.csi_constraints.specs.Agreement.{AttachmentAgrees, OwnerAgrees, PairAgrees, VolumeAgrees}
 use Rattle.csi_constraints.specs.Apart.{are_beside}
 use Rattle.csi_constraints.specs.Coded.{key_at}

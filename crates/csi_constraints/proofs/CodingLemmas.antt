@@ -22,8 +22,8 @@ use Rattle.csi_keeper.specs.declared.capability.CapKey.{CapKey}
 use Rattle.csi_keeper.specs.declared.capability.Kind.{Kind}
 use Rattle.csi_keeper.specs.declared.capability.Kind.TheVariants.{Block, Mount}
 use Rattle.csi_sql.specs.declared.formats.TheConstants.{FIRST_FORMAT}
-use Rattle.csi_tables.specs.facts.Keys.{some_key}
-use Rattle.csi_tables.specs.Encoding.{caps_bytes, params_bytes, FitCaps, FitParams, ReadsBack, with_caps, with_params}
+use Rattle.csi_columns.specs.facts.Keys.{some_key}
+use Rattle.csi_columns.specs.Encoding.{caps_bytes, params_bytes, FitCaps, FitParams, ReadsBack, with_caps, with_params}
 use Rattle.csi_constraints.specs.Coding.{MeansMessage, are_keys, are_params, is_small, created, each_key, in_front, key_in, keys_in, message_in, only, params_in, rise}
 use Rattle.csi_constraints.specs.Values.{if_passes, is_some_and}
 use Rattle.csi_constraints.proofs.OrderLemmas.{both, ordered_rise, parts, rise-ordered}

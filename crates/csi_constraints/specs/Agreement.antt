@@ -21,8 +21,8 @@ use Rattle.csi_keeper.specs.declared.volume.Attachment.{Attachment}
 use Rattle.csi_keeper.specs.declared.volume.Volume.{Volume}
 use Rattle.csi_sql.specs.declared.formats.TheConstants.{FIRST_FORMAT}
 use Rattle.csi_constraints.specs.Scans.{with_owner}
-use Rattle.csi_tables.specs.Encoding.{caps_bytes, FitCaps, FitParams}
-use Rattle.csi_tables.specs.Holding.{attachment_entry, volume_entry}
+use Rattle.csi_columns.specs.Encoding.{caps_bytes, FitCaps, FitParams}
+use Rattle.csi_columns.specs.Entries.{attachment_entry, volume_entry}
 use Rattle.csi_constraints.specs.Apart.{are_apart}
 use Rattle.csi_constraints.specs.Attachments.{has_flag, is_at_node}
 use Rattle.csi_constraints.specs.Coded.{has_cap, has_caps, has_params}

@@ -17,7 +17,7 @@ use Rattle.csi_codec.specs.Reading.{read_request}
 use Rattle.csi_keeper.specs.Capability.{is_supported_key, key_cmp, key_of}
 use Rattle.csi_keeper.specs.declared.capability.CapKey.{CapKey}
 use Rattle.csi_sql.specs.declared.formats.TheConstants.{FIRST_FORMAT}
-use Rattle.csi_tables.specs.Encoding.{caps_bytes, params_bytes}
+use Rattle.csi_columns.specs.Encoding.{caps_bytes, params_bytes}
 use Rattle.csi_constraints.specs.Values.{if_passes}
 
 -- ---- what is read

@@ -1,7 +1,7 @@
 //! The constraints of a row that read capabilities or parameters of its bytes.
 
 ghost use Rattle.std.specs.Prelude.{◌≡◌, IfOk, IfSome, OnErr, ◌∷◌, []};
-ghost use Rattle.csi_tables.specs.Encoding.{FitCaps, FitParams};
+ghost use Rattle.csi_columns.specs.Encoding.{FitCaps, FitParams};
 ghost use Rattle.csi_sql.specs.Folding.{FailsForMemory};
 ghost use Rattle.csi_constraints.specs.Coded.{SaysMessage, has_cap, has_caps, has_params, key_at, keys_at, params_at};
 

@@ -6,15 +6,15 @@ ghost use Rattle.csi_types.specs.Checks.{map_bytes};
 ghost use Rattle.csi_types.specs.declared.method.Method.TheVariants.{CreateVolume as Creating};
 ghost use Rattle.csi_codec.specs.Reading.{read_request};
 ghost use Rattle.csi_keeper.specs.Capability.{is_supported_key};
-ghost use Rattle.csi_tables.specs.Encoding.{caps_bytes, params_bytes, FitCaps, FitParams};
+ghost use Rattle.csi_columns.specs.Encoding.{caps_bytes, params_bytes, FitCaps, FitParams};
 ghost use Rattle.csi_sql.specs.Folding.{FailsForMemory};
 ghost use Rattle.csi_constraints.specs.Values.{if_passes};
 ghost use Rattle.csi_constraints.specs.Coding.{MeansMessage, are_keys, are_params, is_small, each_key, is_before, key_in, keys_in, message_in, only, params_in, rise};
 
 use csi_codec::decode_create;
+use csi_columns::{write_caps, write_params};
 use csi_keeper::{CapKey, cap_key, supported};
 use csi_sql::FIRST_FORMAT;
-use csi_tables::{write_caps, write_params};
 use csi_types::{Capability, CreateVolume, Items, MAX_MAP_BYTES, Map, map_bytes};
 use pbmessage::DecodeFault;
 use sqlite::{Error, ErrorCode};

@@ -8,19 +8,9 @@ ghost use Rattle.csi_keeper.specs.State.{AttachmentKey};
 ghost use Rattle.csi_keeper.specs.declared.capability.CapKey.{CapKey};
 ghost use Rattle.csi_keeper.specs.declared.volume.Attachment.{Attachment};
 ghost use Rattle.csi_keeper.specs.declared.volume.Volume.{Volume};
-ghost use Rattle.csi_tables.specs.Encoding.{ReadsBack};
 ghost use Rattle.csi_constraints.specs.Agreement.{AttachmentAgrees, OwnerAgrees, PairAgrees, VolumeAgrees};
 
-use csi_codec::laws::{read_as_meant, round_trip};
-
-// What is written of a request that fits is read as that request.
-#[inline(always)]
-fn read_back()
-    ensures { ReadsBack }
-{
-    round_trip();
-    read_as_meant();
-}
+use csi_columns::laws::read_back;
 
 /// The constraints of a row of volumes are those of the volume with that number.
 pub fn volumes()

@@ -1,5 +1,5 @@
 -- From two files to the State that they have, and back.
-use Rattle.std.proofs.Common.{◌⊎◌, ◌↔◌, ◌≡◌, ◌∙◌, ℕ, Bool, List, Option, Result, Ok, Err, IfOk, IfErr, IsTrue, false, inl, inr, refl, sym, ap, subst, subst₂, arith}
+use Rattle.std.proofs.Common.{◌⊎◌, ◌↔◌, ◌≡◌, ◌∙◌, Bool, List, Result, Ok, Err, IfOk, IfErr, IsTrue, false, inl, inr, refl, sym, ap, subst, subst₂, arith}
 use Rattle.std.proofs.lemmas.Bool.{cases_Bool}
 use Rattle.std.proofs.Math.Logic.{∥∥₁_elim, ∥∥₁_map}
 use Rattle.std.specs.Io.KnownBytes.{IsAtEnd}
@@ -28,7 +28,6 @@ use Rattle.csi_config.specs.declared.config.Config.{Config}
 use Rattle.csi_keeper.specs.Invariant.{IsInvariant}
 use Rattle.csi_keeper.specs.Model.{Model}
 use Rattle.csi_keeper.specs.State.{State, first_state}
-use Rattle.csi_keeper.specs.declared.change.StoreFault.TheVariants.{Refused}
 use Rattle.csi_sql.specs.Tables.{no_schema, schema}
 use Rattle.csi_tables.specs.Holding.{Holds, IsEitherRows, IsRows}
 use Rattle.csi_tables.specs.Keeping.{connection_of, tables_model}
@@ -41,17 +40,18 @@ use Rattle.csi_adoption.specs.Adopting.{IsAdopted, IsStateOf, IsUnadopted}
 use Rattle.csi_server.specs.Machine.{Event, Runs, state_after}
 use Rattle.csi_server.specs.Serving.{Serves}
 use Rattle.csi_server.specs.Volumes.{IsPending, seen, volumes}
-use Rattle.csi_files.specs.declared.over.Served.{Served}
-use Rattle.csi_files.specs.declared.over.Unserved.{Unserved}
-use Rattle.csi_files.specs.declared.over.Unserved.TheVariants as under
-use Rattle.csi_files.specs.declared.serving.Closed.{Closed}
-use Rattle.csi_files.specs.declared.serving.NotServed.{NotServed}
-use Rattle.csi_files.specs.declared.serving.NotServed.TheVariants.{NotOpened, Blank, NotAdopted, NotCopied, Left, NotClosed}
+use Rattle.csi_files.specs.Streams.{AreUntouched, Streams}
+use Rattle.csi_files.specs.declared.run.Refusal.{Refusal}
+use Rattle.csi_files.specs.declared.run.Refusal.TheVariants.{Blank, NotAdopted, NotCopied}
+use Rattle.csi_files.specs.declared.run.RunReport.{RunReport}
+use Rattle.csi_files.specs.declared.run.Closed.{Closed}
+use Rattle.csi_files.specs.declared.run.RunFailure.{RunFailure}
+use Rattle.csi_files.specs.declared.run.RunFailure.TheVariants.{NoFiles, NotOpened, Refused, Left, NotClosed}
 use Rattle.csi_files.specs.Again.{AreFoundAgain}
 use Rattle.csi_files.specs.Files.{HasState, HoldsSealed, IsStateIn, files_model, image_model}
-use Rattle.csi_files.specs.Leaving.{GivesUp, HoldsCommit, IsFinished, IsLeft, IsUnfinished}
-use Rattle.csi_files.specs.Over.{IsRead, IsUnserved, ServesOver, with_counts}
-use Rattle.csi_files.specs.Serving.{AllServed, HasNone, HasRefused, IsAsked, IsNotServed, IsStateAfter, Keeps, KeepsDatabase, LeavesAfter, Refuses, SaysNew, ServesThen, WasTaken, counts_model}
+use Rattle.csi_files.specs.Leaving.{HoldsCommit, IsFinished, IsLeft, IsUnfinished}
+use Rattle.csi_files.specs.Adopted.{IsRead, IsRefused, IsRefusedBack, IsUnserved, ServesOver, ServesTables, with_counts}
+use Rattle.csi_files.specs.Serving.{AllServed, HasNone, HasRefused, IsAsked, IsBlankAsked, IsNotServed, IsStateAfter, Keeps, KeepsDatabase, LeavesAfter, Refuses, SaysNew, ServesThen, WasTaken, counts_model}
 use Rattle.csi_files.proofs.FirstLemmas.{first_rows}
 use Rattle.csi_files.proofs.LeaveLemmas.{database_of, each_left}
 use Rattle.csi_files.proofs.RunLemmas.{Carries, ends, run_in, same_events}
@@ -151,7 +151,7 @@ module _ {D : Type 0} (g : Ghosts D) where
 
     -- ---- calls were served
 
-    module _ (back : Held (FileStore D g)) (served : Served) (unread left held holds : Option (List ℕ)) (over : ServesOver over_files config conn back served unread left held holds)
+    module _ (back : Held (FileStore D g)) (served : RunReport) (bytes : Streams) (over : ServesOver over_files config conn back served bytes)
         (blank : IsTrue served.is_new ↔ (conn.schema ≡ no_schema)) where
       abbrev end : Held (FileStore D g)
       end = connection_of over_files over.last
@@ -177,7 +177,7 @@ module _ {D : Type 0} (g : Ghosts D) where
 
       -- the files were closed
       closed : (files : Files D) → (AreClean g files.log files.db → HoldsCommit g back files)
-          → Serves (volumes config) (image_model was served.is_new) (seen config (files_model g files served.refusals served.is_down)) unread left held holds served.end
+          → Serves (volumes config) (image_model was served.is_new) (seen config (files_model g files served.refusals served.is_down)) bytes.unread bytes.left bytes.held bytes.holds served.end
       closed files copy = (
         over.run.serves.0,
         over.run.serves.1,
@@ -198,19 +198,19 @@ module _ {D : Type 0} (g : Ghosts D) where
               tied = λ _. over.adopted.ties early;
               ties = λ a it _ image may. ∣ (a, kept_state end image a copied.was_open it.0.0 (copied.each image may)) ∣₁;
             } in
-            ends (volumes config) first_model last_model _ _ s carries over.run.serves.0 _ held holds served.end (over.run.serves.2 late s (holds_it over.first over.adopted early s is)),
+            ends (volumes config) first_model last_model _ _ s carries over.run.serves.0 _ bytes.held bytes.holds served.end (over.run.serves.2 late s (holds_it over.first over.adopted early s is)),
       )
 
       pub finished : (outcome : Closed D) → IsFinished g served back outcome
-          → Serves (volumes config) (image_model was outcome.served.is_new) (seen config (files_model g outcome.files outcome.served.refusals outcome.served.is_down)) unread left held holds outcome.served.end
+          → Serves (volumes config) (image_model was outcome.report.is_new) (seen config (files_model g outcome.files outcome.report.refusals outcome.report.is_down)) bytes.unread bytes.left bytes.held bytes.holds outcome.report.end
       finished outcome it =
-          subst (λ (o : Served). Serves (volumes config) (image_model was o.is_new) (seen config (files_model g outcome.files o.refusals o.is_down)) unread left held holds o.end) (sym it.same)
+          subst (λ (o : RunReport). Serves (volumes config) (image_model was o.is_new) (seen config (files_model g outcome.files o.refusals o.is_down)) bytes.unread bytes.left bytes.held bytes.holds o.end) (sym it.same)
           (closed outcome.files it.copied)
 
       -- they were not
       serves_then : (Clean : Type 0) (Leaves : State → List Event → Type 0) → (Clean → HasCleanDisk (file_state end))
           → (Clean → (s : State) (events : List Event) → Runs (volumes config) first_model last_model s events → ((t : State) → (model_of over.first).survivors t → t ≡ s) → (model_of over.first).tied → IsInvariant config s → Leaves s events)
-          → ServesThen config was unread left held holds served Clean Leaves
+          → ServesThen config was bytes served Clean Leaves
       serves_then Clean Leaves sure leaves = record {
         read = over.run.serves.0;
         consumed = over.run.serves.1;
@@ -235,15 +235,15 @@ module _ {D : Type 0} (g : Ghosts D) where
               tied = λ _. tied;
               ties = λ a it _. tt;
             } in (
-              ends (volumes config) first_model last_model _ _ s carries read _ held holds served.end run,
+              ends (volumes config) first_model last_model _ _ s carries read _ bytes.held bytes.holds served.end run,
               (holds_it over.first over.adopted early s is).1,
-              subst (Leaves s) (same_events (volumes config) first_model last_model _ _ s carries read _ held holds served.end run)
-                  (leaves clean s _ (run_in (volumes config) first_model last_model s read (IsAtEnd left) held holds served.end run) only tied (holds_it over.first over.adopted early s is).1),
+              subst (Leaves s) (same_events (volumes config) first_model last_model _ _ s carries read _ bytes.held bytes.holds served.end run)
+                  (leaves clean s _ (run_in (volumes config) first_model last_model s read (IsAtEnd bytes.left) bytes.held bytes.holds served.end run) only tied (holds_it over.first over.adopted early s is).1),
             );
       }
 
       -- each outcome of a crash of the closed files has the State after the run
-      closed_after : (files : Files D) → (AreClean g files.log files.db → HoldsCommit g back files) → ServesThen config was unread left held holds served (AreClean g files.log files.db) (LeavesAfter g config files)
+      closed_after : (files : Files D) → (AreClean g files.log files.db → HoldsCommit g back files) → ServesThen config was bytes served (AreClean g files.log files.db) (LeavesAfter g config files)
       closed_after files copy = serves_then (AreClean g files.log files.db) (LeavesAfter g config files) (λ clean. (copied clean).was_clean) (λ clean s events run only tied invariant image may.
           ∣ (
             state_after (volumes config) s events,
@@ -254,9 +254,9 @@ module _ {D : Type 0} (g : Ghosts D) where
           copied : AreClean g files.log files.db → HoldsCommit g end files
           copied clean = subst (λ (h : Held (FileStore D g)). HoldsCommit g h files) over.back_is (copy clean)
 
-      pub finished_after : (outcome : Closed D) → IsFinished g served back outcome → ServesThen config was unread left held holds outcome.served (AreClean g outcome.files.log outcome.files.db) (LeavesAfter g config outcome.files)
+      pub finished_after : (outcome : Closed D) → IsFinished g served back outcome → ServesThen config was bytes outcome.report (AreClean g outcome.files.log outcome.files.db) (LeavesAfter g config outcome.files)
       finished_after outcome it =
-          subst (λ (o : Served). ServesThen config was unread left held holds o (AreClean g outcome.files.log outcome.files.db) (LeavesAfter g config outcome.files)) (sym it.same) (closed_after outcome.files it.copied)
+          subst (λ (o : RunReport). ServesThen config was bytes o (AreClean g outcome.files.log outcome.files.db) (LeavesAfter g config outcome.files)) (sym it.same) (closed_after outcome.files it.copied)
 
       -- what a stop leaves is a State after the run
       after : (s : State) (events : List Event) → Runs (volumes config) first_model last_model s events → ((t : State) → (model_of over.first).survivors t → t ≡ s) → IsInvariant config s
@@ -267,7 +267,7 @@ module _ {D : Type 0} (g : Ghosts D) where
           let is = laws.left old new s events run only t there in
           record { is = is; invariant = elim is [ inl is_last ↦ subst (IsInvariant config) (sym is_last) (laws.runs s events invariant) | inr is_pending ↦ laws.pending s events t invariant is_pending ] }
 
-      left_after : (files : Files D) → IsLeft g back files → ServesThen config was unread left held holds served (AreClean g files.log files.db) (LeavesAfter g config files)
+      left_after : (files : Files D) → IsLeft g back files → ServesThen config was bytes served (AreClean g files.log files.db) (LeavesAfter g config files)
       left_after files there =
           let it : IsLeft g end files = subst (λ (h : Held (FileStore D g)). IsLeft g h files) over.back_is there in
           serves_then (AreClean g files.log files.db) (LeavesAfter g config files) it.clean (λ clean s events run only tied invariant image may.
@@ -275,13 +275,12 @@ module _ {D : Type 0} (g : Ghosts D) where
           let rows = run.ties tied (it.clean clean) found.0 found.1 in
           (rows.0, record { db = found.0; holds = ∣ found.2 ∣₁; state = inl (inr rows.1) }, after s events run only invariant rows.0 (found.0, found.1, rows.1))))
 
-      pub unfinished : (e : NotServed D g) → IsUnfinished g served back e → IsNotServed g config was unread left held holds (λ _ _. ⊥) e
+      pub unfinished : (e : RunFailure D g) → IsUnfinished g served back e → IsNotServed g config was bytes (λ _ _. ⊥) e
+      unfinished (NoFiles error) h = absurd h
       unfinished (NotOpened error rest) h = absurd h
-      unfinished (Blank now) h = absurd h
-      unfinished (NotAdopted fault now) h = absurd h
-      unfinished (NotCopied fault now) h = absurd h
-      unfinished (Left outcome now) h = (subst HasRefused (sym h.0) h.2, subst (λ o. ServesThen config was unread left held holds o (AreClean g now.log now.db) (LeavesAfter g config now)) (sym h.0) (left_after now h.1))
-      unfinished (NotClosed outcome error now) h = ((h.1.1, h.1.2), subst (λ o. ServesThen config was unread left held holds o (AreClean g now.log now.db) (LeavesAfter g config now)) (sym h.0) (left_after now h.1.0))
+      unfinished (Refused refusal now) h = absurd h
+      unfinished (Left outcome now) h = (subst HasRefused (sym h.0) h.2, subst (λ o. ServesThen config was bytes o (AreClean g now.log now.db) (LeavesAfter g config now)) (sym h.0) (left_after now h.1))
+      unfinished (NotClosed outcome error now) h = ((h.1.1, h.1.2), subst (λ o. ServesThen config was bytes o (AreClean g now.log now.db) (LeavesAfter g config now)) (sym h.0) (left_after now h.1.0))
 
     -- ---- no call was served
 
@@ -404,86 +403,63 @@ module _ {D : Type 0} (g : Ghosts D) where
         let early : (model_of read.first).doubt ≡ 0 = omega (arith, read.quiet.clean, late) in
         was_taken read.first read.adopted early
 
-    pub given_up : (is_existing : Bool) (unread left held holds : Option (List ℕ)) (unserved : Unserved (FileStore D g)) (e : NotServed D g) → GivesUp g unserved e
-        → IsUnserved over_files config conn is_existing unserved → (left ≡ unread) × (holds ≡ held) → IsNotServed g config was unread left held holds (λ _ _. ⊥) e
-    given_up is_existing unread left held holds (under.Blank back) (Blank now) h u same = (same, has_none back now u.0 u.1 h)
-    given_up is_existing unread left held holds (under.Blank back) (NotOpened error rest) h u same = absurd h
-    given_up is_existing unread left held holds (under.Blank back) (NotAdopted cause now) h u same = absurd h
-    given_up is_existing unread left held holds (under.Blank back) (NotCopied cause now) h u same = absurd h
-    given_up is_existing unread left held holds (under.Blank back) (Left outcome now) h u same = absurd h
-    given_up is_existing unread left held holds (under.Blank back) (NotClosed outcome error now) h u same = absurd h
-    given_up is_existing unread left held holds (under.NotAdopted fault back) (Blank now) h u same = absurd h
-    given_up is_existing unread left held holds (under.NotCopied fault back) (Blank now) h u same = absurd h
-    given_up is_existing unread left held holds (under.NotAdopted fault back) (NotAdopted cause now) h u same = (same, refuses cause back now (subst (λ f. IsUnadopted over_files config conn f back) (sym h.0) u) h.1)
-    given_up is_existing unread left held holds (under.NotCopied fault back) (NotCopied cause now) h u same = (same, keeps_read back now u.0 h.1, subst (λ f. f ≡ Refused) (sym h.0) u.1, taken_read back now u.0 h.1)
-    given_up is_existing unread left held holds (under.NotAdopted fault back) (NotOpened error rest) h u same = absurd h
-    given_up is_existing unread left held holds (under.NotAdopted fault back) (NotCopied cause now) h u same = absurd h
-    given_up is_existing unread left held holds (under.NotAdopted fault back) (Left outcome now) h u same = absurd h
-    given_up is_existing unread left held holds (under.NotAdopted fault back) (NotClosed outcome error now) h u same = absurd h
-    given_up is_existing unread left held holds (under.NotCopied fault back) (NotOpened error rest) h u same = absurd h
-    given_up is_existing unread left held holds (under.NotCopied fault back) (NotAdopted cause now) h u same = absurd h
-    given_up is_existing unread left held holds (under.NotCopied fault back) (Left outcome now) h u same = absurd h
-    given_up is_existing unread left held holds (under.NotCopied fault back) (NotClosed outcome error now) h u same = absurd h
+    pub given_up : (is_existing : Bool) (bytes : Streams) (refusal : Refusal) (back : Held (FileStore D g)) (now : Files D) → IsLeft g back now
+        → IsRefused over_files config conn is_existing refusal back → AreUntouched bytes → IsNotServed g config was bytes (λ _ _. ⊥) (Refused refusal now)
+    given_up is_existing bytes Blank back now h u same = (same, has_none back now u.0 u.1 h)
+    given_up is_existing bytes (NotAdopted fault) back now h u same = (same, refuses fault back now u h)
+    given_up is_existing bytes (NotCopied fault) back now h u same = (same, (keeps_read back now u.0 h, u.1, taken_read back now u.0 h))
 
-module _ {D : Type 0} (g : Ghosts D) (P : Served → Type 0) where
+module _ {D : Type 0} (g : Ghosts D) (config : Config) (conn : Held (FileStore D g)) (t : Tables (FileStore D g)) (adopted : IsAdopted over_files config conn t) where
+  -- calls were served over the tables that were adopted
+  pub serves_over : (back : Held (FileStore D g)) (report : RunReport) (bytes : Streams) → ServesTables over_files t config back report bytes → ServesOver over_files config conn back report bytes
+  serves_over back report bytes it = record { first = t; adopted = adopted; last = it.last; run = it.run; back_is = it.back_is }
+
+  -- or a read of theirs was refused
+  pub refused_over : (is_existing : Bool) (refusal : Refusal) (back : Held (FileStore D g)) → IsRefusedBack over_files t refusal back → IsRefused over_files config conn is_existing refusal back
+  refused_over is_existing Blank back h = absurd h
+  refused_over is_existing (NotAdopted fault) back h = absurd h
+  refused_over is_existing (NotCopied fault) back h = (record { first = t; adopted = adopted; last = h.0.last; quiet = h.0.quiet; back_is = h.0.back_is }, h.1)
+
+module _ {D : Type 0} (g : Ghosts D) (config : Config) (conn : Held (FileStore D g)) where
+  -- a database that was refused before its volumes were read
+  pub unserved_refused : (is_existing : Bool) (refusal : Refusal) (back : Held (FileStore D g)) → IsUnserved over_files config conn is_existing refusal back
+      → IsRefused over_files config conn is_existing refusal back
+  unserved_refused is_existing Blank back h = h
+  unserved_refused is_existing (NotAdopted fault) back h = h
+  unserved_refused is_existing (NotCopied fault) back h = absurd h
+
+  pub blank_asked : (is_existing : Bool) (refusal : Refusal) (back : Held (FileStore D g)) → IsRefused over_files config conn is_existing refusal back → IsBlankAsked g is_existing refusal
+  blank_asked is_existing Blank back h = h.2
+  blank_asked is_existing (NotAdopted fault) back h = tt
+  blank_asked is_existing (NotCopied fault) back h = tt
+
+module _ {D : Type 0} (g : Ghosts D) (P : RunReport → Type 0) where
   -- what is so of a run is so of it after the files were closed or given up
-  pub all_served : (served : Served) (conn : Held (FileStore D g)) → P served → (r : Result (Closed D) (NotServed D g)) → IfOk r (IsFinished g served conn) → IfErr r (IsUnfinished g served conn) → AllServed g P r
+  pub all_served : (served : RunReport) (conn : Held (FileStore D g)) → P served → (r : Result (Closed D) (RunFailure D g)) → IfOk r (IsFinished g served conn) → IfErr r (IsUnfinished g served conn) → AllServed g P r
   all_served served conn so (Ok outcome) it none = subst P (sym it.same) so
+  all_served served conn so (Err (NoFiles error)) none h = absurd h
   all_served served conn so (Err (NotOpened error rest)) none h = absurd h
-  all_served served conn so (Err (Blank now)) none h = absurd h
-  all_served served conn so (Err (NotAdopted fault now)) none h = absurd h
-  all_served served conn so (Err (NotCopied fault now)) none h = absurd h
+  all_served served conn so (Err (Refused refusal now)) none h = absurd h
   all_served served conn so (Err (Left outcome now)) none h = subst P (sym h.0) so
   all_served served conn so (Err (NotClosed outcome error now)) none h = subst P (sym h.0) so
 
-  -- there was no run
-  pub none_served : (unserved : Unserved (FileStore D g)) (e : NotServed D g) → GivesUp g unserved e → AllServed g P (Err e)
-  none_served unserved (NotOpened error rest) h = tt
-  none_served unserved (Blank now) h = tt
-  none_served unserved (NotAdopted fault now) h = tt
-  none_served unserved (NotCopied fault now) h = tt
-  none_served (under.Blank back) (Left outcome now) h = absurd h
-  none_served (under.Blank back) (NotClosed outcome error now) h = absurd h
-  none_served (under.NotAdopted fault back) (Left outcome now) h = absurd h
-  none_served (under.NotCopied fault back) (Left outcome now) h = absurd h
-  none_served (under.NotAdopted fault back) (NotClosed outcome error now) h = absurd h
-  none_served (under.NotCopied fault back) (NotClosed outcome error now) h = absurd h
-
 module _ {D : Type 0} (g : Ghosts D) (is_existing : Bool) where
   -- new tables were made only where none had to exist
-  pub asked : (served : Served) (conn : Held (FileStore D g)) → (IsTrue is_existing → served.is_new ≡ false) → (r : Result (Closed D) (NotServed D g)) → IfOk r (IsFinished g served conn)
+  pub asked : (served : RunReport) (conn : Held (FileStore D g)) → (IsTrue is_existing → served.is_new ≡ false) → (r : Result (Closed D) (RunFailure D g)) → IfOk r (IsFinished g served conn)
       → IfErr r (IsUnfinished g served conn) → IsAsked g is_existing r
-  asked served conn so (Ok outcome) it none = λ e. ap (λ (s : Served). s.is_new) it.same ∙ so e
+  asked served conn so (Ok outcome) it none = λ e. ap (λ (s : RunReport). s.is_new) it.same ∙ so e
+  asked served conn so (Err (NoFiles error)) none h = absurd h
   asked served conn so (Err (NotOpened error rest)) none h = absurd h
-  asked served conn so (Err (Blank now)) none h = absurd h
-  asked served conn so (Err (NotAdopted fault now)) none h = absurd h
-  asked served conn so (Err (NotCopied fault now)) none h = absurd h
-  asked served conn so (Err (Left outcome now)) none h = λ e. ap (λ (s : Served). s.is_new) h.0 ∙ so e
-  asked served conn so (Err (NotClosed outcome error now)) none h = λ e. ap (λ (s : Served). s.is_new) h.0 ∙ so e
+  asked served conn so (Err (Refused refusal now)) none h = absurd h
+  asked served conn so (Err (Left outcome now)) none h = λ e. ap (λ (s : RunReport). s.is_new) h.0 ∙ so e
+  asked served conn so (Err (NotClosed outcome error now)) none h = λ e. ap (λ (s : RunReport). s.is_new) h.0 ∙ so e
 
-  -- there was no run
-  pub unasked : (config : Config) (conn : Held (FileStore D g)) (unserved : Unserved (FileStore D g)) (e : NotServed D g) → GivesUp g unserved e → IsUnserved over_files config conn is_existing unserved
-      → IsAsked g is_existing (Err e)
-  unasked config conn unserved (NotOpened error rest) h u = tt
-  unasked config conn (under.Blank back) (Blank now) h u = u.2
-  unasked config conn (under.NotAdopted fault back) (Blank now) h u = absurd h
-  unasked config conn (under.NotCopied fault back) (Blank now) h u = absurd h
-  unasked config conn unserved (NotAdopted fault now) h u = tt
-  unasked config conn unserved (NotCopied fault now) h u = tt
-  unasked config conn (under.Blank back) (Left outcome now) h u = absurd h
-  unasked config conn (under.NotAdopted fault back) (Left outcome now) h u = absurd h
-  unasked config conn (under.NotCopied fault back) (Left outcome now) h u = absurd h
-  unasked config conn (under.Blank back) (NotClosed outcome error now) h u = absurd h
-  unasked config conn (under.NotAdopted fault back) (NotClosed outcome error now) h u = absurd h
-  unasked config conn (under.NotCopied fault back) (NotClosed outcome error now) h u = absurd h
-
-module _ {D : Type 0} (g : Ghosts D) (config : Config) (was : Image) (unread left held holds : Option (List ℕ)) (None : Error → Leftover D g → Type 0) where
+module _ {D : Type 0} (g : Ghosts D) (config : Config) (was : Image) (bytes : Streams) (None : Error → Leftover D g → Type 0) where
   -- what is said where the files are open is said where they are opened first
-  pub not_opened_too : (e : NotServed D g) → IsNotServed g config was unread left held holds (λ _ _. ⊥) e → IsNotServed g config was unread left held holds None e
+  pub not_opened_too : (e : RunFailure D g) → IsNotServed g config was bytes (λ _ _. ⊥) e → IsNotServed g config was bytes None e
+  not_opened_too (NoFiles error) h = absurd h
   not_opened_too (NotOpened error rest) h = absurd h
-  not_opened_too (Blank now) h = h
-  not_opened_too (NotAdopted fault now) h = h
-  not_opened_too (NotCopied fault now) h = h
+  not_opened_too (Refused refusal now) h = h
   not_opened_too (Left served now) h = h
   not_opened_too (NotClosed served error now) h = h
 

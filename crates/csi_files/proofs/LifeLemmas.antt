@@ -1,5 +1,5 @@
 -- Runs over files, in order, are sessions of calls.
-use Rattle.std.proofs.Common.{◌≡◌, List, [], ◌∷◌, ◌++◌, Option, ℕ, Bool, true, false, map, inl, inr, refl, sym, ap₂, subst, subst₂}
+use Rattle.std.proofs.Common.{◌≡◌, List, [], ◌∷◌, ◌++◌, ℕ, Bool, true, false, map, inl, inr, refl, sym, ap₂, subst, subst₂}
 use Rattle.std.proofs.Math.Logic.{∥∥₁_elim, ∥∥₁_map, ∥∥₁_prop}
 use Rattle.sqlite_disk.specs.declared.Disk.{Ghosts}
 use Rattle.sqlite_disk.specs.declared.Files.{Files}
@@ -33,14 +33,15 @@ use Rattle.csi_server.specs.Requests.{told}
 use Rattle.csi_server.specs.Tries.{Exchange, IsLifeOfCalls, events_of, heard_of, tries_of}
 use Rattle.csi_server.specs.Volumes.{IsPending, volumes}
 use Rattle.csi_files.specs.Files.{HasState}
-use Rattle.csi_files.specs.Leaving.{files_of}
-use Rattle.csi_files.specs.Lives.{AreAtRest, AreRuns, ClosedGoOn, GoesOn, IsLifeOfFiles, IsRunOver, IsUnread, LivesOnce, NumbersOnce, PathGoesOn, RunsGoOn}
+use Rattle.csi_files.specs.Lives.{AreAtRest, AreRuns, ClosedGoOn, GoesOn, IsLifeOfFiles, IsRunOver, LivesOnce, NumbersOnce, PathGoesOn, RunsGoOn}
 use Rattle.csi_files.specs.Making.{IsLaidOut}
 use Rattle.csi_files.specs.Path.{over_calls}
 use Rattle.csi_files.specs.Serving.{IsNotOpened, IsStateAfter}
-use Rattle.csi_files.specs.Starting.{EndsClean, IsLeftUnmade, IsNotStarted, IsStoreless, MayStart}
-use Rattle.csi_files.specs.declared.serving.NotServed.{NotServed}
-use Rattle.csi_files.specs.declared.serving.NotServed.TheVariants.{NotOpened, Blank, NotAdopted, NotCopied, Left, NotClosed}
+use Rattle.csi_files.specs.Starting.{IsLeftUnmade, IsNotStarted, IsStoreless, MayStart}
+use Rattle.csi_files.specs.Streams.{Streams}
+use Rattle.csi_files.specs.declared.run.Refusal.{Refusal}
+use Rattle.csi_files.specs.declared.run.Refusal.TheVariants.{Blank, NotAdopted, NotCopied}
+use Rattle.csi_files.specs.declared.run.RunFailure.TheVariants.{Refused}
 use Rattle.csi_files.proofs.PathLemmas.{image, read_of}
 use Rattle.csi_files.proofs.StartingLemmas.{laid_out_has, no_state}
 use Rattle.csi_files.proofs.UnopenedLemmas.{kept_unopened}
@@ -117,15 +118,12 @@ none_answered config s invariant = record { is = inl refl; invariant = invariant
 stays_as : (config : Config) (was next : Image) (s : State) → IsInvariant config s → ∥ HasState next s ∥₁ → ∥ ((t : State) × GoesOn was next s t × IsStateAfter config s [] t) ∥₁
 stays_as config was next s invariant kept = ∥∥₁_map kept (λ has. (s, record { may = inl has; has = λ _. has }, none_answered config s invariant))
 
-module _ {D : Type 0} (g : Ghosts D) (config : Config) (before : Files D) (unread left held holds : Option (List ℕ)) where
-  no_call : (e : NotServed D g) → IsNotStarted g config before unread left held holds e → EndsClean e → IsUnread e → (next : Image) → outcomes g (files_of e).0 (files_of e).1 next
+module _ {D : Type 0} (g : Ghosts D) (config : Config) (before : Files D) (bytes : Streams) where
+  no_call : (refusal : Refusal) (now : Files D) → IsNotStarted g config before bytes (Refused refusal now) → AreClean g now.log now.db → (next : Image) → outcomes g now.log now.db next
       → IsRunOver config (image_of g before) [] next
-  no_call (NotOpened error rest) it clean none next out s may invariant = absurd none
-  no_call (Blank now) it clean none next out s may invariant = stays_as config _ next s invariant (it.why.1.state clean s ((it.shows clean).starts s may) next out)
-  no_call (NotAdopted fault now) it clean none next out s may invariant = stays_as config _ next s invariant (it.why.1.state clean s ((it.shows clean).starts s may) next out)
-  no_call (NotCopied fault now) it clean none next out s may invariant = stays_as config _ next s invariant (it.why.1 clean s ((it.shows clean).starts s may) next out)
-  no_call (Left served now) it clean none next out s may invariant = absurd none
-  no_call (NotClosed served error now) it clean none next out s may invariant = absurd none
+  no_call Blank now it clean next out s may invariant = stays_as config _ next s invariant (it.why.1.state clean s ((it.shows clean).starts s may) next out)
+  no_call (NotAdopted fault) now it clean next out s may invariant = stays_as config _ next s invariant (it.why.1.state clean s ((it.shows clean).starts s may) next out)
+  no_call (NotCopied fault) now it clean next out s may invariant = stays_as config _ next s invariant (it.why.1.0 clean s ((it.shows clean).starts s may) next out)
 
   not_made : (error : Error) (rest : Leftover D g) → AreAtRest g before → IsLeftUnmade before error rest → IsCleanLeft rest → (next : Image) → outcomes g (files_left rest).0 (files_left rest).1 next
       → IsRunOver config (image_of g before) [] next
@@ -144,12 +142,12 @@ module _ {D : Type 0} (g : Ghosts D) (config : Config) (before : Files D) (unrea
       stays_as config _ next s invariant (kept_unopened g stays laid s (λ image there. ∣ laid_out_has g before laid is sure quiet s may image there ∣₁) rest clean none (it clean).1 next out)
 
 closed_go_on : {D : Type 0} (g : Ghosts D) (config : Config) → ClosedGoOn g config
-closed_go_on g config was unread left held holds closed it clean session is next out s may invariant =
+closed_go_on g config was bytes closed it clean session is next out s may invariant =
     let run = it.ended clean s (inl may) in
     goes_on config was next s _ (subst (λ (events : List Event). ∥ ((t : State) × HasState next t × IsStateAfter config s events t) ∥₁) (sym (is s (inl may))) (run.2 next out))
 
-are_runs : {D : Type 0} (g : Ghosts D) → SeenMayStay g → (config : Config) (before : Files D) (unread left held holds : Option (List ℕ)) → AreRuns g config before unread left held holds
-are_runs g stays config before unread left held holds = record {
+are_runs : {D : Type 0} (g : Ghosts D) → SeenMayStay g → (config : Config) (before : Files D) (bytes : Streams) → AreRuns g config before bytes
+are_runs g stays config before bytes = record {
   refused = λ served now it clean session is next out s may invariant.
       let start = inl ((it.shows clean).starts s may) in
       let run = it.why.1.ended clean s start in
@@ -158,9 +156,9 @@ are_runs g stays config before unread left held holds = record {
       let start = inl ((it.shows clean).starts s may) in
       let run = it.why.1.ended clean s start in
       goes_on config _ next s _ (subst (λ (events : List Event). ∥ ((t : State) × HasState next t × IsStateAfter config s events t) ∥₁) (sym (is s start)) (run.2 next out));
-  unserved = no_call g config before unread left held holds;
-  unmade = not_made g config before unread left held holds;
-  unopened = not_opened g config before unread left held holds stays;
+  unserved = no_call g config before bytes;
+  unmade = not_made g config before bytes;
+  unopened = not_opened g config before bytes stays;
 }
 
 pub runs_go_on : {D : Type 0} (g : Ghosts D) → SeenMayStay g → (config : Config) → RunsGoOn g config

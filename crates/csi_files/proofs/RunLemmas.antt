@@ -1,11 +1,10 @@
 -- A run that is seen through other models.
-use Rattle.std.proofs.Common.{◌≡◌, ◌≢◌, ◌⊎◌, ℕ, List, [], Option, true, false, inl, inr, refl, sym, subst, subst₂, ◌∙◌, arith, true≢false}
+use Rattle.std.proofs.Common.{◌≡◌, ◌⊎◌, ℕ, List, [], Option, true, false, inl, inr, refl, sym, subst, subst₂, ◌∙◌, arith}
 use Rattle.csi_config.specs.declared.config.Config.{Config}
 use Rattle.csi_keeper.specs.Model.{Model}
 use Rattle.csi_keeper.specs.State.{State}
 use Rattle.csi_keeper.specs.Invariant.{IsInvariant}
 use Rattle.csi_keeper.specs.Keeper.{IsQuiet}
-use Rattle.csi_keeper.specs.declared.change.StoreFault.{StoreFault}
 use Rattle.csi_keeper.specs.declared.change.StoreFault.TheVariants as fault
 use Rattle.csi_through.specs.Copying.{IsWhy}
 use Rattle.csi_server.specs.declared.end.RunEnd.{RunEnd}
@@ -14,8 +13,12 @@ use Rattle.envelope.specs.Envelope.{CallBytes}
 use Rattle.csi_server.specs.Machine.{Event, Machine, RoseBy, Runs, StaysDown, is_down_after, store_marks}
 use Rattle.csi_server.specs.Serving.{Answered, Ended}
 use Rattle.csi_server.specs.Volumes.{seen, volumes}
-use Rattle.csi_files.specs.declared.over.Served.{Served}
-use Rattle.csi_files.specs.Over.{ServesFrom, ServesWith, with_counts}
+use Rattle.csi_files.specs.Streams.{Streams}
+use Rattle.csi_files.specs.declared.run.RunReport.{RunReport}
+use Rattle.csi_tables.specs.Keeping.{tables_model}
+use Rattle.csi_tables.specs.declared.tables.Tables.{Tables}
+use Rattle.sqlite.specs.Store.{Ghosts}
+use Rattle.csi_files.specs.Adopted.{IsUncopied, ServesFrom, ServesWith, with_counts}
 use Rattle.csi_files.specs.Serving.{events_of}
 
 -- What is so of a run from the State s, through the models old and new, is so through the models first and
@@ -76,10 +79,10 @@ run_in m old new s read AtEnd held holds NoMemory it = it.0
 
 -- A run over a keeper that was read before it, and had no refusal counted then: its counts begin with the
 -- run.
-pub counted_from : (config : Config) (first mid last : Model State) (served : Served) (unread left held holds : Option (List ℕ)) → IsQuiet first mid → first.is_down ≡ false
-    → (mid.doubt ≡ 0 → (s : State) → first.holds s → IsInvariant config s → mid.refusals ≡ 0) → ServesWith config mid last served unread left held holds
-    → ServesFrom config first last served unread left held holds
-counted_from config first mid last served unread left held holds quiet up none it = record {
+pub counted_from : (config : Config) (first mid last : Model State) (served : RunReport) (bytes : Streams) → IsQuiet first mid → first.is_down ≡ false
+    → (mid.doubt ≡ 0 → (s : State) → first.holds s → IsInvariant config s → mid.refusals ≡ 0) → ServesWith config mid last served bytes
+    → ServesFrom config first last served bytes
+counted_from config first mid last served bytes quiet up none it = record {
   clean = omega (arith, quiet.clean, it.clean);
   writes = it.writes;
   serves = (
@@ -96,7 +99,7 @@ counted_from config first mid last served unread left held holds quiet up none i
           tied = λ tied. quiet.ties early tied;
           ties = λ a has tied. tied;
         } in
-        ends (volumes config) (seen config mid) (seen config last) _ _ s carries it.serves.0 _ held holds served.end (it.serves.2 z s (quiet.state early s has.0, has.1)),
+        ends (volumes config) (seen config mid) (seen config last) _ _ s carries it.serves.0 _ bytes.held bytes.holds served.end (it.serves.2 z s (quiet.state early s has.0, has.1)),
   );
 }
 
@@ -111,13 +114,22 @@ still m = record {
 }
 
 -- a run over a keeper that has refused nothing
-pub counted_fresh : (config : Config) (first last : Model State) (served : Served) (unread left held holds : Option (List ℕ)) → first.refusals ≡ 0 → first.is_down ≡ false
-    → ServesWith config first last served unread left held holds → ServesFrom config first last served unread left held holds
-counted_fresh config first last served unread left held holds none up it =
-    counted_from config first first last served unread left held holds (still first) up (λ z s has invariant. none) it
+pub counted_fresh : (config : Config) (first last : Model State) (served : RunReport) (bytes : Streams) → first.refusals ≡ 0 → first.is_down ≡ false
+    → ServesWith config first last served bytes → ServesFrom config first last served bytes
+counted_fresh config first last served bytes none up it =
+    counted_from config first first last served bytes (still first) up (λ z s has invariant. none) it
 
 -- a run over a keeper that was read for a copy, for which there was no memory
-pub counted_uncopied : (config : Config) (first mid last : Model State) (served : Served) (unread left held holds : Option (List ℕ)) → first.refusals ≡ 0 → first.is_down ≡ false
-    → IsQuiet first mid → IsWhy first mid fault.NoMemory → ServesWith config mid last served unread left held holds → ServesFrom config first last served unread left held holds
-counted_uncopied config first mid last served unread left held holds none up quiet why it =
-    counted_from config first mid last served unread left held holds quiet up (λ z s has invariant. why.count z config s has invariant ∙ none) it
+pub counted_uncopied : (config : Config) (first mid last : Model State) (served : RunReport) (bytes : Streams) → first.refusals ≡ 0 → first.is_down ≡ false
+    → IsQuiet first mid → IsWhy first mid fault.NoMemory → ServesWith config mid last served bytes → ServesFrom config first last served bytes
+counted_uncopied config first mid last served bytes none up quiet why it =
+    counted_from config first mid last served bytes quiet up (λ z s has invariant. why.count z config s has invariant ∙ none) it
+
+-- a run over the file of tables, of which no copy was made
+pub file_serves : {S : Type 0} (g : Ghosts S) (config : Config) (first mid last : Tables S) (report : RunReport) (bytes : Streams) → (tables_model g first).refusals ≡ 0
+    → (tables_model g first).is_down ≡ false → (mid ≡ first) ⊎ IsUncopied g first mid fault.NoMemory
+    → ServesWith config (tables_model g mid) (tables_model g last) report bytes → ServesFrom config (tables_model g first) (tables_model g last) report bytes
+file_serves g config first mid last report bytes none up (inl same) it =
+    counted_fresh config (tables_model g first) (tables_model g last) report bytes none up (subst (λ t. ServesWith config (tables_model g t) (tables_model g last) report bytes) same it)
+file_serves g config first mid last report bytes none up (inr read) it =
+    counted_uncopied config (tables_model g first) (tables_model g mid) (tables_model g last) report bytes none up read.0 read.1 it

@@ -1,5 +1,5 @@
 -- Files in which a database is made start as the first State.
-use Rattle.std.proofs.Common.{◌⊎◌, ◌≡◌, ℕ, List, Option, IsTrue, inl, inr, refl, sym, subst}
+use Rattle.std.proofs.Common.{◌⊎◌, ◌≡◌, List, IsTrue, inl, inr, refl, sym, subst}
 use Rattle.std.proofs.Math.Logic.{∥∥₁_elim, ∥∥₁_map}
 use Rattle.sqlite_disk.specs.declared.Disk.{Ghosts}
 use Rattle.sqlite_disk.specs.declared.Files.{Files}
@@ -20,8 +20,9 @@ use Rattle.csi_files.specs.Files.{HasState, files_model, image_model}
 use Rattle.csi_files.specs.Making.{IsLaidOut, IsMade, IsNotLaidOut, IsToMake}
 use Rattle.csi_files.specs.Serving.{SaysNew, ServesThen, WasTaken}
 use Rattle.csi_files.specs.Starting.{KeepsStart, MayStart, SaysStart, ShowsLaidOut, StartsAs, StartsThen, start_model}
-use Rattle.csi_files.specs.declared.over.Served.{Served}
-use Rattle.csi_files.specs.declared.serving.Closed.{Closed}
+use Rattle.csi_files.specs.Streams.{Streams}
+use Rattle.csi_files.specs.declared.run.RunReport.{RunReport}
+use Rattle.csi_files.specs.declared.run.Closed.{Closed}
 use Rattle.csi_files.proofs.LeaveLemmas.{database_of}
 use Rattle.csi_files.proofs.MakingLemmas.{not_torn}
 use Rattle.csi_files.proofs.PageLemmas.{made_holds, torn_holds_none, unmade_holds_none}
@@ -38,7 +39,7 @@ no_state image s has = no_database image has.db (∥∥₁_map has.holds (databa
 
 -- a run over the files in which a database was made says whether one was, and whether the one that they had
 -- was without tables
-says_start : (config : Config) (before after : Image) (served : Served) → ShowsLaidOut before after → SaysNew after served → WasTaken config after → SaysStart config before served
+says_start : (config : Config) (before after : Image) (served : RunReport) → ShowsLaidOut before after → SaysNew after served → WasTaken config after → SaysStart config before served
 says_start config before after served shows says taken = record {
   taken = λ db held sound. taken db (subst (λ (i : Image). ∥ HoldsDatabase i db.trees ∥₁) (sym (shows.kept (no_database before db.trees held))) held) sound;
   had = λ db held sound. says db (subst (λ (i : Image). ∥ HoldsDatabase i db.trees ∥₁) (sym (shows.kept (no_database before db.trees held))) held) sound;
@@ -76,15 +77,15 @@ module _ {D : Type 0} (g : Ghosts D) (before after : Files D) where
     ])
 
   -- a run over the files in which it was made is one from what they would have started as
-  pub started : (config : Config) (unread left held holds : Option (List ℕ)) (closed : Closed D) → IsLaidOut g before after → (AreClean g closed.files.log closed.files.db → AreClean g after.log after.db)
-      → Serves (volumes config) (image_model (image_of g after) closed.served.is_new) (seen config (files_model g closed.files closed.served.refusals closed.served.is_down)) unread left held holds closed.served.end
-      → Serves (volumes config) (start_model (image_of g before) closed.served.is_new) (seen config (files_model g closed.files closed.served.refusals closed.served.is_down)) unread left held holds closed.served.end
-  started config unread left held holds closed laid honest it =
-      let last = seen config (files_model g closed.files closed.served.refusals closed.served.is_down) in (
+  pub started : (config : Config) (bytes : Streams) (closed : Closed D) → IsLaidOut g before after → (AreClean g closed.files.log closed.files.db → AreClean g after.log after.db)
+      → Serves (volumes config) (image_model (image_of g after) closed.report.is_new) (seen config (files_model g closed.files closed.report.refusals closed.report.is_down)) bytes.unread bytes.left bytes.held bytes.holds closed.report.end
+      → Serves (volumes config) (start_model (image_of g before) closed.report.is_new) (seen config (files_model g closed.files closed.report.refusals closed.report.is_down)) bytes.unread bytes.left bytes.held bytes.holds closed.report.end
+  started config bytes closed laid honest it =
+      let last = seen config (files_model g closed.files closed.report.refusals closed.report.is_down) in (
         it.0,
         it.1,
         λ z s may.
-            let carries : Carries (image_model (image_of g after) closed.served.is_new) last (start_model (image_of g before) closed.served.is_new) last s = record {
+            let carries : Carries (image_model (image_of g after) closed.report.is_new) last (start_model (image_of g before) closed.report.is_new) last s = record {
               refused = (refl, refl);
               down = (refl, refl);
               held = λ t has. has;
@@ -93,17 +94,17 @@ module _ {D : Type 0} (g : Ghosts D) (before after : Files D) where
               tied = λ tied. tied;
               ties = λ a has tied. tied;
             } in
-            let had = elim may as (λ _. HasState (image_of g after) s ⊎ (IsTrue closed.served.is_new × (s ≡ first_state 1))) [
+            let had = elim may as (λ _. HasState (image_of g after) s ⊎ (IsTrue closed.report.is_new × (s ≡ first_state 1))) [
               | inl start ↦ inl (starts_as laid (honest (clean_of (are_clean g closed.files.log closed.files.db) z)) s start)
               | inr new ↦ inr new
             ] in
-            ends (volumes config) (image_model (image_of g after) closed.served.is_new) last _ _ s carries it.0 _ held holds closed.served.end (it.2 z s had),
+            ends (volumes config) (image_model (image_of g after) closed.report.is_new) last _ _ s carries it.0 _ bytes.held bytes.holds closed.report.end (it.2 z s had),
       )
 
 -- and so is what it leaves
-pub started_then : (config : Config) (before after : Image) (unread left held holds : Option (List ℕ)) (served : Served) (Clean : Type 0) (Leaves : State → List Event → Type 0) → (Clean → ShowsLaidOut before after)
-    → ServesThen config after unread left held holds served Clean Leaves → StartsThen config before unread left held holds served Clean Leaves
-started_then config before after unread left held holds served Clean Leaves shows it = record {
+pub started_then : (config : Config) (before after : Image) (bytes : Streams) (served : RunReport) (Clean : Type 0) (Leaves : State → List Event → Type 0) → (Clean → ShowsLaidOut before after)
+    → ServesThen config after bytes served Clean Leaves → StartsThen config before bytes served Clean Leaves
+started_then config before after bytes served Clean Leaves shows it = record {
   read = it.read;
   consumed = it.consumed;
   new = λ clean. says_start config before after served (shows clean) (it.new clean).0 (it.new clean).1;

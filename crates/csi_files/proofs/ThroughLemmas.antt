@@ -1,5 +1,5 @@
 -- Calls that were served over a copy of what a keeper has are served over the keeper.
-use Rattle.std.proofs.Common.{◌≡◌, ℕ, List, Option, false, inl, sym, arith}
+use Rattle.std.proofs.Common.{◌≡◌, false, inl, sym, arith}
 use Rattle.csi_config.specs.declared.config.Config.{Config}
 use Rattle.csi_keeper.specs.Model.{Model}
 use Rattle.csi_keeper.specs.State.{State}
@@ -9,17 +9,18 @@ use Rattle.csi_through.specs.Through.{Opens, through_model}
 use Rattle.csi_through.specs.declared.change_store.KeeperChanges.{KeeperChanges}
 use Rattle.csi_through.specs.declared.through.Through.{Through}
 use Rattle.csi_server.specs.Volumes.{seen, volumes}
-use Rattle.csi_files.specs.declared.over.Served.{Served}
-use Rattle.csi_files.specs.Over.{ServesFrom, ServesWith, with_counts}
+use Rattle.csi_files.specs.Streams.{Streams}
+use Rattle.csi_files.specs.declared.run.RunReport.{RunReport}
+use Rattle.csi_files.specs.Adopted.{ServesFrom, ServesWith, with_counts}
 use Rattle.csi_files.proofs.RunLemmas.{Carries, ends}
 
 module _ {K : Type 0} (model : K → Model State) where
   abbrev over_copy : Through MemKeeper (KeeperChanges K) → Model State
   over_copy t = through_model mem_model (λ logged. model logged.keeper) t
 
-  module _ (config : Config) (keeper : K) (first last : Through MemKeeper (KeeperChanges K)) (served : Served) (unread left held holds : Option (List ℕ)) where
-    pub copy_serves : Opens (model keeper) (over_copy first) → ServesWith config (over_copy first) (over_copy last) served unread left held holds
-        → ServesFrom config (model keeper) (model last.change_store.keeper) served unread left held holds
+  module _ (config : Config) (begin : Model State) (first last : Through MemKeeper (KeeperChanges K)) (served : RunReport) (bytes : Streams) where
+    pub copy_serves : Opens begin (over_copy first) → ServesWith config (over_copy first) (over_copy last) served bytes
+        → ServesFrom config begin (model last.change_store.keeper) served bytes
     copy_serves opens it = record {
       clean = omega (arith, opens.clean, it.clean);
       writes = it.writes;
@@ -29,7 +30,7 @@ module _ {K : Type 0} (model : K → Model State) where
         λ z s has.
             let late : (over_copy last).doubt ≡ 0 = omega (arith, z) in
             let early : (over_copy first).doubt ≡ 0 = omega (arith, it.clean, late) in
-            let carries : Carries (seen config (over_copy first)) (seen config (over_copy last)) (seen config (with_counts 0 false (model keeper))) (seen config (with_counts served.refusals served.is_down (model last.change_store.keeper))) s = record {
+            let carries : Carries (seen config (over_copy first)) (seen config (over_copy last)) (seen config (with_counts 0 false begin)) (seen config (with_counts served.refusals served.is_down (model last.change_store.keeper))) s = record {
               refused = (sym opens.fresh, it.counted);
               down = (sym opens.up, it.down);
               held = λ t has. (has.0.0, has.1);
@@ -38,6 +39,6 @@ module _ {K : Type 0} (model : K → Model State) where
               tied = λ tied. opens.ties early tied;
               ties = λ a has tied. tied;
             } in
-            ends (volumes config) (seen config (over_copy first)) (seen config (over_copy last)) _ _ s carries it.serves.0 _ held holds served.end (it.serves.2 late s (opens.state early config s has.0 has.1, has.1)),
+            ends (volumes config) (seen config (over_copy first)) (seen config (over_copy last)) _ _ s carries it.serves.0 _ bytes.held bytes.holds served.end (it.serves.2 late s (opens.state early config s has.0 has.1, has.1)),
       );
     }

@@ -1,5 +1,5 @@
 -- What becomes of the files of a connection that is closed, or given up.
-use Rattle.std.specs.Prelude.{◌≡◌, ◌⊎◌, ℕ, ◌<◌, IsTrue}
+use Rattle.std.specs.Prelude.{◌≡◌, ◌⊎◌, ℕ, ◌<◌, Option, None, Some, IsTrue}
 use Rattle.sqlite_disk.specs.declared.Disk as disk
 use Rattle.sqlite_disk.specs.declared.Files.{Files}
 use Rattle.sqlite_wal.specs.Files.{outcomes}
@@ -17,22 +17,19 @@ use Rattle.sqlite.specs.Opening.{HoldsAt}
 use Rattle.sqlite.specs.State.{HasCleanDisk, store_error}
 use Rattle.sqlite.specs.declared.error.Error.{Error}
 use Rattle.csi_files.specs.Files.{HoldsSealed}
-use Rattle.csi_files.specs.declared.over.Served.{Served}
-use Rattle.csi_files.specs.declared.over.Unserved.{Unserved}
-use Rattle.csi_files.specs.declared.over.Unserved.TheVariants as under
-use Rattle.csi_files.specs.declared.serving.Closed.{Closed}
-use Rattle.csi_files.specs.declared.serving.NotServed.{NotServed}
-use Rattle.csi_files.specs.declared.serving.NotServed.TheVariants.{NotOpened, Blank, NotAdopted, NotCopied, Left, NotClosed}
+use Rattle.csi_files.specs.declared.run.RunReport.{RunReport}
+use Rattle.csi_files.specs.declared.run.Closed.{Closed}
+use Rattle.csi_files.specs.declared.run.RunFailure.{RunFailure}
+use Rattle.csi_files.specs.declared.run.RunFailure.TheVariants.{NoFiles, NotOpened, Refused, Left, NotClosed}
 
 module _ {D : Type 0} {g : disk.Ghosts D} where
   -- what is left of files that were not closed: the WAL and the database file
-  abbrev pub files_of : NotServed D g → D × D
-  files_of (NotOpened error rest) = files_left rest
-  files_of (Blank now) = (now.log, now.db)
-  files_of (NotAdopted fault now) = (now.log, now.db)
-  files_of (NotCopied fault now) = (now.log, now.db)
-  files_of (Left served now) = (now.log, now.db)
-  files_of (NotClosed served error now) = (now.log, now.db)
+  abbrev pub files_of : RunFailure D g → Option (D × D)
+  files_of (NoFiles error) = None
+  files_of (NotOpened error rest) = Some (files_left rest)
+  files_of (Refused refusal now) = Some (now.log, now.db)
+  files_of (Left served now) = Some (now.log, now.db)
+  files_of (NotClosed served error now) = Some (now.log, now.db)
 
 module _ {D : Type 0} (g : disk.Ghosts D) where
   -- Each outcome of a crash, and so what the files read as, is a database that the connection may have left.
@@ -56,25 +53,17 @@ module _ {D : Type 0} (g : disk.Ghosts D) where
   abbrev pub IsUncopied : Held (FileStore D g) → Error → Files D → Type 0
   IsUncopied conn error files = IsLeft conn files × (cause : StoreError) × (error ≡ store_error cause)
 
-  -- a connection over which no call was served is given up
-  abbrev pub GivesUp : Unserved (FileStore D g) → NotServed D g → Type 0
-  GivesUp (under.Blank conn) (Blank files) = IsLeft conn files
-  GivesUp (under.NotAdopted fault conn) (NotAdopted cause files) = (cause ≡ fault) × IsLeft conn files
-  GivesUp (under.NotCopied fault conn) (NotCopied cause files) = (cause ≡ fault) × IsLeft conn files
-  GivesUp _ _ = ⊥
-
-  module _ (served : Served) (conn : Held (FileStore D g)) where
+  module _ (served : RunReport) (conn : Held (FileStore D g)) where
     -- the connection is closed
     pub record IsFinished (outcome : Closed D) : Type 0 where
-      pub same : outcome.served ≡ served
+      pub same : outcome.report ≡ served
       pub copied : AreClean g outcome.files.log outcome.files.db → HoldsCommit conn outcome.files
       pub usable : IsTrue (g.is_usable outcome.files.log) × IsTrue (g.is_usable outcome.files.db)
 
     -- the connection is given up, or its WAL was not copied
-    abbrev pub IsUnfinished : NotServed D g → Type 0
+    abbrev pub IsUnfinished : RunFailure D g → Type 0
+    IsUnfinished (NoFiles error) = ⊥
     IsUnfinished (NotOpened error left) = ⊥
-    IsUnfinished (Blank files) = ⊥
-    IsUnfinished (NotAdopted fault files) = ⊥
-    IsUnfinished (NotCopied fault files) = ⊥
+    IsUnfinished (Refused refusal files) = ⊥
     IsUnfinished (Left outcome files) = (outcome ≡ served) × IsLeft conn files × (IsTrue served.is_down ⊎ (0 < served.refusals))
     IsUnfinished (NotClosed outcome error files) = (outcome ≡ served) × IsUncopied conn error files

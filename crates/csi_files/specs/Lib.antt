@@ -1,11 +1,12 @@
+pub mod Adopted
 pub mod Again
 pub mod Copying
 pub mod Files
 pub mod Leaving
 pub mod Lives
 pub mod Making
-pub mod Over
 pub mod Path
 pub mod Reserving
 pub mod Serving
 pub mod Starting
+pub mod Streams

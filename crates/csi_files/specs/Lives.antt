@@ -1,5 +1,5 @@
 -- Runs over two files, in order, with a stop after each.
-use Rattle.std.specs.Prelude.{◌≡◌, true, false, Option, List, [], ◌∷◌, map, ℕ, ⊤}
+use Rattle.std.specs.Prelude.{◌≡◌, true, false, List, [], ◌∷◌, map}
 use Rattle.std.specs.Io.KnownBytes.{IsAtEnd}
 use Rattle.sqlite_disk.specs.declared.Disk as disk
 use Rattle.sqlite_disk.specs.declared.Files.{Files}
@@ -26,16 +26,16 @@ use Rattle.csi_server.specs.Requests.{told}
 use Rattle.csi_server.specs.Tries.{Exchange, IsLifeOfCalls, events_of, tries_of}
 use Rattle.csi_server.specs.Volumes.{volumes}
 use Rattle.csi_files.specs.Files.{HasState}
-use Rattle.csi_files.specs.Leaving.{files_of}
 use Rattle.csi_files.specs.Making.{IsLaidOut}
 use Rattle.csi_files.specs.Path.{over_calls}
 use Rattle.csi_files.specs.Serving.{IsNotOpened, IsStateAfter, LeavesAfter, RunsThen, counts_model}
 use Rattle.csi_files.specs.Serving.{events_of as answered}
-use Rattle.csi_files.specs.Starting.{EndsClean, IsLeftUnmade, IsNotStarted, IsStoreless, MayStart, StartsThen}
-use Rattle.csi_files.specs.declared.over.Served.{Served}
-use Rattle.csi_files.specs.declared.serving.Closed.{Closed}
-use Rattle.csi_files.specs.declared.serving.NotServed.{NotServed}
-use Rattle.csi_files.specs.declared.serving.NotServed.TheVariants.{NotOpened, Blank, NotAdopted, NotCopied, Left, NotClosed}
+use Rattle.csi_files.specs.Starting.{IsLeftUnmade, IsNotStarted, IsStoreless, MayStart, StartsThen}
+use Rattle.csi_files.specs.declared.run.RunReport.{RunReport}
+use Rattle.csi_files.specs.declared.run.Closed.{Closed}
+use Rattle.csi_files.specs.Streams.{Streams}
+use Rattle.csi_files.specs.declared.run.Refusal.{Refusal}
+use Rattle.csi_files.specs.declared.run.RunFailure.TheVariants.{Refused, Left, NotClosed}
 
 -- A run over the second contents may start as the State `t`, where one over the first might have started as
 -- `s`. Where the first have a database of `s`, the second have one of `t`.
@@ -72,15 +72,15 @@ NumbersOnce config =
     → IsLifeOfFiles config was sessions last
     → ∥ ((t : State) × GoesOn was last s t × NumbersRise s t) ∥₁
 
--- ---- what `serve_made` and `serve_path` say of a run makes it a run of such a life
+-- ---- what `create_and_serve` and `serve_path` say of a run makes it a run of such a life
 
-module _ {config : Config} {unread left held holds : Option (List ℕ)} {Starts : State → Type 0} {served : Served} {Clean New : Type 0} {Leaves : State
+module _ {config : Config} {bytes : Streams} {Starts : State → Type 0} {served : RunReport} {Clean New : Type 0} {Leaves : State
     → List Event → Type 0} where
   -- the run answered the calls of this session
-  abbrev pub Answers : RunsThen config unread left held holds Starts served Clean New Leaves → Clean → List Exchange → Type 0
+  abbrev pub Answers : RunsThen config bytes Starts served Clean New Leaves → Clean → List Exchange → Type 0
   Answers it clean session = (s : State) (starts : Starts s)
       → events_of session ≡ answered (volumes config) (counts_model 0 false) (counts_model served.refusals served.is_down) s it.read
-      (IsAtEnd left) held holds served.end (it.ended clean s starts).0
+      (IsAtEnd bytes.left) bytes.held bytes.holds served.end (it.ended clean s starts).0
 
 module _ {D : Type 0} (g : disk.Ghosts D) where
   -- a crash leaves of these files what they read as
@@ -90,36 +90,26 @@ module _ {D : Type 0} (g : disk.Ghosts D) where
 -- After a run over files with these contents has closed its files, each outcome of a crash is one that a run
 -- of a life leaves. It does not matter how the files were opened.
 abbrev pub ClosedGoOn : {D : Type 0} → disk.Ghosts D → Config → Type 0
-ClosedGoOn {D} g config = (was : Image) (unread left held holds : Option (List ℕ)) (closed : Closed D)
-    (it : StartsThen config was unread left held holds closed.served (AreClean g closed.files.log closed.files.db) (LeavesAfter g config closed.files))
+ClosedGoOn {D} g config = (was : Image) (bytes : Streams) (closed : Closed D)
+    (it : StartsThen config was bytes closed.report (AreClean g closed.files.log closed.files.db) (LeavesAfter g config closed.files))
     (clean : AreClean g closed.files.log closed.files.db) (session : List Exchange) → Answers it clean session
     → (next : Image) → outcomes g closed.files.log closed.files.db next → IsRunOver config was session next
 
-module _ {D : Type 0} {g : disk.Ghosts D} where
-  -- the files were opened, and no call was read
-  abbrev pub IsUnread : NotServed D g → Type 0
-  IsUnread (NotOpened error rest) = ⊥
-  IsUnread (Blank now) = ⊤
-  IsUnread (NotAdopted fault now) = ⊤
-  IsUnread (NotCopied fault now) = ⊤
-  IsUnread (Left served now) = ⊥
-  IsUnread (NotClosed served error now) = ⊥
-
-module _ {D : Type 0} (g : disk.Ghosts D) (config : Config) (before : Files D) (unread left held holds : Option (List ℕ)) where
-  -- What the clause `not_served` of `serve_made` says, of a disk that was truthful: each outcome of a crash
-  -- is one that a run leaves. Files that were not opened must have been at rest before the run, and no store
-  -- made of them.
+module _ {D : Type 0} (g : disk.Ghosts D) (config : Config) (before : Files D) (bytes : Streams) where
+  -- What the clause `not_served` of `create_and_serve` says, of a disk that was truthful: each outcome of a
+  -- crash is one that a run leaves. Files that were not opened must have been at rest before the run, and no
+  -- store made of them.
   pub record AreRuns : Type 0 where
-    pub refused : (served : Served) (now : Files D) (it : IsNotStarted g config before unread left held holds (Left served now))
+    pub refused : (served : RunReport) (now : Files D) (it : IsNotStarted g config before bytes (Left served now))
         (clean : AreClean g now.log now.db)
         (session : List Exchange) → Answers it.why.1 clean session
         → (next : Image) → outcomes g now.log now.db next → IsRunOver config (image_of g before) session next
-    pub unclosed : (served : Served) (error : Error) (now : Files D) (it : IsNotStarted g config before unread left held holds (NotClosed served error now))
+    pub unclosed : (served : RunReport) (error : Error) (now : Files D) (it : IsNotStarted g config before bytes (NotClosed served error now))
         (clean : AreClean g now.log now.db)
         (session : List Exchange) → Answers it.why.1 clean session
         → (next : Image) → outcomes g now.log now.db next → IsRunOver config (image_of g before) session next
-    pub unserved : (e : NotServed D g) → IsNotStarted g config before unread left held holds e → EndsClean e → IsUnread e
-        → (next : Image) → outcomes g (files_of e).0 (files_of e).1 next → IsRunOver config (image_of g before) [] next
+    pub unserved : (refusal : Refusal) (now : Files D) → IsNotStarted g config before bytes (Refused refusal now) → AreClean g now.log now.db
+        → (next : Image) → outcomes g now.log now.db next → IsRunOver config (image_of g before) [] next
     pub unmade : (error : Error) (rest : Leftover D g) → AreAtRest g before → IsLeftUnmade before error rest → IsCleanLeft rest
         → (next : Image) → outcomes g (files_left rest).0 (files_left rest).1 next → IsRunOver config (image_of g before) [] next
     pub unopened : (laid : Files D) → AreAtRest g before → IsLaidOut g before laid → AreClean g laid.log laid.db
@@ -129,7 +119,7 @@ module _ {D : Type 0} (g : disk.Ghosts D) (config : Config) (before : Files D) (
 -- for any files and streams
 abbrev pub RunsGoOn : {D : Type 0} → disk.Ghosts D → Config → Type 0
 RunsGoOn {D} g config =
-    ClosedGoOn g config × ((before : Files D) (unread left held holds : Option (List ℕ)) → AreRuns g config before unread left held holds)
+    ClosedGoOn g config × ((before : Files D) (bytes : Streams) → AreRuns g config before bytes)
 
 -- The same over the files at a path. As they are opened, they have the contents that `first` names, and a
 -- crash leaves these alone.

@@ -1,5 +1,5 @@
 -- The files at a path as disks, and why they were not closed after calls.
-use Rattle.std.specs.Prelude.{◌≡◌, ◌⊎◌, ℕ, Bool, true, false, List, Option, Result, Ok, Err, codes, nat_eq, IsTrue, ⊤}
+use Rattle.std.specs.Prelude.{◌≡◌, ◌⊎◌, ℕ, true, false, List, codes, nat_eq, IsTrue}
 use Rattle.std.specs.IoError.{error_kind}
 use Rattle.std.specs.List.{starts_with}
 use Rattle.std.specs.declared.io.ErrorKind.{ErrorKind}
@@ -20,12 +20,10 @@ use Rattle.sqlite.specs.declared.error.Error.{Error}
 use Rattle.sqlite.specs.declared.error.Error.TheVariants.{SqliteFailure}
 use Rattle.sqlite.specs.declared.error.ErrorCode.TheVariants.{CannotOpen, DatabaseBusy, OutOfMemory}
 use Rattle.csi_config.specs.declared.config.Config.{Config}
-use Rattle.csi_files.specs.Serving.{AllServed, AreUntouched, IsAsked}
 use Rattle.csi_files.specs.Starting.{IsNotStarted}
-use Rattle.csi_files.specs.declared.over.Served.{Served}
-use Rattle.csi_files.specs.declared.path.NotServedAt.{NotServedAt}
-use Rattle.csi_files.specs.declared.path.NotServedAt.TheVariants.{NoFiles, NotServed}
-use Rattle.csi_files.specs.declared.serving.Closed.{Closed}
+use Rattle.csi_files.specs.Streams.{AreUntouched, Streams}
+use Rattle.csi_files.specs.declared.run.RunFailure.{RunFailure}
+use Rattle.csi_files.specs.declared.run.RunFailure.TheVariants.{NoFiles}
 
 module _ {C S : Type 0} {g : calls.Ghosts C} {first : start.Ghosts S} where
   -- what is said of a file whose calls are recorded, by its record and by what it held
@@ -84,18 +82,13 @@ abbrev pub IsNotGiven : List ℕ → Error → Type 0
 IsNotGiven path e = (NamesNoFile path × (e ≡ no_file_error NamesNone))
     ⊎ ((¬ NamesNoFile path) × ((cause : OpenError) × (e ≡ no_file_error (NotGiven cause))))
 
-module _ {S : Type 0} {g : calls.Ghosts Host} (first : start.Ghosts S) (config : Config) (is_existing : Bool) (unread left held holds : Option (List ℕ)) where
-  -- why files that held what `first` says were not closed after calls, and what is left of them
-  abbrev pub IsNotServedAt : NotServedAt (Modelled Host S g first) over_calls → Type 0
-  IsNotServedAt (NoFiles error) = AreUntouched unread left held holds × IsNoFile error
-  IsNotServedAt (NotServed e) =
-      ((files : Files (Modelled Host S g first)) × IsFresh true files.log × IsFresh false files.db
-      × IsNotStarted over_calls config files unread left held holds e)
-      × IsAsked over_calls is_existing (Err e)
+module _ {S : Type 0} {g : calls.Ghosts Host} (first : start.Ghosts S) (config : Config) (bytes : Streams) where
+  -- there are no files, and nothing was read or written
+  abbrev pub IsFileless : RunFailure (Modelled Host S g first) over_calls → Type 0
+  IsFileless (NoFiles error) = AreUntouched bytes × IsNoFile error
+  IsFileless _ = ⊥
 
-module _ {S : Type 0} {g : calls.Ghosts Host} {first : start.Ghosts S} where
-  -- what calls came to, also where the files were not closed after them
-  abbrev pub AllServedAt : (Served → Type 0) → Result (Closed (Modelled Host S g first)) (NotServedAt (Modelled Host S g first) over_calls) → Type 0
-  AllServedAt P (Ok closed) = P closed.served
-  AllServedAt P (Err (NoFiles error)) = ⊤
-  AllServedAt P (Err (NotServed e)) = AllServed over_calls P (Err e)
+  -- why files that held what `first` says were not closed after calls, and what is left of them
+  abbrev pub IsNotServedAt : RunFailure (Modelled Host S g first) over_calls → Type 0
+  IsNotServedAt e = IsFileless e
+      ⊎ ((files : Files (Modelled Host S g first)) × IsFresh true files.log × IsFresh false files.db × IsNotStarted over_calls config files bytes e)

@@ -19,7 +19,7 @@ use Rattle.csi_config.specs.declared.config.Config.{Config}
 use Rattle.csi_keeper.specs.Invariant.{IsInvariant}
 use Rattle.csi_keeper.specs.Model.{Model}
 use Rattle.csi_keeper.specs.State.{State, first_state}
-use Rattle.csi_keeper.specs.declared.change.StoreFault.TheVariants.{Refused}
+use Rattle.csi_keeper.specs.declared.change.StoreFault.TheVariants as Fault
 use Rattle.csi_sql.specs.Tables.{no_schema}
 use Rattle.csi_adoption.specs.Adopting.{IsStateOf}
 use Rattle.csi_adoption.specs.Faults.{is_failure}
@@ -33,10 +33,13 @@ use Rattle.csi_server.specs.Volumes.{IsPending, volumes}
 use Rattle.csi_server.specs.declared.end.RunEnd.{RunEnd}
 use Rattle.csi_server.specs.declared.end.RunEnd.TheVariants.{Done, Malformed, ReadFailed, TurnsSpent, WriteFailed, NoMemory}
 use Rattle.csi_files.specs.Files.{HasState, IsStateIn, image_model}
-use Rattle.csi_files.specs.declared.over.Served.{Served}
-use Rattle.csi_files.specs.declared.serving.Closed.{Closed}
-use Rattle.csi_files.specs.declared.serving.NotServed.{NotServed}
-use Rattle.csi_files.specs.declared.serving.NotServed.TheVariants.{NotOpened, Blank, NotAdopted, NotCopied, Left, NotClosed}
+use Rattle.csi_files.specs.Streams.{AreUntouched, Streams}
+use Rattle.csi_files.specs.declared.run.Refusal.{Refusal}
+use Rattle.csi_files.specs.declared.run.Refusal.TheVariants.{Blank, NotAdopted, NotCopied}
+use Rattle.csi_files.specs.declared.run.RunReport.{RunReport}
+use Rattle.csi_files.specs.declared.run.Closed.{Closed}
+use Rattle.csi_files.specs.declared.run.RunFailure.{RunFailure}
+use Rattle.csi_files.specs.declared.run.RunFailure.TheVariants.{NoFiles, NotOpened, Refused, Left, NotClosed}
 
 -- the calls that a run answered, by the way it ended
 abbrev pub events_of : {S : Type 0} (m : Machine S) (old new : Model S) (s : S) (read : List ℕ) (AtEnd : Type 0) (held holds : Option (List ℕ)) (end : RunEnd)
@@ -49,11 +52,11 @@ events_of m old new s read AtEnd held holds WriteFailed it = it.events
 events_of m old new s read AtEnd held holds NoMemory it = []
 
 -- the store refused some
-abbrev pub HasRefused : Served → Type 0
+abbrev pub HasRefused : RunReport → Type 0
 HasRefused served = IsTrue served.is_down ⊎ (0 < served.refusals)
 
 -- the store refused none, and is not down
-abbrev pub HasRefusedNone : Served → Type 0
+abbrev pub HasRefusedNone : RunReport → Type 0
 HasRefusedNone served = (served.refusals ≡ 0) × (served.is_down ≡ false)
 
 -- what contracts see of a store by its counts alone: how many calls it refused, and whether it is down
@@ -67,7 +70,7 @@ pub record IsStateAfter (config : Config) (s : State) (events : List Event) (t :
   pub invariant : IsInvariant config t
 
 -- the run says whether the database that the files had was without tables
-abbrev pub SaysNew : Image → Served → Type 0
+abbrev pub SaysNew : Image → RunReport → Type 0
 SaysNew was served = (db : Database) → ∥ HoldsDatabase was db.trees ∥₁ → IsDatabase db → IsTrue served.is_new ↔ (db.schema ≡ no_schema)
 
 -- if the files had a database, it was one of a State that meets every constraint
@@ -106,43 +109,43 @@ module _ {D : Type 0} (g : disk.Ghosts D) where
   abbrev pub LeavesAfter : Config → Files D → State → List Event → Type 0
   LeavesAfter config now s events = (image : Image) → outcomes g now.log now.db image → ∥ ((t : State) × HasState image t × IsStateAfter config s events t) ∥₁
 
-module _ (config : Config) (unread left held holds : Option (List ℕ)) where
+module _ (config : Config) (bytes : Streams) where
   -- Calls were served from each of these States, and this is so of the database before them and of what they
   -- left.
-  pub record RunsThen (Starts : State → Type 0) (served : Served) (Clean New : Type 0) (Leaves : State → List Event → Type 0) : Type 0 where
+  pub record RunsThen (Starts : State → Type 0) (served : RunReport) (Clean New : Type 0) (Leaves : State → List Event → Type 0) : Type 0 where
     pub read : List ℕ
-    pub consumed : Consumes unread left read
+    pub consumed : Consumes bytes.unread bytes.left read
     pub new : Clean → New
     pub ended : Clean → (s : State) → Starts s
-        → (run : Ended (volumes config) (counts_model 0 false) (counts_model served.refusals served.is_down) s read (IsAtEnd left) held holds served.end)
+        → (run : Ended (volumes config) (counts_model 0 false) (counts_model served.refusals served.is_down) s read
+        (IsAtEnd bytes.left) bytes.held bytes.holds served.end)
         × IsInvariant config s
         × Leaves s (events_of (volumes config) (counts_model 0 false) (counts_model served.refusals served.is_down) s read
-        (IsAtEnd left) held holds served.end run)
+        (IsAtEnd bytes.left) bytes.held bytes.holds served.end run)
 
 -- calls were served from the State of files with these contents
-abbrev pub ServesThen : Config → Image → Option (List ℕ) → Option (List ℕ) → Option (List ℕ) → Option (List ℕ) → Served → Type 0
+abbrev pub ServesThen : Config → Image → Streams → RunReport → Type 0
     → (State → List Event → Type 0) → Type 0
-ServesThen config was unread left held holds served Clean Leaves = RunsThen config unread left held holds
+ServesThen config was bytes served Clean Leaves = RunsThen config bytes
     (image_model was served.is_new).holds served Clean (SaysNew was served × WasTaken config was) Leaves
 
--- nothing was read or written
-abbrev pub AreUntouched : Option (List ℕ) → Option (List ℕ) → Option (List ℕ) → Option (List ℕ) → Type 0
-AreUntouched unread left held holds = (left ≡ unread) × (holds ≡ held)
-
 module _ {D : Type 0} (g : disk.Ghosts D) where
+  -- why a database of files that had these contents was refused, and what is left of the files
+  abbrev pub IsRefusal : Config → Image → Refusal → Files D → Type 0
+  IsRefusal config was Blank now = HasNone g was now
+  IsRefusal config was (NotAdopted fault) now = Refuses g config was fault now
+  IsRefusal config was (NotCopied fault) now = Keeps g was now × (fault ≡ Fault.Refused) × (AreClean g now.log now.db → WasTaken config was)
+
   -- why files that had these contents were not closed after calls, and what is left of them; a clause of its
   -- own says what is so where they were not opened
-  abbrev pub IsNotServed : Config → Image → Option (List ℕ) → Option (List ℕ) → Option (List ℕ) → Option (List ℕ) → (Error → Leftover D g → Type 0)
-      → NotServed D g → Type 0
-  IsNotServed config was unread left held holds Unopened (NotOpened error rest) = Unopened error rest
-  IsNotServed config was unread left held holds Unopened (Blank now) = AreUntouched unread left held holds × HasNone g was now
-  IsNotServed config was unread left held holds Unopened (NotAdopted fault now) = AreUntouched unread left held holds × Refuses g config was fault now
-  IsNotServed config was unread left held holds Unopened (NotCopied fault now) = AreUntouched unread left held holds × Keeps g was now × (fault ≡ Refused)
-      × (AreClean g now.log now.db → WasTaken config was)
-  IsNotServed config was unread left held holds Unopened (Left served now) = HasRefused served
-      × ServesThen config was unread left held holds served (AreClean g now.log now.db) (LeavesAfter g config now)
-  IsNotServed config was unread left held holds Unopened (NotClosed served error now) = ((cause : StoreError) × (error ≡ store_error cause))
-      × ServesThen config was unread left held holds served (AreClean g now.log now.db) (LeavesAfter g config now)
+  abbrev pub IsNotServed : Config → Image → Streams → (Error → Leftover D g → Type 0) → RunFailure D g → Type 0
+  IsNotServed config was bytes Unopened (NoFiles error) = ⊥
+  IsNotServed config was bytes Unopened (NotOpened error rest) = Unopened error rest
+  IsNotServed config was bytes Unopened (Refused refusal now) = AreUntouched bytes × IsRefusal config was refusal now
+  IsNotServed config was bytes Unopened (Left served now) = HasRefused served
+      × ServesThen config was bytes served (AreClean g now.log now.db) (LeavesAfter g config now)
+  IsNotServed config was bytes Unopened (NotClosed served error now) = ((cause : StoreError) × (error ≡ store_error cause))
+      × ServesThen config was bytes served (AreClean g now.log now.db) (LeavesAfter g config now)
 
   -- why files were not opened, and what is left of them
   abbrev pub IsNotOpened : Files D → Error → Leftover D g → Type 0
@@ -153,21 +156,25 @@ module _ {D : Type 0} (g : disk.Ghosts D) where
   Opens was conn = HasCleanDisk (file_state conn) → IsOpened conn × FindsIn was (file_state conn)
 
   -- what calls came to, also where the files were not closed after them
-  abbrev pub AllServed : (Served → Type 0) → Result (Closed D) (NotServed D g) → Type 0
-  AllServed P (Ok closed) = P closed.served
+  abbrev pub AllServed : (RunReport → Type 0) → Result (Closed D) (RunFailure D g) → Type 0
+  AllServed P (Ok closed) = P closed.report
+  AllServed P (Err (NoFiles error)) = ⊤
   AllServed P (Err (NotOpened error rest)) = ⊤
-  AllServed P (Err (Blank now)) = ⊤
-  AllServed P (Err (NotAdopted fault now)) = ⊤
-  AllServed P (Err (NotCopied fault now)) = ⊤
+  AllServed P (Err (Refused refusal now)) = ⊤
   AllServed P (Err (Left served now)) = P served
   AllServed P (Err (NotClosed served error now)) = P served
 
+  -- a database is refused for having no table only where it was required to have some
+  abbrev pub IsBlankAsked : Bool → Refusal → Type 0
+  IsBlankAsked is_existing Blank = IsTrue is_existing
+  IsBlankAsked is_existing (NotAdopted fault) = ⊤
+  IsBlankAsked is_existing (NotCopied fault) = ⊤
+
   -- files without a table are refused where they were required to have some, and nowhere else
-  abbrev pub IsAsked : Bool → Result (Closed D) (NotServed D g) → Type 0
-  IsAsked is_existing (Ok closed) = IsTrue is_existing → closed.served.is_new ≡ false
+  abbrev pub IsAsked : Bool → Result (Closed D) (RunFailure D g) → Type 0
+  IsAsked is_existing (Ok closed) = IsTrue is_existing → closed.report.is_new ≡ false
+  IsAsked is_existing (Err (NoFiles error)) = ⊤
   IsAsked is_existing (Err (NotOpened error rest)) = ⊤
-  IsAsked is_existing (Err (Blank now)) = IsTrue is_existing
-  IsAsked is_existing (Err (NotAdopted fault now)) = ⊤
-  IsAsked is_existing (Err (NotCopied fault now)) = ⊤
+  IsAsked is_existing (Err (Refused refusal now)) = IsBlankAsked is_existing refusal
   IsAsked is_existing (Err (Left served now)) = IsTrue is_existing → served.is_new ≡ false
   IsAsked is_existing (Err (NotClosed served error now)) = IsTrue is_existing → served.is_new ≡ false

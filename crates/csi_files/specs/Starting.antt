@@ -1,15 +1,12 @@
 -- Files from which a run may start, a first one too.
-use Rattle.std.specs.Prelude.{◌≡◌, ◌≢◌, ◌⊎◌, ℕ, Bool, List, Option, IsTrue, ⊤}
+use Rattle.std.specs.Prelude.{◌≡◌, ◌≢◌, ◌⊎◌, Bool, List, IsTrue, ⊤}
 use Rattle.sqlite_disk.specs.declared.Disk as disk
 use Rattle.sqlite_disk.specs.declared.Files.{Files}
 use Rattle.sqlite_wal.specs.Files.{outcomes}
 use Rattle.sqlite_wal.specs.Reads.{AreClean, tally_of_files}
 use Rattle.sqlite_wal.specs.Recovery.{Image}
 use Rattle.sqlite_store.specs.Report.{named}
-use Rattle.sqlite_store.specs.declared.store.FileStore.{FileStore}
-use Rattle.sqlite.specs.Files.{file_state, image_of}
-use Rattle.sqlite.specs.Held.{Held}
-use Rattle.sqlite.specs.State.{HasCleanDisk}
+use Rattle.sqlite.specs.Files.{image_of}
 use Rattle.sqlite.specs.declared.error.Error.{Error}
 use Rattle.sqlite.specs.declared.error.Error.TheVariants.{SqliteFailure}
 use Rattle.sqlite.specs.declared.file.Leftover.{Leftover}
@@ -25,12 +22,13 @@ use Rattle.csi_keeper.specs.State.{State, first_state}
 use Rattle.csi_files.specs.Files.{HasState, image_model}
 use Rattle.csi_server.specs.Machine.{Event}
 use Rattle.csi_files.specs.Making.{AreAsBefore, IsLaidOut, IsLost, IsMade, IsNotLaidOut, IsToMake, IsUnmade}
-use Rattle.csi_files.specs.Serving.{AreUntouched, IsNotOpened, IsNotServed, Opens, RunsThen, SaysNew, WasTaken}
+use Rattle.csi_files.specs.Serving.{IsNotOpened, IsNotServed, RunsThen, SaysNew, WasTaken}
+use Rattle.csi_files.specs.Streams.{AreUntouched, Streams}
 use Rattle.csi_files.specs.declared.making.NotLaidOut.{NotLaidOut}
 use Rattle.csi_files.specs.declared.making.NotLaidOut.TheVariants.{Emptied, Failed}
-use Rattle.csi_files.specs.declared.over.Served.{Served}
-use Rattle.csi_files.specs.declared.serving.NotServed.{NotServed}
-use Rattle.csi_files.specs.declared.serving.NotServed.TheVariants.{NotOpened, Blank, NotAdopted, NotCopied, Left, NotClosed}
+use Rattle.csi_files.specs.declared.run.RunReport.{RunReport}
+use Rattle.csi_files.specs.declared.run.RunFailure.{RunFailure}
+use Rattle.csi_files.specs.declared.run.RunFailure.TheVariants.{NoFiles, NotOpened, Refused, Left, NotClosed}
 
 -- Contents of two files from which a run may start as this State: they hold a database of it, or none yet,
 -- and it is the first State.
@@ -50,15 +48,15 @@ pub record ShowsLaidOut (before after : Image) : Type 0 where
 
 -- The run says whether the database that the files had was without tables, and that it was where one was
 -- made. A database that they had was one of a State that meets every constraint.
-pub record SaysStart (config : Config) (was : Image) (served : Served) : Type 0 where
+pub record SaysStart (config : Config) (was : Image) (served : RunReport) : Type 0 where
   pub taken : WasTaken config was
   pub had : SaysNew was served
   pub made : IsToMake was → IsTrue served.is_new
 
 -- calls were served from the State that a run over files with these contents starts as
-abbrev pub StartsThen : Config → Image → Option (List ℕ) → Option (List ℕ) → Option (List ℕ) → Option (List ℕ) → Served → Type 0
+abbrev pub StartsThen : Config → Image → Streams → RunReport → Type 0
     → (State → List Event → Type 0) → Type 0
-StartsThen config was unread left held holds served Clean Leaves = RunsThen config unread left held holds
+StartsThen config was bytes served Clean Leaves = RunsThen config bytes
     (start_model was served.is_new).holds served Clean (SaysStart config was served) Leaves
 
 -- how SQLite names why no database was made, where the disk failed with this fault
@@ -94,11 +92,10 @@ module _ {D : Type 0} (g : disk.Ghosts D) where
 
 module _ {D : Type 0} {g : disk.Ghosts D} where
   -- the disk was truthful to the end, of files that were opened
-  abbrev pub EndsClean : NotServed D g → Type 0
+  abbrev pub EndsClean : RunFailure D g → Type 0
+  EndsClean (NoFiles error) = ⊥
   EndsClean (NotOpened error rest) = ⊥
-  EndsClean (Blank now) = AreClean g now.log now.db
-  EndsClean (NotAdopted fault now) = AreClean g now.log now.db
-  EndsClean (NotCopied fault now) = AreClean g now.log now.db
+  EndsClean (Refused refusal now) = AreClean g now.log now.db
   EndsClean (Left served now) = AreClean g now.log now.db
   EndsClean (NotClosed served error now) = AreClean g now.log now.db
 
@@ -121,14 +118,7 @@ module _ {D : Type 0} (g : disk.Ghosts D) where
 
   -- why files are not closed after a database was made where there was none: what is said of their contents
   -- then
-  pub record IsNotStarted (config : Config) (before : Files D) (unread left held holds : Option (List ℕ)) (e : NotServed D g) : Type 0 where
+  pub record IsNotStarted (config : Config) (before : Files D) (bytes : Streams) (e : RunFailure D g) : Type 0 where
     pub was : Image
     pub shows : EndsClean e → ShowsLaidOut (image_of g before) was
-    pub why : IsNotServed g config was unread left held holds (λ error rest. AreUntouched unread left held holds × IsNotMade before error rest) e
-
-  -- a connection to files with these contents, which an opening gives after a database was made where there
-  -- was none
-  pub record OpensMade (before : Image) (conn : Held (FileStore D g)) : Type 0 where
-    pub was : Image
-    pub shows : HasCleanDisk (file_state conn) → ShowsLaidOut before was
-    pub opens : Opens g was conn
+    pub why : IsNotServed g config was bytes (λ error rest. AreUntouched bytes × IsNotMade before error rest) e

@@ -17,9 +17,9 @@ pub fn found_again<D: Disk>(config: &Config)
     one_state();
 }
 
-/// A run of [`serve_made`](crate::serve_made) over two files, whichever of its ends it has, is a run of
-/// a life of these files: a first one too, over files that hold no database yet. What is said is of each
-/// outcome of a crash after the run.
+/// A run of [`create_and_serve`](crate::Run::create_and_serve) over two files, whichever of its ends it has,
+/// is a run of a life of these files: a first one too, over files that hold no database yet. What is said is
+/// of each outcome of a crash after the run.
 ///
 /// One end is left out: an opening that fails while it reads the schema, because memory is refused or a read
 /// fails. Nothing is written there (docs/THEOREMS.md, "From files to files").
@@ -27,8 +27,8 @@ pub fn went_on<D: Disk>(config: &Config)
     ensures { RunsGoOn D.Disk config.now }
 {}
 
-/// As [`went_on`], of runs of [`serve_path`](crate::serve_path). The files that it opens have the contents
-/// that `S` names, and a crash before the run leaves these alone.
+/// As [`went_on`], of runs of [`serve_path`](crate::Run::serve_path). The files that it opens have the
+/// contents that `S` names, and a crash before the run leaves these alone.
 pub fn went_on_at<S: Start>(config: &Config)
     ensures { PathGoesOn S.Start config.now }
 {}

@@ -7,16 +7,13 @@ ghost use Rattle.sqlite_wal.specs.Reads.{AreClean};
 ghost use Rattle.csi_server.specs.Serving.{Serves, Writes};
 ghost use Rattle.csi_server.specs.Volumes.{seen, volumes};
 ghost use Rattle.csi_files.specs.Files.{HasAlone, files_model};
-ghost use Rattle.csi_files.specs.Path.{AllServedAt, IsNotGiven, IsNotServedAt, NotSeeded, no_file_error, open_error, over_calls};
-ghost use Rattle.csi_files.specs.Serving.{HasRefusedNone, LeavesAfter};
-ghost use Rattle.csi_files.specs.Starting.{OpensMade, StartsThen, start_model};
+ghost use Rattle.csi_files.specs.Path.{IsNotGiven, IsNotServedAt, NotSeeded, no_file_error, open_error, over_calls};
+ghost use Rattle.csi_files.specs.Serving.{AllServed, HasRefusedNone, IsAsked, LeavesAfter};
+ghost use Rattle.csi_files.specs.Starting.{StartsThen, start_model};
+ghost use Rattle.csi_files.specs.Streams.{streams};
 
-use crate::over::{Observer, ServeOptions};
-use crate::serving::{Closed, NotServed};
-use crate::starting::{open_made, serve_made};
-use csi_config::Config;
-use sqlite::{Connection, Error, ErrorCode, FileFrom, FileStore, Files, Options, Start};
-use sqlite_disk::Disk;
+use crate::run::{Closed, Observer, Run, RunFailure};
+use sqlite::{Error, ErrorCode, FileFrom, Files, Options, Start};
 use sqlite_std_file::{OpenError, open};
 use std::hash::{BuildHasher, RandomState};
 use std::io::{ErrorKind, Read, Write};
@@ -27,13 +24,18 @@ const CANNOT_OPEN: Error = Error::SqliteFailure(ErrorCode::CannotOpen);
 
 const BUSY: Error = Error::SqliteFailure(ErrorCode::DatabaseBusy);
 
-/// Why the files at a path were not closed after calls, and what is left of them.
-#[derive(Drop)]
-pub enum NotServedAt<D: Disk> {
-    /// The operating system did not give them.
-    NoFiles(Error),
-    /// It gave them.
-    NotServed(NotServed<D>),
+/// The files at a path.
+///
+/// That these are the files at the path, and that nobody else writes to them, is trusted, as in
+/// `sqlite_std_file::open`.
+pub struct FilesAt<'a, S> {
+    /// The operating system, which gives the files.
+    pub rt: HostRuntime,
+    /// The path of the database file. Its WAL is next to it. SQLite takes `:memory:` and a URI for something
+    /// else than a file: neither is given.
+    pub path: &'a str,
+    /// What the files hold. The clauses of a run hold for any bytes.
+    pub start: S,
 }
 
 // How SQLite names why the operating system did not give the files.
@@ -76,97 +78,55 @@ fn opening(rt: &HostRuntime) -> Result<Options, Error>
     }
 }
 
-/// Serves the volume machine over the database file at a path and its WAL, as [`serve_made`] does over files.
-/// `start` is what the files held; the clauses hold for any such bytes.
-///
-/// That these are the files at the path, and that nobody else writes to them, is trusted, as in
-/// `sqlite_std_file::open`.
-///
-/// # Errors
-///
-/// As of [`serve_made`]; also where the operating system does not give the files. No call is read then.
-///
-/// # Not promised
-///
-/// What a program and its sockets do around the run.
-pub fn serve_path<S: Start, O: Observer, R: Read, W: Write>(
-    rt: &HostRuntime,
-    config: &Config,
-    path: &str,
-    start: S,
-    options: &ServeOptions,
-    observer: &O,
-    reader: &mut R,
-    writer: &mut W,
-) -> Result<Closed<FileFrom<S>>, NotServedAt<FileFrom<S>>>
-    ensures served { IfOk result (λ r. Serves (volumes config.now)
-        (start_model (image_at S.Start) r.served.is_new)
-        (seen config.now (files_model over_calls r.files r.served.refusals r.served.is_down))
-        (R.remaining reader.old) (R.remaining reader.new) (W.contents writer.old)
-        (W.contents writer.new) r.served.end) }
-    ensures after { IfOk result (λ r. StartsThen config.now (image_at S.Start)
-        (R.remaining reader.old) (R.remaining reader.new) (W.contents writer.old)
-        (W.contents writer.new) r.served
-        (AreClean over_calls r.files.log r.files.db) (LeavesAfter over_calls config.now r.files)) }
-    ensures usable { IfOk result (λ r. IsTrue (over_calls.is_usable r.files.log)
-        × IsTrue (over_calls.is_usable r.files.db)) }
-    ensures alone { IfOk result (λ r. HasAlone over_calls r.files) }
-    ensures writes { AllServedAt (λ served. Writes (R.remaining reader.old) (R.remaining reader.new)
-        (W.contents writer.old) (W.contents writer.new) served.end) result }
-    ensures none_refused { IfOk result (λ r. HasRefusedNone r.served) }
-    ensures uncopied { AllServedAt (λ served. IsTrue options.now.is_low_memory → served.is_copied ≡ false)
-        result }
-    ensures existing { IfOk result (λ r. IsTrue options.now.is_existing → r.served.is_new ≡ false) }
-    ensures not_served { IfErr result (IsNotServedAt S.Start config.now options.now.is_existing
-        (R.remaining reader.old) (R.remaining reader.new) (W.contents writer.old) (W.contents writer.new)) }
-{
-    let files = match files_at(rt, path, start) {
-        Ok(files) => files,
-        Err(error) => return Err(NotServedAt::NoFiles(error)),
-    };
-    let opening = match opening(rt) {
-        Ok(opening) => opening,
-        Err(error) => return Err(NotServedAt::NoFiles(error)),
-    };
-    match serve_made(
-        rt.alloc(),
-        config,
-        files,
-        opening,
-        options,
-        observer,
-        reader,
-        writer,
-    ) {
-        Ok(closed) => Ok(closed),
-        Err(error) => Err(NotServedAt::NotServed(error)),
-    }
-}
-
-/// Opens the database file at a path and its WAL; where they hold no database yet, an empty one is made
-/// first.
-///
-/// # Errors
-///
-/// Where the operating system does not give the files, they hold no database, or memory is refused.
-pub fn open_path<S: Start>(
-    rt: &HostRuntime,
-    path: &str,
-    start: S,
-) -> Result<Connection<FileStore<FileFrom<S>>>, Error>
-    ensures opens { IfOk result (OpensMade over_calls (image_at S.Start)) }
-    ensures idle { IfOk result (λ conn. conn.in_transaction ≡ false) }
-{
-    let files = match files_at(rt, path, start) {
-        Ok(files) => files,
-        Err(error) => return Err(error),
-    };
-    let opening = match opening(rt) {
-        Ok(opening) => opening,
-        Err(error) => return Err(error),
-    };
-    match open_made(rt.alloc(), files, opening) {
-        Ok(conn) => Ok(conn),
-        Err((error, _left)) => Err(error),
+impl<O: Observer> Run<'_, O> {
+    /// Serves the volume machine over the database file at a path and its WAL, as
+    /// [`create_and_serve`](Run::create_and_serve) does over files.
+    ///
+    /// # Errors
+    ///
+    /// As of [`create_and_serve`](Run::create_and_serve); also `NoFiles`, where the operating system does not
+    /// give the files or no random seed. No call is read then.
+    ///
+    /// # Not promised
+    ///
+    /// What a program and its sockets do around the run.
+    pub fn serve_path<S: Start, R: Read, W: Write>(
+        &self,
+        at: FilesAt<'_, S>,
+        reader: &mut R,
+        writer: &mut W,
+    ) -> Result<Closed<FileFrom<S>>, RunFailure<FileFrom<S>>>
+        ensures served { IfOk result (λ r. Serves (volumes self.now.config.now)
+            (start_model (image_at S.Start) r.report.is_new)
+            (seen self.now.config.now (files_model over_calls r.files r.report.refusals r.report.is_down))
+            (R.remaining reader.old) (R.remaining reader.new) (W.contents writer.old)
+            (W.contents writer.new) r.report.end) }
+        ensures after { IfOk result (λ r. StartsThen self.now.config.now (image_at S.Start)
+            (streams (R.remaining reader.old) (R.remaining reader.new)
+            (W.contents writer.old) (W.contents writer.new)) r.report
+            (AreClean over_calls r.files.log r.files.db)
+            (LeavesAfter over_calls self.now.config.now r.files)) }
+        ensures usable { IfOk result (λ r. IsTrue (over_calls.is_usable r.files.log)
+            × IsTrue (over_calls.is_usable r.files.db)) }
+        ensures alone { IfOk result (λ r. HasAlone over_calls r.files) }
+        ensures writes { AllServed over_calls (λ report. Writes (R.remaining reader.old)
+            (R.remaining reader.new) (W.contents writer.old) (W.contents writer.new) report.end) result }
+        ensures none_refused { IfOk result (λ r. HasRefusedNone r.report) }
+        ensures uncopied { AllServed over_calls (λ report. IsTrue self.now.options.is_low_memory
+            → report.is_copied ≡ false) result }
+        ensures existing { IsAsked over_calls self.now.options.is_existing result }
+        ensures not_served { IfErr result (IsNotServedAt S.Start self.now.config.now
+            (streams (R.remaining reader.old) (R.remaining reader.new)
+            (W.contents writer.old) (W.contents writer.new))) }
+    {
+        let FilesAt { rt, path, start } = at;
+        let files = match files_at(&rt, path, start) {
+            Ok(files) => files,
+            Err(error) => return Err(RunFailure::NoFiles(error)),
+        };
+        match opening(&rt) {
+            Ok(opening) => self.create_and_serve(files, opening, reader, writer),
+            Err(error) => Err(RunFailure::NoFiles(error)),
+        }
     }
 }

@@ -13,7 +13,7 @@ ghost use Rattle.csi_keeper.specs.State.{up_to_u64};
 ghost use Rattle.csi_tables.specs.Keeping.{is_down};
 ghost use Rattle.csi_files.specs.Reserving.{AreBlocks, IsFull, blocks_for, cap_bytes, change_bytes, volume_bytes, wanted_with};
 
-use crate::over::Observer;
+use crate::run::Observer;
 use csi_keeper::{
     Attachment, CapKey, Change, Keeper, Kind, Listed, PageFold, PageWithNodes, StoreFault, Usage,
     Volume,
@@ -214,6 +214,7 @@ impl<'a, S: Alter, O: Observer> Reserved<'a, S, O> {
     ) -> Reserved<'a, S, O>
         ensures tables { result.tables ≡ tables }
         ensures held { result.reserve.is_held ≡ true }
+        ensures opening { result.reserve.wanted ≡ opening }
     {
         Reserved {
             tables,
@@ -232,6 +233,7 @@ impl<'a, S: Alter, O: Observer> Reserved<'a, S, O> {
     ) -> Reserved<'a, S, O>
         ensures tables { result.tables ≡ tables }
         ensures unheld { result.reserve.is_held ≡ false }
+        ensures opening { result.reserve.wanted ≡ opening }
     {
         Reserved {
             tables,

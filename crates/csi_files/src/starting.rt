@@ -8,13 +8,12 @@ ghost use Rattle.csi_server.specs.Volumes.{seen, volumes};
 ghost use Rattle.csi_files.specs.Files.{HasAlone, files_model};
 ghost use Rattle.csi_files.specs.Serving.{AllServed, HasRefusedNone, IsAsked, LeavesAfter};
 ghost use Rattle.csi_files.specs.Making.{IsLaidOut};
-ghost use Rattle.csi_files.specs.Starting.{IsLeftUnmade, IsNotStarted, OpensMade, StartsThen, code_of, start_model};
+ghost use Rattle.csi_files.specs.Starting.{IsLeftUnmade, IsNotStarted, StartsThen, code_of, start_model};
+ghost use Rattle.csi_files.specs.Streams.{streams};
 
 use crate::making::{NotLaidOut, lay_out};
-use crate::over::{Observer, ServeOptions};
-use crate::serving::{Closed, NotServed, serve_open};
-use csi_config::Config;
-use sqlite::{Connection, Error, ErrorCode, FileStore, Files, Leftover, Options};
+use crate::run::{Closed, Observer, Run, RunFailure};
+use sqlite::{Connection, Error, ErrorCode, Files, Leftover, Options};
 use sqlite_disk::Disk;
 use sqlite_pages as pages;
 use sqlite_store::name_fault;
@@ -60,91 +59,75 @@ fn made<D: Disk + Drop>(
     }
 }
 
-/// Opens a database file and its WAL. Where they hold no database yet, an empty one is made first.
-pub(crate) fn open_made<D: Disk + Drop>(
-    alloc: Global,
-    files: Files<D>,
-    opening: Options,
-) -> Result<Connection<FileStore<D>>, (Error, Leftover<D>)>
-    requires log { IsTrue (D.Disk.is_usable files.log) }
-    requires db { IsTrue (D.Disk.is_usable files.db) }
-    ensures opens { IfOk result (OpensMade D.Disk (image_of D.Disk files)) }
-    ensures idle { IfOk result (λ conn. conn.in_transaction ≡ false) }
-{
-    match made(alloc, files, opening.seed) {
-        Ok(laid) => Connection::open_files(alloc, laid, opening),
-        Err(error) => Err(error),
-    }
-}
-
-/// Serves the volume machine over a database file and its WAL: makes a database where they hold none yet,
-/// opens them, adopts their tables, serves calls, and closes the files.
-///
-/// For each State that the files have before (`HasState`), what is read and written, how the run ends and
-/// what it counts is said by the table of ends of `csi_server::serve`, and the files have the State after the
-/// calls. A first run starts from the first State, also after a stop in the middle of the making
-/// (`MayStart`). Files without a table get new ones, and the first State, unless the options refuse them.
-/// Where memory has no room for a copy of the volumes, reads are answered from the file.
-///
-/// All of that is promised while the disks return what was written to them (`AreClean`). Over any disk the
-/// calls that were read have their replies, in order (`writes`), and after `Ok` the store has refused none.
-///
-/// # Errors
-///
-/// `NotOpened`, `Blank`, `NotAdopted` and `NotCopied`: the next run starts as this one would have, and
-/// nothing is read or written. `Left`, where the store refused a call, and `NotClosed`, where the WAL was not
-/// copied into the database file: the run is as said above, and what is left has the State after the calls,
-/// or the one that a refused call would have made.
-///
-/// # Not promised
-///
-/// That the disk returns what was written. That memory is there, and so that a run answers `Ok`:
-/// tests rule out a body that always answers `NotOpened`. That a run is copied unless it is not to
-/// be or memory was refused.
-///
-/// What a stop leaves of the repair of a file in which an earlier release was stopped, and that a
-/// file that was left half made is never refused for its WAL: rows show both. If an opening fails while it
-/// reads the schema, the clauses speak of the trees that the store reads, and not of bytes.
-pub fn serve_made<D: Disk + Drop, O: Observer, R: Read, W: Write>(
-    alloc: Global,
-    config: &Config,
-    files: Files<D>,
-    opening: Options,
-    options: &ServeOptions,
-    observer: &O,
-    reader: &mut R,
-    writer: &mut W,
-) -> Result<Closed<D>, NotServed<D>>
-    requires log { IsTrue (D.Disk.is_usable files.log) }
-    requires db { IsTrue (D.Disk.is_usable files.db) }
-    ensures served { IfOk result (λ r. Serves (volumes config.now)
-        (start_model (image_of D.Disk files) r.served.is_new)
-        (seen config.now (files_model D.Disk r.files r.served.refusals r.served.is_down))
-        (R.remaining reader.old) (R.remaining reader.new) (W.contents writer.old)
-        (W.contents writer.new) r.served.end) }
-    ensures after { IfOk result (λ r. StartsThen config.now (image_of D.Disk files)
-        (R.remaining reader.old) (R.remaining reader.new) (W.contents writer.old)
-        (W.contents writer.new) r.served
-        (AreClean D.Disk r.files.log r.files.db) (LeavesAfter D.Disk config.now r.files)) }
-    ensures usable { IfOk result (λ r. IsTrue (D.Disk.is_usable r.files.log)
-        × IsTrue (D.Disk.is_usable r.files.db)) }
-    ensures alone { IfOk result (λ r. HasAlone D.Disk r.files) }
-    ensures writes { AllServed D.Disk (λ served. Writes (R.remaining reader.old) (R.remaining reader.new)
-        (W.contents writer.old) (W.contents writer.new) served.end) result }
-    ensures none_refused { IfOk result (λ r. HasRefusedNone r.served) }
-    ensures uncopied { AllServed D.Disk (λ served. IsTrue options.now.is_low_memory
-        → served.is_copied ≡ false) result }
-    ensures existing { IsAsked D.Disk options.now.is_existing result }
-    ensures not_served { IfErr result (IsNotStarted D.Disk config.now files (R.remaining reader.old)
-        (R.remaining reader.new) (W.contents writer.old) (W.contents writer.new)) }
-{
-    let seed = opening.seed;
-    let laid = match made(alloc, files, seed) {
-        Ok(laid) => laid,
-        Err((error, left)) => return Err(NotServed::NotOpened(error, left)),
-    };
-    match Connection::open_files(alloc, laid, opening) {
-        Ok(conn) => serve_open(alloc, config, conn, seed, options, observer, reader, writer),
-        Err((error, left)) => Err(NotServed::NotOpened(error, left)),
+impl<O: Observer> Run<'_, O> {
+    /// Serves the volume machine over a database file and its WAL: makes a database where they hold none yet,
+    /// opens them, adopts their tables, serves calls, and closes the files.
+    ///
+    /// For each State that the files have before (`HasState`), what is read and written, how the run ends and
+    /// what it counts is said by the table of ends of `csi_server::serve`, and the files have the State after
+    /// the calls. A first run starts from the first State, also after a stop in the middle of the making
+    /// (`MayStart`). Files without a table get new ones, and the first State, unless the options refuse them.
+    /// Where memory has no room for a copy of the volumes, reads are answered from the file.
+    ///
+    /// All of that is promised while the disks return what was written to them (`AreClean`). Over any disk
+    /// the calls that were read have their replies, in order (`writes`), and after `Ok` the store has refused
+    /// none.
+    ///
+    /// # Errors
+    ///
+    /// `NotOpened` and `Refused`: the next run starts as this one would have, and nothing is read or written.
+    /// `Left`, where the store refused a call, and `NotClosed`, where the WAL was not copied into the
+    /// database file: the run is as said above, and what is left has the State after the calls, or the one
+    /// that a refused call would have made.
+    ///
+    /// # Not promised
+    ///
+    /// That the disk returns what was written. That memory is there, and so that a run answers `Ok`:
+    /// tests rule out a body that always answers `NotOpened`. That a run is copied unless it is not to
+    /// be or memory was refused.
+    ///
+    /// What a stop leaves of the repair of a file in which an earlier release was stopped, and that a file
+    /// that was left half made is never refused for its WAL: rows show both. If an opening fails while it
+    /// reads the schema, the clauses speak of the trees that the store reads, and not of bytes.
+    pub fn create_and_serve<D: Disk + Drop, R: Read, W: Write>(
+        &self,
+        files: Files<D>,
+        opening: Options,
+        reader: &mut R,
+        writer: &mut W,
+    ) -> Result<Closed<D>, RunFailure<D>>
+        requires log { IsTrue (D.Disk.is_usable files.log) }
+        requires db { IsTrue (D.Disk.is_usable files.db) }
+        ensures served { IfOk result (λ r. Serves (volumes self.now.config.now)
+            (start_model (image_of D.Disk files) r.report.is_new)
+            (seen self.now.config.now (files_model D.Disk r.files r.report.refusals r.report.is_down))
+            (R.remaining reader.old) (R.remaining reader.new) (W.contents writer.old)
+            (W.contents writer.new) r.report.end) }
+        ensures after { IfOk result (λ r. StartsThen self.now.config.now (image_of D.Disk files)
+            (streams (R.remaining reader.old) (R.remaining reader.new)
+            (W.contents writer.old) (W.contents writer.new)) r.report
+            (AreClean D.Disk r.files.log r.files.db) (LeavesAfter D.Disk self.now.config.now r.files)) }
+        ensures usable { IfOk result (λ r. IsTrue (D.Disk.is_usable r.files.log)
+            × IsTrue (D.Disk.is_usable r.files.db)) }
+        ensures alone { IfOk result (λ r. HasAlone D.Disk r.files) }
+        ensures writes { AllServed D.Disk (λ report. Writes (R.remaining reader.old) (R.remaining reader.new)
+            (W.contents writer.old) (W.contents writer.new) report.end) result }
+        ensures none_refused { IfOk result (λ r. HasRefusedNone r.report) }
+        ensures uncopied { AllServed D.Disk (λ report. IsTrue self.now.options.is_low_memory
+            → report.is_copied ≡ false) result }
+        ensures existing { IsAsked D.Disk self.now.options.is_existing result }
+        ensures not_served { IfErr result (IsNotStarted D.Disk self.now.config.now files
+            (streams (R.remaining reader.old) (R.remaining reader.new)
+            (W.contents writer.old) (W.contents writer.new))) }
+    {
+        let seed = opening.seed;
+        let laid = match made(self.alloc, files, seed) {
+            Ok(laid) => laid,
+            Err((error, left)) => return Err(RunFailure::NotOpened(error, left)),
+        };
+        match Connection::open_files(self.alloc, laid, opening) {
+            Ok(conn) => self.adopt_and_serve(conn, seed, reader, writer),
+            Err((error, left)) => Err(RunFailure::NotOpened(error, left)),
+        }
     }
 }

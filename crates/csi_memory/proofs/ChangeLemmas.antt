@@ -1,5 +1,5 @@
 -- What rows represent after a change, and after one that memory refused.
-use Rattle.std.proofs.Common.{◌≡◌, ◌∙◌, inl, inr, ap, sym, subst, cond, arith, refl, ℕ, ◌+◌, ◌*◌, ◌<◌, ◌≤◌, ◌^◌, List, [], ◌∷◌, length, sum, Bool, true, false, Some, None}
+use Rattle.std.proofs.Common.{◌≡◌, ◌∙◌, inl, inr, ap, sym, subst, cond, arith, refl, ℕ, ◌+◌, ◌*◌, ◌<◌, ◌≤◌, ◌^◌, List, [], ◌∷◌, length, sum, Bool, true, false, Some, None, Result, Ok, Err, OnErr}
 use Rattle.std.specs.Cmp.{nat_cmp_total}
 use Rattle.std.specs.FinMap as fin
 use Rattle.std.specs.List.{AllByRecursion}
@@ -10,10 +10,10 @@ use Rattle.csi_keeper.specs.declared.change.Change.TheVariants.{AddVolume, Remov
 use Rattle.csi_keeper.specs.declared.volume.Volume.{Volume}
 use Rattle.csi_keeper.specs.declared.totals.Total.{Total}
 use Rattle.csi_keeper.specs.declared.totals.Totals.{Totals}
-use Rattle.csi_memory.specs.Hashing.{name_hash}
-use Rattle.csi_memory.specs.Memory.{Nodes, volumes_of}
-use Rattle.csi_memory.specs.Naming.{Lists, HasSameNames, IsNamed, IsUnnamed}
-use Rattle.csi_memory.specs.declared.names.Names.{Names}
+use Rattle.csi_maps.specs.Hashing.{name_hash}
+use Rattle.csi_maps.specs.Rows.{Nodes, volumes_of}
+use Rattle.csi_maps.specs.Naming.{Lists, HasSameNames, IsNamed, IsUnnamed}
+use Rattle.csi_maps.specs.declared.names.Names.{Names}
 use Rattle.csi_memory.specs.Kept.{IsKept}
 use Rattle.csi_keeper.specs.Totals.{total_of, more, less, HasRoom}
 use Rattle.csi_keeper.specs.State.{State, AttachmentKey, changed, Allows, mutable_set}
@@ -23,6 +23,10 @@ use Rattle.csi_memory.proofs.KeptLemmas.{kept_add, kept_remove}
 use Rattle.csi_keeper.specs.facts.Mutable.{stood, stands, as_many, totals_kept}
 use Rattle.csi_keeper.specs.facts.Names.{nobody}
 use Rattle.csi_keeper.specs.facts.Sums.{in_order, total_cons, count_cons}
+
+pub on_err : {A E P : Type 0} (r : Result A E) → P → OnErr r P
+on_err (Ok x) h = tt
+on_err (Err e) h = h
 
 -- the volume that was put into the rows stands there
 pub stands_now : (es rows : List (ℕ × Volume)) (v : Volume) → volumes_of rows ≡ fin.insert (volumes_of es) v.number v → fin.get (volumes_of rows) v.number ≡ Some v

@@ -9,10 +9,10 @@ use Rattle.csi_keeper.specs.declared.volume.Attachment.{Attachment}
 use Rattle.csi_keeper.specs.declared.change.Change.TheVariants.{AddVolume, RemoveVolume, Attach}
 use Rattle.csi_keeper.specs.declared.volume.Volume.{Volume}
 use Rattle.csi_keeper.specs.declared.totals.Totals.{Totals}
-use Rattle.csi_memory.specs.Hashing.{name_hash}
-use Rattle.csi_memory.specs.Memory.{Nodes, AreSpotted, volumes_of, places_of}
-use Rattle.csi_memory.specs.Naming.{Lists, IsNamed, IsUnnamed}
-use Rattle.csi_memory.specs.declared.names.Names.{Names}
+use Rattle.csi_maps.specs.Hashing.{name_hash}
+use Rattle.csi_maps.specs.Rows.{Nodes, AreSpotted, volumes_of, places_of}
+use Rattle.csi_maps.specs.Naming.{Lists, IsNamed, IsUnnamed}
+use Rattle.csi_maps.specs.declared.names.Names.{Names}
 use Rattle.csi_memory.specs.Kept.{IsKept}
 use Rattle.csi_keeper.specs.Totals.{total_of, more, less}
 use Rattle.csi_keeper.specs.State.{State, AttachmentKey, attachment_key_cmp, changed, Allows}

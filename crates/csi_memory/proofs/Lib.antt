@@ -1,10 +1,4 @@
 mod ChangeLemmas
-mod DetachLemmas
-mod HashLemmas
 mod KeptLemmas
 mod NamesLemmas
-mod NamingLemmas
-mod NodesLemmas
 mod ReadLemmas
-mod RowChangeLemmas
-mod WalkLemmas

@@ -10,10 +10,10 @@ use Rattle.csi_types.specs.Maps.{same_text}
 use Rattle.csi_keeper.specs.declared.volume.Attachment.{Attachment}
 use Rattle.csi_keeper.specs.declared.volume.Volume.{Volume}
 use Rattle.csi_keeper.specs.declared.totals.Totals.{Totals}
-use Rattle.csi_memory.specs.Hashing.{name_hash}
-use Rattle.csi_memory.specs.Memory.{Nodes, volumes_of}
-use Rattle.csi_memory.specs.Naming.{named_by, at_number, at_hash, at_text, if_named}
-use Rattle.csi_memory.specs.declared.names.Names.{Names}
+use Rattle.csi_maps.specs.Hashing.{name_hash}
+use Rattle.csi_maps.specs.Rows.{Nodes, volumes_of}
+use Rattle.csi_maps.specs.Naming.{named_by, at_number, at_hash, at_text, if_named}
+use Rattle.csi_maps.specs.declared.names.Names.{Names}
 use Rattle.csi_memory.specs.Kept.{IsKept}
 use Rattle.csi_keeper.specs.State.{State, AttachmentKey, named}
 use Rattle.csi_keeper.specs.Texts.{Text}

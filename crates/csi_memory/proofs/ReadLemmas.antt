@@ -13,15 +13,15 @@ use Rattle.csi_keeper.specs.declared.volume.Attachment.{Attachment}
 use Rattle.csi_keeper.specs.declared.volume.Volume.{Volume}
 use Rattle.csi_keeper.specs.declared.totals.Totals.{Totals}
 use Rattle.csi_keeper.specs.Totals.{total_of, zero_total, the_total, told}
-use Rattle.csi_memory.specs.Memory.{Nodes, HasNoEmpty, has_spot, numbers_by, volumes_of, places_of, place_end, nodes_in, listed_in}
+use Rattle.csi_maps.specs.Rows.{Nodes, HasNoEmpty, has_spot, numbers_by, volumes_of, places_of, place_end, nodes_in, listed_in}
 use Rattle.csi_memory.specs.Kept.{IsKept}
-use Rattle.csi_memory.specs.declared.names.Names.{Names}
+use Rattle.csi_maps.specs.declared.names.Names.{Names}
 use Rattle.csi_keeper.specs.State.{State, AttachmentKey, attachment_key_cmp, sizes, page, attached, attached_at, count_at, published_of_page, used, first_state}
 use Rattle.csi_keeper.specs.Listing.{listed_at, listing}
 use Rattle.csi_keeper.specs.Texts.{Text, text_cmp}
-use Rattle.csi_memory.specs.facts.Listing.{page_rows, place_rows}
+use Rattle.csi_maps.specs.facts.Listing.{page_rows, place_rows}
 use Rattle.csi_keeper.specs.facts.Finite.{none_listed, none_some}
-use Rattle.csi_memory.specs.facts.Spots.{numbers_spotted}
+use Rattle.csi_maps.specs.facts.Spots.{numbers_spotted}
 use Rattle.csi_keeper.specs.facts.Sums.{in_order}
 
 mapped_page : {X : Type 0} (f : Volume → X) (count : ℕ) (es : List (ℕ × Volume)) → take count (map (λ e. f e.1) es) ≡ map f (take count (map (λ e. e.1) es))

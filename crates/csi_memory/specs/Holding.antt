@@ -2,7 +2,7 @@
 use Rattle.std.specs.Prelude.{false, ⊤}
 use Rattle.csi_memory.specs.declared.mem.MemKeeper.{MemKeeper}
 use Rattle.csi_memory.specs.Kept.{IsKept}
-use Rattle.csi_memory.specs.Stored.{as_volumes}
+use Rattle.csi_maps.specs.Stored.{as_volumes}
 use Rattle.csi_keeper.specs.Model.{Model}
 use Rattle.csi_keeper.specs.State.{State}
 

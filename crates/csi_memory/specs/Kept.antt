@@ -7,10 +7,10 @@ use Rattle.csi_keeper.specs.declared.totals.Totals.{Totals}
 use Rattle.csi_keeper.specs.Totals.{AreTotals}
 use Rattle.csi_keeper.specs.State.{State, AttachmentKey}
 use Rattle.csi_keeper.specs.Texts.{Text}
-use Rattle.csi_memory.specs.Hashing.{name_hash}
-use Rattle.csi_memory.specs.Memory.{volumes_of, places_of, Nodes, AreSpotted}
-use Rattle.csi_memory.specs.Naming.{Lists, at_hash, at_text}
-use Rattle.csi_memory.specs.declared.names.Names.{Names}
+use Rattle.csi_maps.specs.Hashing.{name_hash}
+use Rattle.csi_maps.specs.Rows.{volumes_of, places_of, Nodes, AreSpotted}
+use Rattle.csi_maps.specs.Naming.{Lists, at_hash, at_text}
+use Rattle.csi_maps.specs.declared.names.Names.{Names}
 
 -- rows, an index of names, an index of nodes and kept totals represent a State
 pub record IsKept (next : ℕ) (volumes : List (ℕ × Volume)) (names : Names) (pools : Totals)

@@ -1,11 +1,4 @@
-pub mod Compact
 pub mod Fakes
-pub mod Hashing
 pub mod Holding
 pub mod Kept
-pub mod Memory
-pub mod Naming
 pub mod Restoring
-pub mod Stored
-pub mod Walking
-pub mod facts

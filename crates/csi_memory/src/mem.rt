@@ -10,17 +10,14 @@ ghost use Rattle.csi_keeper.specs.declared.change.Change.TheVariants.{AddVolume,
 ghost use Rattle.csi_memory.specs.Holding.{Holds};
 ghost use Rattle.csi_memory.specs.Restoring.{CanRestore, from_number, restored};
 
-use crate::attachments::{attached_to, put_attachment, remove_attachment, remove_attachments};
-use crate::compact::CompactMap;
-use crate::names::{Names, drop_name, set_name, volume_named};
-use crate::nodes::{count_at, numbers_at};
-use crate::rows::{
-    caps_at, fold_after, has_volume, nodes_after, put_volume, remove_volume, set_mutable, sizes_of,
-    volume_at, volumes_after,
-};
-use crate::stored::StoredVolume;
 use csi_keeper::{
     Attachment, CapKey, Change, Keeper, PageFold, StoreFault, Totals, Usage, Volume, copy_volume,
+};
+use csi_maps::{
+    CompactMap, Names, StoredVolume, attached_to, caps_at, count_at, drop_name, fold_after,
+    has_volume, nodes_after, numbers_at, put_attachment, put_volume, remove_attachment,
+    remove_attachments, remove_volume, set_mutable, set_name, sizes_of, volume_at, volume_named,
+    volumes_after,
 };
 use csi_types::{Items, Map, Text, copy_map, copy_text};
 use std::alloc::{AllocError, Global};

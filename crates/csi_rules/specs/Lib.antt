@@ -1,4 +1,6 @@
 pub mod Choice
+pub mod Commitment
+pub mod Conflict
 pub mod Down
 pub mod Finding
 pub mod Ids

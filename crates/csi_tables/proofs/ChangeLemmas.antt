@@ -16,7 +16,7 @@ use Rattle.csi_keeper.specs.declared.totals.Totals.{Totals}
 use Rattle.csi_sql.specs.Tables.{schema}
 use Rattle.csi_sql.specs.Transactions.{CommitsOver}
 use Rattle.csi_tables.specs.Answers.{of_database}
-use Rattle.csi_tables.specs.Encoding.{ReadsBack}
+use Rattle.csi_columns.specs.Encoding.{ReadsBack}
 use Rattle.csi_tables.specs.Holding.{IsRows, IsStorable, Shows, conn_doubt, conn_holds}
 use Rattle.csi_tables.specs.Refusing.{ConnChanges, ConnReads, ConnStays, StoreChanges}
 use Rattle.csi_tables.specs.declared.fault.TablesFault.{TablesFault}

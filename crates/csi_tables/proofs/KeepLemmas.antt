@@ -13,7 +13,7 @@ use Rattle.csi_keeper.specs.declared.change.Change.{Change}
 use Rattle.csi_sql.specs.Tables.{schema}
 use Rattle.csi_sql.specs.Effects.{Changes, Leaves}
 use Rattle.csi_sql.specs.Transactions.{IsUndone}
-use Rattle.csi_tables.specs.Encoding.{ReadsBack}
+use Rattle.csi_columns.specs.Encoding.{ReadsBack}
 use Rattle.csi_tables.specs.Holding.{IsRows, IsStorable, Holds, Shows, Store, conn_holds, conn_doubt, ConnIsQuiet, ConnMakes, ConnFails, StoreMakes, StoreFails}
 use Rattle.csi_tables.proofs.StateLemmas.{same_state}
 

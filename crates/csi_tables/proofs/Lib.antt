@@ -1,6 +1,6 @@
 mod CellLemmas
 mod ChangeLemmas
-mod EncodingLemmas
+mod DecodingLemmas
 mod EntryLemmas
 mod KeepLemmas
 mod ModeLemmas
@@ -16,4 +16,3 @@ mod StateLemmas
 mod TablesLemmas
 mod TestLemmas
 mod TotalsLemmas
-mod WritingLemmas

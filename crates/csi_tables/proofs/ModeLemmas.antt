@@ -14,7 +14,7 @@ use Rattle.csi_keeper.specs.declared.volume.Volume.{Volume}
 use Rattle.csi_keeper.specs.facts.Capability.{had_supported, supported_known}
 use Rattle.csi_keeper.specs.facts.Finite.{all_entries}
 use Rattle.csi_keeper.specs.facts.Orders.{place_exact, place_total}
-use Rattle.csi_tables.specs.Encoding.{AreKnown}
+use Rattle.csi_columns.specs.Encoding.{AreKnown}
 use Rattle.csi_tables.specs.Refusing.{HasKnownModes}
 
 key_known : (k : CapKey) → is_supported_key k ≡ true → is_known_mode (Some (pos k.mode)) ≡ true

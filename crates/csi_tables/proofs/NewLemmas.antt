@@ -23,8 +23,9 @@ use Rattle.csi_sql.specs.Tables.{no_schema}
 use Rattle.csi_sql.specs.Transactions.{ChangesFrom, LeavesFrom}
 use Rattle.csi_sql.specs.Rows.{seen_volume, seen_attachment}
 use Rattle.csi_sql.specs.Effects.{AreKeyed}
-use Rattle.csi_tables.specs.Encoding.{ReadsBack}
-use Rattle.csi_tables.specs.Holding.{IsRows, IsStorable, IsStored, IsPlaced, volume_entry, attachment_entry}
+use Rattle.csi_columns.specs.Encoding.{ReadsBack}
+use Rattle.csi_columns.specs.Entries.{volume_entry, attachment_entry}
+use Rattle.csi_tables.specs.Holding.{IsRows, IsStorable, IsStored, IsPlaced}
 use Rattle.csi_tables.specs.Keeping.{IsNewOver}
 use Rattle.csi_tables.specs.declared.tables.Tables.{Tables}
 use Rattle.csi_tables.proofs.RowLemmas.{sound_after}

@@ -22,7 +22,8 @@ use Rattle.csi_sql.specs.Cells.{as_number}
 use Rattle.csi_sql.specs.Rows.{number_value, seen_attachment}
 use Rattle.csi_sql.specs.Shown.{IsShownOf, IsBeginningOf, last_number}
 use Rattle.csi_sql.specs.Statements.{page_query, places_query}
-use Rattle.csi_tables.specs.Holding.{IsRows, IsStored, IsPlaced, volume_entry, attachment_entry}
+use Rattle.csi_columns.specs.Entries.{volume_entry, attachment_entry}
+use Rattle.csi_tables.specs.Holding.{IsRows, IsStored, IsPlaced}
 use Rattle.csi_tables.specs.Places.{place_row, nodes_at, IsRisen, AreRising, AreTexts}
 use Rattle.csi_tables.proofs.ShownLemmas.{and_true, is_above, to_numeric, all-take, take-map, volumes_up, places_up, page_shown, passed}
 use Rattle.csi_tables.proofs.SortedLemmas.{shown_by}

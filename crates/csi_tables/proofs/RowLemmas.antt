@@ -32,8 +32,9 @@ use Rattle.csi_sql.specs.Deletes.{is_same, is_place, is_of, is_numbered, Drops}
 use Rattle.csi_sql.specs.Rows.{meta_row, seen_meta, seen_volume, seen_attachment, volume_row, attachment_row}
 use Rattle.csi_sql.specs.Effects.{AreKeyed, AddsAttachment, AddsNumbered, SetsFormat}
 use Rattle.csi_sql.specs.Updates.{SetsParams}
-use Rattle.csi_tables.specs.Encoding.{caps_bytes, params_bytes, FitCaps, FitParams}
-use Rattle.csi_tables.specs.Holding.{IsRows, IsRowsOf, IsStorable, IsStored, IsPlaced, volume_entry, attachment_entry}
+use Rattle.csi_columns.specs.Encoding.{caps_bytes, params_bytes, FitCaps, FitParams}
+use Rattle.csi_columns.specs.Entries.{volume_entry, attachment_entry}
+use Rattle.csi_tables.specs.Holding.{IsRows, IsRowsOf, IsStorable, IsStored, IsPlaced}
 use Rattle.csi_tables.specs.facts.Entries.{has_permuted}
 use Rattle.csi_tables.proofs.EntryLemmas.{inserted, all_inserted, all_left, all_overwritten, entries-remove, found_has, overwritten, rises}
 use Rattle.csi_tables.proofs.TestLemmas.{same_numbers, same_texts, both_eq}

@@ -30,8 +30,9 @@ use Rattle.csi_sql.specs.Deletes.{is_same}
 use Rattle.csi_sql.specs.Rows.{number_value, seen_volume, seen_attachment}
 use Rattle.csi_sql.specs.Shown.{IsShownOf, IsFoundBy, IsBeginningOf}
 use Rattle.csi_sql.specs.Statements.{attached_query, named_query, nodes_query, page_query, sizes_query, volume_query}
-use Rattle.csi_tables.specs.Encoding.{AreKnown}
-use Rattle.csi_tables.specs.Holding.{IsRows, IsStored, IsPlaced, IsReadable, IsReadablePlace, volume_entry, attachment_entry, node_entry}
+use Rattle.csi_columns.specs.Encoding.{AreKnown}
+use Rattle.csi_columns.specs.Entries.{volume_entry, attachment_entry, node_entry}
+use Rattle.csi_tables.specs.Holding.{IsRows, IsStored, IsPlaced, IsReadable, IsReadablePlace}
 use Rattle.csi_tables.specs.Reading.{share}
 use Rattle.csi_tables.specs.Refusing.{HasKnownModes}
 use Rattle.csi_tables.proofs.EntryLemmas.{rises}

@@ -15,9 +15,10 @@ use Rattle.csi_keeper.specs.declared.volume.Volume.{Volume}
 use Rattle.csi_keeper.specs.facts.Orders.{place_total}
 use Rattle.csi_sql.specs.declared.formats.TheConstants.{FIRST_FORMAT, LATEST_FORMAT}
 use Rattle.csi_sql.specs.Rows.{bool_value, meta_row}
-use Rattle.csi_tables.specs.Encoding.{ReadsBack}
-use Rattle.csi_tables.specs.Holding.{IsEitherRows, IsRows, IsRowsOf, IsStored, IsPlaced, volume_entry, attachment_entry}
-use Rattle.csi_tables.proofs.EncodingLemmas.{keys_in, params_in, keys_back, params_back}
+use Rattle.csi_columns.specs.Encoding.{ReadsBack}
+use Rattle.csi_columns.specs.Entries.{volume_entry, attachment_entry}
+use Rattle.csi_tables.specs.Holding.{IsEitherRows, IsRows, IsRowsOf, IsStored, IsPlaced}
+use Rattle.csi_tables.proofs.DecodingLemmas.{keys_in, params_in, keys_back, params_back}
 use Rattle.csi_tables.proofs.EntryLemmas.{same_if_permuted, map_back_on}
 
 nat_of : Value → ℕ

@@ -3,13 +3,11 @@ use Rattle.std.specs.Prelude.{◌≡◌, ◌⊎◌, ℕ, ◌<◌, ◌^◌, false
 use Rattle.std.specs.List.{AllByRecursion}
 use Rattle.std.specs.FinMap.{empty, entries}
 use Rattle.sqlite.specs.Held.{Held, state}
-use Rattle.sqlite.specs.Order.{Row}
 use Rattle.sqlite.specs.State as sql
 use Rattle.sqlite.specs.State.{HasCleanDisk}
 use Rattle.sqlite.specs.Store.{Ghosts}
 use Rattle.sqlite.specs.Tree.{Trees}
 use Rattle.sqlite.specs.View.{doubt}
-use Rattle.sqlite.specs.declared.types.Value.TheVariants.{Text, Blob}
 use Rattle.sqlite_catalog.specs.Listing.{IsSound}
 use Rattle.csi_keeper.specs.Keeper.{Fails, IsQuiet, Makes, Tells}
 use Rattle.csi_keeper.specs.Model.{Model}
@@ -21,25 +19,13 @@ use Rattle.csi_keeper.specs.declared.volume.Attachment.{Attachment}
 use Rattle.csi_keeper.specs.declared.volume.Volume.{Volume}
 use Rattle.csi_sql.specs.Tables.{schema}
 use Rattle.csi_sql.specs.declared.formats.TheConstants.{FIRST_FORMAT, LATEST_FORMAT}
-use Rattle.csi_sql.specs.Rows.{number_value, bool_value, meta_row, seen_meta, seen_volume, seen_attachment}
+use Rattle.csi_sql.specs.Rows.{meta_row, seen_meta, seen_volume, seen_attachment}
 use Rattle.csi_sql.specs.Effects.{AreKeyed}
-use Rattle.csi_tables.specs.Encoding.{caps_bytes, params_bytes, AreKnown, FitCaps, FitParams}
+use Rattle.csi_columns.specs.Encoding.{AreKnown, FitCaps, FitParams}
+use Rattle.csi_columns.specs.Entries.{attachment_entry, volume_entry}
 use Rattle.csi_keeper.specs.declared.health.Health.{Health}
 
 -- ---- rows
-
--- number, name, bytes, pool, caps, and both kinds of parameters
-abbrev pub volume_entry : ℕ × Volume → Row
-volume_entry e = number_value e.0 ∷ Text e.1.name ∷ number_value e.1.bytes ∷ Text e.1.pool ∷ Blob (caps_bytes e.1.caps)
-    ∷ Blob (params_bytes e.1.params e.1.mutable) ∷ []
-
--- number, node, cap, readonly
-abbrev pub attachment_entry : AttachmentKey × Attachment → Row
-attachment_entry e = number_value e.0.0 ∷ Text e.0.1 ∷ Blob (caps_bytes (e.1.cap ∷ [])) ∷ bool_value e.1.readonly ∷ []
-
--- what is shown of an attachment among those of its volume: node, cap, readonly
-abbrev pub node_entry : AttachmentKey × Attachment → Row
-node_entry e = Text e.0.1 ∷ Blob (caps_bytes (e.1.cap ∷ [])) ∷ bool_value e.1.readonly ∷ []
 
 -- a volume that a row can say: its texts are UTF-8, as what made the row had each from a `Text`
 pub record IsStored (e : ℕ × Volume) : Type 0 where

@@ -1,5 +1,4 @@
 pub mod Answers
-pub mod Encoding
 pub mod Holding
 pub mod Keeping
 pub mod Laws

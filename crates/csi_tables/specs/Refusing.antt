@@ -20,9 +20,10 @@ use Rattle.csi_keeper.specs.declared.volume.Volume.{Volume}
 use Rattle.csi_sql.specs.Refusing.{RefusesAttachment, RefusesDetaching, RefusesDetachingAll, RefusesNumbered, RefusesParams, RefusesRemoval}
 use Rattle.csi_sql.specs.Transactions.{LeavesNothingNew, IsUndone}
 use Rattle.csi_sql.specs.Rows.{attachment_row, seen_volume, volume_row}
-use Rattle.csi_tables.specs.Encoding.{caps_bytes, params_bytes, AreKnown}
+use Rattle.csi_columns.specs.Encoding.{caps_bytes, params_bytes, AreKnown}
 use Rattle.csi_tables.specs.Holding.{IsStorable, Store, conn_doubt, conn_holds, store_doubt, store_holds, ConnFails, ConnMakes, ConnTells, StoreFails}
-use Rattle.csi_tables.specs.Holding.{StoreMakes, volume_entry}
+use Rattle.csi_columns.specs.Entries.{volume_entry}
+use Rattle.csi_tables.specs.Holding.{StoreMakes}
 use Rattle.csi_tables.specs.declared.fault.TablesFault.{TablesFault}
 use Rattle.csi_tables.specs.declared.fault.TablesFault.TheVariants.{Refused}
 

@@ -14,14 +14,15 @@ ghost use Rattle.sqlite.specs.Held.{state};
 ghost use Rattle.csi_keeper.specs.State.{State, IsBounded, changed};
 ghost use Rattle.csi_keeper.specs.Totals.{HasRoom, IsReserved, total_of};
 ghost use Rattle.csi_keeper.specs.declared.change.Change.TheVariants.{AddVolume, RemoveVolume, Attach, Detach, DetachAll, SetMutable};
-ghost use Rattle.csi_tables.specs.Encoding.{caps_bytes, FitCaps};
+ghost use Rattle.csi_columns.specs.Encoding.{caps_bytes, FitCaps};
 ghost use Rattle.csi_tables.specs.Holding.{conn_doubt, conn_holds, IsStorable};
 ghost use Rattle.csi_tables.specs.Refusing.{ConnChanges, ConnStays, StoreChanges, RefusesAdding, RefusesAttaching, RefusesChange, RefusesDetach, RefusesDetachAll, RefusesMutable, RefusesRemoving};
 ghost use Rattle.csi_tables.specs.declared.fault.TablesFault.TheVariants.{Refused};
 
-use crate::encoding::{read_back, write_caps, write_params};
 use crate::fault::TablesError;
 use crate::read::{by_number, share};
+use csi_columns::laws::read_back;
+use csi_columns::{write_caps, write_params};
 use csi_keeper::{Attachment, CapKey, Change, Totals, Volume};
 use csi_sql::changes::{add_volume, attach, detach, detach_all, remove_volume, set_params};
 use csi_sql::{IdleConnection, reads};

@@ -2,7 +2,7 @@
 
 ghost use Rattle.csi_tables.specs.Laws.{HaveKnownModes, LatestHas, OneState};
 
-use crate::encoding::read_back;
+use csi_columns::laws::read_back;
 
 /// Tables are the rows of one State, whichever format they have.
 pub fn one_state()

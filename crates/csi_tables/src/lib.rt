@@ -1,13 +1,12 @@
 //! A keeper of volumes in SQLite, over the tables of `csi_sql` by its transactions.
 //!
-//! A volume and an attachment are a row each. Capabilities are in a column as the canonical bytes of a
-//! `CreateVolumeRequest` that has these alone, and so are parameters, with the mutable ones after them
-//! (`specs/Encoding.antt`); what can't be read again, or has a number from 2^63 on, is no row, and a row that
-//! is none of those is refused. `specs/Holding.antt` says which rows of a format represent a State
-//! (`IsRowsOf`, by what a SELECT of all columns sees, in any order), and which States a connection and the
-//! totals with it may have.
+//! A volume and an attachment are a row each (`csi_columns`). Capabilities are in a column as the canonical
+//! bytes of a `CreateVolumeRequest` that has these alone, and so are parameters, with the mutable ones after
+//! them; what can't be read again, or has a number from 2^63 on, is no row, and a row that is none of those
+//! is refused. `specs/Holding.antt` says which rows of a format represent a State (`IsRowsOf`, by what a
+//! SELECT of all columns sees, in any order), and which States a connection and the totals with it may have.
 //!
-//! `rows.rt` and `encoding.rt` make values of rows and bytes of values; `read.rt` has a function a read and
+//! `rows.rt` and `decoding.rt` make values of rows and of bytes; `read.rt` has a function a read and
 //! `changes.rt` one a change, each over a connection, in words of the State; `nodes.rt` reads the nodes of a
 //! page's volumes from one list of places; `fault.rt` says why a call over the tables failed; `tables.rt` is
 //! the keeper, a line or two a call, with the count of refusals (`csi_keeper::Health`); `opening.rt` makes it
@@ -32,7 +31,7 @@
 #![tactic(auto)]
 
 mod changes;
-mod encoding;
+mod decoding;
 mod fault;
 pub mod laws;
 mod nodes;
@@ -41,7 +40,6 @@ mod read;
 mod rows;
 mod tables;
 
-pub use encoding::{write_caps, write_params};
 pub use fault::{TablesError, TablesFault};
 pub use opening::MakeFault;
 pub use read::page_with_nodes;

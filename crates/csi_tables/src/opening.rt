@@ -11,8 +11,8 @@ ghost use Rattle.csi_keeper.specs.State.{State};
 ghost use Rattle.csi_tables.specs.Holding.{conn_doubt, store_doubt, store_holds};
 ghost use Rattle.csi_tables.specs.Keeping.{connection_of, is_down, refusals, store_of, IsNewOver};
 
-use crate::encoding::read_back;
 use crate::tables::Tables;
+use csi_columns::laws::read_back;
 use csi_keeper::Totals;
 use csi_sql::{IdleConnection, make_tables};
 use sqlite::{Alter, Connection, Error};

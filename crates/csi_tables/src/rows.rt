@@ -10,12 +10,13 @@ ghost use Rattle.csi_keeper.specs.declared.capability.CapKey.{CapKey as Key};
 ghost use Rattle.csi_keeper.specs.declared.volume.Attachment.{Attachment as Placed};
 ghost use Rattle.csi_keeper.specs.declared.volume.Volume.{Volume as Stored};
 ghost use Rattle.csi_sql.specs.Rows.{number_value};
-ghost use Rattle.csi_tables.specs.Encoding.{caps_bytes, params_bytes, AreKnown, FitCaps, FitParams};
-ghost use Rattle.csi_tables.specs.Holding.{volume_entry, node_entry, IsStored, IsPlaced, IsReadable, IsReadablePlace};
+ghost use Rattle.csi_columns.specs.Encoding.{caps_bytes, params_bytes, AreKnown, FitCaps, FitParams};
+ghost use Rattle.csi_columns.specs.Entries.{volume_entry, node_entry};
+ghost use Rattle.csi_tables.specs.Holding.{IsStored, IsPlaced, IsReadable, IsReadablePlace};
 ghost use Rattle.csi_tables.specs.Reading.{AreReadOf, HasKeys, HasParams, IsReadOf, ShowsAttachment, ShowsNumber, ShowsVolume, share};
 ghost use Rattle.csi_tables.specs.declared.fault.TablesFault.TheVariants.{Refused};
 
-use crate::encoding::{read_caps, read_params};
+use crate::decoding::{read_caps, read_params};
 use crate::fault::TablesError;
 use csi_keeper::{Attachment, CapKey, Volume};
 use csi_sql::values::{blob_at, flag_at};

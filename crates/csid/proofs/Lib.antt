@@ -1,4 +1,2 @@
 mod GivenLemmas
-mod MemoryLemmas
 mod ReadingLemmas
-mod TakingLemmas

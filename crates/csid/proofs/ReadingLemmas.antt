@@ -1,13 +1,16 @@
 -- What is read of a change store, from its pages to a memory.
-use Rattle.std.proofs.Common.{◌≡◌, ◌∙◌, sym, ap, subst, inl, inr, arith, ℕ, false, true, List}
+use Rattle.std.proofs.Common.{◌≡◌, ◌∙◌, refl, sym, ap, subst, inl, inr, arith, ℕ, false, true, List}
 use Rattle.sqlite_disk.specs.contracts.memory.MemoryDisk.TheImpl as memory
 use Rattle.sqlite_disk.specs.declared.memory.Memory.{Memory}
+use Rattle.sqlite_store.specs.FileStore.{view}
 use Rattle.sqlite_store.specs.declared.store.FileStore.{FileStore}
+use Rattle.sqlite.proofs.OpenLemmas.{pool_files}
 use Rattle.sqlite.specs.Effect.{Database}
 use Rattle.sqlite.specs.Files.{file_state, over_files}
 use Rattle.sqlite.specs.Held.{Held, state}
 use Rattle.sqlite.specs.State.{HasCleanDisk}
 use Rattle.sqlite.specs.Store.{Ghosts}
+use Rattle.sqlite.specs.View.{doubt}
 use Rattle.csi_adoption.specs.Adopting.{IsAdopted, IsStateOf}
 use Rattle.csi_client.specs.declared.receiving.Received.{Received}
 use Rattle.csi_config.specs.declared.config.Config.{Config}
@@ -28,7 +31,11 @@ use Rattle.csi_through.specs.Copying.{IsCopy}
 use Rattle.csi_through.specs.declared.through.Through.{Through}
 use Rattle.csid.specs.Reading.{AreTaken, IsCopied, IsReadFrom, IsUnused, ChecksMeta}
 use Rattle.csid.proofs.GivenLemmas.{given_back, moved}
-use Rattle.csid.proofs.MemoryLemmas.{undoubted}
+
+-- a file in memory returns what was written
+undoubted : (store : FileStore Memory memory.ghosts) → doubt (view store).is_clean ≡ 0
+unfolding doubt
+undoubted store = let clean : (view store).is_clean ≡ true = (pool_files store.pool).1 in rw clean refl
 
 not_none : schema ≡ no_schema → ⊥
 not_none e = let tables = ap (λ s. s.tables) e in absurd cc

@@ -1,69 +1,73 @@
 -- What is said of calls over the files at a path, by what they came to.
-use Rattle.std.specs.Prelude.{◌≡◌, ◌⊎◌, ℕ, List, Option, None, Some, Result, Ok, Err, IsErrAnd}
-use Rattle.sqlite_disk.specs.declared.Disk as disk
+use Rattle.std.specs.Prelude.{◌≡◌, ◌⊎◌, ℕ, true, false, List, [], Option, None, Some, Result, Ok, Err, IfOk, IfErr, IsErrAnd, IsTrue}
 use Rattle.sqlite_disk.specs.declared.modelled.Modelled.{Modelled}
+use Rattle.sqlite_disk.specs.declared.Disk as disk
 use Rattle.sqlite_disk.specs.declared.start.Start as start
 use Rattle.sqlite_std_file.specs.contracts.host.HostCalls.TheImpl as calls
 use Rattle.sqlite_std_file.specs.declared.host.Host.{Host}
 use Rattle.sqlite_wal.specs.Files.{image_at}
+use Rattle.sqlite_wal.specs.Reads.{AreClean}
 use Rattle.csi_config.specs.declared.config.Config.{Config}
-use Rattle.csi_server.specs.Serving.{Serves}
+use Rattle.csi_server.specs.Serving.{Serves, Writes}
 use Rattle.csi_server.specs.Volumes.{seen, volumes}
-use Rattle.csi_files.specs.declared.over.Served.{Served}
-use Rattle.csi_files.specs.declared.path.NotServedAt.{NotServedAt}
-use Rattle.csi_files.specs.declared.path.NotServedAt.TheVariants.{NoFiles, NotServed}
-use Rattle.csi_files.specs.declared.serving.Closed.{Closed}
-use Rattle.csi_files.specs.declared.serving.NotServed as outcome
-use Rattle.csi_files.specs.declared.serving.NotServed.TheVariants.{NotOpened, Blank, NotAdopted, NotCopied, Left, NotClosed}
-use Rattle.csi_files.specs.Files.{files_model}
+use Rattle.csi_files.specs.declared.run.Closed.{Closed}
+use Rattle.csi_files.specs.declared.run.RunFailure.{RunFailure}
+use Rattle.csi_files.specs.declared.run.RunFailure.TheVariants.{NoFiles, NotOpened, Refused, Left, NotClosed}
+use Rattle.csi_files.specs.declared.run.RunReport.{RunReport}
+use Rattle.csi_files.specs.Files.{HasAlone, files_model}
 use Rattle.csi_files.specs.Path.{IsNotServedAt, over_calls}
-use Rattle.csi_files.specs.Serving.{AreUntouched}
-use Rattle.csi_files.specs.Starting.{start_model}
-use Rattle.csid.specs.Statuses.{IsOrNoMemory}
-use Rattle.csid.specs.declared.failure.Failure.{Failure}
-use Rattle.csid.specs.declared.serving.Answered.{Answered}
-use Rattle.csid.specs.declared.serving.TablesFile.{TablesFile}
+use Rattle.csi_files.specs.Serving.{AllServed, HasRefusedNone, IsAsked, LeavesAfter}
+use Rattle.csi_files.specs.Starting.{StartsThen, start_model}
+use Rattle.csi_files.specs.Streams.{AreUntouched, Streams, streams}
+use Rattle.csid_settings.specs.Statuses.{IsOrNoMemory}
+use Rattle.csid_settings.specs.declared.command.TablesFile.{TablesFile}
+use Rattle.csid.specs.declared.serving.TablesFailure.{TablesFailure}
 
--- a failure of the tables, or want of memory
-abbrev pub Fails : Result Answered Failure → Type 0
-Fails said = IsErrAnd said (IsOrNoMemory 4)
-
--- calls were served, and there is no more to say of the files
-abbrev pub SaysServed : Served → Result Answered Failure → Type 0
-SaysServed served said = said ≡ Ok (record { served = served; unclosed = None })
-
--- calls were served, and why the files were not closed after them is said
-abbrev pub SaysUnclosed : Served → Result Answered Failure → Type 0
-SaysUnclosed served said = (failure : Failure) × IsOrNoMemory 4 failure × (said ≡ Ok (record { served = served; unclosed = Some failure }))
+-- a failure of the tables, or want of memory, and this report of calls
+abbrev pub FailsAfter : Option RunReport → Result RunReport TablesFailure → Type 0
+FailsAfter report said = IsErrAnd said (λ failure. IsOrNoMemory 4 failure.cause × (failure.report ≡ report))
 
 module _ {D : Type 0} {g : disk.Ghosts D} where
-  -- where the files were not closed
-  abbrev pub SaysNotServed : outcome.NotServed D g → Result Answered Failure → Type 0
-  SaysNotServed (NotOpened error rest) said = Fails said
-  SaysNotServed (Blank files) said = Fails said
-  SaysNotServed (NotAdopted fault files) said = Fails said
-  SaysNotServed (NotCopied fault files) said = Fails said
-  SaysNotServed (Left served files) said = SaysServed served said
-  SaysNotServed (NotClosed served error store) said = SaysUnclosed served said
+  -- what is said where the files were not closed
+  abbrev pub SaysFailure : RunFailure D g → Result RunReport TablesFailure → Type 0
+  SaysFailure (NoFiles error) said = FailsAfter None said
+  SaysFailure (NotOpened error rest) said = FailsAfter None said
+  SaysFailure (Refused refusal files) said = FailsAfter None said
+  SaysFailure (Left report files) said = said ≡ Ok report
+  SaysFailure (NotClosed report error files) said = FailsAfter (Some report) said
 
-  -- calls came to this
-  abbrev pub Says : Result (Closed D) (NotServedAt D g) → Result Answered Failure → Type 0
-  Says (Ok closed) said = SaysServed closed.served said
-  Says (Err (NoFiles error)) said = Fails said
-  Says (Err (NotServed e)) said = SaysNotServed e said
+  -- what is said of a run that came to this
+  abbrev pub Says : Result (Closed D) (RunFailure D g) → Result RunReport TablesFailure → Type 0
+  Says (Ok closed) said = said ≡ Ok closed.report
+  Says (Err failure) said = SaysFailure failure said
 
-module _ {S : Type 0} (first : start.Ghosts S) (config : Config) (place : TablesFile) (unread left held holds : Option (List ℕ)) where
+module _ {S : Type 0} (first : start.Ghosts S) (config : Config) (file : TablesFile) where
   abbrev File : Type 0
   File = Modelled Host S calls.ghosts first
 
-  -- what calls came to over files that held what `first` says
-  abbrev pub IsOutcome : Result (Closed File) (NotServedAt File over_calls) → Type 0
-  IsOutcome (Ok closed) =
-      Serves (volumes config) (start_model (image_at first) closed.served.is_new)
-      (seen config (files_model over_calls closed.files closed.served.refusals closed.served.is_down)) unread left held holds closed.served.end
-  IsOutcome (Err e) = IsNotServedAt first config place.is_existing unread left held holds e
+  -- what calls came to over files that held what `first` says: all that a run over the files at a path
+  -- promises
+  pub record IsOutcome (bytes : Streams) (outcome : Result (Closed File) (RunFailure File over_calls)) : Type 0 where
+    pub served : IfOk outcome (λ r. Serves (volumes config) (start_model (image_at first) r.report.is_new)
+        (seen config (files_model over_calls r.files r.report.refusals r.report.is_down)) bytes.unread bytes.left bytes.held bytes.holds r.report.end)
+    pub after : IfOk outcome (λ r. StartsThen config (image_at first) bytes r.report (AreClean over_calls r.files.log r.files.db)
+        (LeavesAfter over_calls config r.files))
+    pub alone : IfOk outcome (λ r. HasAlone over_calls r.files)
+    pub writes : AllServed over_calls (λ report. Writes bytes.unread bytes.left bytes.held bytes.holds report.end) outcome
+    pub none_refused : IfOk outcome (λ r. HasRefusedNone r.report)
+    pub uncopied : AllServed over_calls (λ report. IsTrue file.is_low_memory → report.is_copied ≡ false) outcome
+    pub existing : IsAsked over_calls file.is_existing outcome
+    pub not_served : IfErr outcome (IsNotServedAt first config bytes)
 
   -- The files were not opened, and nothing was read or written; or calls came to something, and that is said.
-  abbrev pub IsAnswered : Result Answered Failure → Type 0
-  IsAnswered said = (AreUntouched unread left held holds × Fails said)
-      ⊎ ((outcome : Result (Closed File) (NotServedAt File over_calls)) × IsOutcome outcome × Says outcome said)
+  abbrev pub IsAnswered : Streams → Result RunReport TablesFailure → Type 0
+  IsAnswered bytes said = (AreUntouched bytes × FailsAfter None said)
+      ⊎ ((outcome : Result (Closed File) (RunFailure File over_calls)) × IsOutcome bytes outcome × Says outcome said)
+
+  -- the calls among these bytes were served
+  abbrev pub IsServed : Option (List ℕ) → Option (List ℕ) → Option (List ℕ) → Result RunReport TablesFailure → Type 0
+  IsServed unread held holds said = (left : Option (List ℕ)) × IsAnswered (streams unread left held holds) said
+
+-- no call was served, over files whose reads are not answered from a copy
+abbrev pub IsSurveyed : {S : Type 0} → start.Ghosts S → Config → TablesFile → Result RunReport TablesFailure → Type 0
+IsSurveyed first config file said = (held holds : Option (List ℕ)) × IsServed first config (record file { is_low_memory = true }) (Some []) held holds said

@@ -4,14 +4,8 @@
 ghost use Rattle.std.specs.Prelude.{◌≡◌, false, IfErr, IfOk, OnOk};
 ghost use Rattle.csi_change_store.specs.Items.{seen_notes};
 ghost use Rattle.csid.specs.Reading.{AreTaken, IsAgreed, IsCopied, IsReadFrom, MakesMeta, ChecksMeta};
-ghost use Rattle.csid.specs.Statuses.{IsOrNoMemory};
+ghost use Rattle.csid_settings.specs.Statuses.{IsOrNoMemory};
 
-use crate::console::Console;
-use crate::content::read_content;
-use crate::failure::Failure;
-use crate::memory::{files_of, is_no_memory, memory_failure, open};
-use crate::peer::Leadership;
-use crate::tables::{adoption_failure, keeper_over, report_content, store_failure};
 use crate::timed::{Deadline, TimedStream};
 use csi_adoption::{AdoptFault, Foreign};
 use csi_change_store::laws::gives_rows;
@@ -25,6 +19,13 @@ use csi_memory::MemKeeper;
 use csi_tables::Tables;
 use csi_tables::laws::one_state;
 use csi_through::Through;
+use csid_connections::Leadership;
+use csid_console::Console;
+use csid_listings::{
+    adoption_failure, files_of, is_no_memory, keeper_over, memory_failure, open, read_content,
+    report_content, store_failure,
+};
+use csid_settings::Failure;
 use sqlite::{Alter, Connection};
 use std::alloc::Global;
 use std::cell::Cell;

@@ -2,43 +2,27 @@
 //!
 //! # Not promised
 //!
-//! What the sockets, the signals and the command line do. That `ChangeStoreLeadership` asks the change
-//! store whether it leads is read off `change_store.rt`, and `open_change_store` has no clause of what
-//! comes through its connection: `tests/test_csid_*.py` show both. That each connection is served by
-//! `csi_files::serve_path` is read off `serving.rt` and `socket.rt`.
-//!
-//! What is said of tables that were taken (`take_from`).
+//! What the sockets, the signals and the command line do. That `ChangeStoreLeadership` asks the change store
+//! whether it leads is read off `change_store.rt`, and `open_change_store` has no clause of what comes
+//! through its connection: `tests/test_csid_*.py` show both. How much memory there is (`room.rt`), and that a
+//! change store that answers late is given up (`timed.rt`), is shown there too. That a connection is served
+//! from its first byte over the tables that were named (`TablesRun::serve_file`) is read off `socket.rt`.
 #![tactic(auto)]
 
 mod change_store;
-mod check;
-mod command;
-mod config;
-mod console;
-mod content;
-mod copy;
+mod checks;
 mod existing;
-mod explain;
-mod failure;
-mod group;
-mod limits;
-mod listing;
 mod making;
-mod memory;
-mod peer;
-mod pending;
-mod ready;
 mod room;
 mod run;
 mod serving;
 mod socket;
+mod survey;
 mod tables;
 mod timed;
-mod turn;
-mod waiting;
 
 use command_line::occupy_closed;
-use console::Console;
+use csid_console::Console;
 use std::process::ExitCode;
 
 fn main(rt: HostRuntime) -> ExitCode {

@@ -1,25 +1,25 @@
 //! What the program does.
 
 ghost use Rattle.std.specs.Prelude.{IfErr};
-ghost use Rattle.csid.specs.Statuses.{IsOrNoMemory};
+ghost use Rattle.csid_settings.specs.Statuses.{IsOrNoMemory};
 
-use crate::check::{check_config, check_tables};
-use crate::command::{
-    Piped, Serving, Task, odd_check, odd_number, odd_store, read_arguments, task_of,
-};
-use crate::config::configuration;
-use crate::console::Console;
-use crate::failure::{Endpoint, Failure, outcome};
-use crate::listing::list_tables;
+use crate::checks::{check_tables, list_tables};
 use crate::room::MemoryGauge;
-use crate::serving::{Answered, SilentObserver, TablesFile, serve_file};
-use crate::socket::{listen, serve_all};
-use crate::tables::{check_existing, check_kind, check_path, check_wal, survey};
+use crate::serving::{SilentObserver, TablesFailure, TablesRun};
+use crate::socket::serve_socket;
 use clap::ArgMatches;
 use command_line::{ArgumentsFault, arguments};
 use csi_config::Config;
+use csi_files::RunReport;
 use csi_memory::MemKeeper;
 use csi_server::serve;
+use csid_console::Console;
+use csid_listings::check_config;
+use csid_settings::{
+    Endpoint, Failure, Piped, TablesFile, Task, configuration, odd_check, odd_number, odd_store,
+    outcome, read_arguments, task_of,
+};
+use sqlite::Unknown;
 use std::alloc::Global;
 use std::mem::forget;
 
@@ -38,92 +38,53 @@ fn pipe_over_memory(rt: &HostRuntime, config: &Config) -> Result<(), Failure> {
     outcome(Endpoint::Pipe, end)
 }
 
-// How the calls of standard input ended, and the file after them: both are said, and the program ends with
-// what became of the file.
-fn ended(console: &Console<'_>, answered: Answered) -> Result<(), Failure> {
-    let Answered { served, unclosed } = answered;
-    let ended = outcome(Endpoint::Pipe, served.end);
-    let Some(closing) = unclosed else {
-        return ended;
+// How the calls of standard input ended. Where their file was not closed, both are said, and the program ends
+// with what became of the file.
+fn pipe_outcome(
+    console: &Console<'_>,
+    ended: Result<RunReport, TablesFailure>,
+) -> Result<(), Failure> {
+    let TablesFailure { cause, report } = match ended {
+        Ok(report) => return outcome(Endpoint::Pipe, report.end),
+        Err(failure) => failure,
     };
-    if let Err(failure) = &ended {
-        console.say(failure);
+    if let Some(report) = report {
+        if let Err(failure) = outcome(Endpoint::Pipe, report.end) {
+            console.say(&failure);
+        }
     }
-    Err(closing)
+    Err(cause)
 }
 
 // Answers the calls of standard input, and keeps the volumes in a file.
 fn pipe_over_tables(
     console: &Console<'_>,
     config: &Config,
-    path: &str,
-    pipe: &Piped<'_>,
+    file: TablesFile<'_>,
 ) -> Result<(), Failure> {
-    let place = TablesFile {
-        path,
-        is_existing: pipe.is_existing,
-        is_low_memory: pipe.is_low_memory,
-    };
     let gauge = MemoryGauge::new(console.rt);
     let observer = SilentObserver { gauge: &gauge };
+    let run = TablesRun {
+        rt: *console.rt,
+        config,
+        file,
+        observer: &observer,
+    };
     let mut reader = console.rt.stdin();
     let mut writer = console.rt.stdout();
-    let answered = serve_file(
-        console.rt,
-        config,
-        &place,
-        &observer,
-        &mut reader,
-        &mut writer,
-    )?;
-    ended(console, answered)
+    pipe_outcome(
+        console,
+        run.serve_file(Unknown, &[], &mut reader, &mut writer),
+    )
 }
 
 // Answers the calls of standard input, and keeps the volumes in a file if there is to be one.
 fn answer_pipe(console: &Console<'_>, pipe: &Piped<'_>) -> Result<(), Failure> {
     let config = configuration(console, pipe.config, false)?;
     match pipe.tables {
-        Some(path) => pipe_over_tables(console, &config, path, pipe),
+        Some(file) => pipe_over_tables(console, &config, file),
         None => pipe_over_memory(console.rt, &config),
     }
-}
-
-// Looks whether the tables have a path, and whether there are some, or new ones may be made.
-fn check_serving(rt: &HostRuntime, serving: &Serving<'_>) -> Result<(), Failure>
-    ensures { IfErr result (λ failure. IsOrNoMemory 4 failure) }
-{
-    if serving.change_store.is_some() {
-        return Ok(());
-    }
-    check_path(rt, serving.tables)?;
-    check_kind(rt, serving.tables)?;
-    if serving.is_existing {
-        check_existing(rt, serving.tables)
-    } else {
-        check_wal(rt, serving.tables)
-    }
-}
-
-// A socket, and then what the tables have is said. The socket is made first, so that the file of a server
-// that runs is left alone.
-fn listen_over(
-    console: &Console<'_>,
-    config: &Config,
-    serving: &Serving<'_>,
-) -> Result<(), Failure> {
-    let listener = listen(console.rt, serving.socket, serving.group)?;
-    if serving.change_store.is_none() {
-        survey(console, serving.tables, config, serving.is_existing);
-    }
-    let gauge = MemoryGauge::new(console.rt);
-    serve_all(console, config, serving, &gauge, listener)
-}
-
-// Answers the calls of connections, and keeps the volumes in a file.
-fn listening(console: &Console<'_>, serving: &Serving<'_>) -> Result<(), Failure> {
-    let config = configuration(console, serving.config, true)?;
-    check_serving(console.rt, serving)?;
-    listen_over(console, &config, serving)
 }
 
 // The number of an option that is no number in decimal digits.
@@ -143,24 +104,14 @@ fn refused_options(alloc: Global, why: &str) -> Failure
     Failure::Arguments(ArgumentsFault::refused(format!(in alloc; "{why}")))
 }
 
-// Does what the arguments ask.
-fn obey(console: &Console<'_>, arguments: &ArgMatches<'_>) -> Result<(), Failure> {
+// What the arguments ask for.
+fn task<'a>(alloc: Global, arguments: &ArgMatches<'a>) -> Result<Task<'a>, Failure> {
     if let Some((option, number)) = odd_number(arguments) {
-        return Err(refused_number(console.rt.alloc(), option, number));
+        return Err(refused_number(alloc, option, number));
     }
-    if let Some(why) = odd_check(arguments).or_else(|| odd_store(arguments)) {
-        return Err(refused_options(console.rt.alloc(), why));
-    }
-    match task_of(arguments) {
-        Task::Pipe(pipe) => answer_pipe(console, &pipe),
-        Task::Serve(serving) => listening(console, &serving),
-        Task::CheckConfig(path) => check_config(console, path),
-        Task::CheckTables { tables, config } => check_tables(console, tables, config),
-        Task::ListTables {
-            tables,
-            chosen,
-            is_json,
-        } => list_tables(console, tables, &chosen, is_json),
+    match odd_check(arguments).or_else(|| odd_store(arguments)) {
+        Some(why) => Err(refused_options(alloc, why)),
+        None => Ok(task_of(arguments)),
     }
 }
 
@@ -170,10 +121,23 @@ fn obey(console: &Console<'_>, arguments: &ArgMatches<'_>) -> Result<(), Failure
 ///
 /// Why the program ends with a status other than 0. It is not said yet.
 pub(crate) fn run(console: &Console<'_>) -> Result<(), Failure> {
-    let rt = console.rt;
-    let arguments = arguments(rt)?;
-    match read_arguments(rt, arguments.as_slice())? {
-        Some(matches) => obey(console, &matches),
-        None => Ok(()),
+    let arguments = arguments(console.rt)?;
+    let Some(matches) = read_arguments(console.rt, arguments.as_slice())? else {
+        return Ok(());
+    };
+    match task(console.rt.alloc(), &matches)? {
+        Task::Pipe(pipe) => answer_pipe(console, &pipe),
+        Task::Serve(serving) => {
+            let config = configuration(console, serving.config, true)?;
+            let gauge = MemoryGauge::new(console.rt);
+            serve_socket(console, &config, &gauge, &serving)
+        }
+        Task::CheckConfig(path) => check_config(console, path),
+        Task::CheckTables { tables, config } => check_tables(console, tables, config),
+        Task::ListTables {
+            tables,
+            chosen,
+            is_json,
+        } => list_tables(console, tables, &chosen, is_json),
     }
 }

@@ -1,86 +1,141 @@
 //! Calls over the tables in a file. `csi_files` opens, adopts, serves and closes them; here the words for
 //! that and the status are chosen.
 
-ghost use Rattle.std.specs.Prelude.{◌≡◌, None};
-ghost use Rattle.csid.specs.Serving.{IsAnswered, Says, SaysNotServed};
+ghost use Rattle.std.specs.Prelude.{◌≡◌, None, Some};
+ghost use Rattle.std.specs.Fmt.{option_append};
+ghost use Rattle.csid.specs.Serving.{IsServed, Says};
+ghost use Rattle.csid_settings.specs.Statuses.{IsOrNoMemory};
 
 use crate::existing::{FileFault, opening_bytes};
-use crate::failure::Failure;
 use crate::room::MemoryGauge;
-use crate::tables::{adoption_failure, database_failure, prepare, store_failure};
+use crate::tables::prepare;
+use csi_adoption::Content;
 use csi_config::Config;
-use csi_files::{Closed, NotServed, NotServedAt, Observer, ServeOptions, Served, serve_path};
-use sqlite::{Error, Start, Unknown};
+use csi_files::{Closed, FilesAt, Observer, Refusal, Run, RunFailure, RunOptions, RunReport};
+use csid_listings::{adoption_failure, database_failure, store_failure};
+use csid_settings::{Failure, TablesFile};
+use sqlite::{Error, Start};
 use sqlite_disk::Disk;
 use std::alloc::Global;
 use std::io::{Read, Write};
 
-/// Where the volumes are.
-#[derive(Clone, Copy)]
-pub(crate) struct TablesFile<'a> {
-    /// The file.
-    pub(crate) path: &'a str,
-    /// Whether it must have tables. Where it need not, new ones are made.
-    pub(crate) is_existing: bool,
-    /// Whether reads are those of the file.
-    pub(crate) is_low_memory: bool,
-}
-
-/// What came of calls over a file.
+/// Why a run over tables failed.
 #[derive(Drop)]
-pub(crate) struct Answered {
-    /// What came of the calls.
-    pub(crate) served: Served,
-    /// Why the file was not closed after them, if that failed. What was committed is in the WAL next to it
-    /// then.
-    pub(crate) unclosed: Option<Failure>,
+pub(crate) struct TablesFailure {
+    /// Why the tables cannot be had, or why their file was not closed.
+    pub(crate) cause: Failure,
+    /// What the calls came to, if the file was not closed after them. What was committed is then in the WAL
+    /// next to it.
+    pub(crate) report: Option<RunReport>,
 }
 
-impl Answered {
-    // The file was closed, or left as the store's refusal left it.
-    fn of(served: Served) -> Answered
-        ensures { (result.served ≡ served) × (result.unclosed ≡ None) }
+impl TablesFailure {
+    // No call was read.
+    fn unserved(cause: Failure) -> TablesFailure
+        ensures { (result.cause ≡ cause) × (result.report ≡ None) }
     {
-        Answered {
-            served,
-            unclosed: None,
+        TablesFailure {
+            cause,
+            report: None,
         }
     }
 }
 
-// What came of calls where the files were opened, and not closed after the calls.
-fn not_served_failure<D: Disk + Drop>(
+// Why a database was refused.
+fn refusal_failure(alloc: Global, path: &str, refusal: &Refusal) -> Failure
+    ensures { IsOrNoMemory 4 result }
+{
+    match refusal {
+        Refusal::Blank => Failure::of_tables(alloc, path, &FileFault::Blank),
+        Refusal::NotAdopted(fault) => adoption_failure(alloc, path, fault),
+        Refusal::NotCopied(fault) => store_failure(alloc, path, *fault),
+    }
+}
+
+// What a run over the files at a path came to.
+fn outcome_of<D: Disk + Drop>(
     alloc: Global,
     path: &str,
-    outcome: &NotServed<D>,
-) -> Result<Answered, Failure>
-    ensures { SaysNotServed outcome.now result }
+    outcome: Result<Closed<D>, RunFailure<D>>,
+) -> Result<RunReport, TablesFailure>
+    ensures { Says outcome result }
 {
-    match outcome {
-        NotServed::NotOpened(error, _) => Err(database_failure(alloc, path, error)),
-        NotServed::Blank(_) => Err(Failure::of_tables(alloc, path, &FileFault::Blank)),
-        NotServed::NotAdopted(fault, _) => Err(adoption_failure(alloc, path, fault)),
-        NotServed::NotCopied(fault, _) => Err(store_failure(alloc, path, *fault)),
-        NotServed::Left(served, _) => Ok(Answered::of(*served)),
-        NotServed::NotClosed(served, error, _) => Ok(Answered {
-            served: *served,
-            unclosed: Some(database_failure(alloc, path, error)),
+    let failure = match outcome {
+        Ok(closed) => return Ok(closed.report),
+        Err(failure) => failure,
+    };
+    match &failure {
+        RunFailure::NoFiles(error) | RunFailure::NotOpened(error, _) => Err(TablesFailure::unserved(
+            database_failure(alloc, path, error),
+        )),
+        RunFailure::Refused(refusal, _) => Err(TablesFailure::unserved(refusal_failure(
+            alloc, path, refusal,
+        ))),
+        RunFailure::Left(report, _) => Ok(*report),
+        RunFailure::NotClosed(report, error, _) => Err(TablesFailure {
+            cause: database_failure(alloc, path, error),
+            report: Some(*report),
         }),
     }
 }
 
-// What came of calls over the files at a path.
-fn outcome_failure<D: Disk + Drop>(
-    alloc: Global,
-    path: &str,
-    outcome: Result<Closed<D>, NotServedAt<D>>,
-) -> Result<Answered, Failure>
-    ensures { Says outcome result }
-{
-    match &outcome {
-        Ok(closed) => Ok(Answered::of(closed.served)),
-        Err(NotServedAt::NoFiles(error)) => Err(database_failure(alloc, path, error)),
-        Err(NotServedAt::NotServed(error)) => not_served_failure(alloc, path, error),
+/// A run of calls over the tables in a file, before it begins.
+#[derive(Clone, Copy)]
+pub(crate) struct TablesRun<'a, O> {
+    /// The operating system.
+    pub(crate) rt: HostRuntime,
+    /// The configuration.
+    pub(crate) config: &'a Config,
+    /// The file.
+    pub(crate) file: TablesFile<'a>,
+    /// Hears how the calls are served.
+    pub(crate) observer: &'a O,
+}
+
+impl<O: Observer> TablesRun<'_, O> {
+    /// Serves the calls that a peer has sent and those that a reader gives after them. The file is made where
+    /// it is missing and may be made. `start` is what it and its WAL held: the clause holds for any bytes.
+    ///
+    /// # Errors
+    ///
+    /// Why no call was served: the tables cannot be had, or memory is refused. Or why the file was not closed
+    /// after the calls.
+    pub(crate) fn serve_file<S: Start, R: Read, W: Write>(
+        &self,
+        start: S,
+        sent: &[u8],
+        reader: &mut R,
+        writer: &mut W,
+    ) -> Result<RunReport, TablesFailure>
+        ensures { IsServed S.Start self.now.config.now self.now.file
+            (option_append (Some sent.now) (R.remaining reader.old))
+            (W.contents writer.old) (W.contents writer.new) result }
+    {
+        let TablesFile {
+            path,
+            is_existing,
+            is_low_memory,
+        } = self.file;
+        if let Err(cause) = prepare(&self.rt, &self.file) {
+            return Err(TablesFailure::unserved(cause));
+        }
+        let run = Run {
+            alloc: self.rt.alloc(),
+            config: self.config,
+            options: RunOptions {
+                is_existing,
+                is_low_memory,
+                reserve: opening_bytes(&self.rt, path),
+            },
+            observer: self.observer,
+        };
+        let at = FilesAt {
+            rt: self.rt,
+            path,
+            start,
+        };
+        let outcome = run.serve_path(at, &mut sent.chain(reader), writer);
+        outcome_of(self.rt.alloc(), path, outcome)
     }
 }
 
@@ -94,6 +149,8 @@ pub(crate) struct SilentObserver<'a> {
 impl Observer for SilentObserver<'_> {
     fn made(&self) {}
 
+    fn adopted(&self, _content: &Content) {}
+
     fn uncopied(&self) {}
 
     fn refused(&self, _cause: &Error) {}
@@ -101,51 +158,4 @@ impl Observer for SilentObserver<'_> {
     fn has_room(&self, opening: usize) -> bool {
         self.gauge.has_room(opening)
     }
-}
-
-// Serves calls over the tables in a file, where `start` is what it and its WAL held.
-fn serve_from<S: Start, O: Observer, R: Read, W: Write>(
-    rt: &HostRuntime,
-    config: &Config,
-    place: &TablesFile<'_>,
-    start: S,
-    observer: &O,
-    reader: &mut R,
-    writer: &mut W,
-) -> Result<Answered, Failure>
-    ensures { IsAnswered S.Start config.now place.now
-        (R.remaining reader.old) (R.remaining reader.new) (W.contents writer.old)
-        (W.contents writer.new) result }
-{
-    let TablesFile {
-        path,
-        is_existing,
-        is_low_memory,
-    } = *place;
-    if let Err(failure) = prepare(rt, path, is_existing) {
-        return Err(failure);
-    }
-    let options = ServeOptions {
-        is_existing,
-        is_low_memory,
-        reserve: opening_bytes(rt, path),
-    };
-    let outcome = serve_path(rt, config, path, start, &options, observer, reader, writer);
-    outcome_failure(rt.alloc(), path, outcome)
-}
-
-/// Serves calls over the tables in a file.
-///
-/// # Errors
-///
-/// Why no call was served: the tables cannot be had, or memory is refused.
-pub(crate) fn serve_file<O: Observer, R: Read, W: Write>(
-    rt: &HostRuntime,
-    config: &Config,
-    place: &TablesFile<'_>,
-    observer: &O,
-    reader: &mut R,
-    writer: &mut W,
-) -> Result<Answered, Failure> {
-    serve_from(rt, config, place, Unknown, observer, reader, writer)
 }

@@ -1,27 +1,26 @@
 //! `csid serve`: connections to a Unix socket.
 
 ghost use Rattle.std.specs.Prelude.{IfErr};
-ghost use Rattle.csid.specs.Statuses.{IsOrNoMemory};
+ghost use Rattle.csid_settings.specs.Statuses.{IsOrNoMemory};
 
 use crate::change_store::{ChangeStoreLeadership, OpenChangeStore, open_change_store};
-use crate::command::Serving;
-use crate::console::{Console, Ending};
-use crate::failure::{Endpoint, Failure, outcome};
-use crate::group::group_number;
-use crate::peer::{Always, GuardedWriter, Leadership, has_gone};
-use crate::pending::{Pending, Start};
 use crate::room::MemoryGauge;
 use crate::run::FIRST_NUMBER;
-use crate::serving::{Answered, TablesFile, serve_file};
-use crate::tables::NEW_TABLES;
-use crate::turn::Turn;
-use crate::waiting::{Waiting, report_ending};
+use crate::serving::{TablesFailure, TablesRun};
+use crate::survey::survey;
+use crate::tables::{NEW_TABLES, check_file};
+use csi_adoption::Content;
 use csi_config::Config;
-use csi_files::{Observer, Served};
+use csi_files::{Observer, RunReport};
 use csi_keeper::Keeper;
 use csi_memory::MemKeeper;
 use csi_server::{RunEnd, serve};
-use sqlite::Error;
+use csid_connections::{
+    Always, GuardedWriter, Leadership, Pending, Start, Turn, Waiting, has_gone, report_ending,
+};
+use csid_console::{Console, Ending};
+use csid_settings::{Endpoint, Failure, Serving, Volumes, group_number, outcome};
+use sqlite::{Error, Unknown};
 use std::alloc::Global;
 use std::cell::Cell;
 use std::fs::{self, Permissions};
@@ -68,16 +67,8 @@ fn bind(rt: &HostRuntime, path: &str, group: Option<u32>) -> io::Result<UnixList
     }
 }
 
-/// A socket at the path, to which the owner may connect, and this group.
-///
-/// # Errors
-///
-/// Where it cannot be made, there is no such group, or memory is refused.
-pub(crate) fn listen(
-    rt: &HostRuntime,
-    path: &str,
-    group: Option<&str>,
-) -> Result<UnixListener, Failure>
+// A socket at the path, to which the owner may connect, and this group.
+fn listen(rt: &HostRuntime, path: &str, group: Option<&str>) -> Result<UnixListener, Failure>
     ensures { IfErr result (λ failure. IsOrNoMemory 7 failure) }
 {
     if path.is_empty() {
@@ -152,8 +143,8 @@ fn serve_one<K: Keeper, L: Leadership + Drop>(
     let Some(turn) = turn_of(service.console, waiting, peer) else {
         return false;
     };
-    let mut reader = peer.first.sent.as_slice().chain(&turn);
-    let mut writer = GuardedWriter::new(lead, &turn);
+    let mut reader = peer.first.sent.as_slice().chain(turn.reader());
+    let mut writer = GuardedWriter::new(lead, turn.writer());
     let end = serve(
         service.console.rt.alloc(),
         service.config,
@@ -161,8 +152,8 @@ fn serve_one<K: Keeper, L: Leadership + Drop>(
         &mut reader,
         &mut writer,
     );
-    report_end(service.console, turn.ending.get(), writer.is_cut, end);
-    writer.is_cut
+    report_end(service.console, turn.ending.get(), writer.is_cut(), end);
+    writer.is_cut()
 }
 
 // Refuses what a connection has sent, which begins no call: so no volume is asked for, and the tables are not
@@ -203,6 +194,8 @@ impl Observer for Announcer<'_> {
         self.console.say_of(self.path, &NEW_TABLES);
     }
 
+    fn adopted(&self, _content: &Content) {}
+
     fn uncopied(&self) {
         self.console.say_of(self.path, &NO_COPY);
     }
@@ -220,67 +213,38 @@ impl Observer for Announcer<'_> {
 }
 
 // Says of calls over a file what the replies did not.
-fn tell_served(console: &Console<'_>, path: &str, served: &Served) {
-    if served.is_down {
+fn report_calls(console: &Console<'_>, path: &str, report: &RunReport) {
+    if report.is_down {
         console.say_of(path, &IS_DOWN);
-    } else if served.refusals > 0 {
-        let what = if served.is_copied { IS_BEHIND } else { NO_READ };
+    } else if report.refusals > 0 {
+        let what = if report.is_copied { IS_BEHIND } else { NO_READ };
         console.say_of(path, &what);
     }
 }
 
-// Opens the tables for a connection, answers its calls over them, and closes them; where they cannot be
-// opened, no call is answered. What went wrong is said.
-fn answer_over_tables<R: Read, W: Write>(
-    service: &Service<'_>,
-    ending: &Cell<Option<Ending>>,
-    reader: &mut R,
-    writer: &mut W,
+// Says how a run over tables ended, and what went wrong with them.
+fn report_run(
+    console: &Console<'_>,
+    path: &str,
+    ending: Option<Ending>,
+    ended: Result<RunReport, TablesFailure>,
 ) {
-    let Service {
-        console,
-        config,
-        serving,
-        gauge,
-    } = *service;
-    let place = TablesFile {
-        path: serving.tables,
-        is_existing: serving.is_existing,
-        is_low_memory: serving.is_low_memory,
+    let (report, cause) = match ended {
+        Ok(report) => (Some(report), None),
+        Err(TablesFailure { cause, report }) => (report, Some(cause)),
     };
-    let announcer = Announcer {
-        console,
-        path: serving.tables,
-        gauge,
-    };
-    let failure = match serve_file(console.rt, config, &place, &announcer, reader, writer) {
-        Ok(Answered { served, unclosed }) => {
-            report_end(console, ending.get(), false, served.end);
-            tell_served(console, serving.tables, &served);
-            unclosed
-        }
-        Err(failure) => Some(failure),
-    };
-    if let Some(failure) = failure {
-        console.say(&failure);
+    if let Some(report) = report {
+        report_end(console, ending, false, report.end);
+        report_calls(console, path, &report);
     }
-}
-
-// Answers the calls of a connection over the tables, which are opened for it. The next connection opens them
-// again.
-fn serve_over_tables<'a>(service: &'a Service<'a>, waiting: &'a mut Waiting, peer: &'a Pending) {
-    let Some(turn) = turn_of(service.console, waiting, peer) else {
-        return;
-    };
-    let ending = &turn.ending;
-    let mut reader = peer.first.sent.as_slice().chain(&turn);
-    let mut writer = GuardedWriter::new(Always, &turn);
-    answer_over_tables(service, ending, &mut reader, &mut writer);
+    if let Some(cause) = cause {
+        console.say(&cause);
+    }
 }
 
 /// The change store, if volumes are in one.
 struct KnownChangeStore {
-    /// It, as it was read; none, where it could not be had.
+    /// The change store as it was read; nothing, where it could not be had.
     open: Option<OpenChangeStore>,
     /// Why it could not be had, as it was said last; nothing, where it was had since.
     said: String,
@@ -369,19 +333,6 @@ fn serve_over_change_store(
     }
 }
 
-// Answers the calls of one connection, where the volumes are.
-fn serve_over_store(
-    service: &Service<'_>,
-    waiting: &mut Waiting,
-    change_store: &mut KnownChangeStore,
-    peer: &Pending,
-) {
-    match service.serving.change_store {
-        Some(path) => serve_over_change_store(service, waiting, path, change_store, peer),
-        None => serve_over_tables(service, waiting, peer),
-    }
-}
-
 // Says that the peer of a connection had gone. One that sent nothing was not refused anything.
 fn tell_gone(console: &Console<'_>, peer: &Pending) {
     if peer.first.sent.is_empty() {
@@ -392,21 +343,68 @@ fn tell_gone(console: &Console<'_>, peer: &Pending) {
     }
 }
 
-// Answers the calls of one connection, if somebody is there. Who has gone, as after a call that was given up
-// while another was answered, costs no opening of the tables.
-fn serve_peer(
+// Serves calls over the tables of a server, which are opened for them: those that a peer has sent, and those
+// that come. What the replies do not show is said.
+fn serve_tables<R: Read, W: Write>(
     service: &Service<'_>,
-    waiting: &mut Waiting,
-    change_store: &mut KnownChangeStore,
-    peer: &Pending,
+    sent: &[u8],
+    ending: &Cell<Option<Ending>>,
+    reader: &mut R,
+    writer: &mut W,
 ) {
+    let Service {
+        console,
+        config,
+        serving,
+        gauge,
+    } = *service;
+    let Volumes::Tables(file) = serving.volumes else {
+        return;
+    };
+    let announcer = Announcer {
+        console,
+        path: file.path,
+        gauge,
+    };
+    let run = TablesRun {
+        rt: *console.rt,
+        config,
+        file,
+        observer: &announcer,
+    };
+    let ended = run.serve_file(Unknown, sent, reader, writer);
+    report_run(console, file.path, ending.get(), ended);
+}
+
+// Answers the calls of one connection, if its peer is there. A peer that has gone, as after a call that was
+// given up while another was answered, costs no opening of the tables.
+fn serve_peer<'a>(
+    service: &'a Service<'a>,
+    waiting: &'a mut Waiting,
+    change_store: &mut KnownChangeStore,
+    peer: &'a Pending,
+) {
+    let console = service.console;
     if has_gone(&peer.stream) {
-        tell_gone(service.console, peer);
-    } else if matches!(peer.first.start, Some(Start::NoCall)) {
-        refuse_peer(service, waiting, peer);
-    } else {
-        serve_over_store(service, waiting, change_store, peer);
+        return tell_gone(console, peer);
     }
+    if matches!(peer.first.start, Some(Start::NoCall)) {
+        return refuse_peer(service, waiting, peer);
+    }
+    if let Volumes::ChangeStore(path) = service.serving.volumes {
+        return serve_over_change_store(service, waiting, path, change_store, peer);
+    }
+    let Some(turn) = turn_of(console, waiting, peer) else {
+        return;
+    };
+    let sent = peer.first.sent.as_slice();
+    serve_tables(
+        service,
+        sent,
+        &turn.ending,
+        &mut turn.reader(),
+        &mut turn.writer(),
+    );
 }
 
 // The change store as it is at the start, if volumes are to be in one. Where it cannot be had, that is said,
@@ -417,7 +415,7 @@ fn first_change_store(service: &Service<'_>) -> KnownChangeStore {
         open: None,
         said: String::new(console.rt.alloc()),
     };
-    if let Some(path) = service.serving.change_store {
+    if let Volumes::ChangeStore(path) = service.serving.volumes {
         match open_change_store(console, service.config, path) {
             Ok(open) => change_store.open = Some(open),
             Err(failure) => say_why(console, &mut change_store.said, &failure),
@@ -426,49 +424,82 @@ fn first_change_store(service: &Service<'_>) -> KnownChangeStore {
     change_store
 }
 
-// Answers the calls of connections as they come, until all are taken or the socket fails.
-fn serve_each(service: &Service<'_>, listener: UnixListener) -> io::Result<()> {
-    let serving = service.serving;
-    let mut waiting = Waiting::new(
-        service.console.rt,
-        listener,
-        serving.connections,
-        serving.idle,
-    )?;
-    let mut change_store = first_change_store(service);
-    for _ in 0..serving.connections {
-        match waiting.next(service.console)? {
-            Some(peer) => serve_peer(service, &mut waiting, &mut change_store, &peer),
-            None => return Ok(()),
-        }
-    }
-    Ok(())
+// A socket for the connections of a server, whose tables were looked at. The socket is made before the tables
+// are opened, so that the file of a server that runs is left alone.
+fn listen_over<'a>(
+    console: &'a Console<'a>,
+    config: &'a Config,
+    serving: &Serving<'a>,
+) -> Result<UnixListener, Failure> {
+    let file = match serving.volumes {
+        Volumes::ChangeStore(_) => return listen(console.rt, serving.socket, serving.group),
+        Volumes::Tables(file) => file,
+    };
+    check_file(console.rt, &file)?;
+    let listener = listen(console.rt, serving.socket, serving.group)?;
+    survey(console, config, &file);
+    Ok(listener)
 }
 
-/// Answers the calls of so many connections, in order, over the tables in a file.
+// The connections that wait at a socket.
+fn waiting_at(
+    rt: &HostRuntime,
+    serving: &Serving<'_>,
+    listener: UnixListener,
+) -> Result<Waiting, Failure>
+    ensures { IfErr result (λ failure. IsOrNoMemory 7 failure) }
+{
+    match Waiting::new(rt, listener, serving.connections, serving.idle) {
+        Ok(waiting) => Ok(waiting),
+        Err(error) => Err(of_socket(rt.alloc(), serving.socket, &error)),
+    }
+}
+
+// The next connection that is served; nothing, where no further one is taken.
+fn next_peer(service: &Service<'_>, waiting: &mut Waiting) -> Result<Option<Pending>, Failure>
+    ensures { IfErr result (λ failure. IsOrNoMemory 7 failure) }
+{
+    match waiting.next(service.console) {
+        Ok(next) => Ok(next),
+        Err(error) => Err(of_socket(service.console.rt.alloc(), service.serving.socket, &error)),
+    }
+}
+
+/// Answers the calls of connections to a socket, in order, until so many were served or the socket fails.
 ///
 /// # Errors
 ///
-/// Where the socket gives no connection, or memory is refused.
-pub(crate) fn serve_all(
-    console: &Console<'_>,
-    config: &Config,
-    serving: &Serving<'_>,
-    gauge: &MemoryGauge,
-    listener: UnixListener,
-) -> Result<(), Failure>
-    ensures { IfErr result (λ failure. IsOrNoMemory 7 failure) }
-{
+/// Where the path of the tables is refused, the socket cannot be made or gives no
+/// connection, or memory is refused.
+pub(crate) fn serve_socket<'a>(
+    console: &'a Console<'a>,
+    config: &'a Config,
+    gauge: &'a MemoryGauge,
+    serving: &'a Serving<'a>,
+) -> Result<(), Failure> {
+    let listener = listen_over(console, config, serving)?;
     let service = Service {
         console,
         config,
         serving,
         gauge,
     };
-    let served = serve_each(&service, listener);
+    let mut waiting = waiting_at(console.rt, serving, listener)?;
+    let mut change_store = first_change_store(&service);
+    let mut failed = None;
+    for _ in 0..serving.connections {
+        match next_peer(&service, &mut waiting) {
+            Ok(Some(peer)) => serve_peer(&service, &mut waiting, &mut change_store, &peer),
+            Ok(None) => break,
+            Err(failure) => {
+                failed = Some(failure);
+                break;
+            }
+        }
+    }
     console.finish();
-    match served {
-        Ok(()) => Ok(()),
-        Err(error) => Err(of_socket(console.rt.alloc(), serving.socket, &error)),
+    match failed {
+        None => Ok(()),
+        Some(failure) => Err(failure),
     }
 }

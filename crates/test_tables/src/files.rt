@@ -6,7 +6,7 @@ pub(crate) mod laying;
 pub(crate) mod running;
 
 use crate::stops;
-use disks::Lie;
+use disks::{Lie, TestDisk};
 use laying::{Laid, lay, lay_each, lay_odd};
 use std::alloc::Global;
 use test_kit::{
@@ -15,14 +15,14 @@ use test_kit::{
 
 /// The files of the rows before, and the bytes of a database file that is made.
 #[derive(Drop)]
-pub(crate) struct Bench {
-    stops: stops::Bench,
+pub(crate) struct Bench<D> {
+    stops: stops::Bench<D>,
     page: Vec<u8>,
 }
 
-impl Bench {
+impl<D: TestDisk> Bench<D> {
     /// New files.
-    pub(crate) fn new(alloc: Global) -> Result<Bench, RowFault> {
+    pub(crate) fn new(alloc: Global) -> Result<Bench<D>, RowFault> {
         Ok(Bench {
             stops: stops::Bench::new(alloc)?,
             page: Vec::new(alloc),
@@ -98,7 +98,7 @@ impl Bench {
     }
 }
 
-impl AnswerRow for Bench {
+impl<D: TestDisk> AnswerRow for Bench<D> {
     fn answer_row(&mut self, rt: &HostRuntime, row: &str) -> Result<RowAnswer, RowFault> {
         Ok(RowAnswer::Text(self.answer(rt.alloc(), row)?))
     }

@@ -16,6 +16,8 @@ mod statements;
 mod stops;
 mod tables;
 
+use files::disks::{Faulty, TestDisk};
+use sqlite_disk::{Fuse, Memory};
 use std::io::Write;
 use std::process::ExitCode;
 use test_kit::{AnswerRow, AnswerSection, RowAnswer, RowFault, Rows, answer_rows};
@@ -38,6 +40,20 @@ impl AnswerRow for Plain {
     }
 }
 
+// Answers the rows of a section over files. Only the caller names the type of their disks: each call that
+// names it is expensive to prove.
+fn answer_on<D: TestDisk, W: Write>(
+    rt: &HostRuntime,
+    name: &str,
+    rows: &mut Rows<'_, W>,
+) -> Result<(), RowFault> {
+    match name {
+        "stops" => answer(rt, rows, stops::Bench::<D>::new(rt.alloc())),
+        "files" => answer(rt, rows, files::Bench::<D>::new(rt.alloc())),
+        _ => Err(RowFault::NotRow),
+    }
+}
+
 #[derive(Drop)]
 struct Sections;
 
@@ -54,9 +70,7 @@ impl AnswerSection for Sections {
             "constraints" => answer(rt, rows, Ok(Plain::Constraints)),
             "tables" => answer(rt, rows, tables::Bench::new(rt.alloc())),
             "adoption" => answer(rt, rows, Ok(Plain::Adoption)),
-            "stops" => answer(rt, rows, stops::Bench::new(rt.alloc())),
-            "files" => answer(rt, rows, files::Bench::new(rt.alloc())),
-            _ => Err(RowFault::NotRow),
+            _ => answer_on::<Faulty<Fuse<Memory>>, W>(rt, name, rows),
         }
     }
 }

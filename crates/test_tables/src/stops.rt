@@ -7,7 +7,7 @@ mod serving;
 mod trials;
 mod troubled;
 
-use crate::files::disks::Lie;
+use crate::files::disks::{Lie, TestDisk};
 use crate::files::laying::holding;
 use crate::files::running::served_by;
 use csi_config::Config;
@@ -16,9 +16,10 @@ use runs::Wanted;
 use serving::{Outcome, left_by, outcome_of};
 use sqlite_disk::{Files, Memory};
 use std::alloc::Global;
+use std::marker::PhantomData;
 use test_kit::{AnswerRow, RowAnswer, RowFault, bytes_of, number_at};
 use trials::{Trials, Way};
-use troubled::{Trouble, left_of_troubled, lying};
+use troubled::{Trouble, lying};
 
 /// How a database is left.
 #[derive(Clone, Copy)]
@@ -33,20 +34,22 @@ pub(crate) enum Ending {
 
 /// The sample configuration, and the two files.
 #[derive(Drop)]
-pub(crate) struct Bench {
+pub(crate) struct Bench<D> {
     config: Config,
     files: Files<Memory>,
     // A database was made in the files.
     is_made: bool,
+    of: PhantomData<D>,
 }
 
-impl Bench {
+impl<D: TestDisk> Bench<D> {
     /// New files.
-    pub(crate) fn new(alloc: Global) -> Result<Bench, RowFault> {
+    pub(crate) fn new(alloc: Global) -> Result<Bench<D>, RowFault> {
         Ok(Bench {
             config: Config::sample(alloc)?,
             files: new_files(alloc),
             is_made: false,
+            of: PhantomData,
         })
     }
 
@@ -60,7 +63,7 @@ impl Bench {
         lie: Option<Lie>,
         replies: &mut Vec<u8>,
     ) -> Result<String, RowFault> {
-        let disks = lying(alloc, &self.files, lie)?;
+        let disks = lying::<D>(alloc, &self.files, lie)?;
         let (outcome, mut disks) = served_by(
             alloc,
             &self.config,
@@ -68,9 +71,9 @@ impl Bench {
             is_low_memory,
             calls,
             replies,
-        );
+        )?;
         if lie.is_none() {
-            self.files = left_of_troubled(alloc, &mut disks, false)?;
+            self.files = left_of(alloc, &mut disks, false)?;
             self.is_made = true;
         }
         Ok(outcome?)
@@ -122,7 +125,7 @@ impl Bench {
     // New files with the tables, over which these calls are made.
     fn begin(&mut self, alloc: Global, calls: &str, ending: Ending) -> Result<String, RowFault> {
         let calls = bytes_of(alloc, calls)?;
-        let disks = new_disks(alloc, NEVER);
+        let disks = new_disks::<D>(alloc, NEVER);
         let (made, mut disks) = left_by(alloc, &self.config, disks, &calls, ending)?;
         self.files = left_of(alloc, &mut disks, false)?;
         self.is_made = true;
@@ -132,9 +135,9 @@ impl Bench {
     // What comes of a call over the files, or over new ones where no database was made in them.
     fn outcome_of(&self, alloc: Global, call: &[u8]) -> Result<Outcome, RowFault> {
         if self.is_made {
-            outcome_of(alloc, &self.config, &self.files, call)
+            outcome_of::<D>(alloc, &self.config, &self.files, call)
         } else {
-            outcome_of(alloc, &self.config, &new_files(alloc), call)
+            outcome_of::<D>(alloc, &self.config, &new_files(alloc), call)
         }
     }
 
@@ -153,12 +156,12 @@ impl Bench {
             call: &call,
             whole: &whole,
         };
-        let seen = Trials::new(wanted, step, way).all()?;
+        let seen = Trials::new(wanted, step, way).all::<D>()?;
         Ok(format!(in alloc; "{}, {seen}, all allowed", whole.after)?)
     }
 }
 
-impl AnswerRow for Bench {
+impl<D: TestDisk> AnswerRow for Bench<D> {
     fn answer_row(&mut self, rt: &HostRuntime, row: &str) -> Result<RowAnswer, RowFault> {
         Ok(RowAnswer::Text(self.answer(rt.alloc(), row)?))
     }

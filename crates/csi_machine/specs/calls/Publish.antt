@@ -1,6 +1,5 @@
 -- ControllerPublishVolume (CSI specification, 'ControllerPublishVolume').
 use Rattle.std.specs.Prelude.{ℕ, ◌&&◌, not, nat_le, Bool, true, false, List, Option, Some, None, find, if◌then◌else◌}
-use Rattle.std.specs.List.{list_any}
 use Rattle.csi_types.specs.Maps.{same_text}
 use Rattle.csi_types.specs.declared.capability.Capability.{Capability}
 use Rattle.csi_types.specs.declared.reason.Reason.TheVariants.{VolumeNotFound, NodeNotFound, PublishedElsewhere, PublishedOtherwise, NodeFull}
@@ -17,7 +16,7 @@ use Rattle.csi_machine.specs.declared.plan.Plan.{Plan}
 use Rattle.csi_keeper.specs.declared.volume.Attachment.{Attachment}
 use Rattle.csi_keeper.specs.declared.volume.Volume.{Volume}
 use Rattle.csi_keeper.specs.Capability.{key_of, same_key, has_key}
-use Rattle.csi_keeper.specs.Coexistence.{coexist}
+use Rattle.csi_rules.specs.Conflict.{has_conflict}
 use Rattle.csi_rules.specs.Finding.{volume_at}
 use Rattle.csi_rules.specs.Ids.{number_of_id}
 use Rattle.csi_machine.specs.Plan.{refuse, respond, make}
@@ -36,10 +35,6 @@ same_flag false b = not b
 abbrev pub publish_again : CapKey → Bool → Attachment → Plan
 publish_again key readonly a =
     if same_key a.cap key && same_flag a.readonly readonly then respond (response.Publish (publication readonly)) else refuse PublishedOtherwise
-
--- some attachment can't coexist with mine
-abbrev pub has_conflict : Attachment → List Attachment → Bool
-has_conflict mine attachments = list_any (λ a. not (coexist a mine)) attachments
 
 -- a volume that exists, what it may be used as, where it is published, and a node with the count of the
 -- volumes that are there

@@ -5,15 +5,15 @@ ghost use Rattle.std.specs.Option.{option_copied};
 ghost use Rattle.csi_keeper.specs.State.{IsBounded};
 ghost use Rattle.csi_rules.specs.Finding.{Finds};
 ghost use Rattle.csi_rules.specs.Ids.{number_of_id};
-ghost use Rattle.csi_machine.specs.calls.Publish.{is_at, publish_again, has_conflict, attach, lent_target, publish, publish_node, publish_at, requested_key};
+ghost use Rattle.csi_machine.specs.calls.Publish.{is_at, publish_again, attach, lent_target, publish, publish_node, publish_at, requested_key};
 ghost use Rattle.csi_keeper.specs.Lookup.{node_of};
 
 use crate::plan::{Plan, Planning, make, refuse, respond};
 use crate::planned::Planned;
 use crate::response::PlannedResponse;
 use csi_config::{Config, Node};
-use csi_keeper::{Attachment, CapKey, Change, Keeper, cap_key, coexist, has_key};
-use csi_rules::caps_of;
+use csi_keeper::{Attachment, CapKey, Change, Keeper, cap_key, has_key};
+use csi_rules::{caps_of, has_conflict};
 use csi_types::{Capability, Publish, Reason, Text, copy_text};
 use std::alloc::{AllocError, Global};
 
@@ -25,12 +25,6 @@ fn publish_again(key: &CapKey, readonly: bool, attachment: &Attachment) -> Plan
         return respond(PlannedResponse::published(readonly));
     }
     refuse(Reason::PublishedOtherwise)
-}
-
-fn has_conflict(mine: &Attachment, attachments: &[Attachment]) -> bool
-    ensures { result ≡ has_conflict mine.now attachments.now }
-{
-    attachments.iter().any(|other| !coexist(other, mine))
 }
 
 // A volume that exists, what it may be used as, where it is published, and a node with the count of the

@@ -1,11 +1,13 @@
 //! Runs of `csi_files` over files.
 
+use csi_adoption::Content;
 use csi_config::Config;
-use csi_files::{NotServed, Observer, ServeOptions, Served, serve_made};
+use csi_files::{Observer, Refusal, Run, RunFailure, RunOptions, RunReport};
 use csi_server::RunEnd;
 use sqlite::{Error, Options};
 use sqlite_disk::{Disk, Files};
 use std::alloc::{AllocError, Global};
+use test_kit::RowFault;
 
 // The seed of the salts in the log, on which no answer depends.
 const SEED: u64 = 7;
@@ -15,6 +17,8 @@ struct Unheard;
 
 impl Observer for Unheard {
     fn made(&self) {}
+
+    fn adopted(&self, _content: &Content) {}
 
     fn uncopied(&self) {}
 
@@ -38,33 +42,45 @@ fn end_word(end: RunEnd) -> &'static str {
 }
 
 // How calls were served.
-fn served_text(alloc: Global, word: &str, served: &Served) -> Result<String, AllocError> {
-    let end = end_word(served.end);
-    let made = if served.is_new { ", made" } else { "" };
-    let copied = if served.is_copied { ", copied" } else { "" };
-    let down = if served.is_down { ", down" } else { "" };
+fn report_text(alloc: Global, word: &str, report: &RunReport) -> Result<String, AllocError> {
+    let end = end_word(report.end);
+    let made = if report.is_new { ", made" } else { "" };
+    let copied = if report.is_copied { ", copied" } else { "" };
+    let down = if report.is_down { ", down" } else { "" };
     format!(in alloc;
         "{word}, {end}{made}{copied}{down}, {} refused",
-        served.refusals
+        report.refusals
     )
 }
 
+// Why a database was refused.
+fn refusal_text(alloc: Global, refusal: &Refusal) -> Result<String, AllocError> {
+    match refusal {
+        Refusal::Blank => String::from_str(alloc, "blank"),
+        Refusal::NotAdopted(fault) => format!(in alloc; "not adopted: {fault}"),
+        Refusal::NotCopied(_) => String::from_str(alloc, "not copied"),
+    }
+}
+
 // Why files were not closed after calls.
-fn not_served_text<D: Disk + Drop>(
+fn failure_text<D: Disk + Drop>(
     alloc: Global,
-    error: &NotServed<D>,
+    failure: &RunFailure<D>,
 ) -> Result<String, AllocError> {
-    match error {
-        NotServed::NotOpened(error, _) => format!(in alloc; "not opened: {error}"),
-        NotServed::Blank(_) => String::from_str(alloc, "blank"),
-        NotServed::NotAdopted(fault, _) => format!(in alloc; "not adopted: {fault}"),
-        NotServed::NotCopied(_, _) => String::from_str(alloc, "not copied"),
-        NotServed::Left(served, _) => served_text(alloc, "left", served),
-        NotServed::NotClosed(served, _, _) => served_text(alloc, "not closed", served),
+    match failure {
+        RunFailure::NoFiles(error) => format!(in alloc; "no files: {error}"),
+        RunFailure::NotOpened(error, _) => format!(in alloc; "not opened: {error}"),
+        RunFailure::Refused(refusal, _) => refusal_text(alloc, refusal),
+        RunFailure::Left(report, _) => report_text(alloc, "left", report),
+        RunFailure::NotClosed(report, _, _) => report_text(alloc, "not closed", report),
     }
 }
 
 /// Serves calls over files, and says what that came to. The files come back as they are then.
+///
+/// # Errors
+///
+/// Where no files come back, as none do that were not given.
 pub(crate) fn served_by<D: Disk + Drop>(
     alloc: Global,
     config: &Config,
@@ -72,27 +88,27 @@ pub(crate) fn served_by<D: Disk + Drop>(
     is_low_memory: bool,
     calls: &[u8],
     replies: &mut Vec<u8>,
-) -> (Result<String, AllocError>, Files<D>) {
+) -> Result<(Result<String, AllocError>, Files<D>), RowFault> {
     if !files.may_be_used() {
-        return (String::from_str(alloc, "not usable"), files);
+        return Ok((String::from_str(alloc, "not usable"), files));
     }
-    let options = ServeOptions {
-        is_existing: false,
-        is_low_memory,
-        reserve: 1 << 20,
-    };
-    let mut reader = calls;
-    match serve_made(
+    let run = Run {
         alloc,
         config,
-        files,
-        Options::new(SEED),
-        &options,
-        &Unheard,
-        &mut reader,
-        replies,
-    ) {
-        Ok(closed) => (served_text(alloc, "closed", &closed.served), closed.files),
-        Err(error) => (not_served_text(alloc, &error), error.into_files()),
+        options: RunOptions {
+            is_existing: false,
+            is_low_memory,
+            reserve: 1 << 20,
+        },
+        observer: &Unheard,
+    };
+    let mut reader = calls;
+    match run.create_and_serve(files, Options::new(SEED), &mut reader, replies) {
+        Ok(closed) => Ok((report_text(alloc, "closed", &closed.report), closed.files)),
+        Err(failure) => {
+            let text = failure_text(alloc, &failure);
+            let files = failure.into_files().ok_or(RowFault::NotRow)?;
+            Ok((text, files))
+        }
     }
 }

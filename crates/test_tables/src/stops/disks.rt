@@ -4,8 +4,9 @@ ghost use Rattle.std.specs.Prelude.{◌≡◌, false, IfOk};
 
 use super::troubled::Trouble;
 use crate::database::run;
+use crate::files::disks::TestDisk;
 use sqlite::{Alter, Connection, Error as SqlError, ErrorCode, FileStore, Options};
-use sqlite_disk::{Crash, Disk, Files, Fuse, Memory};
+use sqlite_disk::{Crash, Disk, Files, Memory};
 use std::alloc::Global;
 use std::fmt;
 use test_kit::RowFault;
@@ -15,9 +16,6 @@ const SEED: u64 = 7;
 
 /// So many calls of each file that neither stops.
 pub(crate) const NEVER: (u64, u64) = (u64::MAX, u64::MAX);
-
-/// Files that stop.
-pub(crate) type Disks = Files<Fuse<Memory>>;
 
 /// The file that stops.
 #[derive(Clone, Copy)]
@@ -87,15 +85,15 @@ pub(crate) fn new_files(alloc: Global) -> Files<Memory> {
 }
 
 // Files that stop after so many calls of the log and of the database file.
-fn fused(files: Files<Memory>, calls: (u64, u64)) -> Disks {
+fn fused<D: TestDisk>(files: Files<Memory>, calls: (u64, u64)) -> Files<D> {
     Files {
-        log: Fuse::new(files.log, calls.0),
-        db: Fuse::new(files.db, calls.1),
+        log: D::over(files.log, calls.0, u64::MAX, None),
+        db: D::over(files.db, calls.1, u64::MAX, None),
     }
 }
 
 /// Two files that nobody has opened, which stop so.
-pub(crate) fn new_disks(alloc: Global, calls: (u64, u64)) -> Disks {
+pub(crate) fn new_disks<D: TestDisk>(alloc: Global, calls: (u64, u64)) -> Files<D> {
     fused(new_files(alloc), calls)
 }
 
@@ -124,11 +122,11 @@ pub(crate) fn copied_files(
 
 /// Files with the same bytes, all synchronised, which stop after so many calls of the log and of the
 /// database file.
-pub(crate) fn copies(
+pub(crate) fn copies<D: TestDisk>(
     alloc: Global,
     files: &Files<Memory>,
     calls: (u64, u64),
-) -> Result<Disks, RowFault> {
+) -> Result<Files<D>, RowFault> {
     Ok(fused(copied_files(alloc, &files.log, &files.db)?, calls))
 }
 
@@ -138,21 +136,21 @@ pub(crate) fn are_same(one: &Files<Memory>, other: &Files<Memory>) -> bool {
 }
 
 /// Whether one of the files has stopped.
-pub(crate) fn has_stopped(disks: &mut Disks) -> bool {
+pub(crate) fn has_stopped<D: TestDisk>(disks: &mut Files<D>) -> bool {
     !disks.may_be_used() || disks.log.len().is_err() || disks.db.len().is_err()
 }
 
 /// What the next start finds of files.
-pub(crate) fn left_of(
+pub(crate) fn left_of<D: TestDisk>(
     alloc: Global,
-    disks: &mut Disks,
+    disks: &mut Files<D>,
     loses: bool,
 ) -> Result<Files<Memory>, RowFault> {
     if loses {
         disks.log.crash();
         disks.db.crash();
     }
-    copied_files(alloc, disks.log.inner(), disks.db.inner())
+    copied_files(alloc, disks.log.memory(), disks.db.memory())
 }
 
 // Opens the database in two files, or gives back why it cannot be opened, and the files.

@@ -2,7 +2,8 @@
 
 use super::disks::{Stop, copies, has_stopped, left_of};
 use super::serving::{Outcome, outcome_of, serve_files, unlike};
-use super::troubled::{Trouble, have_failed, left_of_troubled, lying, troubled};
+use super::troubled::{Trouble, have_failed, lying, troubled};
+use crate::files::disks::TestDisk;
 use crate::files::running::served_by;
 use csi_config::Config;
 use sqlite_disk::{Files, Memory};
@@ -55,21 +56,25 @@ pub(crate) struct Came {
 
 impl Wanted<'_> {
     /// A run over files in which the disk stops.
-    pub(crate) fn run(&self, files: &Files<Memory>, stop: Stop) -> Result<Left, RowFault> {
+    pub(crate) fn run<D: TestDisk>(
+        &self,
+        files: &Files<Memory>,
+        stop: Stop,
+    ) -> Result<Left, RowFault> {
         match stop.trouble {
-            Some(trouble) => self.run_troubled(files, stop, trouble),
-            None => self.run_stopping(files, stop),
+            Some(trouble) => self.run_troubled::<D>(files, stop, trouble),
+            None => self.run_stopping::<D>(files, stop),
         }
     }
 
     // A run of `csi_files` over files with a trouble.
-    fn run_troubled(
+    fn run_troubled<D: TestDisk>(
         &self,
         files: &Files<Memory>,
         stop: Stop,
         trouble: Trouble,
     ) -> Result<Left, RowFault> {
-        let disks = troubled(self.alloc, files, stop, trouble)?;
+        let disks = troubled::<D>(self.alloc, files, stop, trouble)?;
         let mut reply = Vec::new(self.alloc);
         let (_, mut disks) = served_by(
             self.alloc,
@@ -78,19 +83,19 @@ impl Wanted<'_> {
             false,
             self.call,
             &mut reply,
-        );
+        )?;
         Ok(Left {
             is_stopped: have_failed(&mut disks),
             reply,
-            files: left_of_troubled(self.alloc, &mut disks, stop.loses)?,
+            files: left_of(self.alloc, &mut disks, stop.loses)?,
         })
     }
 
     // The next run of `csi_files` over files that are left answers the call as it is answered where nothing
     // stops.
-    fn runs_again(&self, stop: Stop, files: &Files<Memory>) -> Result<(), RowFault> {
+    fn runs_again<D: TestDisk>(&self, stop: Stop, files: &Files<Memory>) -> Result<(), RowFault> {
         let mut reply = Vec::new(self.alloc);
-        let (outcome, _) = self.serve(files, self.call, &mut reply)?;
+        let (outcome, _) = self.serve::<D>(files, self.call, &mut reply)?;
         if outcome.starts_with("closed, done") && reply == self.whole.replies {
             return Ok(());
         }
@@ -98,19 +103,23 @@ impl Wanted<'_> {
     }
 
     // A run of `csi_files` over copies of files, and the files after it.
-    fn serve(
+    fn serve<D: TestDisk>(
         &self,
         files: &Files<Memory>,
         calls: &[u8],
         replies: &mut Vec<u8>,
     ) -> Result<(String, Files<Memory>), RowFault> {
-        let disks = lying(self.alloc, files, None)?;
-        let (outcome, mut disks) = served_by(self.alloc, self.config, disks, true, calls, replies);
-        Ok((outcome?, left_of_troubled(self.alloc, &mut disks, false)?))
+        let disks = lying::<D>(self.alloc, files, None)?;
+        let (outcome, mut disks) = served_by(self.alloc, self.config, disks, true, calls, replies)?;
+        Ok((outcome?, left_of(self.alloc, &mut disks, false)?))
     }
 
-    fn run_stopping(&self, files: &Files<Memory>, stop: Stop) -> Result<Left, RowFault> {
-        let disks = copies(self.alloc, files, stop.calls_of_each())?;
+    fn run_stopping<D: TestDisk>(
+        &self,
+        files: &Files<Memory>,
+        stop: Stop,
+    ) -> Result<Left, RowFault> {
+        let disks = copies::<D>(self.alloc, files, stop.calls_of_each())?;
         let mut reply = Vec::new(self.alloc);
         let mut disks = serve_files(
             self.alloc,
@@ -128,21 +137,29 @@ impl Wanted<'_> {
     }
 
     // What the next start finds where a run of `csi_files` was in trouble.
-    fn find_after_trouble(&self, stop: Stop, files: &Files<Memory>) -> Result<Outcome, RowFault> {
-        self.runs_again(stop, files)?;
+    fn find_after_trouble<D: TestDisk>(
+        &self,
+        stop: Stop,
+        files: &Files<Memory>,
+    ) -> Result<Outcome, RowFault> {
+        self.runs_again::<D>(stop, files)?;
         if self.is_made {
-            return outcome_of(self.alloc, self.config, files, self.call);
+            return outcome_of::<D>(self.alloc, self.config, files, self.call);
         }
         // The first page may be torn, and only a run of `csi_files` makes it whole.
-        let (_, opened) = self.serve(files, b"", &mut Vec::new(self.alloc))?;
-        outcome_of(self.alloc, self.config, &opened, self.call)
+        let (_, opened) = self.serve::<D>(files, b"", &mut Vec::new(self.alloc))?;
+        outcome_of::<D>(self.alloc, self.config, &opened, self.call)
     }
 
     /// What the next start finds.
-    pub(crate) fn find(&self, stop: Stop, files: Files<Memory>) -> Result<Found, RowFault> {
+    pub(crate) fn find<D: TestDisk>(
+        &self,
+        stop: Stop,
+        files: Files<Memory>,
+    ) -> Result<Found, RowFault> {
         let outcome = match stop.trouble {
-            Some(_) => self.find_after_trouble(stop, &files),
-            None => outcome_of(self.alloc, self.config, &files, self.call),
+            Some(_) => self.find_after_trouble::<D>(stop, &files),
+            None => outcome_of::<D>(self.alloc, self.config, &files, self.call),
         };
         match outcome {
             Ok(outcome) => Ok(Found { files, outcome }),

@@ -4,6 +4,7 @@ ghost use Rattle.std.specs.Prelude.{◌≡◌, false};
 
 use super::Ending;
 use super::disks::{NEVER, Task, copies, make_older, over};
+use crate::files::disks::TestDisk;
 use crate::state::state_text;
 use csi_adoption::{AdoptError, adopt};
 use csi_config::Config;
@@ -173,13 +174,13 @@ pub(crate) fn left_by<D: Disk + Drop>(
 }
 
 /// What calls are answered over copies of files.
-pub(crate) fn outcome_of(
+pub(crate) fn outcome_of<D: TestDisk>(
     alloc: Global,
     config: &Config,
     files: &Files<Memory>,
     calls: &[u8],
 ) -> Result<Outcome, RowFault> {
-    let copies = copies(alloc, files, NEVER)?;
+    let copies = copies::<D>(alloc, files, NEVER)?;
     let (outcome, _) = left_by(alloc, config, copies, calls, Ending::Open)?;
     Ok(outcome)
 }

@@ -3,6 +3,7 @@
 use super::disks::{Stop, Which, are_same};
 use super::runs::{Came, Found, Left, Wanted};
 use super::troubled::Trouble;
+use crate::files::disks::TestDisk;
 use sqlite_disk::{Files, Memory};
 use std::fmt;
 use test_kit::RowFault;
@@ -98,16 +99,16 @@ impl<'a> Trials<'a> {
     /// # Errors
     ///
     /// The first stop after which something is found that must not be.
-    pub(crate) fn all(mut self) -> Result<Seen, RowFault> {
+    pub(crate) fn all<D: TestDisk>(mut self) -> Result<Seen, RowFault> {
         for which in [Which::Log, Which::Database, Which::Both] {
-            self.stops_of(which, false)?;
-            self.stops_of(which, true)?;
+            self.stops_of::<D>(which, false)?;
+            self.stops_of::<D>(which, true)?;
         }
         Ok(self.seen)
     }
 
     // Each run stops later than the last one, until one does not stop.
-    fn stops_of(&mut self, which: Which, loses: bool) -> Result<(), RowFault> {
+    fn stops_of<D: TestDisk>(&mut self, which: Which, loses: bool) -> Result<(), RowFault> {
         let closes = matches!(self.way, Way::Closing);
         let mut calls: u64 = 0;
         for _ in 0..MOST_CALLS {
@@ -118,7 +119,7 @@ impl<'a> Trials<'a> {
                 loses,
                 trouble: self.way.trouble(),
             };
-            if !self.stop(stop)? {
+            if !self.stop::<D>(stop)? {
                 return Ok(());
             }
             calls = calls.saturating_add(self.step);
@@ -127,30 +128,34 @@ impl<'a> Trials<'a> {
     }
 
     // What a second start leaves, where there is one.
-    fn left_again(&self, files: Files<Memory>, stop: Stop) -> Result<Files<Memory>, RowFault> {
+    fn left_again<D: TestDisk>(
+        &self,
+        files: Files<Memory>,
+        stop: Stop,
+    ) -> Result<Files<Memory>, RowFault> {
         match self.way {
-            Way::Twice => Ok(self.wanted.run(&files, stop)?.files),
+            Way::Twice => Ok(self.wanted.run::<D>(&files, stop)?.files),
             Way::Once | Way::Closing | Way::Running(_) => Ok(files),
         }
     }
 
     // One run, and whether the disk stopped in it.
-    fn stop(&mut self, stop: Stop) -> Result<bool, RowFault> {
+    fn stop<D: TestDisk>(&mut self, stop: Stop) -> Result<bool, RowFault> {
         let Left {
             is_stopped,
             reply,
             files,
-        } = self.wanted.run(self.wanted.files, stop)?;
-        self.find(stop, files)?;
+        } = self.wanted.run::<D>(self.wanted.files, stop)?;
+        self.find::<D>(stop, files)?;
         self.judge(stop, is_stopped, &reply)?;
         Ok(is_stopped)
     }
 
     // Looks for what the next start finds of files, where it was not found last.
-    fn find(&mut self, stop: Stop, files: Files<Memory>) -> Result<(), RowFault> {
-        let files = self.left_again(files, stop)?;
+    fn find<D: TestDisk>(&mut self, stop: Stop, files: Files<Memory>) -> Result<(), RowFault> {
+        let files = self.left_again::<D>(files, stop)?;
         if !self.is_found(&files) {
-            self.found = Some(self.wanted.find(stop, files)?);
+            self.found = Some(self.wanted.find::<D>(stop, files)?);
         }
         Ok(())
     }

@@ -7,4 +7,4 @@ none true refusals e = absurd (cc)
 none false refusals e = (omega (arith, ltb-false 0 refusals e), refl)
 
 pub returns-in-Ok-clause-none_refused : goal.returns-in-Ok-clause-none_refused
-returns-in-Ok-clause-none_refused g c = none c.args.served.is_down c.args.served.refusals c.if-served.false
+returns-in-Ok-clause-none_refused g c = none c.args.report.is_down c.args.report.refusals c.if-report.false

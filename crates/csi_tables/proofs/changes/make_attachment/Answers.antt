@@ -2,7 +2,7 @@ use Rattle.std.proofs.Common.{inr, ◌∙◌, arith, [], ◌∷◌}
 use Rattle.csi_keeper.specs.declared.change.Change.TheVariants.{Attach}
 use Rattle.csi_sql.specs.Effects.{AddsAttachment}
 use Rattle.csi_sql.specs.Rows.{attachment_row}
-use Rattle.csi_tables.specs.Encoding.{caps_bytes}
+use Rattle.csi_columns.specs.Encoding.{caps_bytes}
 use Rattle.csi_tables.proofs.ChangeLemmas.{changes, changes_not}
 use Rattle.csi_tables.proofs.RowLemmas.{rows_attached}
 use Rattle.csi_tables.proofs.changes.make_attachment.Goals as goal

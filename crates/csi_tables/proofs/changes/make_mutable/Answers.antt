@@ -8,7 +8,7 @@ use Rattle.csi_keeper.specs.declared.volume.Volume.{Volume}
 use Rattle.csi_sql.specs.Rows.{number_value}
 use Rattle.csi_sql.specs.Texts as texts
 use Rattle.csi_sql.specs.Updates.{SetsParams}
-use Rattle.csi_tables.specs.Encoding.{params_bytes, FitParams}
+use Rattle.csi_columns.specs.Encoding.{params_bytes, FitParams}
 use Rattle.csi_tables.specs.Holding.{IsStorable}
 use Rattle.csi_tables.proofs.ChangeLemmas.{changes_behind, changes_never, changes_not_behind, stays, unmade}
 use Rattle.csi_tables.proofs.KeepLemmas.{is_quiet, fails_quiet, on_err, on_ok_so}

@@ -4,7 +4,7 @@ use Rattle.csi_keeper.specs.declared.change.Change.TheVariants.{AddVolume}
 use Rattle.csi_keeper.specs.facts.Totals.{totals_added}
 use Rattle.csi_sql.specs.Effects.{AddsNumbered}
 use Rattle.csi_sql.specs.Rows.{volume_row}
-use Rattle.csi_tables.specs.Encoding.{caps_bytes, params_bytes, FitCaps}
+use Rattle.csi_columns.specs.Encoding.{caps_bytes, params_bytes, FitCaps}
 use Rattle.csi_tables.proofs.ChangeLemmas.{beside, changes, changes_not, never_ok}
 use Rattle.csi_tables.proofs.KeepLemmas.{on_err}
 use Rattle.csi_tables.proofs.RowLemmas.{rows_added, storable_added}

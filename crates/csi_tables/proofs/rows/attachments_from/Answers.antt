@@ -1,7 +1,8 @@
 use Rattle.std.proofs.Common.{◌∙◌, sym, subst, take, ◌+◌, arith}
 use Rattle.csi_keeper.specs.State.{AttachmentKey}
 use Rattle.csi_keeper.specs.declared.volume.Attachment.{Attachment}
-use Rattle.csi_tables.specs.Holding.{node_entry, IsPlaced, IsReadablePlace}
+use Rattle.csi_columns.specs.Entries.{node_entry}
+use Rattle.csi_tables.specs.Holding.{IsPlaced, IsReadablePlace}
 use Rattle.csi_tables.specs.Reading.{AreReadOf, ShowsAttachment}
 use Rattle.csi_tables.specs.declared.fault.TablesFault.TheVariants.{Refused}
 use Rattle.csi_tables.proofs.CellLemmas.{read_more, entry_at, handed_on}

@@ -2,7 +2,8 @@ use Rattle.std.proofs.Common.{◌≡◌, List, map, take}
 use Rattle.std.specs.List.{AllByRecursion}
 use Rattle.csi_keeper.specs.State.{AttachmentKey}
 use Rattle.csi_keeper.specs.declared.volume.Attachment.{Attachment}
-use Rattle.csi_tables.specs.Holding.{node_entry, IsPlaced}
+use Rattle.csi_columns.specs.Entries.{node_entry}
+use Rattle.csi_tables.specs.Holding.{IsPlaced}
 use Rattle.csi_tables.specs.Reading.{AreReadOf, ShowsAttachment}
 use Rattle.csi_tables.proofs.rows.attachments_from.Given as goal
 

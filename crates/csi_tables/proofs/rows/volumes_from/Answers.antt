@@ -1,6 +1,7 @@
 use Rattle.std.proofs.Common.{◌∙◌, sym, subst, take, ◌+◌, arith, ℕ}
 use Rattle.csi_keeper.specs.declared.volume.Volume.{Volume}
-use Rattle.csi_tables.specs.Holding.{volume_entry, IsStored, IsReadable}
+use Rattle.csi_columns.specs.Entries.{volume_entry}
+use Rattle.csi_tables.specs.Holding.{IsStored, IsReadable}
 use Rattle.csi_tables.specs.Reading.{AreReadOf, ShowsVolume}
 use Rattle.csi_tables.specs.declared.fault.TablesFault.TheVariants.{Refused}
 use Rattle.csi_tables.proofs.CellLemmas.{read_more, entry_at, handed_on}

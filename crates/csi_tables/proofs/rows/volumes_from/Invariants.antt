@@ -1,7 +1,8 @@
 use Rattle.std.proofs.Common.{◌≡◌, ℕ, List, map, take}
 use Rattle.std.specs.List.{AllByRecursion}
 use Rattle.csi_keeper.specs.declared.volume.Volume.{Volume}
-use Rattle.csi_tables.specs.Holding.{volume_entry, IsStored}
+use Rattle.csi_columns.specs.Entries.{volume_entry}
+use Rattle.csi_tables.specs.Holding.{IsStored}
 use Rattle.csi_tables.specs.Reading.{AreReadOf, ShowsVolume}
 use Rattle.csi_tables.proofs.rows.volumes_from.Given as goal
 

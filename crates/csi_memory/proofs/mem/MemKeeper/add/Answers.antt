@@ -2,13 +2,12 @@ use Rattle.std.proofs.Common.{ap, subst, ◌∙◌, ◌≡◌, ℕ}
 use Rattle.std.specs.FinMap.{insert}
 use Rattle.csi_keeper.specs.declared.volume.Volume.{Volume}
 use Rattle.csi_keeper.specs.Texts.{Text}
-use Rattle.csi_memory.specs.Memory.{volumes_of}
-use Rattle.csi_memory.specs.Naming.{IsNamed, IsUnnamed}
-use Rattle.csi_memory.specs.Stored.{as_volume, as_volumes}
-use Rattle.csi_memory.specs.declared.stored.StoredVolume.{StoredVolume}
+use Rattle.csi_maps.specs.Rows.{volumes_of}
+use Rattle.csi_maps.specs.Naming.{IsNamed, IsUnnamed}
+use Rattle.csi_maps.specs.Stored.{as_volume, as_volumes}
+use Rattle.csi_maps.specs.declared.stored.StoredVolume.{StoredVolume}
 use Rattle.csi_keeper.specs.facts.Finite.{none_some, same_some}
-use Rattle.csi_memory.proofs.ChangeLemmas.{added, kept_names, refused_rows, refused_total, stands_now}
-use Rattle.csi_memory.proofs.NodesLemmas.{on_err}
+use Rattle.csi_memory.proofs.ChangeLemmas.{added, kept_names, on_err, refused_rows, refused_total, stands_now}
 use Rattle.csi_memory.proofs.mem.MemKeeper.add.Goals as goal
 
 pub returns-in_err-set_name-clause-unchanged : goal.returns-in_err-set_name-clause-unchanged

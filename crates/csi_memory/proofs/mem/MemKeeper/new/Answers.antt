@@ -1,6 +1,6 @@
 use Rattle.std.proofs.Common.{ap}
 use Rattle.csi_memory.proofs.ReadLemmas.{first_held}
-use Rattle.csi_memory.specs.Stored.{as_volumes}
+use Rattle.csi_maps.specs.Stored.{as_volumes}
 use Rattle.csi_memory.proofs.mem.MemKeeper.new.Goals as goal
 
 pub returns : goal.returns

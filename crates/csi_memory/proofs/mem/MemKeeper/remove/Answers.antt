@@ -1,5 +1,5 @@
 use Rattle.std.proofs.Common.{sym}
-use Rattle.csi_memory.specs.Stored.{as_volume}
+use Rattle.csi_maps.specs.Stored.{as_volume}
 use Rattle.csi_memory.proofs.ChangeLemmas.{taken, kept_none}
 use Rattle.csi_memory.proofs.mem.MemKeeper.remove.Goals as goal
 

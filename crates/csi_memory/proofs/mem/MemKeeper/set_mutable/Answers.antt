@@ -1,7 +1,7 @@
 use Rattle.std.proofs.Common.{◌∙◌, ap}
 use Rattle.csi_types.specs.Maps.{TextMap}
-use Rattle.csi_memory.specs.Memory.{volumes_of}
-use Rattle.csi_memory.specs.Stored.{as_volumes}
+use Rattle.csi_maps.specs.Rows.{volumes_of}
+use Rattle.csi_maps.specs.Stored.{as_volumes}
 use Rattle.csi_keeper.specs.State.{mutable_set}
 use Rattle.std.specs.FinMap.{get}
 use Rattle.csi_memory.proofs.ChangeLemmas.{kept_mutable}

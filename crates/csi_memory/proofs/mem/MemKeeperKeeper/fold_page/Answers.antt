@@ -1,7 +1,7 @@
 use Rattle.std.proofs.Common.{◌∙◌, refl, subst}
 use Rattle.csi_keeper.specs.facts.Reads.{read_same}
-use Rattle.csi_memory.specs.Memory.{listed_in}
-use Rattle.csi_memory.specs.facts.Stored.{page_stored}
+use Rattle.csi_maps.specs.Rows.{listed_in}
+use Rattle.csi_maps.specs.facts.Stored.{page_stored}
 use Rattle.csi_memory.proofs.ReadLemmas.{held_listing}
 use Rattle.csi_memory.proofs.mem.MemKeeperKeeper.fold_page.Goals as goal
 

@@ -1,6 +1,6 @@
 use Rattle.std.proofs.Common.{◌∙◌, refl}
 use Rattle.csi_keeper.specs.facts.Reads.{read_same}
-use Rattle.csi_memory.specs.facts.Stored.{page_stored}
+use Rattle.csi_maps.specs.facts.Stored.{page_stored}
 use Rattle.csi_memory.proofs.ReadLemmas.{held_page}
 use Rattle.csi_memory.proofs.mem.MemKeeperKeeper.page.Goals as goal
 

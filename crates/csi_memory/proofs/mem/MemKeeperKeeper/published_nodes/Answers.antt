@@ -1,7 +1,7 @@
 use Rattle.std.proofs.Common.{◌∙◌, refl}
 use Rattle.csi_keeper.specs.facts.Reads.{read_same}
-use Rattle.csi_memory.specs.Memory.{nodes_in}
-use Rattle.csi_memory.specs.facts.Stored.{page_stored}
+use Rattle.csi_maps.specs.Rows.{nodes_in}
+use Rattle.csi_maps.specs.facts.Stored.{page_stored}
 use Rattle.csi_memory.proofs.ReadLemmas.{held_nodes}
 use Rattle.csi_memory.proofs.mem.MemKeeperKeeper.published_nodes.Goals as goal
 

@@ -1,6 +1,6 @@
 use Rattle.std.proofs.Common.{◌∙◌, refl}
 use Rattle.csi_keeper.specs.facts.Reads.{read_same}
-use Rattle.csi_memory.specs.facts.Stored.{sizes_stored}
+use Rattle.csi_maps.specs.facts.Stored.{sizes_stored}
 use Rattle.csi_memory.proofs.ReadLemmas.{held_sizes}
 use Rattle.csi_memory.proofs.mem.MemKeeperKeeper.sizes_in.Goals as goal
 

@@ -1,0 +1,48 @@
+//! How much tables have.
+
+ghost use Rattle.std.specs.Prelude.{◌≡◌};
+
+use crate::adopting::TablesSeen;
+use crate::meta::Meta;
+use csi_constraints::TextSum;
+
+/// How much adopted tables have, as their rows were judged.
+#[derive(Clone, Copy, Debug)]
+pub struct Content {
+    /// How many volumes there are.
+    pub volumes: u64,
+    /// How many attachments of volumes at nodes there are, up to the greatest `u64`.
+    pub attachments: u64,
+    /// The number that the next volume gets.
+    pub next_number: u64,
+}
+
+impl Content {
+    /// The content of new tables.
+    pub(crate) const NEW: Content = Content {
+        volumes: 0,
+        attachments: 0,
+        next_number: 1,
+    };
+}
+
+// The sum over all nodes, up to the greatest `u64`.
+fn total(sums: &[TextSum]) -> u64 {
+    let mut total = 0u64;
+    for part in sums {
+        total = total.saturating_add(part.sum);
+    }
+    total
+}
+
+/// How much the tables have that were seen.
+pub(crate) fn content_of(tables: &TablesSeen, meta: Meta) -> Content
+    ensures volumes { result.volumes ≡ tables.now.volumes.rows }
+    ensures next_number { result.next_number ≡ meta.next }
+{
+    Content {
+        volumes: tables.volumes.rows,
+        attachments: total(tables.attachments.node_volumes.as_slice()),
+        next_number: meta.next,
+    }
+}

@@ -1,0 +1,119 @@
+//! Capabilities and parameters as they are in a column: the canonical bytes of a
+//! `CreateVolumeRequest` that has nothing else.
+//!
+//! So the format of a column is that of the request's fields, by their numbers, and a change of how
+//! these fields are written is a migration of every file.
+
+ghost use Rattle.std.specs.Prelude.{◌≡◌, ◌++◌, IfOk, OnOk};
+ghost use Rattle.pbmessage.specs.Canon.{bytes_of};
+ghost use Rattle.pbmessage.specs.Kept.{Keeps};
+ghost use Rattle.csi_codec.specs.messages.Capability.{canon_access, FitsAccess};
+ghost use Rattle.csi_keeper.specs.Capability.{access_of};
+ghost use Rattle.csi_columns.specs.Encoding.{caps_bytes, params_bytes, FitCaps, FitParams};
+
+use csi_keeper::{CapKey, Kind};
+use csi_types::{Map, Text};
+use pbmessage::{Written, put_map, put_message, put_presence, put_text};
+use std::alloc::{AllocError, Global};
+
+// Room for the bytes of one capability: a block has 8, a mount 10 and the name of its file system.
+const KEY_BYTES: usize = 16;
+
+// The package of messages that are written from borrowed parts, without a copy.
+struct Lent;
+
+// `VolumeCapability.MountVolume` of a file system's type alone.
+#[derive(Drop)]
+struct LentMount<'a> {
+    fs_type: &'a Text,
+}
+
+impl Written<Lent> for LentMount<'_> {
+    ghost use Rattle.std.specs.Prelude.{[]};
+    ghost use Rattle.csi_codec.specs.messages.Capability.{canon_mount, FitsMount};
+
+    ghost canon = { λ m. canon_mount (record { fs_type = m.fs_type.now; flags = []; group = [] }) };
+
+    ghost fits = { λ m. FitsMount (record { fs_type = m.fs_type.now; flags = []; group = [] }) };
+
+    fn write(&self, out: &mut Vec<u8>) -> Result<(), AllocError> {
+        put_text(out, 1, self.fs_type)
+    }
+}
+
+// `VolumeCapability.access_type` of a kind.
+#[tactic(auto, unfolding(pbmessage::specs::Canon::row_fields))]
+fn put_kind(out: &mut Vec<u8>, kind: &Kind) -> Result<(), AllocError>
+    ensures ok { OnOk result (out.new.items
+        ≡ out.old.items ++ bytes_of (canon_access (access_of kind.now))) }
+    ensures fitting { OnOk result (FitsAccess (access_of kind.now)) }
+    ensures kept { Keeps out.old.items out.new.items }
+{
+    match kind {
+        Kind::Block => put_presence(out, 1, true),
+        Kind::Mount(fs_type) => put_message(out, 2, &LentMount { fs_type }),
+    }
+}
+
+// `VolumeCapability` of a key.
+#[derive(Drop)]
+struct LentKey<'a> {
+    key: &'a CapKey,
+}
+
+impl Written<Lent> for LentKey<'_> {
+    ghost use Rattle.csi_codec.specs.messages.Capability.{canon_capability, FitsCapability};
+    ghost use Rattle.csi_keeper.specs.Capability.{capability_of};
+
+    ghost canon = { λ k. canon_capability (capability_of k.key.now) };
+
+    ghost fits = { λ k. FitsCapability (capability_of k.key.now) };
+
+    fn write(&self, out: &mut Vec<u8>) -> Result<(), AllocError> {
+        put_kind(out, &self.key.kind)?;
+        put_message(out, 3, &i32::from(self.key.mode))
+    }
+}
+
+// The capabilities of keys, each in a field 3.
+#[tactic(auto, unfolding(pbmessage::specs::Canon::row_fields))]
+fn put_keys(out: &mut Vec<u8>, keys: &[CapKey]) -> Result<(), AllocError>
+    ensures bytes { OnOk result (out.new.items ≡ out.old.items ++ caps_bytes keys.now) }
+    ensures fits { OnOk result (FitCaps keys.now) }
+{
+    for key in keys {
+        put_message(out, 3, &LentKey { key })?;
+    }
+    Ok(())
+}
+
+/// The canonical bytes of capabilities, as they are in a column.
+///
+/// # Errors
+///
+/// Where memory was refused.
+pub fn write_caps(alloc: Global, keys: &[CapKey]) -> Result<Vec<u8>, AllocError>
+    ensures bytes { IfOk result (λ out. out.items ≡ caps_bytes keys.now) }
+    ensures fits { OnOk result (FitCaps keys.now) }
+{
+    let mut out = Vec::with_capacity(alloc, keys.len().saturating_mul(KEY_BYTES))?;
+    put_keys(&mut out, keys)?;
+    Ok(out)
+}
+
+/// The canonical bytes of parameters and of mutable parameters, as they are in a column. Without
+/// mutable parameters they are those of the parameters alone.
+///
+/// # Errors
+///
+/// Where memory was refused.
+#[tactic(auto, using(crate::specs::facts::Writing::params_written))]
+pub fn write_params(alloc: Global, params: &Map, mutable: &Map) -> Result<Vec<u8>, AllocError>
+    ensures bytes { IfOk result (λ out. out.items ≡ params_bytes params.now mutable.now) }
+    ensures fits { OnOk result (FitParams params.now mutable.now) }
+{
+    let mut out = Vec::new(alloc);
+    put_map(&mut out, 4, params)?;
+    put_map(&mut out, 8, mutable)?;
+    Ok(out)
+}

@@ -1,0 +1,17 @@
+//! Volumes and attachments as rows of tables, and their capabilities and parameters as bytes in a column.
+//!
+//! [`write_caps`] and [`write_params`] write these bytes (`encoding.rt`): the canonical bytes of a
+//! `CreateVolumeRequest` that has nothing else (`specs/Encoding.antt`). `specs/Entries.antt` has the rows
+//! that represent a volume and an attachment, and `specs/facts/` what several crates need about both. Crates
+//! above read the columns: `csi_tables` reads what it wrote, `csi_constraints` judges any bytes.
+//!
+//! ```rust
+//! let caps = write_caps(alloc, volume.caps.as_slice())?;
+//! let params = write_params(alloc, &volume.params, &volume.mutable)?;
+//! ```
+#![tactic(auto)]
+
+mod encoding;
+pub mod laws;
+
+pub use encoding::{write_caps, write_params};

@@ -1,0 +1,6 @@
+mod DetachLemmas
+mod HashLemmas
+mod NamingLemmas
+mod NodesLemmas
+mod RowChangeLemmas
+mod WalkLemmas

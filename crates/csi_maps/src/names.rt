@@ -1,0 +1,132 @@
+//! The index of names in memory.
+//!
+//! It has no second copy of a name: a name is looked up by its hash, and the volume that is found has the
+//! name, or another one. Of names with one hash the first is under the hash, and each other one is under
+//! itself.
+
+ghost use Rattle.std.specs.Prelude.{◌≡◌, ◌≢◌, ◌↔◌, [], None, Some, IfOk, IsTrue, OnOk, OnErr};
+ghost use Rattle.std.specs.BTreeMap.{is_at};
+ghost use Rattle.std.specs.Map.{lookup};
+ghost use Rattle.std.specs.Ordering.{nat_cmp};
+ghost use Rattle.csi_maps.specs.Rows.{volumes_of, IsSetAt};
+ghost use Rattle.csi_maps.specs.Stored.{as_volumes};
+ghost use Rattle.csi_maps.specs.Naming.{named_by, HasSameNames, IsHashDropped, IsNamed, IsUnnamed};
+
+use crate::hash::name_hash;
+use crate::rows::{volume_at, volume_if_named};
+use crate::stored::StoredVolume;
+use csi_keeper::Volume;
+use csi_types::{Text, copy_text};
+use std::alloc::{AllocError, Global};
+use std::collections::BTreeMap;
+
+/// Which volume has a name: the index of names. It holds numbers by the hashes of names, and names only where
+/// two have one hash.
+#[derive(Drop)]
+pub struct Names {
+    // The number of a volume, by the hash of its name. Most names have a hash of their own.
+    by_hash: BTreeMap<u64, u64>,
+    // The number of each volume whose name has the hash of one that was there before it, by its name.
+    by_text: BTreeMap<Text, u64>,
+}
+
+impl Names {
+    /// An index without names.
+    pub fn new(alloc: Global) -> Names
+        ensures { (result.by_hash.entries ≡ []) × (result.by_text.entries ≡ []) }
+    {
+        Names {
+            by_hash: BTreeMap::new(alloc),
+            by_text: BTreeMap::new(alloc),
+        }
+    }
+}
+
+/// A copy of the volume that the index finds by a name; `None` where it finds none. It takes O(log n) for n
+/// volumes.
+///
+/// # Errors
+///
+/// Where memory is refused.
+pub fn volume_named(
+    alloc: Global,
+    names: &Names,
+    volumes: &BTreeMap<u64, StoredVolume>,
+    name: &str,
+) -> Result<Option<Volume>, AllocError>
+    ensures { IfOk result (λ v.
+        v ≡ named_by names.now (volumes_of (as_volumes volumes.now.entries)) name.now) }
+{
+    if let Some(number) = names.by_hash.get(&name_hash(name.as_bytes())) {
+        if let Some(volume) = volume_if_named(alloc, volumes, *number, name)? {
+            return Ok(Some(volume));
+        }
+    }
+    if names.by_text.is_empty() {
+        return Ok(None);
+    }
+    match names.by_text.get(&copy_text(alloc, name)?) {
+        Some(number) => volume_at(alloc, volumes, *number),
+        None => Ok(None),
+    }
+}
+
+// Gives a hash its number again.
+fn put_back(by_hash: &mut BTreeMap<u64, u64>, hash: u64, number: u64)
+    requires { lookup (is_at (nat_cmp hash)) by_hash.old.entries ≢ None }
+    ensures { IsSetAt nat_cmp hash (Some number) by_hash.old.entries by_hash.new.entries }
+{
+    let Ok(_) = by_hash.insert(hash, number) else {
+        unreachable!()
+    };
+}
+
+/// Gives a name, which no volume has, its number.
+///
+/// # Errors
+///
+/// Where memory is refused. The index finds what it found before.
+pub fn set_name(
+    alloc: Global,
+    names: &mut Names,
+    name: &Text,
+    number: u64,
+) -> Result<(), AllocError>
+    ensures ok { OnOk result (IsNamed name.now number names.old names.new) }
+    ensures err { OnErr result (HasSameNames names.old names.new) }
+{
+    let hash = name_hash(name.as_bytes());
+    let Some(first) = names.by_hash.insert(hash, number)? else {
+        return Ok(());
+    };
+    put_back(&mut names.by_hash, hash, first);
+    names.by_text.insert(name.copy(alloc)?, number)?;
+    Ok(())
+}
+
+fn leads_to(by_hash: &BTreeMap<u64, u64>, hash: u64, number: u64) -> bool
+    ensures { IsTrue result ↔ (lookup (is_at (nat_cmp hash)) by_hash.now.entries ≡ Some number) }
+{
+    match by_hash.get(&hash) {
+        Some(first) => *first == number,
+        None => false,
+    }
+}
+
+// Removes a hash, if it leads to a number.
+fn drop_hash(by_hash: &mut BTreeMap<u64, u64>, hash: u64, number: u64)
+    ensures { IsHashDropped hash number by_hash.old.entries by_hash.new.entries }
+{
+    if !leads_to(by_hash, hash, number) {
+        return;
+    }
+    by_hash.remove(&hash);
+}
+
+/// Removes a name with its number. Every other name keeps its number.
+pub fn drop_name(names: &mut Names, name: &Text, number: u64)
+    ensures { IsUnnamed name.now number names.old names.new }
+{
+    drop_hash(&mut names.by_hash, name_hash(name.as_bytes()), number);
+    names.by_text.remove(name);
+}

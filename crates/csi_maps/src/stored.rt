@@ -1,0 +1,74 @@
+//! A volume as it is kept in memory.
+
+ghost use Rattle.std.specs.Prelude.{◌≡◌, IfOk};
+ghost use Rattle.csi_keeper.specs.Listing.{listed_at, row_told};
+ghost use Rattle.csi_maps.specs.Stored.{as_volume};
+
+use crate::compact::CompactMap;
+use csi_keeper::{CapKey, ListedRow, Volume, copy_keys};
+use csi_types::{Items, Text};
+use std::alloc::{AllocError, Global};
+
+/// A volume without its number, which it is kept under.
+///
+/// A node of the tree has room for twice as many rows as it holds, so each byte here counts twice.
+#[derive(Drop)]
+pub struct StoredVolume {
+    /// Its name.
+    pub name: Text,
+    /// Its size in bytes.
+    pub bytes: u64,
+    /// The name of its pool.
+    pub pool: Text,
+    pub(crate) caps: Items<CapKey>,
+    pub(crate) params: CompactMap,
+    pub(crate) mutable: CompactMap,
+}
+
+impl StoredVolume {
+    /// What is kept of a volume: all but its number. What the volume owns is moved.
+    ///
+    /// # Errors
+    ///
+    /// Where memory is refused. The volume is dropped.
+    pub fn new(alloc: Global, volume: Volume) -> Result<StoredVolume, AllocError>
+        ensures { IfOk result (λ stored. as_volume volume.number stored ≡ volume) }
+    {
+        Ok(StoredVolume {
+            name: volume.name,
+            bytes: volume.bytes,
+            pool: volume.pool,
+            caps: volume.caps,
+            params: CompactMap::new(alloc, volume.params)?,
+            mutable: CompactMap::new(alloc, volume.mutable)?,
+        })
+    }
+
+    /// A copy of the volume, which has this number.
+    pub(crate) fn copy(&self, alloc: Global, number: u64) -> Result<Volume, AllocError>
+        ensures { IfOk result (λ volume. volume ≡ as_volume number self.now) }
+    {
+        Ok(Volume {
+            number,
+            name: self.name.copy(alloc)?,
+            bytes: self.bytes,
+            pool: self.pool.copy(alloc)?,
+            caps: copy_keys(alloc, &self.caps)?,
+            params: self.params.copy(alloc)?,
+            mutable: self.mutable.copy(alloc)?,
+        })
+    }
+
+    /// What a listing says of the volume, which has this number and is published at these nodes.
+    #[inline(always)]
+    pub(crate) fn listed_at<'a>(&'a self, number: u64, nodes: &'a Items<Text>) -> ListedRow<'a>
+        ensures { row_told result ≡ listed_at (as_volume number self.now) nodes.now }
+    {
+        ListedRow {
+            number,
+            bytes: self.bytes,
+            pool: &self.pool,
+            nodes,
+        }
+    }
+}

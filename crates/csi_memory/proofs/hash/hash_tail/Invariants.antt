@@ -1,6 +1,0 @@
-use Rattle.std.proofs.Common.{◌≡◌, drop}
-use Rattle.csi_memory.specs.Hashing.{hashed}
-use Rattle.csi_memory.proofs.hash.hash_tail.Given as goal
-
-abbrev pub invariant-loop-byte : goal.invariant-loop-byte
-invariant-loop-byte l = hashed l.hash (drop l.byte-index l.tail) ≡ hashed l.start l.tail

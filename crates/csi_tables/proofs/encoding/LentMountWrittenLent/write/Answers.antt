@@ -1,5 +1,0 @@
-use Rattle.csi_tables.proofs.WritingLemmas.{mount_alone}
-use Rattle.csi_tables.proofs.encoding.LentMountWrittenLent.write.Goals as goal
-
-pub returns-clause-ok : goal.returns-clause-ok
-returns-clause-ok c = rw (mount_alone c.args.self.now.fs_type.now) c.put_text.ensures.ok

@@ -1,5 +1,0 @@
-use Rattle.csid.specs.Waiting.{StayFew}
-use Rattle.csid.proofs.waiting.Waiting.next.Given as goal
-
-abbrev pub invariant-loop : goal.invariant-loop
-invariant-loop l = StayFew l.fn.self.pending.items l.self.pending.items

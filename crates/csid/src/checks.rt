@@ -1,0 +1,47 @@
+//! `csid --check-tables` and `csid --list-tables`. The path and the file are looked at first, so that a file
+//! without tables is refused in the same words as by `csid serve --existing`.
+
+ghost use Rattle.std.specs.Prelude.{IfErr};
+ghost use Rattle.csid_settings.specs.Statuses.{IsOrNoMemory};
+
+use crate::tables::{check_existing, check_path};
+use csid_console::Console;
+use csid_settings::{Chosen, Failure, configuration};
+
+// Looks whether a file that is to be read has tables, as far as its path and its first bytes show it.
+fn check_readable(rt: &HostRuntime, path: &str) -> Result<(), Failure>
+    ensures { IfErr result (λ failure. IsOrNoMemory 4 failure) }
+{
+    check_path(rt, path)?;
+    check_existing(rt, path)
+}
+
+/// Judges the tables in a file by the configuration in another one, or by the sample configuration.
+///
+/// # Errors
+///
+/// Where the configuration or the tables are refused, the line cannot be written, or memory is refused.
+pub(crate) fn check_tables(
+    console: &Console<'_>,
+    path: &str,
+    config: Option<&str>,
+) -> Result<(), Failure> {
+    let config = configuration(console, config, true)?;
+    check_readable(console.rt, path)?;
+    csid_listings::check_tables(console, path, &config)
+}
+
+/// Lists the volumes of the tables in a file.
+///
+/// # Errors
+///
+/// Where the tables cannot be read, what is listed cannot be written, or memory is refused.
+pub(crate) fn list_tables(
+    console: &Console<'_>,
+    path: &str,
+    chosen: &Chosen<'_>,
+    is_json: bool,
+) -> Result<(), Failure> {
+    check_readable(console.rt, path)?;
+    csid_listings::list_tables(console, path, chosen, is_json)
+}

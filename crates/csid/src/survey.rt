@@ -1,0 +1,83 @@
+//! What the tables in a file have, as a server says at its start.
+
+ghost use Rattle.std.specs.Prelude.{[], Some};
+ghost use Rattle.csid.specs.Serving.{IsSurveyed};
+
+use crate::serving::{TablesFailure, TablesRun};
+use crate::tables::NEW_TABLES;
+use csi_adoption::Content;
+use csi_config::Config;
+use csi_files::{Observer, RunReport};
+use csid_console::Console;
+use csid_listings::Content as ContentLine;
+use csid_settings::TablesFile;
+use sqlite::{Error, Start, Unknown};
+use std::cell::Cell;
+use std::io::{empty, sink};
+
+// Says that new tables were made, and keeps what tables have.
+#[derive(Drop)]
+struct Surveyor<'a> {
+    console: &'a Console<'a>,
+    path: &'a str,
+    content: Cell<Option<Content>>,
+}
+
+impl Observer for Surveyor<'_> {
+    fn made(&self) {
+        self.console.say_of(self.path, &NEW_TABLES);
+    }
+
+    fn adopted(&self, content: &Content) {
+        self.content.set(Some(*content));
+    }
+
+    fn uncopied(&self) {}
+
+    fn refused(&self, _cause: &Error) {}
+
+    // No call comes that would need it.
+    fn has_room(&self, _opening: usize) -> bool {
+        true
+    }
+}
+
+// A run without calls over the tables in a file, where `start` is what it and its WAL held. What went wrong
+// is said, and what the tables have. The file is closed by then.
+fn run_without_calls<'a, S: Start>(
+    console: &'a Console<'a>,
+    config: &'a Config,
+    file: &TablesFile<'a>,
+    start: S,
+) -> Result<RunReport, TablesFailure>
+    ensures { IsSurveyed S.Start config.now file.now result }
+{
+    let surveyor = Surveyor {
+        console,
+        path: file.path,
+        content: Cell::new(None),
+    };
+    let run = TablesRun {
+        rt: *console.rt,
+        config,
+        file: TablesFile {
+            is_low_memory: true,
+            ..*file
+        },
+        observer: &surveyor,
+    };
+    let ended = run.serve_file(start, &[], &mut empty(), &mut sink());
+    if let Err(failure) = &ended {
+        console.say(&failure.cause);
+    }
+    if let Some(content) = surveyor.content.get() {
+        console.say_of(file.path, &ContentLine::of_adopted(&content));
+    }
+    ended
+}
+
+/// Opens and judges the tables in a file once, as a run without calls does, and says what they have, or why
+/// they cannot be had or the file was not closed.
+pub(crate) fn survey<'a>(console: &'a Console<'a>, config: &'a Config, file: &TablesFile<'a>) {
+    let _ = run_without_calls(console, config, file, Unknown);
+}

@@ -1,0 +1,351 @@
+//! The turn of a connection: its calls are read and its replies written. While it blocks, the queue is
+//! polled. Once another connection is ready, the one being served is closed as soon as it has no call left to
+//! answer, and may delay a call or a reply only for a short time.
+
+ghost use Rattle.std.specs.Prelude.{◌≡◌, Bool, true, false, ⊤, OnOk};
+ghost use Rattle.std.specs.Io.{ReadsAtMost, WritesAtMost};
+ghost use Rattle.std.specs.Io.KnownBytes.{Keeps, ReadConsumes, WriteAppends};
+ghost use Rattle.csid_console.specs.declared.ready.Way.{Way};
+ghost use Rattle.csid_connections.specs.Calling.{GoesOnCall, IsBetweenCalls, is_never};
+
+use crate::clock::CallClock;
+use crate::limits::{TURN_SECONDS, WANTED_SECONDS, least};
+use crate::pending::Pending;
+use crate::waiting::Waiting;
+use csid_console::{Console, Ending, Way, is_ready};
+use std::cell::{Cell, RefCell};
+use std::io::{self, ErrorKind, Read, Write};
+use std::os::fd::AsRawFd;
+use std::os::unix::net::UnixStream;
+use std::time::{Duration, Instant};
+
+/// A connection whose peer is waited for.
+trait Stream {
+    // It was looked at for a way, and this was found.
+    ghost found: { Self → Way → Bool → Type 0 } = { λ _ _ _. ⊤ };
+
+    /// Whether a read or a write ends at once, also by a failure.
+    fn is_ready(&self, way: Way) -> bool
+        ensures { found self.now way result };
+
+    /// Has each read and each write end at once from here on.
+    fn stop_blocking(&self) -> io::Result<()>;
+
+    /// Has a wait of the connections that wait also end when this one can be written.
+    fn watch_both(&self, waiting: &Waiting) -> io::Result<()>;
+}
+
+impl Stream for UnixStream {
+    fn is_ready(&self, way: Way) -> bool {
+        is_ready(self.as_raw_fd(), way)
+    }
+
+    fn stop_blocking(&self) -> io::Result<()> {
+        self.set_nonblocking(true)
+    }
+
+    fn watch_both(&self, waiting: &Waiting) -> io::Result<()> {
+        waiting.watch_both(self)
+    }
+}
+
+// Whether a read or a write was given up, as nothing came or was taken, and may be made again.
+fn may_wait(error: &io::Error) -> bool {
+    matches!(error.kind(), ErrorKind::WouldBlock | ErrorKind::Interrupted)
+}
+
+// The time so many seconds later.
+fn later(now: Instant, seconds: u64) -> Instant {
+    now.checked_add(Duration::from_secs(seconds)).unwrap_or(now)
+}
+
+// What the turn of a connection is at, and what it waits with.
+#[derive(Drop)]
+struct Steps<'a, S> {
+    console: &'a Console<'a>,
+    stream: &'a S,
+    waiting: &'a mut Waiting,
+    // The time of the call or the reply that is under way.
+    clock: CallClock,
+    // When the turn ends if another connection is ready then.
+    until: Instant,
+    // When the queue is polled again though no call of the stream waits: a peer that sends a byte now and
+    // then would keep it from that.
+    poll_at: Instant,
+    // Whether a read or a write blocks, for a second at most.
+    is_blocking: bool,
+    // Why the peer was not waited for any longer, where it was not.
+    ending: Option<Ending>,
+}
+
+impl<S: Stream> Steps<'_, S> {
+    // Looks who waits. Once another connection is ready, reads and writes no longer block. What the socket
+    // refuses is reported between two connections.
+    fn look(&mut self, now: Instant) -> io::Result<()>
+        ensures { (self.new.clock ≡ self.old.clock) × (self.new.stream ≡ self.old.stream) }
+    {
+        let _ = self.waiting.look(self.console, now);
+        if self.is_blocking && self.waiting.has_ready() {
+            self.is_blocking = false;
+            self.stream.stop_blocking()?;
+        }
+        Ok(())
+    }
+
+    // Ends the turn.
+    fn end(&mut self, ending: Ending) -> io::Error
+        ensures { (self.new.clock ≡ self.old.clock) × (self.new.stream ≡ self.old.stream) }
+    {
+        self.ending = Some(ending);
+        io::Error::from(ErrorKind::TimedOut)
+    }
+
+    // How much longer the peer may be waited for, or why it may not. The first second of doing nothing was
+    // waited for in a read or a write that blocked.
+    fn patience(&mut self, now: Instant) -> Result<Option<Duration>, Ending>
+        ensures call { GoesOnCall self.old.clock self.new.clock }
+        ensures stream { self.new.stream ≡ self.old.stream }
+    {
+        let blocked = Duration::from_secs(if self.is_blocking { WANTED_SECONDS } else { 0 });
+        let idle = self.clock.left_of_idle(self.waiting.idle(), blocked, now)?;
+        let longest = least(idle, self.clock.left_of_call(now)?);
+        match self.waiting.ready_since() {
+            Some(since) => Ok(least(longest, Some(self.clock.left_for_others(since, now)?))),
+            None => Ok(longest),
+        }
+    }
+
+    // Looks who waits, and waits itself until the peer has done something, or may do nothing no longer.
+    fn wait(&mut self, way: Way) -> io::Result<()>
+        ensures ready { OnOk result (S.found self.new.stream.now way true) }
+        ensures call { GoesOnCall self.old.clock self.new.clock }
+        ensures stream { self.new.stream ≡ self.old.stream }
+    {
+        for _ in 0..u64::MAX {
+            let now = Instant::now(self.console.rt)?;
+            self.look(now)?;
+            if self.stream.is_ready(way) {
+                return Ok(());
+            }
+            match self.patience(now) {
+                Ok(longest) => self.waiting.wait(self.console, now, longest)?,
+                Err(ending) => return Err(self.end(ending)),
+            }
+        }
+        Err(io::Error::from(ErrorKind::TimedOut))
+    }
+
+    // The same for a peer that takes bytes. A reply has a time of its own.
+    fn wait_to_write(&mut self) -> io::Result<()>
+        ensures ready { OnOk result (S.found self.new.stream.now Way.Write true) }
+        ensures reply { OnOk result (self.new.clock.is_reply ≡ true) }
+        ensures stream { self.new.stream ≡ self.old.stream }
+    {
+        if self.clock.begin_reply() {
+            self.stream.watch_both(self.waiting)?;
+        }
+        self.wait(Way::Write)
+    }
+
+    // Ends the turn between two calls if its time is over and another connection is ready. If none is, it is
+    // looked again a second later.
+    fn end_between_calls(&mut self, now: Instant) -> io::Result<()>
+        ensures { (self.new.clock ≡ self.old.clock) × (self.new.stream ≡ self.old.stream) }
+    {
+        if now < self.until {
+            return Ok(());
+        }
+        let _ = self.waiting.look(self.console, now);
+        if self.waiting.has_ready() {
+            return Err(self.end(Ending::Preempted));
+        }
+        self.until = later(now, WANTED_SECONDS);
+        Ok(())
+    }
+
+    // Ends the turn in a call if the time of the call is over. Otherwise the queue is polled, at most once a
+    // second.
+    fn go_on_in_call(&mut self, now: Instant) -> io::Result<()>
+        ensures call { GoesOnCall self.old.clock self.new.clock }
+        ensures stream { self.new.stream ≡ self.old.stream }
+    {
+        if let Err(ending) = self.clock.left_of_call(now) {
+            return Err(self.end(ending));
+        }
+        if !self.is_blocking || now < self.poll_at {
+            return Ok(());
+        }
+        self.poll_at = later(now, WANTED_SECONDS);
+        self.look(now)
+    }
+
+    // What is done before each read.
+    fn begin_read(&mut self) -> io::Result<()>
+        ensures call { GoesOnCall self.old.clock self.new.clock }
+        ensures stream { self.new.stream ≡ self.old.stream }
+    {
+        let now = Instant::now(self.console.rt)?;
+        if self.clock.is_between_calls() {
+            self.end_between_calls(now)
+        } else {
+            self.go_on_in_call(now)
+        }
+    }
+
+    // Reads what comes next. Waits for it where nothing has come.
+    fn read<R: Read>(&mut self, reader: &mut R, buf: &mut [u8]) -> io::Result<usize>
+        ensures bound { ReadsAtMost result buf.new }
+        ensures bytes { ReadConsumes (R.remaining reader.old) (R.remaining reader.new) result buf.new }
+        ensures begun { OnOk result (is_never self.new.clock.begun ≡ false) }
+        ensures call { is_never self.old.clock.begun ≡ false → GoesOnCall self.old.clock self.new.clock }
+    {
+        self.begin_read()?;
+        for _ in 0..u64::MAX {
+            match reader.read(buf) {
+                Err(error) if may_wait(&error) => self.wait(Way::Read)?,
+                Ok(count) => {
+                    self.clock.note_bytes();
+                    return Ok(count);
+                }
+                Err(error) => return Err(error),
+            }
+        }
+        Err(io::Error::from(ErrorKind::TimedOut))
+    }
+
+    // Writes what is taken. Waits for that where nothing is taken.
+    fn write<W: Write>(&mut self, writer: &mut W, buf: &[u8]) -> io::Result<usize>
+        ensures bound { WritesAtMost result buf.now }
+        ensures bytes { WriteAppends (W.contents writer.old) (W.contents writer.new) result buf.now }
+    {
+        for _ in 0..u64::MAX {
+            match writer.write(buf) {
+                Err(error) if may_wait(&error) => self.wait_to_write()?,
+                answer => {
+                    self.clock.note_taken();
+                    return answer;
+                }
+            }
+        }
+        Err(io::Error::from(ErrorKind::TimedOut))
+    }
+
+    // Ends a reply, which was written whole.
+    fn end_reply(&mut self)
+        ensures { IsBetweenCalls self.new.clock }
+    {
+        self.clock.end_reply();
+    }
+}
+
+/// The turn of a connection. A read or a write waits no longer for its peer than it may.
+#[derive(Drop)]
+pub struct Turn<'a> {
+    stream: &'a UnixStream,
+    steps: RefCell<Steps<'a, UnixStream>>,
+    /// Why the peer was not waited for any longer; `None` where it was.
+    pub ending: Cell<Option<Ending>>,
+}
+
+impl<'a> Turn<'a> {
+    /// The turn of a connection that has sent something. Where no other one is ready, a read or a write of
+    /// its stream blocks for a second at most from here on, and only then is it looked who else waits.
+    ///
+    /// # Errors
+    ///
+    /// Where the system refuses.
+    pub fn new(
+        console: &'a Console<'a>,
+        peer: &'a Pending,
+        waiting: &'a mut Waiting,
+    ) -> io::Result<Turn<'a>> {
+        let stream = &peer.stream;
+        let is_blocking = !waiting.has_ready();
+        stream.set_nonblocking(!is_blocking)?;
+        let second = Some(Duration::from_secs(WANTED_SECONDS));
+        stream.set_read_timeout(second)?;
+        stream.set_write_timeout(second)?;
+        let now = Instant::now(console.rt)?;
+        let steps = Steps {
+            console,
+            stream,
+            waiting,
+            clock: CallClock::new(peer.first.spent()),
+            until: later(now, TURN_SECONDS),
+            poll_at: later(now, WANTED_SECONDS),
+            is_blocking,
+            ending: None,
+        };
+        Ok(Turn {
+            stream,
+            steps: RefCell::new(steps),
+            ending: Cell::new(None),
+        })
+    }
+
+    /// What calls are read from.
+    pub fn reader(&self) -> TurnReader<'_, 'a, &'a UnixStream> {
+        TurnReader {
+            turn: self,
+            stream: self.stream,
+        }
+    }
+
+    /// What replies are written to.
+    pub fn writer(&self) -> TurnWriter<'_, 'a, &'a UnixStream> {
+        TurnWriter {
+            turn: self,
+            stream: self.stream,
+        }
+    }
+}
+
+/// The end of a connection that its calls are read from. What a read gives is what the stream gives, in
+/// order, also after a wait.
+#[derive(Drop)]
+pub struct TurnReader<'t, 'a, R> {
+    turn: &'t Turn<'a>,
+    stream: R,
+}
+
+impl<R: Read> Read for TurnReader<'_, '_, R> {
+    ghost remaining = { λ it. R.remaining it.stream };
+
+    fn read(&mut self, buf: &mut [u8]) -> io::Result<usize> {
+        let Ok(mut steps) = self.turn.steps.try_borrow_mut() else {
+            return Err(io::Error::from(ErrorKind::Other));
+        };
+        let answer = steps.read(&mut self.stream, buf);
+        self.turn.ending.set(steps.ending);
+        answer
+    }
+}
+
+/// The end of a connection that its replies are written to. What a write takes is what the stream takes, in
+/// order, also after a wait. A flush ends a reply.
+#[derive(Drop)]
+pub struct TurnWriter<'t, 'a, W> {
+    turn: &'t Turn<'a>,
+    stream: W,
+}
+
+impl<W: Write> Write for TurnWriter<'_, '_, W> {
+    ghost contents = { λ it. W.contents it.stream };
+
+    fn write(&mut self, buf: &[u8]) -> io::Result<usize> {
+        let Ok(mut steps) = self.turn.steps.try_borrow_mut() else {
+            return Err(io::Error::from(ErrorKind::Other));
+        };
+        let answer = steps.write(&mut self.stream, buf);
+        self.turn.ending.set(steps.ending);
+        answer
+    }
+
+    fn flush(&mut self) -> io::Result<()> {
+        let Ok(mut steps) = self.turn.steps.try_borrow_mut() else {
+            return Err(io::Error::from(ErrorKind::Other));
+        };
+        steps.end_reply();
+        self.stream.flush()
+    }
+}

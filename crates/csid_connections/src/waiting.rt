@@ -1,0 +1,426 @@
+//! The connections that wait to be served. All are looked at, so that one that sends nothing keeps no other
+//! one waiting.
+
+ghost use Rattle.std.specs.Prelude.{◌≡◌, ◌≤◌, ◌-◌, ◌+◌, ◌*◌, ℕ, None, false, true, IfOk, IfSome, [], length, slice_index_or};
+ghost use Rattle.std.specs.List.{list_any, position};
+ghost use Rattle.csid_connections.specs.Waiting.{ComesIn, Ends, GivesNext, GoesOn, IsNew, IsSilence};
+ghost use Rattle.csid_connections.specs.Waiting.{Looks, LooksAt, StayFew, TakesIn, TakesOut, TurnsOver};
+ghost use Rattle.csid_connections.specs.Waiting.{closed, has_no_call, is_full, is_ready, without};
+
+use crate::limits::{CALL_SECONDS, least};
+use crate::pending::{PeerInput, Pending, Start};
+use csid_console::{Console, Ending};
+use mio::unix::SourceFd;
+use mio::{Events, Interest, Poll, Token};
+use std::alloc::Global;
+use std::collections::VecDeque;
+use std::fmt::{self, Display};
+use std::io::{self, ErrorKind};
+use std::os::fd::{AsRawFd, RawFd};
+use std::os::unix::net::{UnixListener, UnixStream};
+use std::time::{Duration, Instant};
+
+// At most so many wait. Beyond them the oldest is closed of those that have sent no call.
+const MOST: usize = 256;
+
+// So many are taken between two looks at all.
+const AT_ONCE: usize = 64;
+
+// Which source is ready does not matter: all are looked at.
+const ANY: Token = Token(0);
+
+/// The connections that wait, and the socket that they come from.
+pub struct Waiting {
+    listener: UnixListener,
+    poll: Poll,
+    events: Events,
+    pending: VecDeque<Pending>,
+    // How many connections are still taken.
+    left: u32,
+    // How long one may send nothing.
+    idle: Option<Duration>,
+    // Whether something came at the last look.
+    is_stirring: bool,
+}
+
+impl Drop for Waiting {
+    fn drop(self) {
+        let Waiting {
+            listener: _listener,
+            poll: _poll,
+            events: _events,
+            pending: _pending,
+            left: _,
+            idle: _,
+            is_stirring: _,
+        } = self;
+    }
+}
+
+// Has a wait end when a source can be read.
+fn watch(poll: &Poll, source: RawFd) -> io::Result<()> {
+    poll.registry()
+        .register(&mut SourceFd(&source), ANY, Interest::READABLE)
+}
+
+// The line of a connection that ended so.
+#[derive(Clone, Copy)]
+struct Ended(Ending);
+
+impl Display for Ended {
+    fn fmt<W: fmt::Write>(&self, f: &mut fmt::Formatter<W>) -> fmt::Result {
+        match self.0 {
+            Ending::Idle => f.write_str("a connection that sent nothing was closed"),
+            Ending::Slow => write!(
+                f,
+                "a connection that sent no whole call in {CALL_SECONDS} seconds was closed"
+            ),
+            Ending::Gone => f.write_str("a connection whose peer had gone was closed"),
+            Ending::Crowded => f.write_str(
+                "a connection that had sent no call was closed, as too many wait",
+            ),
+            Ending::Malformed => f.write_str("a connection that sent a malformed frame was closed"),
+            Ending::Preempted => {
+                f.write_str("a connection that kept another one waiting was closed")
+            }
+            Ending::Failed => f.write_str("a read of a connection failed"),
+        }
+    }
+}
+
+/// Says that a connection ended so.
+pub fn report_ending(console: &Console<'_>, ending: Ending, now: Instant) {
+    console.report_end(ending, now, &Ended(ending));
+}
+
+impl Waiting {
+    /// Nobody yet; so many connections are taken from the socket, and none of them waits for its peer longer
+    /// than so many seconds.
+    ///
+    /// # Errors
+    ///
+    /// Where the system or memory refuses.
+    pub fn new(
+        rt: &HostRuntime,
+        listener: UnixListener,
+        connections: u32,
+        idle: Option<u32>,
+    ) -> io::Result<Waiting>
+        ensures { IfOk result (λ waiting. (waiting.pending.items ≡ []) × (waiting.left ≡ connections)) }
+    {
+        listener.set_nonblocking(true)?;
+        let poll = Poll::new(rt)?;
+        watch(&poll, listener.as_raw_fd())?;
+        Ok(Waiting {
+            listener,
+            poll,
+            events: Events::with_capacity(rt.alloc(), AT_ONCE)?,
+            pending: VecDeque::new(rt.alloc()),
+            left: connections,
+            idle: idle.map(|seconds| Duration::from_secs(u64::from(seconds))),
+            is_stirring: false,
+        })
+    }
+
+    /// How long a peer may send nothing, or take nothing; `None` without an end.
+    pub fn idle(&self) -> Option<Duration>
+        ensures { result ≡ self.now.idle }
+    {
+        self.idle
+    }
+
+    /// Whether one that waits has sent what it is served for.
+    pub fn has_ready(&self) -> bool
+        ensures { result ≡ list_any is_ready self.now.pending.items }
+    {
+        self.pending.iter().any(|one| one.first.is_known())
+    }
+
+    /// Since when the connection has been ready that has been for the longest time; `None` where no one is.
+    pub fn ready_since(&self) -> Option<Instant> {
+        let mut earliest = None;
+        for one in self.pending.iter() {
+            if one.first.is_known() {
+                let since = one.first.since();
+                earliest = Some(earliest.map_or(since, |found: Instant| found.min(since)));
+            }
+        }
+        earliest
+    }
+
+    // How long a connection that waits may send nothing. Once no further one is taken, the last ones may not
+    // for ever, so that the program ends.
+    fn silence(&self) -> Option<Duration>
+        ensures { IsSilence self.now.idle self.now.left result }
+    {
+        if self.left > 0 {
+            return self.idle;
+        }
+        least(self.idle, Some(Duration::from_secs(CALL_SECONDS)))
+    }
+
+    /// Has a wait also end when a connection that was taken from here can be written.
+    ///
+    /// # Errors
+    ///
+    /// Where the system refuses.
+    pub fn watch_both(&self, stream: &UnixStream) -> io::Result<()> {
+        let source = stream.as_raw_fd();
+        let both = Interest::READABLE | Interest::WRITABLE;
+        self.poll
+            .registry()
+            .reregister(&mut SourceFd(&source), ANY, both)
+    }
+
+    // A connection that is waited for.
+    fn begin(&self, alloc: Global, stream: UnixStream, now: Instant) -> io::Result<Pending>
+        ensures { IfOk result (IsNew now) }
+    {
+        stream.set_nonblocking(true)?;
+        watch(&self.poll, stream.as_raw_fd())?;
+        Ok(Pending::new(alloc, stream, now))
+    }
+
+    // The place of the oldest one of those that have sent no call.
+    fn oldest(&self) -> Option<usize>
+        ensures { result ≡ position has_no_call self.now.pending.items }
+    {
+        self.pending
+            .iter()
+            .position(|it| matches!(it.first.start, Some(Start::Open)))
+    }
+
+    // Closes that one.
+    fn close_oldest(&mut self, console: &Console<'_>, now: Instant)
+        ensures closed { self.new.pending.items
+            ≡ without (position has_no_call self.old.pending.items) self.old.pending.items }
+        ensures others { (self.new.left ≡ self.old.left) × (self.new.idle ≡ self.old.idle) }
+    {
+        if let Some(place) = self.oldest() {
+            let _ = self.pending.remove(place);
+            report_ending(console, Ending::Crowded, now);
+        }
+    }
+
+    // Whether no further one can wait, not instead of another either.
+    fn is_full(&self) -> bool
+        ensures { result ≡ is_full self.now.pending.items }
+    {
+        self.pending.len() >= MOST && self.oldest().is_none()
+    }
+
+    // Takes a connection in.
+    fn admit(&mut self, console: &Console<'_>, stream: UnixStream, now: Instant)
+        ensures few { is_full self.old.pending.items ≡ false
+            → StayFew self.old.pending.items self.new.pending.items }
+        ensures comes { ComesIn now self.old.pending.items self.new.pending.items }
+        ensures others { (self.new.left ≡ self.old.left - 1) × (self.new.idle ≡ self.old.idle) }
+    {
+        self.left = self.left.saturating_sub(1);
+        self.is_stirring = true;
+        if self.pending.len() >= MOST {
+            self.close_oldest(console, now);
+        }
+        match self.begin(console.rt.alloc(), stream, now) {
+            Ok(one) => {
+                let _ = self.pending.push_back(one);
+            }
+            Err(error) => console.say_of("a connection cannot be waited for", &error),
+        }
+    }
+
+    // Where the system gives no further connection while some wait, as for want of descriptors, half of them
+    // make room.
+    fn make_room(&mut self, console: &Console<'_>, error: io::Error, now: Instant) -> io::Result<()>
+        ensures few { length self.new.pending.items ≤ length self.old.pending.items }
+        ensures room { (n : ℕ) × (n * 2 ≤ length self.old.pending.items + 1)
+            × (self.new.pending.items ≡ closed n self.old.pending.items) }
+        ensures others { (self.new.left ≡ self.old.left) × (self.new.idle ≡ self.old.idle) }
+    {
+        if self.pending.is_empty() {
+            return Err(error);
+        }
+        console.say_of("no further connection can be taken", &error);
+        self.is_stirring = true;
+        let half = self.pending.len() - self.pending.len() / 2;
+        for turn in 0..half {
+            self.close_oldest(console, now);
+        }
+        Ok(())
+    }
+
+    // Takes the connections in that are there, some at a time.
+    fn accept_some(&mut self, console: &Console<'_>, now: Instant) -> io::Result<()>
+        ensures few { StayFew self.old.pending.items self.new.pending.items }
+        ensures takes { TakesIn now self.old.pending.items self.new.pending.items
+            self.old.left self.new.left }
+        ensures others { self.new.idle ≡ self.old.idle }
+    {
+        for _ in 0..AT_ONCE {
+            if self.left == 0 || self.is_full() {
+                return Ok(());
+            }
+            match self.listener.accept() {
+                Ok((stream, _)) => self.admit(console, stream, now),
+                Err(error) if error.kind() == ErrorKind::WouldBlock => return Ok(()),
+                Err(error) => return self.make_room(console, error, now),
+            }
+        }
+        Ok(())
+    }
+
+    // Looks at a connection. Nothing, where it goes on waiting, or how it ended.
+    fn ending_of(&mut self, one: &mut Pending, now: Instant) -> Option<Ending>
+        ensures others { (self.new.pending ≡ self.old.pending) × (self.new.left ≡ self.old.left)
+            × (self.new.idle ≡ self.old.idle) }
+        ensures goes { result ≡ None → GoesOn self.old.idle self.old.left now one.old one.new }
+        ensures ends { IfSome result (λ ending. (is_ready one.old ≡ false)
+            × Ends self.old.idle self.old.left now one.new.first ending) }
+    {
+        match one.receive(now) {
+            PeerInput::Something => {
+                self.is_stirring = true;
+                None
+            }
+            PeerInput::Lost => Some(Ending::Failed),
+            PeerInput::Nothing if one.first.is_known() => None,
+            PeerInput::Nothing => one.first.patience(self.silence(), now).err(),
+        }
+    }
+
+    // Looks at the connection that waits first, and puts it last unless it has ended. How it ended, if it
+    // has.
+    fn look_at_first(&mut self, now: Instant) -> Option<Ending>
+        ensures turns { TurnsOver self.old.idle self.old.left now
+            self.old.pending.items self.new.pending.items }
+        ensures few { length self.new.pending.items ≤ length self.old.pending.items }
+        ensures others { (self.new.left ≡ self.old.left) × (self.new.idle ≡ self.old.idle) }
+    {
+        let mut one = self.pending.pop_front()?;
+        match self.ending_of(&mut one, now) {
+            Some(ending) => Some(ending),
+            None => {
+                self.pending.push_back_reserved(one);
+                None
+            }
+        }
+    }
+
+    // Looks at each connection, in order.
+    fn receive_all(&mut self, console: &Console<'_>, now: Instant)
+        ensures looks { LooksAt self.old.idle self.old.left now
+            self.old.pending.items self.new.pending.items }
+        ensures few { length self.new.pending.items ≤ length self.old.pending.items }
+        ensures others { (self.new.left ≡ self.old.left) × (self.new.idle ≡ self.old.idle) }
+    {
+        let count = self.pending.len();
+        for turn in 0..count {
+            if let Some(ending) = self.look_at_first(now) {
+                report_ending(console, ending, now);
+            }
+        }
+    }
+
+    // The place of the oldest connection of which it is known what it begins.
+    fn first_ready(&self) -> Option<usize>
+        ensures place { result ≡ position is_ready self.now.pending.items }
+        ensures ready { IfSome result (λ place. (d : Pending)
+            → is_ready (slice_index_or self.now.pending.items place d) ≡ true) }
+    {
+        self.pending.iter().position(|it| it.first.is_known())
+    }
+
+    // That connection, which waits no longer.
+    fn pop_ready(&mut self) -> Option<Pending>
+        ensures taken { TakesOut (position is_ready self.old.pending.items)
+            self.old.pending.items self.new.pending.items result }
+        ensures ready { IfSome result (λ one. is_ready one ≡ true) }
+        ensures few { length self.new.pending.items ≤ length self.old.pending.items }
+        ensures none { result ≡ None → self.new.pending ≡ self.old.pending }
+        ensures others { (self.new.left ≡ self.old.left) × (self.new.idle ≡ self.old.idle) }
+    {
+        let place = self.first_ready()?;
+        self.pending.remove(place)
+    }
+
+    // How long all of them may go on waiting; without an end where they may for ever.
+    fn patience(&self, now: Instant) -> Option<Duration> {
+        let mut longest = None;
+        for one in self.pending.iter() {
+            if !one.first.is_known() {
+                let left = one
+                    .first
+                    .patience(self.silence(), now)
+                    .unwrap_or(Some(Duration::ZERO));
+                longest = least(longest, left);
+            }
+        }
+        longest
+    }
+
+    /// Takes connections in that are there, and what has come of those that wait.
+    ///
+    /// # Errors
+    ///
+    /// Where the socket gives no connection while none waits.
+    pub fn look(&mut self, console: &Console<'_>, now: Instant) -> io::Result<()>
+        ensures few { StayFew self.old.pending.items self.new.pending.items }
+        ensures looks { Looks self.old.idle now self.old.pending.items self.new.pending.items
+            self.old.left self.new.left }
+        ensures others { self.new.idle ≡ self.old.idle }
+    {
+        self.is_stirring = false;
+        console.finish_second(now);
+        let accepted = self.accept_some(console, now);
+        self.receive_all(console, now);
+        accepted
+    }
+
+    /// Waits until something comes, one that waits may wait no longer, or so long a time is over. Where the
+    /// last look found something, it does not.
+    ///
+    /// # Errors
+    ///
+    /// Where the system lets nobody wait.
+    pub fn wait(
+        &mut self,
+        console: &Console<'_>,
+        now: Instant,
+        longest: Option<Duration>,
+    ) -> io::Result<()>
+        ensures { (self.new.pending ≡ self.old.pending) × (self.new.left ≡ self.old.left)
+            × (self.new.idle ≡ self.old.idle) }
+    {
+        if self.is_stirring {
+            return Ok(());
+        }
+        let own = least(self.patience(now), console.patience(now));
+        self.poll.poll(&mut self.events, least(longest, own))
+    }
+
+    /// The next connection of which it is known what it begins, the oldest first; none where no further
+    /// one is taken.
+    ///
+    /// # Errors
+    ///
+    /// Where the socket gives no connection while none waits, or the system lets nobody wait.
+    pub fn next(&mut self, console: &Console<'_>) -> io::Result<Option<Pending>>
+        ensures ready { IfOk result (λ next. IfSome next (λ one. is_ready one ≡ true)) }
+        ensures few { StayFew self.old.pending.items self.new.pending.items }
+        ensures next { IfOk result (GivesNext self.old.idle
+            self.old.pending.items self.new.pending.items self.old.left self.new.left) }
+    {
+        for _ in 0..u64::MAX {
+            let now = Instant::now(console.rt)?;
+            self.look(console, now)?;
+            if let Some(ready) = self.pop_ready() {
+                return Ok(Some(ready));
+            }
+            if self.left == 0 && self.pending.is_empty() {
+                return Ok(None);
+            }
+            self.wait(console, now, None)?;
+        }
+        Err(io::Error::from(ErrorKind::TimedOut))
+    }
+}

@@ -1,0 +1,256 @@
+//! Lines on standard error. No line is waited for: calls are answered also where nobody reads what is written
+//! there.
+
+ghost use Rattle.std.specs.Prelude.{◌≡◌, ◌≤◌, ◌<◌, ◌^◌, IfSome};
+ghost use Rattle.std.specs.Duration.{as_nanos};
+ghost use Rattle.csid_console.specs.declared.console.TheConstants.{WAYS};
+
+use crate::ready::{Way, is_ready};
+use command_line::{Named, error_line};
+use std::cell::Cell;
+use std::fmt::{self, Display};
+use std::io::Write;
+use std::os::fd::AsRawFd;
+use std::time::{Duration, Instant};
+
+// A pipe with room for any bytes has room for so many (`PIPE_BUF` of pipe(7)).
+const PART: usize = 4096;
+
+// So many lines about connections that ended are written in a second. The others are counted.
+const FEW: u32 = 10;
+
+const SECOND_MILLIS: u64 = 1000;
+
+// How many ways there are in which a connection ends that are counted.
+const WAYS: usize = 7;
+
+/// How a connection ended, where all calls were not read and answered.
+#[derive(Clone, Copy, PartialEq, Eq)]
+pub enum Ending {
+    /// Its peer sent nothing for too long.
+    Idle,
+    /// Its peer began a call, and did not end it in time.
+    Slow,
+    /// Its peer had gone before it was served.
+    Gone,
+    /// It had sent no call, and too many waited.
+    Crowded,
+    /// A frame was malformed.
+    Malformed,
+    /// It kept another connection waiting.
+    Preempted,
+    /// It could not be read or written.
+    Failed,
+}
+
+const ENDINGS: [Ending; WAYS] = [
+    Ending::Idle,
+    Ending::Slow,
+    Ending::Gone,
+    Ending::Crowded,
+    Ending::Malformed,
+    Ending::Preempted,
+    Ending::Failed,
+];
+
+impl Ending {
+    // How a count of it reads.
+    fn words(self) -> &'static str {
+        match self {
+            Ending::Idle => "sent nothing in time",
+            Ending::Slow => "sent no whole call in time",
+            Ending::Gone => "had gone",
+            Ending::Crowded => "made room for others",
+            Ending::Malformed => "sent a malformed frame",
+            Ending::Preempted => "kept others waiting",
+            Ending::Failed => "failed",
+        }
+    }
+
+    // Its place in a count.
+    fn place(self) -> usize
+        ensures { result < WAYS }
+    {
+        match self {
+            Ending::Idle => 0,
+            Ending::Slow => 1,
+            Ending::Gone => 2,
+            Ending::Crowded => 3,
+            Ending::Malformed => 4,
+            Ending::Preempted => 5,
+            Ending::Failed => 6,
+        }
+    }
+}
+
+// The connections that ended without a line of their own.
+#[derive(Clone, Copy)]
+struct Tally {
+    counts: [u64; WAYS],
+}
+
+impl Tally {
+    fn total(&self) -> u64 {
+        let mut total = 0u64;
+        for count in &self.counts {
+            total = total.saturating_add(*count);
+        }
+        total
+    }
+}
+
+impl Display for Tally {
+    fn fmt<W: fmt::Write>(&self, f: &mut fmt::Formatter<W>) -> fmt::Result {
+        write!(f, "{} more connections ended", self.total())?;
+        let mut mark = ':';
+        for ending in ENDINGS {
+            let count = self.counts[ending.place()];
+            if count > 0 {
+                write!(f, "{mark} {count} {}", ending.words())?;
+                mark = ',';
+            }
+        }
+        Ok(())
+    }
+}
+
+/// Standard error, as the program writes to it.
+#[derive(Drop)]
+pub struct Console<'a> {
+    /// The runtime of the program.
+    pub rt: &'a HostRuntime,
+    // The lines that were dropped since one was written.
+    dropped: Cell<u64>,
+    // When the second began in which lines about connections are counted, and how many there were.
+    second: Cell<Option<Instant>>,
+    shown: Cell<u32>,
+    tally: Cell<Tally>,
+}
+
+impl<'a> Console<'a> {
+    /// Standard error before the first line: no line was dropped, and no connection has ended.
+    pub fn new(rt: &'a HostRuntime) -> Console<'a>
+        ensures { result.rt.now ≡ rt.now }
+    {
+        Console {
+            rt,
+            dropped: Cell::new(0),
+            second: Cell::new(None),
+            shown: Cell::new(0),
+            tally: Cell::new(Tally { counts: [0; WAYS] }),
+        }
+    }
+
+    // Writes bytes where that makes the program wait for nobody. Whether all were written.
+    fn write(&self, line: &[u8]) -> bool {
+        let mut stderr = self.rt.stderr();
+        for part in line.chunks(PART) {
+            if !is_ready(stderr.as_raw_fd(), Way::Write) || stderr.write_all(part).is_err() {
+                return false;
+            }
+        }
+        true
+    }
+
+    // Writes a line. Whether it was written.
+    fn put<T: Display>(&self, what: &T) -> bool {
+        match error_line(self.rt.alloc(), "csid", what) {
+            Ok(line) => self.write(line.as_bytes()),
+            Err(_) => self.write(b"csid: out of memory\n"),
+        }
+    }
+
+    // Writes how many lines were dropped, if any were. Whether a line may follow.
+    fn catch_up(&self) -> bool {
+        let dropped = self.dropped.get();
+        if dropped == 0 {
+            return true;
+        }
+        let has_caught_up = match format!(in self.rt.alloc();
+            "{dropped} lines could not be written"
+        ) {
+            Ok(text) => self.put(&text),
+            Err(_) => false,
+        };
+        if has_caught_up {
+            self.dropped.set(0);
+        }
+        has_caught_up
+    }
+
+    /// Writes a line, after the program's name. A line that cannot be written at once is dropped, and the
+    /// next line that can be written comes after the number of the dropped lines.
+    pub fn say<T: Display>(&self, what: &T) {
+        if !self.catch_up() || !self.put(what) {
+            self.dropped.set(self.dropped.get().saturating_add(1));
+        }
+    }
+
+    /// Writes a line about a file, or about another thing that has a name: its path or name, and then `what`.
+    /// A line that cannot be written at once is dropped, as by [`Console::say`].
+    pub fn say_of<T: Display>(&self, path: &str, what: &T) {
+        self.say(&Named { name: path, what });
+    }
+
+    // How long a count is not written yet; nothing where there is none, or its time has come.
+    fn left(&self, now: Instant) -> Option<Duration>
+        ensures { IfSome result (λ left. as_nanos left ≤ 10 ^ 9) }
+    {
+        let begun = self.second.get()?;
+        Duration::from_millis(SECOND_MILLIS).checked_sub(now.duration_since(begun))
+    }
+
+    /// How long it is until the count of ended connections is to be written, a second at most; `None` where
+    /// no connection is counted.
+    pub fn patience(&self, now: Instant) -> Option<Duration>
+        ensures { IfSome result (λ left. as_nanos left ≤ 10 ^ 9) }
+    {
+        if self.tally.get().total() == 0 {
+            return None;
+        }
+        Some(self.left(now).unwrap_or_default())
+    }
+
+    /// Writes how many connections ended without a line of their own, if any did, and counts from 0 again.
+    pub fn finish(&self) {
+        let tally = self.tally.get();
+        if tally.total() > 0 {
+            self.tally.set(Tally { counts: [0; WAYS] });
+            self.say(&tally);
+        }
+    }
+
+    /// Begins the next second if the one in which connections are counted is over at `now`, and writes how
+    /// many connections ended in it without a line of their own, if any did.
+    pub fn finish_second(&self, now: Instant) {
+        if self.left(now).is_none() {
+            self.shown.set(0);
+            if self.tally.get().total() > 0 {
+                self.finish();
+                self.shown.set(FEW);
+            }
+            self.second.set(Some(now));
+        }
+    }
+
+    // Counts a connection that ended.
+    fn count(&self, ending: Ending) {
+        let mut tally = self.tally.get();
+        let place = ending.place();
+        tally.counts[place] = tally.counts[place].saturating_add(1);
+        self.tally.set(tally);
+    }
+
+    /// Writes how a connection ended, with `what` as its line. After ten lines in the same second it counts
+    /// the connection by its `ending` instead, and the count is written when the second is over.
+    pub fn report_end<T: Display>(&self, ending: Ending, now: Instant, what: &T) {
+        self.finish_second(now);
+        let shown = self.shown.get();
+        if shown < FEW {
+            self.shown.set(shown + 1);
+            self.say(what);
+        } else {
+            self.count(ending);
+        }
+    }
+}

@@ -1,0 +1,101 @@
+//! `csid --check-config` and `csid --check-tables`: what a file has, or why it would be refused. Nothing is
+//! served, and nothing is changed.
+
+ghost use Rattle.std.specs.Prelude.{◌≡◌, false};
+
+use crate::content::{Content, read_content};
+use crate::copy::{CopyTask, over_tables_copy};
+use crate::explain::explain;
+use crate::memory::{memory_adoption_failure, memory_failure};
+use csi_adoption::{AdoptError, adopt};
+use csi_config::Config;
+use csid_console::Console;
+use csid_settings::{Failure, checked_configuration};
+use sqlite::{Alter, Connection};
+use std::fmt::{self, Display};
+use std::io::Write;
+
+/// What a configuration has. Its `Display` is one line.
+#[derive(Clone, Copy, Drop)]
+struct Summary<'a> {
+    config: &'a Config,
+}
+
+impl Display for Summary<'_> {
+    fn fmt<W: fmt::Write>(&self, f: &mut fmt::Formatter<W>) -> fmt::Result {
+        let name = &self.config.plugin().name;
+        let pools = self.config.pools().len();
+        let nodes = self.config.nodes().len();
+        write!(f, "name {name}, pools {pools}, nodes {nodes}")
+    }
+}
+
+// Says a line on standard output.
+fn tell<T: Display>(rt: &HostRuntime, what: &T) -> Result<(), Failure> {
+    let line = format!(in rt.alloc(); "{what}\n")?;
+    let mut out = rt.stdout();
+    match out.write_all(line.as_bytes()).and_then(|()| out.flush()) {
+        Ok(()) => Ok(()),
+        Err(_) => Err(Failure::WriteFailed("standard output")),
+    }
+}
+
+/// Reads the configuration in the file at `path` as `csid serve` does, and writes what it has on standard
+/// output. All of its faults are said.
+///
+/// # Errors
+///
+/// Where it is refused, the line cannot be written, or memory is refused.
+pub fn check_config(console: &Console<'_>, path: &str) -> Result<(), Failure> {
+    let config = checked_configuration(console, path)?;
+    tell(console.rt, &Summary { config: &config })
+}
+
+// What tables in memory have that are adopted. It is read first, since an adoption makes them ones of the
+// latest format. Of a row for which they are refused more is said.
+fn adopted<S: Alter + Drop>(
+    console: &Console<'_>,
+    path: &str,
+    mut conn: Connection<S>,
+    config: &Config,
+) -> Result<Content, Failure>
+    requires { conn.in_transaction ≡ false }
+{
+    let alloc = console.rt.alloc();
+    let content = read_content(&mut conn);
+    if let Err(AdoptError { fault, mut conn }) = adopt(alloc, conn, config) {
+        explain(console, path, &mut conn, config, &fault);
+        return Err(memory_adoption_failure(alloc, path, &fault));
+    }
+    match content {
+        Ok(content) => Ok(content),
+        Err(error) => Err(memory_failure(alloc, path, &error)),
+    }
+}
+
+/// Judges the tables in the file at `path` by a configuration, as an opening does, over a copy in memory, and
+/// writes how much they have on standard output. The file is only read.
+///
+/// # Errors
+///
+/// Where the tables cannot be read or are refused, the line cannot be written, or memory is refused.
+pub fn check_tables(console: &Console<'_>, path: &str, config: &Config) -> Result<(), Failure> {
+    over_tables_copy(console, path, CopyTask::Check(config))?
+}
+
+/// Judges the tables on a connection, and says what they have.
+///
+/// # Errors
+///
+/// Where they are refused, the line cannot be written, or memory is refused.
+pub(crate) fn check_over<S: Alter + Drop>(
+    console: &Console<'_>,
+    path: &str,
+    conn: Connection<S>,
+    config: &Config,
+) -> Result<(), Failure>
+    requires { conn.in_transaction ≡ false }
+{
+    let content = adopted(console, path, conn, config)?;
+    tell(console.rt, &content)
+}

@@ -1,0 +1,259 @@
+//! A copy of a file of tables in memory, by reads alone.
+
+ghost use Rattle.std.specs.Prelude.{◌≡◌, ◌↔◌, ℕ, List, ⊤, false, IfErr, IfOk, IfSome, IsTrue};
+ghost use Rattle.sqlite_disk.specs.Memory.{memory_bytes, memory_is_usable};
+ghost use Rattle.csid_listings.specs.Copying.{IsOfOneMoment, header_in};
+ghost use Rattle.csid_settings.specs.Statuses.{IsOrNoMemory};
+
+use crate::check::check_over;
+use crate::listing::list_over;
+use crate::memory::{files_of, open};
+use crate::tables::database_failure;
+use csi_config::Config;
+use csid_console::Console;
+use csid_settings::{Chosen, Failure};
+use sqlite::{Alter, Connection, Error, ErrorCode, FileStore, Files};
+use sqlite_disk::Memory;
+use std::alloc::Global;
+use std::fs::{self, File};
+use std::io::{self, ErrorKind, Read};
+
+// How many times a copy is begun of a file that another process writes at the same time.
+const TRIES: usize = 10;
+
+// The length of the header of a WAL (sqlite.org/fileformat2.html, section 4.1).
+const WAL_HEADER_BYTES: usize = 32;
+
+const IS_WRITTEN: &str = "it is written all the time";
+
+const NO_TABLES: &str = "it has no tables, and none are made";
+
+// Why a file cannot be read.
+fn read_failure(alloc: Global, path: &str, error: &io::Error) -> Failure
+    ensures { IsOrNoMemory 4 result }
+{
+    match error.kind() {
+        ErrorKind::OutOfMemory => Failure::NoMemory,
+        _ => Failure::of_tables(alloc, path, error),
+    }
+}
+
+// The bytes of a file, of which there are none where there is no file.
+fn bytes_of(rt: &HostRuntime, path: &str) -> Result<Vec<u8>, Failure>
+    ensures { IfErr result (λ failure. IsOrNoMemory 4 failure) }
+{
+    match fs::read(rt, path) {
+        Ok(bytes) => Ok(bytes),
+        Err(error) if error.kind() == ErrorKind::NotFound => Ok(Vec::new(rt.alloc())),
+        Err(error) => Err(read_failure(rt.alloc(), path, &error)),
+    }
+}
+
+// The first bytes of a WAL, as many as its header has; fewer where the file is shorter, none where there is
+// no file.
+fn header_of(rt: &HostRuntime, path: &str) -> Result<Vec<u8>, Failure>
+    ensures { IfErr result (λ failure. IsOrNoMemory 4 failure) }
+{
+    let mut header = Vec::new(rt.alloc());
+    let file = match File::open(rt, path) {
+        Ok(file) => file,
+        Err(error) if error.kind() == ErrorKind::NotFound => return Ok(header),
+        Err(error) => return Err(read_failure(rt.alloc(), path, &error)),
+    };
+    match file.take(WAL_HEADER_BYTES as u64).read_to_end(&mut header) {
+        Ok(_) => Ok(header),
+        Err(error) => Err(read_failure(rt.alloc(), path, &error)),
+    }
+}
+
+// The file that links lead to: SQLite keeps its WAL and its journal next to that one.
+fn real_path(rt: &HostRuntime, path: &str) -> Result<String, Failure>
+    ensures { IfErr result (λ failure. IsOrNoMemory 4 failure) }
+{
+    match fs::canonicalize(rt, path) {
+        Ok(real) => Ok(String::from_str(rt.alloc(), real.as_str())?),
+        Err(error) => Err(read_failure(rt.alloc(), path, &error)),
+    }
+}
+
+// The path of what SQLite keeps next to a file, which has this end.
+fn path_with(alloc: Global, real: &str, end: &str) -> Result<String, Failure>
+    ensures { IfErr result (λ failure. IsOrNoMemory 4 failure) }
+{
+    Ok(format!(in alloc; "{real}{end}")?)
+}
+
+/// A database file and its WAL, as a copy reads them while another process may write them.
+trait DatabaseReads {
+    // The database file was read whole, and gave these bytes.
+    ghost database: { Self → Self → List ℕ → Type 0 } = { λ _ _ _. ⊤ };
+    // So was the WAL.
+    ghost wal: { Self → Self → List ℕ → Type 0 } = { λ _ _ _. ⊤ };
+    // The header of the WAL alone was read, and gave these bytes.
+    ghost wal_header: { Self → Self → List ℕ → Type 0 } = { λ _ _ _. ⊤ };
+
+    /// The bytes of the database file; none if there is no such file.
+    fn read_database(&mut self) -> Result<Vec<u8>, Failure>
+        ensures read { IfOk result (λ bytes. database self.old self.new bytes.items) }
+        ensures failure { IfErr result (λ failure. IsOrNoMemory 4 failure) };
+
+    /// The bytes of the WAL; none if there is no such file.
+    fn read_wal(&mut self) -> Result<Vec<u8>, Failure>
+        ensures read { IfOk result (λ bytes. wal self.old self.new bytes.items) }
+        ensures failure { IfErr result (λ failure. IsOrNoMemory 4 failure) };
+
+    /// The first 32 bytes of the WAL, fewer if the file is shorter.
+    fn read_wal_header(&mut self) -> Result<Vec<u8>, Failure>
+        ensures read { IfOk result (λ bytes. wal_header self.old self.new bytes.items) }
+        ensures failure { IfErr result (λ failure. IsOrNoMemory 4 failure) };
+}
+
+/// The files at a path.
+#[derive(Clone, Copy, Drop)]
+struct PathReads<'a> {
+    rt: &'a HostRuntime,
+    path: &'a str,
+    wal_path: &'a str,
+}
+
+impl DatabaseReads for PathReads<'_> {
+    fn read_database(&mut self) -> Result<Vec<u8>, Failure> {
+        bytes_of(self.rt, self.path)
+    }
+
+    fn read_wal(&mut self) -> Result<Vec<u8>, Failure> {
+        bytes_of(self.rt, self.wal_path)
+    }
+
+    fn read_wal_header(&mut self) -> Result<Vec<u8>, Failure> {
+        header_of(self.rt, self.wal_path)
+    }
+}
+
+// Whether a WAL begins with this header.
+fn has_header(wal: &[u8], header: &[u8]) -> bool
+    ensures { IsTrue result ↔ (header.now ≡ header_in wal.now) }
+{
+    header == wal.split_at(WAL_HEADER_BYTES.min(wal.len())).0
+}
+
+// Reads the database file, its WAL, the database file again, and last the header of the WAL. `None` if a
+// writer came between: the database file changed, or the WAL began again, which gives it a new header before
+// any of its frames is written over or cut off.
+fn copied_once<F: DatabaseReads>(
+    alloc: Global,
+    files: &mut F,
+) -> Result<Option<Files<Memory>>, Failure>
+    ensures usable { IfOk result (λ found. IfSome found (λ copy. IsTrue (memory_is_usable copy.log)
+        × IsTrue (memory_is_usable copy.db))) }
+    ensures moment { IfOk result (λ found. IfSome found (λ copy.
+        IsOfOneMoment F.database F.wal F.wal_header files.old files.new
+        (memory_bytes copy.log) (memory_bytes copy.db))) }
+    ensures failure { IfErr result (λ failure. IsOrNoMemory 4 failure) }
+{
+    let database = files.read_database()?;
+    let wal = files.read_wal()?;
+    let again = files.read_database()?;
+    let header = files.read_wal_header()?;
+    if again.as_slice() != database.as_slice() {
+        return Ok(None);
+    }
+    if !has_header(wal.as_slice(), header.as_slice()) {
+        return Ok(None);
+    }
+    Ok(Some(files_of(alloc, wal.as_slice(), database.as_slice())?))
+}
+
+// A copy of a database file and its WAL as they were at one moment.
+fn copied<F: DatabaseReads>(
+    alloc: Global,
+    path: &str,
+    files: &mut F,
+) -> Result<Files<Memory>, Failure>
+    ensures usable { IfOk result (λ copy. IsTrue (memory_is_usable copy.log)
+        × IsTrue (memory_is_usable copy.db)) }
+    ensures moment { IfOk result (λ copy. (from : F)
+        × IsOfOneMoment F.database F.wal F.wal_header from files.new
+        (memory_bytes copy.log) (memory_bytes copy.db)) }
+    ensures failure { IfErr result (λ failure. IsOrNoMemory 4 failure) }
+{
+    for _ in 0..TRIES {
+        if let Some(copy) = copied_once(alloc, files)? {
+            return Ok(copy);
+        }
+    }
+    Err(Failure::of_tables(alloc, path, &IS_WRITTEN))
+}
+
+// Whether a journal has something to play back, which SQLite alone can do. The opening of the file itself
+// refuses it too.
+fn is_hot(journal: &[u8]) -> bool {
+    journal.first().is_some_and(|first| *first != 0)
+}
+
+// A connection to a copy of a file and its WAL.
+fn open_copy(rt: &HostRuntime, path: &str) -> Result<Connection<FileStore<Memory>>, Failure>
+    ensures idle { IfOk result (λ conn. conn.in_transaction ≡ false) }
+    ensures failure { IfErr result (λ failure. IsOrNoMemory 4 failure) }
+{
+    let real = real_path(rt, path)?;
+    let journal = path_with(rt.alloc(), real.as_str(), "-journal")?;
+    if is_hot(bytes_of(rt, journal.as_str())?.as_slice()) {
+        let error = Error::SqliteFailure(ErrorCode::CannotOpen);
+        return Err(database_failure(rt.alloc(), path, &error));
+    }
+    let wal = path_with(rt.alloc(), real.as_str(), "-wal")?;
+    let mut reads = PathReads {
+        rt,
+        path: real.as_str(),
+        wal_path: wal.as_str(),
+    };
+    let copy = copied(rt.alloc(), path, &mut reads)?;
+    open(rt.alloc(), path, copy)
+}
+
+/// What is done over a copy of tables.
+#[derive(Clone, Copy)]
+pub(crate) enum CopyTask<'a> {
+    /// They are judged by a configuration.
+    Check(&'a Config),
+    /// They are listed, these of them, and in JSON or not.
+    List(&'a Chosen<'a>, bool),
+}
+
+// Does a task over the tables on a connection, if it has some. It does not know how they are stored.
+fn over_tables<S: Alter + Drop>(
+    console: &Console<'_>,
+    path: &str,
+    conn: Connection<S>,
+    task: CopyTask<'_>,
+) -> Result<Result<(), Failure>, Failure>
+    requires { conn.in_transaction ≡ false }
+    ensures failure { IfErr result (λ failure. IsOrNoMemory 4 failure) }
+{
+    if conn.schema().tables.is_empty() {
+        return Err(Failure::of_tables(console.rt.alloc(), path, &NO_TABLES));
+    }
+    Ok(match task {
+        CopyTask::Check(config) => check_over(console, path, conn, config),
+        CopyTask::List(chosen, is_json) => list_over(console, path, conn, chosen, is_json),
+    })
+}
+
+/// Does a task over a copy of the tables in a file, with what is in its WAL, by reads alone: no lock is
+/// taken, and nothing is made or changed on the disk. The result of the task is the value.
+///
+/// # Errors
+///
+/// Where there is no file, it cannot be read, is written all the time, is no database or has no tables; where
+/// a journal is next to it; or where memory is refused.
+pub(crate) fn over_tables_copy(
+    console: &Console<'_>,
+    path: &str,
+    task: CopyTask<'_>,
+) -> Result<Result<(), Failure>, Failure>
+    ensures failure { IfErr result (λ failure. IsOrNoMemory 4 failure) }
+{
+    let conn = open_copy(console.rt, path)?;
+    over_tables(console, path, conn, task)
+}

@@ -1,0 +1,159 @@
+//! `csid --list-tables`: the volumes of a file of tables, and how much each pool and node has of them. No
+//! configuration is read, no lock is taken, and nothing is changed.
+
+ghost use Rattle.std.specs.Prelude.{◌≡◌, false};
+
+mod cells;
+mod json;
+mod output;
+mod sums;
+mod text;
+
+use crate::copy::{CopyTask, over_tables_copy};
+use csi_keeper::{PageWithNodes, Volume};
+use csi_sql::IdleConnection;
+use csi_tables::{TablesError, TablesFault, page_with_nodes};
+use csi_types::{Items, Text};
+use csid_console::Console;
+use csid_settings::{Chosen, Failure};
+use sqlite::{Alter, Connection};
+use std::alloc::Global;
+
+// So many volumes are read at once.
+const PAGE: u32 = 1000;
+
+// No number of a volume is as great: a column has no greater one.
+const NUMBERS: u64 = 1 << 63;
+
+const NONE_READ: &str =
+    "the tables cannot be read from the first volume on: --check-tables says why";
+
+fn is_wanted(wanted: Option<&str>, text: &Text) -> bool {
+    match wanted {
+        Some(wanted) => wanted == text.as_str(),
+        None => true,
+    }
+}
+
+// Whether one of the nodes is wanted, or any volume is.
+fn is_at(wanted: Option<&str>, nodes: &Items<Text>) -> bool {
+    wanted.is_none() || nodes.as_slice().iter().any(|node| is_wanted(wanted, node))
+}
+
+// Whether a volume that is published at these nodes is listed.
+fn has(chosen: &Chosen<'_>, volume: &Volume, nodes: &Items<Text>) -> bool {
+    is_wanted(chosen.name, &volume.name)
+        && is_wanted(chosen.pool, &volume.pool)
+        && is_at(chosen.node, nodes)
+}
+
+/// What is done with each volume that is listed.
+trait Visit {
+    fn visit(&mut self, volume: &Volume, nodes: &Items<Text>) -> Result<(), Failure>;
+}
+
+fn visit_page<V: Visit>(
+    page: &PageWithNodes,
+    chosen: &Chosen<'_>,
+    visitor: &mut V,
+) -> Result<(), Failure> {
+    for (volume, nodes) in page.volumes.as_slice().iter().zip(page.nodes.as_slice()) {
+        if has(chosen, volume, nodes) {
+            visitor.visit(volume, nodes)?;
+        }
+    }
+    Ok(())
+}
+
+/// A copy of tables in memory.
+#[derive(Drop)]
+struct TablesCopy<'a, S: Alter + Drop> {
+    alloc: Global,
+    path: &'a str,
+    conn: IdleConnection<S>,
+}
+
+impl<S: Alter + Drop> TablesCopy<'_, S> {
+    // Why a page cannot be read.
+    fn page_failure(&self, after: u64, error: &TablesError) -> Failure {
+        let alloc = self.alloc;
+        if let TablesFault::NoMemory = error.fault {
+            return Failure::NoMemory;
+        }
+        if after == 0 {
+            return Failure::of_tables(alloc, self.path, &NONE_READ);
+        }
+        match format!(in alloc;
+            "the tables cannot be read after volume {after}: --check-tables says why"
+        ) {
+            Ok(why) => Failure::of_tables(alloc, self.path, &why),
+            Err(_) => Failure::NoMemory,
+        }
+    }
+
+    // Of the volumes with greater numbers the first ones.
+    fn page(&mut self, after: u64) -> Result<PageWithNodes, Failure> {
+        if after >= NUMBERS {
+            return Ok(PageWithNodes {
+                volumes: Items::new(self.alloc),
+                nodes: Items::new(self.alloc),
+            });
+        }
+        match page_with_nodes(self.alloc, &mut self.conn, after, PAGE) {
+            Ok(page) => Ok(page),
+            Err(error) => Err(self.page_failure(after, &error)),
+        }
+    }
+
+    // Visits each volume that is chosen, in the order of the numbers.
+    fn each<V: Visit>(&mut self, chosen: &Chosen<'_>, visitor: &mut V) -> Result<(), Failure> {
+        let mut after = 0;
+        for _ in 0..u32::MAX {
+            let page = self.page(after)?;
+            visit_page(&page, chosen, visitor)?;
+            let Some(last) = page.volumes.as_slice().last() else {
+                return Ok(());
+            };
+            after = last.number;
+        }
+        Ok(())
+    }
+}
+
+/// Writes the volumes of the tables in the file at `path` on standard output, as they were committed at one
+/// moment, and what pools and nodes have of them: in columns, or in JSON with a volume a line. The file is
+/// only read.
+///
+/// # Errors
+///
+/// Where the tables cannot be read, what is listed cannot be written, or memory is refused.
+pub fn list_tables(
+    console: &Console<'_>,
+    path: &str,
+    chosen: &Chosen<'_>,
+    is_json: bool,
+) -> Result<(), Failure> {
+    over_tables_copy(console, path, CopyTask::List(chosen, is_json))?
+}
+
+// The same over a connection to them, which does not know how they are stored.
+pub(crate) fn list_over<S: Alter + Drop>(
+    console: &Console<'_>,
+    path: &str,
+    conn: Connection<S>,
+    chosen: &Chosen<'_>,
+    is_json: bool,
+) -> Result<(), Failure>
+    requires { conn.in_transaction ≡ false }
+{
+    let mut tables = TablesCopy {
+        alloc: console.rt.alloc(),
+        path,
+        conn: IdleConnection::new(conn),
+    };
+    if is_json {
+        json::write(console.rt, &mut tables, chosen)
+    } else {
+        text::write(console.rt, &mut tables, chosen)
+    }
+}

@@ -1,0 +1,63 @@
+//! A listing for people: columns under headings.
+
+use super::cells::{HEADINGS, row};
+use super::output::Output;
+use super::sums::{Counted, Sums};
+use super::{TablesCopy, Visit};
+use command_line::{Table, size_text, word};
+use csi_keeper::Volume;
+use csi_types::{Items, Text};
+use csid_settings::{Chosen, Failure};
+use sqlite::Alter;
+use std::alloc::{AllocError, Global};
+
+// The rows of the volumes, and their sums.
+#[derive(Drop)]
+struct Rows {
+    alloc: Global,
+    table: Table,
+    counted: Counted,
+}
+
+impl Visit for Rows {
+    fn visit(&mut self, volume: &Volume, nodes: &Items<Text>) -> Result<(), Failure> {
+        self.counted.add(self.alloc, volume, nodes)?;
+        let row = row(self.alloc, volume, nodes)?;
+        Ok(self.table.add(row)?)
+    }
+}
+
+// The sums of pools or of nodes, after an empty line.
+fn sums_text(alloc: Global, heading: &'static str, sums: &Sums) -> Result<String, AllocError> {
+    let mut table = Table::with_headings(alloc, &[heading, "VOLUMES", "SIZE"])?;
+    for (name, sum) in sums {
+        let mut row = Vec::new(alloc);
+        row.push(word(alloc, name.as_str())?)?;
+        row.push(format!(in alloc; "{}", sum.volumes)?)?;
+        row.push(size_text(alloc, sum.bytes)?)?;
+        table.add(row)?;
+    }
+    let text = table.text(alloc)?;
+    format!(in alloc; "\n{text}")
+}
+
+/// Writes a row for each volume, and then one for each pool and each node that has some.
+pub(crate) fn write<S: Alter + Drop>(
+    rt: &HostRuntime,
+    tables: &mut TablesCopy<'_, S>,
+    chosen: &Chosen<'_>,
+) -> Result<(), Failure> {
+    let alloc = rt.alloc();
+    let mut rows = Rows {
+        alloc,
+        table: Table::with_headings(alloc, &HEADINGS)?,
+        counted: Counted::new(alloc),
+    };
+    tables.each(chosen, &mut rows)?;
+    let Rows { table, counted, .. } = rows;
+    let mut output = Output::new(rt);
+    output.push(table.text(alloc)?.as_str())?;
+    output.push(sums_text(alloc, "POOL", &counted.pools)?.as_str())?;
+    output.push(sums_text(alloc, "NODE", &counted.nodes)?.as_str())?;
+    output.flush()
+}

@@ -1,0 +1,64 @@
+//! Why tables cannot be had, and a keeper over the tables on a connection.
+
+ghost use Rattle.std.specs.Prelude.{◌≡◌, false, IfErr, IfOk};
+ghost use Rattle.csi_adoption.specs.Adopting.{IsAdopted};
+ghost use Rattle.csid_settings.specs.Statuses.{IsOrNoMemory};
+
+use csi_adoption::{AdoptError, AdoptFault, adopt};
+use csi_config::Config;
+use csi_keeper::StoreFault;
+use csi_tables::Tables;
+use csid_settings::Failure;
+use sqlite::{Alter, Connection, Error, ErrorCode};
+use std::alloc::Global;
+
+/// Why the file at `path` cannot be opened, read or closed.
+pub fn database_failure(alloc: Global, path: &str, error: &Error) -> Failure
+    ensures { IsOrNoMemory 4 result }
+{
+    match error {
+        Error::SqliteFailure(ErrorCode::OutOfMemory) => Failure::NoMemory,
+        _ => Failure::of_tables(alloc, path, error),
+    }
+}
+
+/// Why the tables in the file at `path` were not adopted.
+pub fn adoption_failure(alloc: Global, path: &str, fault: &AdoptFault) -> Failure
+    ensures { IsOrNoMemory 4 result }
+{
+    match fault {
+        AdoptFault::NoMemory => Failure::NoMemory,
+        _ => Failure::of_tables(alloc, path, fault),
+    }
+}
+
+/// Why what the tables at `path` have was not read into memory.
+pub fn store_failure(alloc: Global, path: &str, fault: StoreFault) -> Failure
+    ensures { IsOrNoMemory 4 result }
+{
+    match fault {
+        StoreFault::NoMemory => Failure::NoMemory,
+        _ => Failure::of_tables(alloc, path, &"the database refused a read"),
+    }
+}
+
+/// A keeper over the tables on a connection, which are made where there are none. A failure names `path`.
+///
+/// # Errors
+///
+/// Where the tables are refused, or memory is.
+pub fn keeper_over<S: Alter + Drop>(
+    rt: &HostRuntime,
+    path: &str,
+    conn: Connection<S>,
+    config: &Config,
+) -> Result<Tables<S>, Failure>
+    requires { conn.in_transaction ≡ false }
+    ensures adopted { IfOk result (λ tables. IsAdopted S.Store config.now conn tables) }
+    ensures failure { IfErr result (λ failure. IsOrNoMemory 4 failure) }
+{
+    match adopt(rt.alloc(), conn, config) {
+        Ok(tables) => Ok(tables),
+        Err(AdoptError { fault, .. }) => Err(adoption_failure(rt.alloc(), path, &fault)),
+    }
+}

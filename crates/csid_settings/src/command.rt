@@ -1,0 +1,372 @@
+//! The command line.
+
+use clap::ArgMatches;
+use command_line::{
+    ArgumentsFault, CommandLine, CommandOption, OPTION, Subcommand, Takes, is_decimal,
+};
+
+/// Which volumes are listed: those that meet each condition that is given.
+#[derive(Clone, Copy)]
+pub struct Chosen<'a> {
+    /// The name of the volume.
+    pub name: Option<&'a str>,
+    /// The name of its pool.
+    pub pool: Option<&'a str>,
+    /// The id of a node at which it is published.
+    pub node: Option<&'a str>,
+}
+
+/// What the command line asks for.
+#[derive(Clone, Copy)]
+pub enum Task<'a> {
+    /// Calls on standard input, replies on standard output.
+    Pipe(Piped<'a>),
+    /// Connections to a socket, one by one.
+    Serve(Serving<'a>),
+    /// A configuration is judged: its file.
+    CheckConfig(&'a str),
+    /// Tables are judged.
+    CheckTables {
+        /// Their file.
+        tables: &'a str,
+        /// The file of the configuration; without it the sample configuration.
+        config: Option<&'a str>,
+    },
+    /// Tables are listed.
+    ListTables {
+        /// Their file.
+        tables: &'a str,
+        /// Which of their volumes.
+        chosen: Chosen<'a>,
+        /// In JSON, and not in columns.
+        is_json: bool,
+    },
+}
+
+/// How calls of standard input are answered.
+#[derive(Clone, Copy)]
+pub struct Piped<'a> {
+    /// The file of the configuration; without it the sample configuration.
+    pub config: Option<&'a str>,
+    /// The tables that have the volumes; without them the volumes are in memory.
+    pub tables: Option<TablesFile<'a>>,
+}
+
+/// Tables in a file, and how they are opened.
+#[derive(Clone, Copy)]
+pub struct TablesFile<'a> {
+    /// The path of the file.
+    pub path: &'a str,
+    /// Whether the file must exist and have tables. Otherwise both are made where they are missing.
+    pub is_existing: bool,
+    /// Whether each read is answered from the file, and not from a copy in memory.
+    pub is_low_memory: bool,
+}
+
+/// Where a server has its volumes.
+#[derive(Clone, Copy)]
+pub enum Volumes<'a> {
+    /// In tables.
+    Tables(TablesFile<'a>),
+    /// In the change store that listens at this socket.
+    ChangeStore(&'a str),
+}
+
+/// How connections are served.
+#[derive(Clone, Copy)]
+pub struct Serving<'a> {
+    /// Where the socket is made.
+    pub socket: &'a str,
+    /// Where the volumes are.
+    pub volumes: Volumes<'a>,
+    /// The file of the configuration; without it the sample configuration.
+    pub config: Option<&'a str>,
+    /// The group that may connect too; without it the owner alone.
+    pub group: Option<&'a str>,
+    /// The seconds for which a connection may send nothing; without it there is no end to them.
+    pub idle: Option<u32>,
+    /// How many connections are served.
+    pub connections: u32,
+}
+
+const CONFIG: CommandOption = CommandOption {
+    name: "config",
+    takes: Takes::Text("FILE"),
+    help: "The configuration, a TOML file; without it the sample configuration",
+    ..OPTION
+};
+
+const TABLES: CommandOption = CommandOption {
+    name: "tables",
+    takes: Takes::Text("FILE"),
+    help: "The volumes, an SQLite database; it is made where there is none",
+    ..OPTION
+};
+
+const EXISTING: CommandOption = CommandOption {
+    name: "existing",
+    needs: Some("tables"),
+    help: "Refuses a file of volumes that is missing or has no tables, and makes none",
+    ..OPTION
+};
+
+const LOW_MEMORY: CommandOption = CommandOption {
+    name: "low-memory",
+    needs: Some("tables"),
+    help: "Reads from the file of volumes for each call, and keeps none of them in memory",
+    ..OPTION
+};
+
+static CHECKS: [CommandOption; 8] = [
+    CommandOption {
+        name: "check-config",
+        takes: Takes::Text("FILE"),
+        is_alone: true,
+        help: "Says what a configuration has, or why it is refused, and ends",
+        ..OPTION
+    },
+    CommandOption {
+        name: "check-tables",
+        takes: Takes::Text("FILE"),
+        help: "Says what tables have, or why they are refused, and ends; nothing is changed, also of tables that are served",
+        ..OPTION
+    },
+    CommandOption {
+        needs: Some("check-tables"),
+        help: "The configuration by which tables are judged; without it the sample configuration",
+        ..CONFIG
+    },
+    CommandOption {
+        name: "list-tables",
+        takes: Takes::Text("FILE"),
+        help: "Lists the volumes of tables, and what each pool and node has of them, and ends; nothing is changed, also of tables that are served",
+        ..OPTION
+    },
+    CommandOption {
+        name: "name",
+        takes: Takes::Text("NAME"),
+        needs: Some("list-tables"),
+        help: "Lists the volume with this name alone",
+        ..OPTION
+    },
+    CommandOption {
+        name: "pool",
+        takes: Takes::Text("NAME"),
+        needs: Some("list-tables"),
+        help: "Lists the volumes of this pool alone",
+        ..OPTION
+    },
+    CommandOption {
+        name: "node",
+        takes: Takes::Text("ID"),
+        needs: Some("list-tables"),
+        help: "Lists the volumes that are published at this node alone",
+        ..OPTION
+    },
+    CommandOption {
+        name: "json",
+        needs: Some("list-tables"),
+        help: "Lists in JSON, with a volume a line",
+        ..OPTION
+    },
+];
+
+static PIPE: [CommandOption; 4] = [CONFIG, TABLES, EXISTING, LOW_MEMORY];
+
+static SERVE: [CommandOption; 9] = [
+    CommandOption {
+        name: "socket",
+        takes: Takes::Text("PATH"),
+        is_required: true,
+        help: "The Unix socket to listen on, as /run/csid.sock; no file may stand there",
+        ..OPTION
+    },
+    TABLES,
+    CommandOption {
+        name: "log",
+        takes: Takes::Text("PATH"),
+        help: "The socket of a program that keeps the volumes, as csid-etcd does, in place of --tables",
+        ..OPTION
+    },
+    EXISTING,
+    LOW_MEMORY,
+    CONFIG,
+    CommandOption {
+        name: "group",
+        takes: Takes::Text("NAME"),
+        help: "The group that may connect too, by its name or number; without it the owner alone",
+        ..OPTION
+    },
+    CommandOption {
+        name: "idle",
+        takes: Takes::Count("SECONDS", 86_400),
+        help: "Closes a connection that sends nothing for so long, 1 to 86400; without it none is",
+        ..OPTION
+    },
+    CommandOption {
+        name: "connections",
+        takes: Takes::Count("N", 1_000_000),
+        standard: Some("1000000"),
+        help: "How many connections are served until the server ends, 1 to 1000000",
+        ..OPTION
+    },
+];
+
+/// What the arguments ask for; nothing where that is help or the version, which is printed then.
+///
+/// # Errors
+///
+/// Where the command line does not have them, printing fails, or memory is refused.
+pub fn read_arguments<'a>(
+    rt: &HostRuntime,
+    arguments: &'a [String],
+) -> Result<Option<ArgMatches<'a>>, ArgumentsFault> {
+    let subcommands = [
+        Subcommand {
+            name: "pipe",
+            about: "Answers the calls of standard input on standard output, as no command does; without --tables the volumes are forgotten at the end",
+            options: &PIPE,
+            shared: &[],
+        },
+        Subcommand {
+            name: "serve",
+            about: "Answers the calls of connections to a Unix socket, one connection after the other",
+            options: &SERVE,
+            shared: &[],
+        },
+    ];
+    let line = CommandLine {
+        name: "csid",
+        version: "0.1.0",
+        about: "A CSI controller plugin: calls and replies are frames, as docs/PROTOCOL.md says",
+        options: &CHECKS,
+        subcommands: &subcommands,
+    };
+    command_line::matches(rt, &line, arguments)
+}
+
+/// The options that are numbers, each as it is shown.
+const NUMBERS: [(&str, &str); 2] = [
+    ("connections", "--connections <N>"),
+    ("idle", "--idle <SECONDS>"),
+];
+
+/// An option whose number is given otherwise than in decimal digits alone, as it is shown, and that number:
+/// `clap` takes a sign.
+pub fn odd_number<'a>(matches: &ArgMatches<'a>) -> Option<(&'static str, &'a str)> {
+    let (_, arguments) = matches.subcommand()?;
+    for (name, shown) in NUMBERS {
+        if let Some(number) = arguments.get_str(name) {
+            if !is_decimal(number) {
+                return Some((shown, number));
+            }
+        }
+    }
+    None
+}
+
+/// What is wrong with two checks at once.
+pub fn odd_check<'a>(matches: &ArgMatches<'a>) -> Option<&'static str> {
+    if matches.get_str("list-tables").is_some() && matches.get_str("check-tables").is_some() {
+        return Some(
+            "the argument '--list-tables <FILE>' cannot be used with '--check-tables <FILE>'",
+        );
+    }
+    None
+}
+
+/// What is wrong with where a server is to have its volumes: it is one of two places.
+pub fn odd_store<'a>(matches: &ArgMatches<'a>) -> Option<&'static str> {
+    let Some(("serve", arguments)) = matches.subcommand() else {
+        return None;
+    };
+    let tables = arguments.get_str("tables");
+    match (tables.is_some(), arguments.get_str("log").is_some()) {
+        (true, true) => Some("the argument '--log <PATH>' cannot be used with '--tables <FILE>'"),
+        (false, false) => Some("one of '--tables <FILE>' and '--log <PATH>' is required"),
+        _ => None,
+    }
+}
+
+// The tables at a path, and how the arguments of a subcommand say that they are opened.
+fn tables_file<'a>(arguments: &ArgMatches<'a>, path: &'a str) -> TablesFile<'a> {
+    TablesFile {
+        path,
+        is_existing: arguments.get_flag("existing"),
+        is_low_memory: arguments.get_flag("low-memory"),
+    }
+}
+
+// Where a server has its volumes: `odd_store` refuses arguments that name none or two places.
+fn place_of_volumes<'a>(arguments: &ArgMatches<'a>) -> Volumes<'a> {
+    match arguments.get_str("log") {
+        Some(socket) => Volumes::ChangeStore(socket),
+        None => Volumes::Tables(tables_file(arguments, arguments.get_str("tables").unwrap_or(""))),
+    }
+}
+
+// What the arguments after `serve` ask for.
+fn serve_task<'a>(arguments: &ArgMatches<'a>) -> Serving<'a> {
+    Serving {
+        socket: arguments.get_str("socket").unwrap_or(""),
+        volumes: place_of_volumes(arguments),
+        config: arguments.get_str("config"),
+        group: arguments.get_str("group"),
+        idle: arguments.get_one::<u32>("idle"),
+        connections: arguments.get_one::<u32>("connections").unwrap_or(1),
+    }
+}
+
+// What a listing is asked for.
+fn list_task<'a>(arguments: &ArgMatches<'a>, tables: &'a str) -> Task<'a> {
+    Task::ListTables {
+        tables,
+        chosen: Chosen {
+            name: arguments.get_str("name"),
+            pool: arguments.get_str("pool"),
+            node: arguments.get_str("node"),
+        },
+        is_json: arguments.get_flag("json"),
+    }
+}
+
+// What the arguments without a subcommand ask for.
+fn plain_task<'a>(arguments: &ArgMatches<'a>) -> Task<'a> {
+    if let Some(path) = arguments.get_str("check-config") {
+        return Task::CheckConfig(path);
+    }
+    if let Some(tables) = arguments.get_str("list-tables") {
+        return list_task(arguments, tables);
+    }
+    match arguments.get_str("check-tables") {
+        Some(tables) => Task::CheckTables {
+            tables,
+            config: arguments.get_str("config"),
+        },
+        None => Task::Pipe(Piped {
+            config: None,
+            tables: None,
+        }),
+    }
+}
+
+// What the arguments after `pipe` ask for.
+fn pipe_task<'a>(arguments: &ArgMatches<'a>) -> Piped<'a> {
+    let tables = match arguments.get_str("tables") {
+        Some(path) => Some(tables_file(arguments, path)),
+        None => None,
+    };
+    Piped {
+        config: arguments.get_str("config"),
+        tables,
+    }
+}
+
+/// What arguments that [`read_arguments`] takes ask for.
+pub fn task_of<'a>(matches: &ArgMatches<'a>) -> Task<'a> {
+    match matches.subcommand() {
+        Some(("serve", arguments)) => Task::Serve(serve_task(arguments)),
+        Some((_, arguments)) => Task::Pipe(pipe_task(arguments)),
+        None => plain_task(matches),
+    }
+}

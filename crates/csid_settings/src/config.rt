@@ -1,0 +1,110 @@
+//! The configuration of the program.
+
+ghost use Rattle.std.specs.Prelude.{IfErr};
+ghost use Rattle.csid_settings.specs.Statuses.{IsOrNoMemory};
+
+use crate::failure::Failure;
+use csi_config::Config;
+use csi_config_file::{ConfigError, config_faults, read_config, unknown_keys};
+use csid_console::Console;
+use std::alloc::Global;
+use std::fs;
+use std::io::ErrorKind;
+
+// The bytes of a file.
+fn read_file(rt: &HostRuntime, path: &str) -> Result<Vec<u8>, Failure>
+    ensures { IfErr result (λ failure. IsOrNoMemory 3 failure) }
+{
+    match fs::read(rt, path) {
+        Ok(bytes) => Ok(bytes),
+        Err(error) if error.kind() == ErrorKind::OutOfMemory => Err(Failure::NoMemory),
+        Err(error) => Err(Failure::configuration(rt.alloc(), path, &error)),
+    }
+}
+
+// The configuration that the bytes of a file give.
+fn config_of(alloc: Global, path: &str, bytes: &[u8]) -> Result<Config, Failure>
+    ensures { IfErr result (λ failure. IsOrNoMemory 3 failure) }
+{
+    match read_config(alloc, bytes) {
+        Ok(config) => Ok(config),
+        Err(ConfigError::NoMemory) => Err(Failure::NoMemory),
+        Err(error) => Err(Failure::configuration(alloc, path, &error)),
+    }
+}
+
+// Says each key of a configuration that is not known, a line each: it may be a slip of the pen.
+fn tell_unknown(console: &Console<'_>, path: &str, bytes: &[u8]) {
+    match unknown_keys(console.rt.alloc(), bytes) {
+        Ok(keys) => {
+            for key in &keys {
+                console.say_of(path, key);
+            }
+        }
+        Err(_) => console.say(&"out of memory"),
+    }
+}
+
+// Says the keys that are not known of a configuration that is refused, and then all of its faults but the
+// last one, which is given.
+fn tell_faults(console: &Console<'_>, path: &str, bytes: &[u8], refused: Failure) -> Failure
+    requires { IsOrNoMemory 3 refused }
+    ensures { IsOrNoMemory 3 result }
+{
+    let alloc = console.rt.alloc();
+    let Ok(faults) = config_faults(alloc, bytes) else {
+        return Failure::NoMemory;
+    };
+    let Some((last, others)) = faults.as_slice().split_last() else {
+        return refused;
+    };
+    tell_unknown(console, path, bytes);
+    for fault in others {
+        console.say_of(path, fault);
+    }
+    Failure::configuration(alloc, path, last)
+}
+
+/// The configuration of a file. Its keys that are not known are said, and where it has faults, all of these.
+///
+/// # Errors
+///
+/// The last fault of the file, or why it cannot be read.
+pub fn checked_configuration(console: &Console<'_>, path: &str) -> Result<Config, Failure>
+    ensures { IfErr result (λ failure. IsOrNoMemory 3 failure) }
+{
+    let rt = console.rt;
+    let bytes = read_file(rt, path)?;
+    match config_of(rt.alloc(), path, bytes.as_slice()) {
+        Ok(config) => {
+            tell_unknown(console, path, bytes.as_slice());
+            Ok(config)
+        }
+        Err(refused) => Err(tell_faults(console, path, bytes.as_slice(), refused)),
+    }
+}
+
+/// The configuration of a file, or the sample. Keys that are not known are ignored, and said only if that is
+/// asked for.
+///
+/// # Errors
+///
+/// Where the file cannot be read or holds no configuration, or memory is refused.
+pub fn configuration(
+    console: &Console<'_>,
+    path: Option<&str>,
+    names_unknown: bool,
+) -> Result<Config, Failure>
+    ensures { IfErr result (λ failure. IsOrNoMemory 3 failure) }
+{
+    let rt = console.rt;
+    let Some(path) = path else {
+        return Ok(Config::sample(rt.alloc())?);
+    };
+    let bytes = read_file(rt, path)?;
+    let config = config_of(rt.alloc(), path, bytes.as_slice())?;
+    if names_unknown {
+        tell_unknown(console, path, bytes.as_slice());
+    }
+    Ok(config)
+}
