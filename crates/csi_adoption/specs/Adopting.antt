@@ -54,8 +54,8 @@ pub record IsTaken (config : Config) (old new : sql.State) (totals : Totals) : T
   pub settled : old.now ≡ old.committed → new.now ≡ new.committed
   pub found : IsSound schema old.now.trees → (s : State) × IsEitherRows s old.now.trees × IsRows s new.now.trees × IsInvariant config s × AreTotals totals s
 
--- a stop may leave tables of the latest format instead of those of the first one, of the same State, which
--- meets every constraint
+-- a stop may leave tables of the latest format, and of the same State, instead of tables of the first format;
+-- the State meets every constraint
 pub record LeavesLatest (config : Config) (old : sql.State) (db : Trees) : Type 0 where
   pub was_open : IsTrue old.is_open
   pub was_ours : old.now.schema ≡ schema
@@ -66,17 +66,17 @@ abbrev pub IsNotRefused : Config → Database → AdoptFault → Type 0
 IsNotRefused config db fault = (s : State) → db.schema ≡ schema → IsEitherRows s db.trees → IsInvariant config s → is_failure fault ≡ true
 
 module _ {S : Type 0} (g : Ghosts S) (config : Config) (conn : Held S) where
-  -- what was committed on the connection
+  -- the last commit of the connection
   abbrev pub committed : Database
   committed = (state g conn).committed
 
-  -- a keeper of the State of what was committed
+  -- a keeper of the committed State
   pub record IsAdopted (t : Tables S) : Type 0 where
     pub clean : conn_doubt g conn ≤ (tables_model g t).doubt
     pub was_open : (tables_model g t).doubt ≡ 0 → IsTrue (state g conn).is_open
     -- there is such a State, it meets every constraint, and the keeper has it
     pub held : (tables_model g t).doubt ≡ 0 → (s : State) × IsStateOf committed s × IsInvariant config s × (tables_model g t).holds s
-    -- a stop leaves that State, and nothing else
+    -- a stop leaves only that State
     pub settled : (tables_model g t).doubt ≡ 0 → (s : State) → (tables_model g t).survivors s → IsStateOf committed s
     pub ties : (tables_model g t).doubt ≡ 0 → (tables_model g t).tied
     pub up : is_down g t ≡ false
@@ -88,25 +88,25 @@ module _ {S : Type 0} (g : Ghosts S) (config : Config) (conn : Held S) where
     pub idle : back.in_transaction ≡ false
     pub unlimited : back.step_limit ≡ None
     pub clean : conn_doubt g conn ≤ conn_doubt g back
-    -- what was committed stays
+    -- the commit stays
     pub kept : HasCleanDisk (state g back) → KeepsCommit (state g conn) (state g back)
-    -- a stop leaves what it could leave before; only where there was no table, also the new ones that were to
-    -- be made, and where there were tables of the first format of a State that meets every constraint, and
-    -- something failed, also those of the latest of the same State
+    -- A stop leaves what it could leave before. In two cases it may leave more: new tables, if there was no
+    -- table; and tables of the latest format, if there were tables of the first format of a State that meets
+    -- every constraint, and something failed.
     pub crash : HasCleanDisk (state g back) → (db : Trees) → (state g back).may_leave db → (state g conn).may_leave db
         ⊎ ((made : Database) × (committed.schema ≡ no_schema) × MakesTables committed made × (db ≡ made.trees))
         ⊎ ((s : State) × (committed.schema ≡ schema) × IsFirstRows s committed.trees × IsRows s db × IsInvariant config s × (is_failure fault ≡ true))
-    -- the fault is the first one of what was committed, unless something failed
+    -- the fault is the first one of the committed rows, unless something failed
     pub first : HasCleanDisk (state g back) → IsTrue (state g back).is_open → is_failure fault ≡ false → IsFaultOf config committed fault
-    -- other tables are reported, whatever fails
+    -- other tables are reported as such, also if something fails
     pub other : HasCleanDisk (state g back) → IsTrue (state g back).is_open → committed.schema ≢ schema → committed.schema ≢ no_schema
         → fault ≡ Foreign foreign.Schema
     -- where the connection is shut no row is judged; other tables are reported there of what it shows
     pub shut : HasCleanDisk (state g back) → (state g back).is_open ≡ false → IsOfShut (state g back).now.schema fault
     -- a database without a table is refused only if something failed
     pub blank : HasCleanDisk (state g back) → IsTrue (state g back).is_open → committed.schema ≡ no_schema → is_failure fault ≡ true
-    -- the database fails for a cause, with an error of that cause: the disk failed once more, the connection
-    -- is shut, as a fault had shut it or shut it since, or what is asked of what was committed is refused
+    -- The database fails for a cause, and its error is of that cause: the disk failed again, a fault shut the
+    -- connection before or during adoption, or the database refuses a statement over the committed rows.
     pub failed : AdoptionFails g conn back fault
     -- and so are rows of a State that meets every constraint
     pub sound : HasCleanDisk (state g back) → IsTrue (state g back).is_open → IsNotRefused config committed fault

@@ -60,7 +60,7 @@ module _ {S : Type 0} (g : Ghosts S) (old new : Held S) where
   abbrev pub JudgingFails : {X : Type 0} → Result X AdoptFault → Type 0
   JudgingFails r = IfErr r (OfStore HasCause)
 
--- on a connection that is shut no row is judged: what is reported but a failure is that it has other tables
+-- on a connection that is shut no row is judged: an answer that is no failure is that the tables are others
 abbrev pub IsOfShut : Schema → AdoptFault → Type 0
 IsOfShut seen fault = is_failure fault ≡ false → (fault ≡ Foreign foreign.Schema) × (seen ≢ schema)
 
@@ -72,7 +72,8 @@ module _ {S : Type 0} (g : Ghosts S) (new : Held S) where
   abbrev pub TellsShut : {X : Type 0} → Result X AdoptFault → Type 0
   TellsShut r = HasCleanDisk (state g new) → (state g new).is_open ≡ false → IfErr r (IsOfShut (state g new).now.schema)
 
--- of what was committed on the connection, which was open; the limit on its steps is taken away
+-- the database refuses a statement over the last commit of the connection, which was open; the limit on its
+-- steps is removed
 abbrev pub RefusesCommitted : {S : Type 0} → Ghosts S → Held S → Error → Type 0
 RefusesCommitted {S} g conn e =
     IsTrue (state g conn).is_open × (settled : Held S) × (settled.step_limit ≡ None) × ((state g settled).now ≡ (state g conn).committed) × Refuses g settled e

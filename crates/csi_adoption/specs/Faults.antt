@@ -1,4 +1,4 @@
--- The fault of each constraint, the constraints in their order, and what is answered.
+-- The fault of each constraint, the order of the constraints, and the answers.
 use Rattle.std.specs.Prelude.{◌≡◌, ℕ, nat_lt, ℤ, pos, Bool, true, false, if◌then◌else◌, List, [], ◌∷◌, Option, Some, None, Result, Ok, Err, unwrap_or}
 use Rattle.std.specs.Option.{option_map}
 use Rattle.sqlite.specs.declared.error.Error.{Error}
@@ -94,7 +94,7 @@ abbrev pub count_faults : Config → Option RowName → AttachmentsFound → Vol
 count_faults config apart attachments volumes =
     first_fault (attachment_fault attachment_constraint.Beside apart ∷ node_fault config.nodes attachments.node_volumes ∷ count_fault volumes.rows ∷ [])
 
--- those of the rows of volumes and of attachments, each alone
+-- the first fault of the rows of volumes and of attachments, of each row alone
 abbrev pub table_faults : Config → ℕ → VolumesFound → AttachmentsFound → Option AdoptFault
 table_faults config next volumes attachments = first_fault
     (kinds_faults volumes attachments ∷ number_faults next volumes ∷ size_faults config volumes ∷ code_faults volumes attachments ∷ [])
@@ -103,7 +103,7 @@ abbrev pub all_faults : Config → ℕ → VolumesFound → AttachmentsFound →
 all_faults config next volumes attachments unowned apart = first_fault
     (table_faults config next volumes attachments ∷ owner_fault unowned ∷ count_faults config apart attachments volumes ∷ [])
 
--- ---- what is answered
+-- ---- answers
 
 -- the database or memory failed, which says nothing of the rows
 abbrev pub is_failure : AdoptFault → Bool

@@ -65,7 +65,7 @@ pub record FoldsVolumes (first : VolumesFold) (rows : List Row) (now : VolumesFo
   pub pool_volumes : AllZip (λ a b. SumsText a rows b) first.pool_volumes.parts.items now.pool_volumes.parts.items
   pub rows_are : CountsRows first.rows rows now.rows
 
--- what was found
+-- the result of a scan over volumes
 abbrev pub volumes_seen : ℕ → VolumesFold → VolumesSeen
 volumes_seen format fold = record {
   format = format;
@@ -109,7 +109,7 @@ pub record FoldsAttachments (first : AttachmentsFold) (rows : List Row) (now : A
   pub node : FindsByTest (λ test. is_at_node test.config.now.nodes) first.node rows now.node
   pub node_volumes : AllZip (λ a b. SumsText a rows b) first.node_volumes.parts.items now.node_volumes.parts.items
 
--- what was found
+-- the result of a scan over attachments
 abbrev pub attachments_seen : AttachmentsFold → AttachmentsSeen
 attachments_seen fold = record {
   kinds = fold.kinds.found;

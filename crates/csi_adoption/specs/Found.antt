@@ -30,7 +30,7 @@ pub record FoundVolumes (config : Config) (m : Meta) (rows : List Row) : Type 0 
   pub each : (n : ℕ) (v : Volume) → get volumes n ≡ Some v → IsVolume config m.next n v
   pub names : (m n : ℕ) (v w : Volume) → get volumes m ≡ Some v → get volumes n ≡ Some w → v.name ≡ w.name → m ≡ n
   pub few : len volumes ≤ MAX_VOLUMES
-  -- what is reported of a pool is so of its volumes
+  -- the sums reported of a pool are the sums of its volumes
   pub counted : (pool : List ℕ) → length (sizes_of volumes pool) ≡ sum_by (added_by 3 pool One) rows
   pub summed : (pool : List ℕ) → sum (sizes_of volumes pool) ≡ sum_by (added_by 3 pool (Number 2)) rows
   pub rooms : (p : Pool) → Has config.pools p → sum (sizes_of volumes p.name) ≤ p.bytes

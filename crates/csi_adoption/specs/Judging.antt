@@ -115,7 +115,7 @@ in_attachments config rows = record {
   node_volumes = map (λ m. sum_after 2 m.id One 0 rows) config.nodes;
 }
 
--- a scan over rows whose numbers rise; what was read of bytes can be written again
+-- a scan over rows whose numbers rise, and whose blobs can be written again
 pub record SeesVolumes (config : Config) (m : Meta) (rows : List Row) (seen : VolumesSeen) : Type 0 where
   pub format : seen.format ≡ m.format
   pub found : told_volumes seen ≡ in_volumes config m rows
@@ -130,12 +130,12 @@ pub record SeesAttachments (config : Config) (rows : List Row) (seen : Attachmen
 
 -- ---- the totals
 
--- what the pool of a name has; nothing, if there is none
+-- the total of the pool with this name; zero if no pool has it
 abbrev pub total_in : List Pool → List ℕ → List ℕ → List ℕ → Total
 total_in (p ∷ pools) (n ∷ volumes) (b ∷ bytes) name = if same_text p.name name then the_total n b else total_in pools volumes bytes name
 total_in pools volumes bytes name = zero_total
 
--- ---- what is answered
+-- ---- answers
 
 -- the rows of meta are refused
 abbrev pub IsMetaFault : Trees → AdoptFault → Type 0
@@ -154,7 +154,7 @@ pub record AreJudged (config : Config) (db : Trees) (fault : Option AdoptFault) 
   pub fault_is : all_faults config row.next (in_volumes config row volume_rows) (in_attachments config attachment_rows)
       (first_named 0 1 is_owned owner_rows) (apart_named place_rows) ≡ fault
 
--- the fault is that of a database: it has other tables, or its rows break this constraint first
+-- the fault of this database: it has other tables, or its rows break this constraint first
 abbrev pub IsFaultOf : Config → Database → AdoptFault → Type 0
 IsFaultOf config db fault = ((db.schema ≢ schema) × (fault ≡ Foreign foreign.Schema))
     ⊎ ((db.schema ≡ schema) × (IsMetaFault db.trees fault ⊎ AreJudged config db.trees (Some fault)))

@@ -23,7 +23,7 @@ use Rattle.csi_adoption.specs.Judging.{in_volumes, total_in}
 use Rattle.csi_adoption.specs.Passing.{VolumesAreKnown, VolumesPass}
 use Rattle.csi_adoption.specs.declared.meta.Meta.{Meta}
 
--- rows of volumes that pass are those of the volumes of a State
+-- rows of volumes that pass are the rows of a State's volumes
 abbrev pub FindsVolumes : Type 0
 FindsVolumes =
     (config : Config) (m : Meta) (db : Trees) (rows : List Row) → m.next ≤ MAX_NUMBER → IsSound schema db
@@ -41,7 +41,7 @@ PassesMeta =
     (config : Config) (format : ℕ) (s : State) (db : Trees) → IsRowsOf format s db → IsInvariant config s → (meta : List Row)
     → IsPermutation (map seen_meta (db 0)) meta → meta ≡ meta_row format s.next ∷ []
 
--- what is reported of a pool is so of rows of volumes that pass
+-- for rows that pass, the totals of a pool are the count and the bytes of its volumes
 abbrev pub TellsPools : Type 0
 TellsPools =
     (config : Config) (m : Meta) (rows : List Row) → VolumesPass config m rows → (p : Pool) → Has config.pools p → p.bytes < 2 ^ 64 - 1
@@ -54,7 +54,7 @@ HasNoOtherPool =
     (config : Config) (m : Meta) (rows : List Row) (found : FoundVolumes config m rows) (pool : List ℕ)
     → pool_named config.pools pool ≡ None → sizes_of found.volumes pool ≡ []
 
--- what is reported of the pools is what is found of them
+-- the totals reported of the pools are the totals found in the rows
 abbrev pub FindsTotals : Type 0
 FindsTotals =
     (config : Config) (m : Meta) (rows : List Row) → VolumesPass config m rows → ((p : Pool) → Has config.pools p → p.bytes < 2 ^ 64 - 1)

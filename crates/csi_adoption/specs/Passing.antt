@@ -31,7 +31,7 @@ pub record VolumesPass (config : Config) (m : Meta) (rows : List Row) : Type 0 w
   pub params : list_all (has_params m.format) rows ≡ true
   pub few : length rows ≤ MAX_VOLUMES
 
--- the numbers rise, and what is read of bytes can be written again
+-- the numbers rise, and the blobs can be written again
 pub record VolumesAreKnown (rows : List Row) : Type 0 where
   pub rising : IsRising 0 None rows
   pub caps : AllByRecursion (λ r. IfSome (keys_at 4 r) FitCaps) rows
@@ -46,7 +46,7 @@ pub record AttachmentsPass (config : Config) (rows : List Row) : Type 0 where
   -- no node has more than it can
   pub counts : AllByRecursion (λ m. sum_by (added_by 2 m.id One) rows ≤ m.max_volumes) config.nodes
 
--- the rowids rise, and what is read of bytes can be written again
+-- the rowids rise, and the blobs can be written again
 pub record AttachmentsAreKnown (rows : List Row) : Type 0 where
   pub rising : IsRising 0 None rows
   pub caps : AllByRecursion (λ r. IfSome (key_at 3 r) (λ key. FitCaps (key ∷ []))) rows

@@ -11,7 +11,7 @@ pub record IsUnbroken {T : Type 0} (number text : ℕ) (fold : FirstBroken T) : 
   pub text_is : fold.text ≡ text
   pub none : fold.found ≡ None
 
--- the integers of the first column, of which none came yet
+-- a fold over the integers of the first column, before the first row
 pub record IsRisingStart (fold : Rising) : Type 0 where
   pub column : fold.column ≡ 0
   pub good : fold.good ≡ true

@@ -1,6 +1,6 @@
 //! The tables on a connection, judged and taken.
 
-ghost use Rattle.std.specs.Prelude.{◌≡◌, ◌≢◌, false, true, Some, IfErr, IfOk, IsTrue, OnErr, OnOk};
+ghost use Rattle.std.specs.Prelude.{◌≡◌, ◌≢◌, ◌↔◌, false, true, Some, IfErr, IfOk, IsTrue, OnErr, OnOk};
 ghost use Rattle.sqlite.specs.Held.{state};
 ghost use Rattle.sqlite.specs.State.{HasCleanDisk, KeepsCommit, Survives};
 ghost use Rattle.csi_sql.specs.Tables.{no_schema, schema as our_schema};
@@ -53,10 +53,9 @@ pub struct AdoptError<S: Alter> {
     pub conn: Connection<S>,
 }
 
-// Whether a database has no table, no index and no view.
-fn is_blank(schema: &Schema) -> bool
-    ensures true_only_if { IsTrue result → schema.now ≡ no_schema }
-    ensures true_if { schema.now ≡ no_schema → IsTrue result }
+/// Returns true if a database has no table, no index and no view.
+pub fn is_blank(schema: &Schema) -> bool
+    ensures { IsTrue result ↔ (schema.now ≡ no_schema) }
 {
     schema.tables.is_empty() & schema.indexes.is_empty() & schema.views.is_empty()
 }
@@ -88,8 +87,8 @@ fn see_tables<S: Alter>(
     })
 }
 
-// Judges attachments with their volumes and with one another, once each table is judged alone: each
-// is known to be at a node of the configuration then, so those of a volume are few.
+// Judges attachments with their volumes and with one another. Each table was judged alone before, so each
+// attachment is at a node of the configuration, and a volume has few attachments.
 fn judge_joined<S: Alter>(
     alloc: Global,
     conn: &mut IdleConnection<S>,
@@ -118,7 +117,7 @@ fn judge_joined<S: Alter>(
     Ok(())
 }
 
-// Judges what was seen of the tables, and what is seen of two of them together.
+// Judges the results of the scans, and the joins of the two tables.
 fn judge_seen<S: Alter>(
     alloc: Global,
     conn: &mut IdleConnection<S>,
@@ -143,8 +142,8 @@ fn judge_seen<S: Alter>(
     judge_joined(alloc, conn, config, tables)
 }
 
-// Judges the rows after that of meta by the constraints in their order, and counts them. What is seen of the
-// tables is large, and so is passed by reference to what may fail.
+// Judges and counts the rows of volumes and attachments, by the constraints in their order. The scans'
+// results are large, and are passed by reference to the functions that may fail.
 fn judge_behind<S: Alter>(
     alloc: Global,
     conn: &mut IdleConnection<S>,
@@ -178,7 +177,7 @@ fn see_row<S: Alter>(conn: &mut IdleConnection<S>) -> Result<Meta, AdoptFault>
     judge_meta(rows)
 }
 
-// Judges all rows, that of meta first.
+// Judges all rows, beginning with the row of meta.
 fn judge_rows<S: Alter>(
     alloc: Global,
     conn: &mut IdleConnection<S>,
@@ -196,7 +195,7 @@ fn judge_rows<S: Alter>(
     judge_behind(alloc, conn, config, meta, content)
 }
 
-// What the laws of the rows say: rows that break no constraint are those of a State that meets every
+// The laws of the rows in one call: rows that break no constraint are the rows of a State that meets every
 // constraint, and the rows of such a State break none.
 #[inline(always)]
 fn rows_tell(config: &Config)
@@ -317,7 +316,7 @@ fn judge_and_upgrade<S: Alter>(
     Ok(judged.totals)
 }
 
-// Undoes nothing, as no transaction is open: what is seen then is what was committed.
+// Rolls back, so that reads see the last commit. No transaction is open, so nothing is undone.
 fn roll_back<S: Alter>(conn: &mut Connection<S>)
     requires { conn.old.in_transaction ≡ false }
     ensures idle { conn.new.in_transaction ≡ false }
@@ -365,20 +364,19 @@ fn adopt_into<S: Alter>(
 /// Takes the tables that a database has, and gives a keeper over them; a database that has no table
 /// gets new ones, with no volume and 1 as the next number.
 ///
-/// What was committed is judged: the tables must be exactly those that are made here, each value of
-/// the kind of its column, and the rows must meet every constraint of the configuration (docs/TABLES.md,
-/// "What is judged when a file is opened"). After `Ok` there is one State whose rows were committed; it
-/// meets the constraints, the keeper has it, and a stop leaves it and nothing else. Rows are read one by
-/// one and none is kept, so memory does not grow with them. A limit on the connection's steps is taken
-/// away.
+/// The last commit is judged: the tables must be exactly the tables that this crate makes, each value must be
+/// of its column's kind, and the rows must meet every constraint of the configuration (docs/TABLES.md, "What
+/// is judged when a file is opened"). After `Ok` there is one State whose rows were committed; it meets the
+/// constraints, the keeper has it, and a stop leaves it and no other. Rows are read one by one and not kept,
+/// so memory does not grow with them. A limit on the connection's steps is removed.
 ///
 /// # Errors
 ///
 /// The first constraint that is broken, with the row that a scan finds first; or that the database or memory
-/// failed, which says nothing of the rows: those of a State that meets every constraint are refused for
-/// nothing else. That the database failed has a cause, which its error names: its disk, a fault that shut
-/// the connection, or that it refuses what is asked. What was committed stays, and the connection is given
-/// back.
+/// failed, which says nothing of the rows. The rows of a State that meets every constraint are refused only
+/// if the database or memory fails. An error of the database names its cause: the disk, a fault that shut the
+/// connection, or a statement that the database refuses. The last commit stays, and the connection is
+/// returned.
 ///
 /// # Not promised
 ///
@@ -397,7 +395,7 @@ pub fn adopt<S: Alter>(
     adopt_into(alloc, conn, config, &mut content)
 }
 
-/// As [`adopt`], and returns how much the tables have in addition. It costs no further read.
+/// As [`adopt`], and also returns how many volumes and attachments the tables have. It costs no further read.
 ///
 /// # Errors
 ///
@@ -405,7 +403,7 @@ pub fn adopt<S: Alter>(
 ///
 /// # Not promised
 ///
-/// The counts, which rows of `test_tables` show.
+/// The counts. Tests of the line that `csid` prints at its start show them.
 pub fn adopt_and_count<S: Alter>(
     alloc: Global,
     conn: Connection<S>,

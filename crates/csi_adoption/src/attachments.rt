@@ -24,7 +24,7 @@ use csi_sql::{Fold, IdleConnection};
 use sqlite::{Alter, Error, ErrorCode, Row};
 use std::alloc::{AllocError, Global};
 
-// What is found of each row of attachments after its rowid. The rowids must rise.
+// The folds over the rows of attachments, for the columns after the rowid. The rowids must rise.
 #[derive(Drop)]
 struct AttachmentsFold<'a> {
     kinds: FirstBroken<InfallibleTest<HasAttachmentKinds>>,
@@ -74,7 +74,7 @@ impl<'a> AttachmentsFold<'a> {
         })
     }
 
-    // What was found. It owns much, and nothing fails here.
+    // The result. It is moved out here, where no call can fail.
     fn into_seen(self) -> AttachmentsSeen
         ensures { result ≡ attachments_seen self.entry }
     {

@@ -9,7 +9,7 @@ use sqlite::{Error as SqlError, ErrorCode};
 use std::alloc::{AllocError, AllocFailed};
 use thiserror::Error;
 
-/// What is not as this program makes it.
+/// The part of a database that this program did not make.
 #[derive(Clone, Copy, Debug, Error)]
 pub enum Foreign {
     /// There are other tables, indexes or views, or other columns.

@@ -1,4 +1,4 @@
-//! Laws of adoption: rows that pass are those of a State, and the rows of a State pass.
+//! Laws of adoption: rows that pass are the rows of a State, and the rows of a State pass.
 
 ghost use Rattle.csi_adoption.specs.Again.{EitherTaken, EndsTaken, StopsTaken};
 ghost use Rattle.csi_adoption.specs.Laws.{FindsTotals, FindsVolumes, HasNoOtherPool, PassesMeta, PassesVolumes, TellsCounts, TellsPools, TellsRooms};
@@ -6,7 +6,7 @@ ghost use Rattle.csi_adoption.specs.Laws.{FindsTotals, FindsVolumes, HasNoOtherP
 use csi_tables::laws::one_state;
 use sqlite::Alter;
 
-/// Rows of volumes that pass are those of the volumes of a State.
+/// Rows of volumes that pass are the rows of a State's volumes.
 pub fn volumes_found()
     ensures { FindsVolumes }
 {
@@ -32,7 +32,7 @@ pub fn sums_told()
     ensures rooms { TellsRooms }
 {}
 
-/// What is reported of a pool is so of rows of volumes that pass: how many are its own, and their bytes.
+/// For rows of volumes that pass, the totals of a pool are the count and the bytes of its volumes.
 pub fn pools_told()
     ensures { TellsPools }
 {}
@@ -42,16 +42,16 @@ pub fn pools_elsewhere()
     ensures { HasNoOtherPool }
 {}
 
-/// What is reported of the pools, by their names, is how many volumes are found of each, and their bytes.
+/// The totals reported of the pools, by their names, are the counts and the bytes of the volumes found in
+/// each.
 pub fn totals_found()
     ensures { FindsTotals }
 {}
 
-/// What a keeper over tables left is adopted as the State that it had, or as what the stop left of it,
-/// unless the database or memory failed: the State must meet the invariant, as each State does that
-/// the volume machine leads to. After an end that is so of the keeper's own connection, and after a
-/// stop of any connection over the database that the stop left. Tables of either format of such a State
-/// are adopted as it.
+/// The database of a keeper is adopted as the State that the keeper had, or as a State that a stop left,
+/// unless the database or memory failed. The State must meet the invariant, as each State of the volume
+/// machine does. Without a stop this holds of the keeper's own connection, and after a stop of any connection
+/// over the database that the stop left. Tables of either format are adopted.
 pub fn adopted_again<S: Alter>()
     ensures ended { EndsTaken S.Store }
     ensures stopped { StopsTaken S.Store }

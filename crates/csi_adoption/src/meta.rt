@@ -25,7 +25,7 @@ pub(crate) struct Meta {
     pub(crate) next: u64,
 }
 
-/// The integers in a row of meta; `None` where there is another value.
+/// The integers in a row of meta; `None` for a value that is no integer.
 #[derive(Clone, Copy)]
 pub(crate) struct MetaRow {
     pub(crate) key: Option<i64>,
@@ -107,7 +107,7 @@ fn judge_integers(key: i64, format: i64, next: i64) -> Result<Meta, AdoptFault>
     })
 }
 
-/// What the row of meta says, where there is just one, of a format that is known.
+/// The format and the next number, if meta has exactly one row, of a known format.
 pub(crate) fn judge_meta(rows: MetaRows) -> Result<Meta, AdoptFault>
     ensures { result ≡ meta_judged rows }
 {

@@ -2,10 +2,10 @@
 
 use csi_constraints::{RowName, TextSum};
 
-/// What a scan over volumes shows, whose numbers rise. Each name is that of the first row that breaks a
-/// constraint.
+/// The result of a scan over volumes, whose numbers rise. Each name is the name in the first row that breaks
+/// a constraint.
 pub(crate) struct VolumesSeen {
-    /// The format of the tables, by which the rows were judged.
+    /// The format of the tables. The rows were judged by it.
     pub format: u32,
     /// A value is not of the kind of its column.
     pub kinds: Option<RowName>,
@@ -48,8 +48,8 @@ impl Drop for VolumesSeen {
     }
 }
 
-/// What a scan over attachments shows, whose rowids rise. Each name is that of the first row that breaks a
-/// constraint.
+/// The result of a scan over attachments, whose rowids rise. Each name is the name in the first row that
+/// breaks a constraint.
 pub(crate) struct AttachmentsSeen {
     /// A value is not of the kind of its column; the row is named by its rowid.
     pub kinds: Option<RowName>,

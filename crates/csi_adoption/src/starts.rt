@@ -21,7 +21,7 @@ pub(crate) fn unbroken<T>(alloc: Global, test: T, number: usize, text: usize) ->
     }
 }
 
-/// The same of a test that takes no memory.
+/// As `text_test`, but for a test that takes no memory.
 pub(crate) fn unbroken_test<T>(
     alloc: Global,
     test: T,
@@ -34,7 +34,7 @@ pub(crate) fn unbroken_test<T>(
     unbroken(alloc, InfallibleTest { test }, number, text)
 }
 
-/// Integers of the first column, of which none came yet.
+/// A fold over the integers of the first column, before the first row.
 pub(crate) fn rising_start() -> Rising
     ensures { IsRisingStart result }
 {

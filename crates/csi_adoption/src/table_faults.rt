@@ -40,8 +40,8 @@ fn check_codes(
     check_attachment(alloc, &attachments.node, AttachmentConstraint::Node)
 }
 
-/// The first fault of what was seen of each table alone, by the next number that meta has (0 where it is
-/// none).
+/// The first fault in the results of the scans over each table alone. `next` is the next number in meta, or 0
+/// if it is out of range.
 ///
 /// # Errors
 ///

@@ -52,7 +52,7 @@ fn check_pools(alloc: Global, pools: &[Pool], bytes: &[TextSum]) -> Result<(), A
     }
 }
 
-// The fault of a next number that is 0, which is read for one that is not 1 to 2^62.
+// The fault of a next number that is 0. A number that is not 1 to 2^62 is read as 0.
 fn check_next(next: u64) -> Result<(), AdoptFault>
     ensures { Tells (next_fault next) result }
 {

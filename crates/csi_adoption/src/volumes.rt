@@ -27,7 +27,7 @@ use csi_types::copy_text;
 use sqlite::{Alter, Error, ErrorCode, Row};
 use std::alloc::{AllocError, Global};
 
-// What is found of each row of volumes, whose numbers must rise.
+// The folds over the rows of volumes, whose numbers must rise.
 #[derive(Drop)]
 struct VolumesFold<'a> {
     kinds: FirstBroken<InfallibleTest<HasVolumeKinds>>,
@@ -94,7 +94,7 @@ impl<'a> VolumesFold<'a> {
         })
     }
 
-    // What was found. It owns much, and nothing fails here.
+    // The result. It is moved out here, where no call can fail.
     fn into_seen(self, format: u32) -> VolumesSeen
         ensures { result ≡ volumes_seen format self.entry }
     {

@@ -17,7 +17,7 @@ use Rattle.csi_columns.specs.Encoding.{caps_bytes, params_bytes}
 use Rattle.csi_change_store.specs.declared.asking.ChangeStoreCall.{ChangeStoreCall}
 use Rattle.csi_change_store.specs.declared.asking.ChangeStoreCall.TheVariants.{Read, Make, Commit, Lead}
 
--- a field that is a number, and one that is bytes
+-- a field that is a number, and a field that is bytes
 abbrev pub number_field : ℕ → ℕ → WireField
 number_field number value = record { number = number; part = Number value }
 
@@ -45,7 +45,7 @@ attachment_fields n a = number_field 1 n ∷ bytes_field 2 a.node ∷ bytes_fiel
 
 -- ---- a change
 
--- the fields of what is changed
+-- the fields of a change
 abbrev pub asked_fields : Change → List WireField
 asked_fields (AddVolume v) = volume_fields v
 asked_fields (RemoveVolume n) = number_field 1 n ∷ []
@@ -95,7 +95,8 @@ lead_frame = frame (record { path = path_of Lead; message = [] })
 
 -- ---- a reply
 
--- Whether the change was made: status 0 alone says so. Anything else is a refusal, also where nobody knows.
+-- Status 0 alone says that the change was made. Any other outcome is a refusal, also if it is not known
+-- whether the change was made.
 abbrev pub answer_of : Received → Result (Unit {0}) StoreFault
 answer_of (Reply r) = if r.status == 0 then Ok tt else Err Refused
 answer_of Nothing = Err Refused

@@ -32,8 +32,7 @@ module _ {S : Type 0} (g : Ghosts S) (a b : Held S) {P : Type 0} (exchanged : P 
     pub clean : HasCleanDisk (state g b) → HasCleanDisk (state g a)
     pub rows : HasCleanDisk (state g b) → IsTrue (state g a).is_open → ChangesFrom schema (PutsAll (all_items pages)) (state g a) (state g b)
 
-  -- Tables were made where there were none, and the rows of all pages are in them; this is what was
-  -- committed.
+  -- New tables were made and committed, with the rows of all pages in them.
   pub record ReadsRows : Type 0 where
     pub pages : List (List PageItem)
     pub read : AreRead exchanged old new notes pages

@@ -1,4 +1,4 @@
--- The rows of pages as those of a State.
+-- The rows of pages as the rows of a State.
 use Rattle.std.specs.Prelude.{◌≡◌, ℕ, List, [], ◌∷◌, map, IsPermutation}
 use Rattle.std.specs.FinMap.{entries}
 use Rattle.sqlite.specs.Effect.{Database}
@@ -27,7 +27,7 @@ attachments_in (Attachment row ∷ items) = row ∷ attachments_in items
 attachments_in (Token token ∷ items) = attachments_in items
 attachments_in (Skipped ∷ items) = attachments_in items
 
--- the next number in the last row of meta, or the one given where there is none
+-- the next number in the last row of meta; without such a row the given number
 abbrev pub next_in : ℕ → List PageItem → ℕ
 next_in next [] = next
 next_in next (Meta row ∷ items) = next_in row.next items
@@ -40,13 +40,13 @@ next_in next (Skipped ∷ items) = next_in next items
 abbrev pub shown_volume : VolumeColumns → Row
 shown_volume row = seen_volume (kept_volume row)
 
--- The rows of the items are those of the State, in any order. New tables have 1 as their next number.
+-- The rows of the items are the rows of the State, in any order. New tables have 1 as their next number.
 pub record Gives (items : List PageItem) (s : State) : Type 0 where
   pub next : next_in 1 items ≡ s.next
   pub volumes : IsPermutation (map volume_entry (entries s.volumes)) (map shown_volume (volumes_in items))
   pub attachments : IsPermutation (map attachment_entry (entries s.attachments)) (map kept_attachment (attachments_in items))
   pub storable : IsStorable s
 
--- new tables into which they are put are those of the State
+-- new tables with these rows are the tables of the State
 abbrev pub GivesRows : Type 0
 GivesRows = (items : List PageItem) (old made new : Database) (s : State) → MakesTables old made → PutsAll items made new → Gives items s → IsRows s new.trees

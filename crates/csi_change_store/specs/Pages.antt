@@ -180,7 +180,7 @@ node_of Skipped = None
 abbrev pub AreTyped : List PageItem → Type 0
 AreTyped items = AllByRecursion IsTyped items
 
--- ---- what is noted of the items in addition to their rows
+-- ---- notes of the items in addition to their rows
 
 pub record Notes : Type 0 where
   -- the token of the next page, which is empty after the last one

@@ -45,8 +45,8 @@ channel_exchanges remaining contents old new asked received = Exchanges (content
 abbrev pub IsUnasked : Change → StoreFault → Type 0
 IsUnasked change fault = (fault ≡ NoMemory) ⊎ ((fault ≡ Refused) × (MAX_MESSAGE_BYTES < length (change_bytes change)))
 
--- A change is asked for by one exchange with its frame, and what is answered is what the reply says. Or the
--- peer is as it was, and the frame cannot be had.
+-- A change is asked for by one exchange with its frame, and the answer is the answer of the reply. Or the
+-- peer is as it was, because there is no memory for the frame.
 abbrev pub Asks : {P : Type 0} → (P → P → List ℕ → Received → Type 0) → P → P → Change → Result (Unit {0}) StoreFault → Type 0
 Asks exchanged old new change result =
     ((received : Received) × exchanged old new (commit_frame change) received × (result ≡ answer_of received))

@@ -51,7 +51,7 @@ pub record Extends (Effect : Database → Database → Type 0) (old new : State)
   pub effect : old.now.schema ≡ schema → Effect old.now new.now
 
 module _ {S : Type 0} (g : Ghosts S) (old new : Held S) where
-  -- what is answered Ok
+  -- the changes that are answered Ok
   abbrev pub ExtendsFrom : (Database → Database → Type 0) → Type 0
   ExtendsFrom Effect = HasCleanDisk (state g new) → IsTrue old.in_transaction → Extends Effect (state g old) (state g new)
 
@@ -60,7 +60,7 @@ module _ {S : Type 0} (g : Ghosts S) (old new : Held S) where
     pub kept : KeepsCommitted g old new
     pub survives : LeavesNothingNew g old new
 
--- ---- what is refused
+-- ---- refusals
 
 abbrev pub RefusesItem : PageItem → State → Error → Type 0
 RefusesItem (Meta row) s e = RefusesNext row.next s e
@@ -101,7 +101,7 @@ IsFlagFault number node readonly (Refused e) = ⊥
 IsFlagFault number node readonly (RowRefused other e) = ⊥
 IsFlagFault number node readonly NoMemory = Unit {0}
 
--- what is made of an error of the database
+-- the fault for an error of the database
 abbrev pub IsFaultOf : Option ℕ → Error → RowsFault → Type 0
 IsFaultOf number error Malformed = ⊥
 IsFaultOf number error (Untyped n) = ⊥
@@ -128,7 +128,7 @@ FailsWith refuses old new (Refused e) = FailsFor (refuses None) old new e
 FailsWith refuses old new (RowRefused number e) = FailsFor (refuses (Some number)) old new e
 FailsWith refuses old new NoMemory = Unit {0}
 
--- an item is refused, which is that of this volume, or that of meta
+-- an item is refused: the row of this volume, or the row of meta
 abbrev pub IsRefusedAs : PageItem → State → Option ℕ → Error → Type 0
 IsRefusedAs item s number e = (volume_number item ≡ number) × RefusesItem item s e
 

@@ -22,7 +22,7 @@ pub(crate) const MAX_TOKEN_BYTES: usize = MAX_MESSAGE_BYTES - TOKEN_HEAD_BYTES;
 pub(crate) enum ChangeStoreCall {
     /// A page of the rows.
     Read,
-    /// The row of `meta`, where there is no row at all.
+    /// The row of `meta`, of a change store that has no row at all.
     Make,
     /// A change.
     Commit,
@@ -67,7 +67,7 @@ pub(crate) fn frame_of(
 ///
 /// # Errors
 ///
-/// `NoMemory`; `Refused` where the token has so many bytes that no message holds it.
+/// `NoMemory`; `Refused` if the token is too long for any message.
 #[tactic(auto, using(crate::proofs::Tokens::token_held, crate::proofs::Tokens::token_not_held))]
 pub fn read_frame(alloc: Global, token: &[u8]) -> Result<Vec<u8>, StoreFault>
     ensures frame { IfOk result (λ frame. frame.items ≡ read_frame token.now) }
@@ -84,7 +84,7 @@ pub fn read_frame(alloc: Global, token: &[u8]) -> Result<Vec<u8>, StoreFault>
     Ok(frame_of(alloc, ChangeStoreCall::Read, message.as_slice())?)
 }
 
-/// The frame that asks for the row of `meta`, where there is no row at all.
+/// The frame that asks a change store without any row for its row of `meta`.
 ///
 /// # Errors
 ///

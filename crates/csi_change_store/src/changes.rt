@@ -65,7 +65,7 @@ fn put_mutable(
     put_bytes(out, 2, params.as_slice())
 }
 
-// What is changed.
+// Appends the fields of a change.
 fn put_asked(alloc: Global, out: &mut Vec<u8>, change: &Change) -> Result<(), AllocError>
     ensures { OnOk result (out.new.items ≡ out.old.items ++ spellings (asked_fields change.now)) }
 {
@@ -127,9 +127,8 @@ fn frame_holding(alloc: Global, message: &[u8]) -> Result<Vec<u8>, StoreFault>
 ///
 /// # Errors
 ///
-/// `NoMemory`; `Refused` where the message would have more than 1,048,576 bytes. How many it has is known
-/// once its columns are made, so where there is no memory for these, that is answered for a message that is
-/// too long too.
+/// `NoMemory`; `Refused` if the message would have more than 1,048,576 bytes. Its length is known only after
+/// its columns are made, so a message that is too long may be answered `NoMemory` too.
 pub(crate) fn commit_frame(alloc: Global, change: &Change) -> Result<Vec<u8>, StoreFault>
     ensures frame { IfOk result (λ frame. frame.items ≡ commit_frame change.now) }
     ensures fault { result ≢ Err Down }

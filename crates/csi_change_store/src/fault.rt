@@ -44,8 +44,8 @@ impl From<AllocError> for RowsFault {
     }
 }
 
-/// Why the database refused a row: that of a volume of this number or of an attachment of it, or that of
-/// `meta`.
+/// Why the database refused a row: the row of the volume of this number or of one of its attachments, or the
+/// row of `meta`.
 pub(crate) fn fault_of(number: Option<u64>, error: Error) -> RowsFault
     ensures { IsFaultOf number error result }
 {

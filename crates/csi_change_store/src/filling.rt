@@ -11,8 +11,8 @@ use csi_sql::make_tables;
 use sqlite::{Alter, Connection};
 use std::alloc::Global;
 
-// Puts all rows of a change store into the tables on a connection. It is one transaction, so that each page
-// of the tables is written once, in whatever pages the rows come.
+// Puts all rows of a change store into the tables on a connection, in one transaction, so that each page of
+// the tables is written once, in any order of the rows.
 fn fill<P: Peer, S: Alter>(
     alloc: Global,
     peer: &mut P,

@@ -2,12 +2,12 @@
 //! one asks it for each.
 //!
 //! [`RemoteChangeStore`] is a `ChangeStore` of `csi_through` over the other end of a connection, a [`Peer`].
-//! What a peer is asked for is a frame of the envelope (docs/PROTOCOL.md, "The change store"):
-//! `specs/Asking.antt` says which frame asks for which change, and which reply says that it was made. So what
-//! is believed of the other end is one clause, that of [`Peer::exchange`]: it makes the change of a frame as
-//! it says in the reply. [`Channel`] is a peer over any reader and writer. No contract can say that the other
-//! end is truthful: of a channel nothing is promised from its first exchange on (its `doubt`), but what
-//! it wrote and read.
+//! A request to a peer is a frame of the envelope (docs/PROTOCOL.md, "The change store"): `specs/Asking.antt`
+//! says which frame asks for which change, and which reply says that it was made. So one clause has all that
+//! is believed of the other end, the clause of [`Peer::exchange`]: the peer makes the change of a frame
+//! exactly if its reply says so. [`Channel`] is a peer over any reader and writer. No contract can say that
+//! the other end is truthful: of a channel nothing is promised from its first exchange on (its `doubt`), but
+//! the bytes that it wrote and read.
 //!
 //! [`read_rows`] makes tables and puts all rows of a peer into them, page by page ([`read_pages`],
 //! [`put_page`]). `specs/Pages.antt` says what the body of a reply encodes, `specs/Taking.antt` what its rows

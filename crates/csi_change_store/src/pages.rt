@@ -16,7 +16,7 @@ use pbwire::laws::spelled;
 use sqlite::{Alter, Transaction};
 use std::alloc::Global;
 
-/// What is noted of pages in addition to their rows.
+/// The notes of pages in addition to their rows.
 #[derive(Drop)]
 pub struct Notes {
     /// The token of the next page. It is empty after the last one.

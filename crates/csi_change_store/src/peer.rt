@@ -13,13 +13,13 @@ use std::io::{Read, Write};
 
 /// The other end of a connection, which keeps the changes of a State.
 ///
-/// What is promised of the State is promised while `doubt`, which never falls, is 0.
+/// The promises about the State hold while `doubt`, which never falls, is 0.
 pub trait Peer {
     // What contracts see of it.
     ghost model: { Self → Model State };
 
-    // What one exchange does to it: before and after, for a frame and what came. Nothing else says so, so who
-    // promises it has asked once.
+    // The effect of one exchange: the peer before and after, the frame and the outcome. No other clause gives
+    // it, so a function that promises it has exchanged that frame.
     ghost exchanged: { Self → Self → List ℕ → Received → Type 0 };
 
     /// Sends a frame, and waits for the reply.

@@ -15,8 +15,7 @@ use csi_keeper::StoreFault;
 use sqlite::{Alter, Error, Transaction};
 use std::alloc::Global;
 
-// At most so many pages are read: more than 100,000 volumes and their attachments have, also at one row a
-// page.
+// The most pages that are read: more than 100,000 volumes and their attachments take at one row a page.
 const MOST_PAGES: u64 = 1 << 20;
 
 /// Why the rows of a change store were not read.

@@ -37,8 +37,8 @@ fn ask<P: Peer>(alloc: Global, peer: &mut P, change: &Change) -> Result<(), Stor
 
 /// A change store that is the other end of a connection.
 ///
-/// After a change that was refused, of which nobody knows, or for which there was no memory, each further one
-/// is answered `Down` and not asked for.
+/// After a change that was refused, whose outcome is not known, or that memory was refused for, each further
+/// change is answered `Down` and not asked for.
 #[derive(Drop)]
 pub struct RemoteChangeStore<P> {
     peer: P,

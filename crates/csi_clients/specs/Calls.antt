@@ -14,8 +14,8 @@ use Rattle.csi_server.specs.Volumes.{volumes}
 use Rattle.csi_clients.specs.Clients.{Clients, ClientTry, clients_after, AreSeparate}
 use Rattle.csi_clients.specs.Histories.{Sessions}
 
--- A call of a client, and whether it is the client's last one. Or, without a client, a call by which nothing
--- changes.
+-- A call of a client, and whether it is the client's last call. Or, without a client, a call that changes
+-- nothing.
 pub record ClientExchange : Type 0 where
   pub client : Option ℕ
   pub exchange : Exchange

@@ -23,8 +23,8 @@ Clients = ℕ → Client
 abbrev pub start : (ℕ → List Request) → Clients
 start todo c = record { rest = todo c; is_open = false; is_gone = false }
 
--- A try of a client, and whether it is the client's last one: the client may be gone after any try, answered
--- or not. Or, without a client, a try by which nothing changes.
+-- A try of a client, and whether it is the client's last try: the client may be gone after any try, answered
+-- or not. Or, without a client, a try that changes nothing.
 pub record ClientTry : Type 0 where
   pub client : Option ℕ
   pub made : Try

@@ -22,8 +22,8 @@ last_try_by c r end = record { client = Some c; made = record { request = r; end
 
 -- ---- two clients, and a stop
 
--- A session in which the first client's answer is lost, and the second client is answered. After a stop the
--- first client tries again, and is answered.
+-- The first client's answer is lost, and the second client is answered. After a stop the first client tries
+-- again, and is answered.
 abbrev pub two_sessions : Request → Request → Sessions
 two_sessions r q = (try_by 0 r Unanswered ∷ try_by 1 q Answered ∷ []) ∷ (try_by 0 r Answered ∷ []) ∷ []
 

@@ -104,15 +104,15 @@ pub fn made_later(config: &Config)
 /// Others may make requests that change nothing at any time.
 ///
 /// The tries are *separate*. A request is unsettled from its first try until it is answered or its client is
-/// gone, and in a session in which it was refused inside, until it is done or the session ends. While it is
-/// unsettled, it and each request that another client tries leave each other's objects alone. A request that
-/// changes nothing need not be left alone.
+/// gone; if it was refused inside, until it is done or the session ends. While it is unsettled, it and each
+/// request that another client tries leave each other's objects alone. A request that changes nothing need
+/// not be left alone.
 ///
-/// Then there is an order of the requests in which each is taken once. In it the requests of each client have
-/// the order of the client. Each client hears what its requests are answered in this order, and the State in
+/// Then there is an order of the requests, with each request once. In it the requests of each client have the
+/// order of the client. Each client hears the answers that its requests have in this order, and the State in
 /// the end is the State after them. The order keeps the real-time order: a request that was answered is
-/// before each one that was tried only later. It has all requests that were answered and, of each client, at
-/// most one that was tried and not answered. If all are answered it has all of them.
+/// before each request that was tried only later. It has all requests that were answered and, of each client,
+/// at most one request that was tried and not answered. If all are answered it has all of them.
 pub fn linearizable(config: &Config)
     ensures begun { (s t : State) (todo : ℕ → List Request) (sessions : Sessions)
         (heard : ℕ → List Told) → IsInvariant config.now s
@@ -142,7 +142,7 @@ pub fn two_clients(config: &Config)
         → AreTwo config.now s r q }
 {}
 
-/// There is a history of a client that gives up and of another one that goes on with the same object.
+/// There is a history of a client that gives up, and of another client that goes on with the same object.
 ///
 /// An attacher sends ControllerPublishVolume, hears nothing, gives up and sends ControllerUnpublishVolume for
 /// the same volume and node: they are two clients, and the first is gone. If the first request was done, the
@@ -203,8 +203,8 @@ pub fn linearizable_calls<K: Keeper>(config: &Config)
 /// Runs over two files, with a stop after each, are a linearizable history of calls if no two clients work on
 /// one object at once.
 ///
-/// The tries must be separate whichever State each stop leaves. After the last run the files have the State
-/// after the order of requests. The runs are those of `csi_files::laws::lived`.
+/// The tries must be separate for each State that a stop may leave. After the last run the files have the
+/// State after the order of requests. The runs are the runs of `csi_files::laws::lived`.
 pub fn linearizable_files<K: Keeper>(config: &Config)
     ensures { LivesAreLinearizable config.now }
 {

@@ -11,13 +11,13 @@
 //! the answer that its client hears is the response, and the step of the machine is the sequential
 //! specification.
 //!
-//! - `specs/Objects.antt`: which request leaves the object of another one alone
+//! - `specs/Objects.antt`: which request leaves the object of another request alone
 //! - `specs/Clients.antt`: clients, their tries, and when tries are separate
 //! - `specs/Histories.antt`: sessions of tries, with stops between them, and what each client hears
 //! - `specs/Linearizability.antt`: the order of operations, and that it keeps the real-time order
-//! - `specs/Calls.antt`, `specs/Files.antt`: the same of calls and replies in bytes, and of runs over files
+//! - `specs/Calls.antt`, `specs/Files.antt`: histories of calls and replies in bytes, and of runs over files
 //! - `specs/Examples.antt`: two worked examples
-//! - `specs/OtherVolumes.antt`: requests that work on other volumes than one that was not made yet
+//! - `specs/OtherVolumes.antt`: requests that work on other volumes than a request that was not made yet
 //!
 //! The crate has no code that runs: each of its [`laws`] is the contract of a function that does nothing.
 //!

@@ -127,9 +127,9 @@ counted_uncopied config first mid last served bytes none up quiet why it =
 
 -- a run over the file of tables, of which no copy was made
 pub file_serves : {S : Type 0} (g : Ghosts S) (config : Config) (first mid last : Tables S) (report : RunReport) (bytes : Streams) → (tables_model g first).refusals ≡ 0
-    → (tables_model g first).is_down ≡ false → (mid ≡ first) ⊎ IsUncopied g first mid fault.NoMemory
+    → (tables_model g first).is_down ≡ false → {P Q : Type 0} → (P × (mid ≡ first)) ⊎ (Q × IsUncopied g first mid fault.NoMemory)
     → ServesWith config (tables_model g mid) (tables_model g last) report bytes → ServesFrom config (tables_model g first) (tables_model g last) report bytes
-file_serves g config first mid last report bytes none up (inl same) it =
+file_serves g config first mid last report bytes none up (inl (_, same)) it =
     counted_fresh config (tables_model g first) (tables_model g last) report bytes none up (subst (λ t. ServesWith config (tables_model g t) (tables_model g last) report bytes) same it)
-file_serves g config first mid last report bytes none up (inr read) it =
+file_serves g config first mid last report bytes none up (inr (_, read)) it =
     counted_uncopied config (tables_model g first) (tables_model g mid) (tables_model g last) report bytes none up read.0 read.1 it

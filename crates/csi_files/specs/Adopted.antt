@@ -1,4 +1,4 @@
--- What is served over a keeper, and over tables that were adopted.
+-- Calls that are served over a keeper, and over adopted tables.
 use Rattle.std.specs.Prelude.{◌≡◌, ◌⊎◌, ◌≤◌, ℕ, Bool, false, IsTrue}
 use Rattle.sqlite.specs.Held.{Held}
 use Rattle.sqlite.specs.Store.{Ghosts}
@@ -28,11 +28,11 @@ use Rattle.csi_files.specs.declared.run.Refusal.{Refusal}
 use Rattle.csi_files.specs.declared.run.Refusal.TheVariants.{Blank, NotAdopted, NotCopied}
 use Rattle.csi_files.specs.declared.run.RunReport.{RunReport}
 
--- a store of which these counts are seen
+-- the same store, with other counts of refusals
 abbrev pub with_counts : ℕ → Bool → Model State → Model State
 with_counts refusals is_down m = record m { refusals = refusals; is_down = is_down }
 
--- Calls were served over a keeper, which counted them.
+-- Calls were served over a keeper. The report has the keeper's count of refusals.
 pub record ServesWith (config : Config) (first last : Model State) (served : RunReport) (bytes : Streams) : Type 0 where
   pub serves : Serves (volumes config) (seen config first) (seen config last) bytes.unread bytes.left bytes.held bytes.holds served.end
   pub clean : first.doubt ≤ last.doubt
@@ -40,7 +40,7 @@ pub record ServesWith (config : Config) (first last : Model State) (served : Run
   pub counted : served.refusals ≡ last.refusals
   pub down : served.is_down ≡ last.is_down
 
--- Calls were served over a keeper. The counts begin with the run, whoever counted.
+-- Calls were served over a keeper. The count of refusals in the report begins with the run.
 pub record ServesFrom (config : Config) (first last : Model State) (served : RunReport) (bytes : Streams) : Type 0 where
   pub serves : Serves (volumes config) (seen config (with_counts 0 false first))
       (seen config (with_counts served.refusals served.is_down last)) bytes.unread bytes.left bytes.held bytes.holds served.end
@@ -48,7 +48,7 @@ pub record ServesFrom (config : Config) (first last : Model State) (served : Run
   pub writes : Writes bytes.unread bytes.left bytes.held bytes.holds served.end
 
 module _ {S : Type 0} (g : Ghosts S) (config : Config) (conn : Held S) where
-  -- tables were adopted on a connection, and calls served over them
+  -- tables were adopted on a connection, and calls were served over them
   pub record ServesOver (back : Held S) (served : RunReport) (bytes : Streams) : Type 0 where
     pub first : Tables S
     pub adopted : IsAdopted g config conn first
@@ -56,7 +56,7 @@ module _ {S : Type 0} (g : Ghosts S) (config : Config) (conn : Held S) where
     pub run : ServesFrom config (tables_model g first) (tables_model g last) served bytes
     pub back_is : back ≡ connection_of g last
 
-  -- tables were adopted on a connection, and read
+  -- tables were adopted on a connection, and only read
   pub record IsRead (back : Held S) : Type 0 where
     pub first : Tables S
     pub adopted : IsAdopted g config conn first
@@ -64,13 +64,13 @@ module _ {S : Type 0} (g : Ghosts S) (config : Config) (conn : Held S) where
     pub quiet : IsQuiet (tables_model g first) (tables_model g last)
     pub back_is : back ≡ connection_of g last
 
-  -- why a database was refused that was required to have tables or not, before its volumes were read
+  -- why a database was refused before its volumes were read
   abbrev pub IsUnserved : Bool → Refusal → Held S → Type 0
   IsUnserved is_existing Blank back = (back ≡ conn) × (conn.schema ≡ no_schema) × IsTrue is_existing
   IsUnserved is_existing (NotAdopted fault) back = IsUnadopted g config conn fault back
   IsUnserved is_existing (NotCopied fault) back = ⊥
 
-  -- or as they were read
+  -- why a database was refused, before or while its volumes were read
   abbrev pub IsRefused : Bool → Refusal → Held S → Type 0
   IsRefused is_existing Blank back = IsUnserved is_existing Blank back
   IsRefused is_existing (NotAdopted fault) back = IsUnserved is_existing (NotAdopted fault) back
@@ -80,35 +80,36 @@ module _ {S : Type 0} (g : Ghosts S) (first : Tables S) where
   abbrev model_of : Tables S → Model State
   model_of t = tables_model g t
 
-  -- calls were served over tables, whose connection is given back
+  -- calls were served over tables, and their connection is returned
   pub record ServesTables (config : Config) (back : Held S) (report : RunReport) (bytes : Streams) : Type 0 where
     pub last : Tables S
     pub run : ServesFrom config (model_of first) (model_of last) report bytes
     pub back_is : back ≡ connection_of g last
 
-  -- the volumes of tables were read, and a read was refused
+  -- the volumes of tables were read, until a read was refused
   pub record IsReadBack (back : Held S) : Type 0 where
     pub last : Tables S
     pub quiet : IsQuiet (model_of first) (model_of last)
     pub back_is : back ≡ connection_of g last
 
-  -- no calls were served over tables, since a read was refused
+  -- no call was served over tables, since a read was refused
   abbrev pub IsRefusedBack : Refusal → Held S → Type 0
   IsRefusedBack Blank back = ⊥
   IsRefusedBack (NotAdopted fault) back = ⊥
   IsRefusedBack (NotCopied fault) back = IsReadBack back × (fault ≡ Refused)
 
-  -- the tables keep their State, and this is why there is no copy of it
+  -- the tables keep their State, and were not copied for this fault
   abbrev pub IsUncopied : Tables S → StoreFault → Type 0
   IsUncopied mid fault = IsQuiet (model_of first) (model_of mid) × IsWhy (model_of first) (model_of mid) fault
 
   module _ {O : Type 0} where
-    -- a copy was made of the volumes of tables
+    -- the volumes of tables were copied into memory
     abbrev pub IsCopied : Through MemKeeper (KeeperChanges (Reserved S O)) → Type 0
     IsCopied through = Opens (model_of first) (through_model mem_model (λ logged. model_of logged.keeper.tables) through)
 
-    -- Calls over tables are answered from a copy, unless memory is low; or from their file, of which no copy
-    -- was asked for, or for a copy of which memory had no room.
+    -- Without `is_low_memory` calls are answered from a copy, or from the file if memory had no room for a
+    -- copy. With it they are answered from the file.
     abbrev pub IsSourceOf : Bool → Source S O → Type 0
     IsSourceOf is_low_memory (Copy through) = (is_low_memory ≡ false) × IsCopied through
-    IsSourceOf is_low_memory (File reserved) = (reserved.tables ≡ first) ⊎ IsUncopied reserved.tables NoMemory
+    IsSourceOf is_low_memory (File reserved) = (IsTrue is_low_memory × (reserved.tables ≡ first))
+        ⊎ ((is_low_memory ≡ false) × IsUncopied reserved.tables NoMemory)

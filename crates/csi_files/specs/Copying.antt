@@ -23,7 +23,7 @@ module _ {D : Type 0} (g : disk.Ghosts D) where
     pub crash : AreClean g after.log after.db → (size : ℕ) → NamesSize (image_of g before) (stored_size size) → (image : Image)
         → outcomes g after.log after.db image → (old : Image) × outcomes g before.log before.db old × RecoversAs size old image
 
-  -- The same, and the database file has all that the WAL had: recovery ignores what is left of the WAL.
+  -- As `KeepsPages`, and the database file has all pages of the WAL: recovery ignores the rest of the WAL.
   pub record IsMoved (before after : Files D) : Type 0 where
     pub keeps : KeepsPages before after
     pub ignored : AreClean g after.log after.db → IsIgnored (g.seen after.log)
@@ -35,7 +35,7 @@ module _ {D : Type 0} {g : disk.Ghosts D} where
     pub clean : IsTrue (state new).is_clean → IsTrue (state old).is_clean
     pub crash : raw.AddsNothing (state old).page_size (state old).may_leave (state new).may_leave
 
-  -- the same of the files that the log gives back
+  -- as `CopiesLog`, of the files that the log returns
   pub record LeavesLog (log : Log D g) (after : Files D) : Type 0 where
     pub clean : AreClean g after.log after.db → IsTrue (state log).is_clean
     pub crash : AreClean g after.log after.db → (image : Image) → outcomes g after.log after.db image

@@ -37,8 +37,7 @@ pub record HasState (image : Image) (s : State) : Type 0 where
   pub holds : ∥ HoldsSealed image db ∥₁
   pub state : IsStateIn db s
 
--- What contracts see of two files by their contents, from which calls are served. Where no table was found in
--- them, their State is the first one.
+-- The model of two files by their contents. If they hold no table, their State is the first one.
 abbrev pub image_model : Image → Bool → Model State
 image_model image is_new = record {
   holds = λ s. HasState image s ⊎ (IsTrue is_new × (s ≡ first_state 1));
@@ -66,8 +65,8 @@ module _ {D : Type 0} (g : disk.Ghosts D) where
     pub found : FindsIn image (file_state conn)
     pub state : IsStateOf (file_state conn).committed s
 
-  -- What contracts see of two files that nobody has open. The States that a stop leaves are those that may be
-  -- found in what it leaves of the files.
+  -- The model of two files that no program has open. A stop leaves the States that may be found in the
+  -- outcomes of a crash.
   abbrev pub files_model : Files D → ℕ → Bool → Model State
   files_model files refusals is_down = record {
     holds = HasState (image_of g files);

@@ -23,7 +23,7 @@ use Rattle.csi_files.specs.declared.run.RunFailure.{RunFailure}
 use Rattle.csi_files.specs.declared.run.RunFailure.TheVariants.{NoFiles, NotOpened, Refused, Left, NotClosed}
 
 module _ {D : Type 0} {g : disk.Ghosts D} where
-  -- what is left of files that were not closed: the WAL and the database file
+  -- the WAL and the database file after a run that failed, if the operating system gave them
   abbrev pub files_of : RunFailure D g → Option (D × D)
   files_of (NoFiles error) = None
   files_of (NotOpened error rest) = Some (files_left rest)
@@ -41,7 +41,7 @@ module _ {D : Type 0} (g : disk.Ghosts D) where
     pub each : AreClean g files.log files.db → (image : Image) → outcomes g files.log files.db image
         → ∥ ((db : Trees) × (file_state conn).may_leave db × HoldsAt size image db) ∥₁
 
-  -- Each outcome of a crash, and so what the files read as, is the last commit. Recovery ignores what is left
+  -- Each outcome of a crash, and so the contents of the files, is the last commit. Recovery ignores the rest
   -- of the WAL.
   pub record HoldsCommit (conn : Held (FileStore D g)) (files : Files D) : Type 0 where
     pub was_clean : HasCleanDisk (file_state conn)

@@ -54,8 +54,8 @@ abbrev pub IsLifeOfFiles : Config → Image → List (List Exchange) → Image �
 IsLifeOfFiles config was [] last = was ≡ last
 IsLifeOfFiles config was (session ∷ sessions) last = (next : Image) × IsRunOver config was session next × IsLifeOfFiles config next sessions last
 
--- A client that repeats each of its calls until it hears the reply, while others change nothing: what it
--- hears, and the State of the files in the end, are those of its requests taken once each.
+-- A client repeats each of its calls until it hears the reply, while others change nothing. Its replies, and
+-- the State of the files in the end, are the replies and the State of its requests taken once each.
 abbrev pub LivesOnce : Config → Type 0
 LivesOnce config =
     (was last : Image) (s : State) (requests : List Request) (sessions : List (List Exchange)) → MayStart was s → IsInvariant config s
@@ -64,8 +64,7 @@ LivesOnce config =
     → ∥ (GoesOn was last s (after_once config s requests)
     × IsLifeOfCalls config s sessions (map told (told_once config s requests)) (after_once config s requests)) ∥₁
 
--- The files in the end start a run as a State to which the numbers of volumes went on, whatever the calls
--- were.
+-- After any calls the files start a run as a State in which the numbers of volumes only rose.
 abbrev pub NumbersOnce : Config → Type 0
 NumbersOnce config =
     (was last : Image) (s : State) (sessions : List (List Exchange)) → MayStart was s → IsInvariant config s
@@ -87,8 +86,8 @@ module _ {D : Type 0} (g : disk.Ghosts D) where
   abbrev pub AreAtRest : Files D → Type 0
   AreAtRest files = (image : Image) → outcomes g files.log files.db image → image ≡ image_of g files
 
--- After a run over files with these contents has closed its files, each outcome of a crash is one that a run
--- of a life leaves. It does not matter how the files were opened.
+-- After a run over files with these contents has closed its files, each outcome of a crash is an outcome of a
+-- run of a life. It does not matter how the files were opened.
 abbrev pub ClosedGoOn : {D : Type 0} → disk.Ghosts D → Config → Type 0
 ClosedGoOn {D} g config = (was : Image) (bytes : Streams) (closed : Closed D)
     (it : StartsThen config was bytes closed.report (AreClean g closed.files.log closed.files.db) (LeavesAfter g config closed.files))
@@ -96,9 +95,9 @@ ClosedGoOn {D} g config = (was : Image) (bytes : Streams) (closed : Closed D)
     → (next : Image) → outcomes g closed.files.log closed.files.db next → IsRunOver config was session next
 
 module _ {D : Type 0} (g : disk.Ghosts D) (config : Config) (before : Files D) (bytes : Streams) where
-  -- What the clause `not_served` of `create_and_serve` says, of a disk that was truthful: each outcome of a
-  -- crash is one that a run leaves. Files that were not opened must have been at rest before the run, and no
-  -- store made of them.
+  -- The clause `not_served` of `create_and_serve` for a disk that was truthful: each outcome of a crash is an
+  -- outcome of a run. Files that were not opened must have been at rest before the run, and the failure must
+  -- not hold a store.
   pub record AreRuns : Type 0 where
     pub refused : (served : RunReport) (now : Files D) (it : IsNotStarted g config before bytes (Left served now))
         (clean : AreClean g now.log now.db)

@@ -24,8 +24,8 @@ page_bytes = 1024
 abbrev pub wal_with_frame_bytes : ℕ
 wal_with_frame_bytes = 32 + 24 + 512
 
--- no database is made yet: the database file is empty, or has what a stop left of its first page, of which
--- the WAL then says
+-- no database was made yet: the database file is empty, or has a part of its first page after a stop, and the
+-- WAL has the whole page
 abbrev pub IsUnmade : Image → Type 0
 IsUnmade = IsBlankFile page_bytes
 
@@ -96,7 +96,7 @@ module _ {D : Type 0} (g : disk.Ghosts D) where
   abbrev pub IsCreated : Files D → Files D → Type 0
   IsCreated = IsMadeOf IsUnmade
 
-  -- and of those of an earlier release
+  -- and files that a stop of an earlier release left
   abbrev pub IsLaidOut : Files D → Files D → Type 0
   IsLaidOut = IsMadeOf IsToMake
 

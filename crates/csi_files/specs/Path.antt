@@ -26,7 +26,7 @@ use Rattle.csi_files.specs.declared.run.RunFailure.{RunFailure}
 use Rattle.csi_files.specs.declared.run.RunFailure.TheVariants.{NoFiles}
 
 module _ {C S : Type 0} {g : calls.Ghosts C} {first : start.Ghosts S} where
-  -- what is said of a file whose calls are recorded, by its record and by what it held
+  -- the model of a file whose calls are recorded, by the record and the first contents
   abbrev pub over_calls : disk.Ghosts (Modelled C S g first)
   over_calls = record {
     seen = λ f. (replay (start_of first f) (g.history f.calls)).seen;
@@ -44,7 +44,7 @@ module _ {C S : Type 0} {g : calls.Ghosts C} {first : start.Ghosts S} where
 
 -- why there are no files
 pub data NoFile : Type 0 where
-  -- SQLite takes the path for something else than a file
+  -- SQLite does not take the path for a file
   NamesNone : NoFile
   -- the operating system did not give them
   NotGiven : OpenError → NoFile
@@ -73,7 +73,7 @@ no_file_error NotSeeded = SqliteFailure CannotOpen
 abbrev pub IsNoFile : Error → Type 0
 IsNoFile e = (cause : NoFile) × (e ≡ no_file_error cause)
 
--- SQLite takes a path for something else than a file
+-- SQLite does not take the path for a file
 abbrev pub NamesNoFile : List ℕ → Type 0
 NamesNoFile path = (path ≡ codes ":memory:") ⊎ IsTrue (starts_with nat_eq path (codes "file:"))
 
@@ -88,7 +88,7 @@ module _ {S : Type 0} {g : calls.Ghosts Host} (first : start.Ghosts S) (config :
   IsFileless (NoFiles error) = AreUntouched bytes × IsNoFile error
   IsFileless _ = ⊥
 
-  -- why files that held what `first` says were not closed after calls, and what is left of them
+  -- why files with the contents `first` were not closed after calls, and the files after that
   abbrev pub IsNotServedAt : RunFailure (Modelled Host S g first) over_calls → Type 0
   IsNotServedAt e = IsFileless e
       ⊎ ((files : Files (Modelled Host S g first)) × IsFresh true files.log × IsFresh false files.db × IsNotStarted over_calls config files bytes e)

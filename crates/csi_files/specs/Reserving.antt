@@ -15,7 +15,7 @@ use Rattle.csi_files.specs.declared.reserve.Reserve.{Reserve}
 
 -- ---- bytes
 
--- a capability takes 4 bytes, and those of the name of its file system
+-- a capability takes 4 bytes, and the bytes of the name of its file system
 abbrev pub kind_bytes : Kind → ℕ
 kind_bytes Block = 4
 kind_bytes (Mount name) = length name + 4
@@ -23,11 +23,11 @@ kind_bytes (Mount name) = length name + 4
 abbrev pub cap_bytes : CapKey → ℕ
 cap_bytes key = kind_bytes key.kind
 
--- a row takes 256 bytes, and those of what is in it
+-- a row takes 256 bytes, and the bytes of its texts and blobs
 abbrev pub volume_bytes : Volume → ℕ
 volume_bytes v = 256 + length v.name + length v.pool + sum_by cap_bytes v.caps + map_bytes v.params + map_bytes v.mutable
 
--- how many bytes an opening takes more after a change; none after one that takes away
+-- the bytes that an opening takes in addition after a change; 0 after a change that removes rows
 abbrev pub change_bytes : Change → ℕ
 change_bytes (AddVolume v) = volume_bytes v
 change_bytes (Attach n a) = 256 + length a.node + cap_bytes a.cap
@@ -42,11 +42,11 @@ change_bytes (DetachAll n) = 0
 abbrev pub block_bytes : ℕ
 block_bytes = 1048576
 
--- blocks have at least so many each
+-- each block has at least `BLOCK_BYTES` bytes
 abbrev pub AreBlocks : List (Vec ℕ) → Type 0
 AreBlocks blocks = All (λ block. block_bytes ≤ vec_capacity block) blocks
 
--- how many blocks have so many bytes
+-- the number of blocks that hold this number of bytes
 abbrev pub blocks_for : ℕ → ℕ
 blocks_for bytes = div_ceil bytes block_bytes
 
@@ -54,6 +54,6 @@ blocks_for bytes = div_ceil bytes block_bytes
 abbrev pub IsFull : Reserve → Type 0
 IsFull reserve = blocks_for reserve.wanted ≤ vec_len reserve.blocks
 
--- what is to be kept after so many bytes more
+-- the bytes to be held once the tables grew by this number of bytes
 abbrev pub wanted_with : Reserve → ℕ → ℕ
 wanted_with reserve bytes = up_to_u64 (reserve.wanted + bytes)

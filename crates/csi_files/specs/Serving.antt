@@ -1,4 +1,4 @@
--- What is served over two files and what is left of them, where they are not closed in the end.
+-- Calls over two files, and the files after a run that did not close them.
 use Rattle.std.specs.Prelude.{◌≡◌, ◌⊎◌, ◌↔◌, ◌<◌, ℕ, Bool, true, false, List, [], Option, Result, Ok, Err, IsTrue, ⊤}
 use Rattle.std.specs.Io.KnownBytes.{Consumes, IsAtEnd}
 use Rattle.sqlite_disk.specs.declared.Disk as disk
@@ -63,8 +63,8 @@ HasRefusedNone served = (served.refusals ≡ 0) × (served.is_down ≡ false)
 abbrev pub counts_model : ℕ → Bool → Model State
 counts_model refusals is_down = record { holds = λ _. ⊤; doubt = 0; refusals = refusals; survivors = λ _. ⊥; tied = ⊤; is_down = is_down }
 
--- The State after these calls, or the one that a refused call among them would have made, whose request was
--- read and passed the checks and after which no call moved the State. It meets the invariant.
+-- The State after these calls, or the State that a refused call among them would have made. The request of
+-- that call was read and passed the checks, and no call after it moved the State. It meets the invariant.
 pub record IsStateAfter (config : Config) (s : State) (events : List Event) (t : State) : Type 0 where
   pub is : (t ≡ state_after (volumes config) s events) ⊎ IsPending config s events t
   pub invariant : IsInvariant config t
@@ -105,13 +105,13 @@ module _ {D : Type 0} (g : disk.Ghosts D) where
     pub first : AreClean g now.log now.db → (db : Database) → ∥ HoldsDatabase was db.trees ∥₁ → IsDatabase db → is_failure fault ≡ false
         → IsFaultOf config db fault ⊎ (fault ≡ Foreign foreign.Schema)
 
-  -- each outcome of a crash has the State after the calls, or one that a refused call would have made
+  -- each outcome of a crash has the State after the calls, or the State that a refused call would have made
   abbrev pub LeavesAfter : Config → Files D → State → List Event → Type 0
   LeavesAfter config now s events = (image : Image) → outcomes g now.log now.db image → ∥ ((t : State) × HasState image t × IsStateAfter config s events t) ∥₁
 
 module _ (config : Config) (bytes : Streams) where
-  -- Calls were served from each of these States, and this is so of the database before them and of what they
-  -- left.
+  -- Calls were served from each of these States. `New` holds of the database before them, `Leaves` of the
+  -- files after them.
   pub record RunsThen (Starts : State → Type 0) (served : RunReport) (Clean New : Type 0) (Leaves : State → List Event → Type 0) : Type 0 where
     pub read : List ℕ
     pub consumed : Consumes bytes.unread bytes.left read
@@ -130,14 +130,14 @@ ServesThen config was bytes served Clean Leaves = RunsThen config bytes
     (image_model was served.is_new).holds served Clean (SaysNew was served × WasTaken config was) Leaves
 
 module _ {D : Type 0} (g : disk.Ghosts D) where
-  -- why a database of files that had these contents was refused, and what is left of the files
+  -- why the database of files with these contents was refused, and the files after that
   abbrev pub IsRefusal : Config → Image → Refusal → Files D → Type 0
   IsRefusal config was Blank now = HasNone g was now
   IsRefusal config was (NotAdopted fault) now = Refuses g config was fault now
   IsRefusal config was (NotCopied fault) now = Keeps g was now × (fault ≡ Fault.Refused) × (AreClean g now.log now.db → WasTaken config was)
 
-  -- why files that had these contents were not closed after calls, and what is left of them; a clause of its
-  -- own says what is so where they were not opened
+  -- why files with these contents were not closed after calls, and the files after that; the case of files
+  -- that were not opened is a parameter
   abbrev pub IsNotServed : Config → Image → Streams → (Error → Leftover D g → Type 0) → RunFailure D g → Type 0
   IsNotServed config was bytes Unopened (NoFiles error) = ⊥
   IsNotServed config was bytes Unopened (NotOpened error rest) = Unopened error rest
@@ -147,7 +147,7 @@ module _ {D : Type 0} (g : disk.Ghosts D) where
   IsNotServed config was bytes Unopened (NotClosed served error now) = ((cause : StoreError) × (error ≡ store_error cause))
       × ServesThen config was bytes served (AreClean g now.log now.db) (LeavesAfter g config now)
 
-  -- why files were not opened, and what is left of them
+  -- why files were not opened, and the files after that
   abbrev pub IsNotOpened : Files D → Error → Leftover D g → Type 0
   IsNotOpened files error rest = IsCleanLeft rest → FailsToOpenFiles files rest error × LeavesFiles files rest
 
@@ -170,7 +170,7 @@ module _ {D : Type 0} (g : disk.Ghosts D) where
   IsBlankAsked is_existing (NotAdopted fault) = ⊤
   IsBlankAsked is_existing (NotCopied fault) = ⊤
 
-  -- files without a table are refused where they were required to have some, and nowhere else
+  -- files without a table are refused exactly if tables were required
   abbrev pub IsAsked : Bool → Result (Closed D) (RunFailure D g) → Type 0
   IsAsked is_existing (Ok closed) = IsTrue is_existing → closed.report.is_new ≡ false
   IsAsked is_existing (Err (NoFiles error)) = ⊤

@@ -1,4 +1,4 @@
--- Files from which a run may start, a first one too.
+-- The files that a run may start from, the first run included.
 use Rattle.std.specs.Prelude.{◌≡◌, ◌≢◌, ◌⊎◌, Bool, List, IsTrue, ⊤}
 use Rattle.sqlite_disk.specs.declared.Disk as disk
 use Rattle.sqlite_disk.specs.declared.Files.{Files}
@@ -30,8 +30,8 @@ use Rattle.csi_files.specs.declared.run.RunReport.{RunReport}
 use Rattle.csi_files.specs.declared.run.RunFailure.{RunFailure}
 use Rattle.csi_files.specs.declared.run.RunFailure.TheVariants.{NoFiles, NotOpened, Refused, Left, NotClosed}
 
--- Contents of two files from which a run may start as this State: they hold a database of it, or none yet,
--- and it is the first State.
+-- Contents of two files that a run may start from as this State: a database of this State, or no database
+-- yet, and the State is the first one.
 abbrev pub MayStart : Image → State → Type 0
 MayStart image s = HasState image s ⊎ (IsUnmade image × (s ≡ first_state 1))
 
@@ -82,8 +82,8 @@ module _ {D : Type 0} (g : disk.Ghosts D) where
   abbrev pub KeepsStart : Files D → Files D → Type 0
   KeepsStart before after = AreClean g after.log after.db → (s : State) → MayStartAgain before s → MayStartAgain after s
 
-  -- the error is SQLite's name of why no database was made of files, by what the disks met meanwhile; a WAL
-  -- of an empty file is the reason only where it may have changes
+  -- The error is SQLite's name for the reason why no database was made, by the errors of the disks in that
+  -- time. A WAL next to an empty file is the reason only if it may have changes.
   abbrev pub IsNameOf : Files D → Files D → Error → Type 0
   IsNameOf before now error = (why : NotLaidOut)
       × (error ≡ SqliteFailure (code_of why (named (tally_of_files g (before.log, before.db)) (tally_of_files g (now.log, now.db)))))
@@ -112,12 +112,12 @@ module _ {D : Type 0} {g : disk.Ghosts D} where
   IsLeftUnmade before error (left.Store now) = ⊥
 
 module _ {D : Type 0} (g : disk.Ghosts D) where
-  -- one was not made, or what was made was not opened
+  -- no database was made, or the new database was not opened
   abbrev pub IsNotMade : Files D → Error → Leftover D g → Type 0
   IsNotMade before error rest = IsLeftUnmade before error rest ⊎ ((laid : Files D) × IsLaidOut g before laid × IsNotOpened g laid error rest)
 
-  -- why files are not closed after a database was made where there was none: what is said of their contents
-  -- then
+  -- Why files were not closed, over files in which a database was made if they held none, and the contents of
+  -- the files after that.
   pub record IsNotStarted (config : Config) (before : Files D) (bytes : Streams) (e : RunFailure D g) : Type 0 where
     pub was : Image
     pub shows : EndsClean e → ShowsLaidOut (image_of g before) was

@@ -1,8 +1,8 @@
 -- What a run reads and writes.
 use Rattle.std.specs.Prelude.{◌≡◌, ℕ, List, Option}
 
--- The bytes that a reader had to give before a run and has to give after it, and those that a writer had
--- taken before the run and has taken after it, as far as they are known.
+-- The bytes that a reader has left before a run and after it, and the bytes that a writer has taken before
+-- the run and after it, as far as they are known.
 pub record Streams : Type 0 where
   pub unread : Option (List ℕ)
   pub left : Option (List ℕ)

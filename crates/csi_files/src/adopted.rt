@@ -9,29 +9,21 @@ ghost use Rattle.csi_files.specs.Streams.{streams};
 
 use crate::reserve::{Reserved, room};
 use crate::run::{Observer, Refusal, Run, RunReport};
-use csi_adoption::{AdoptError, adopt_and_count};
+use csi_adoption::{AdoptError, adopt_and_count, is_blank};
 use csi_keeper::{Keeper, StoreFault};
 use csi_memory::MemKeeper;
 use csi_server::serve;
 use csi_tables::Tables;
 use csi_through::{KeeperChanges, NotCopied, Through};
 use sqlite::{Alter, Connection};
-use sqlite_schema::schema::Schema;
 use std::io::{Read, Write};
 
-// Whether a database has no table, no index and no view.
-fn is_blank(schema: &Schema) -> bool
-    ensures { IsTrue result ↔ (schema.now ≡ no_schema) }
-{
-    schema.tables.is_empty() & schema.indexes.is_empty() & schema.views.is_empty()
-}
-
-/// Adopts the tables on a connection, and returns whether they are new. They are made where the database has
-/// no table, unless the options refuse that.
+/// Adopts the tables on a connection, and returns true if they are new. A database without a table gets new
+/// ones, unless the options require tables.
 ///
 /// # Errors
 ///
-/// Why the database is refused, and the connection.
+/// The connection, and why its database is refused.
 pub(crate) fn adopt_tables<S: Alter + Drop, O: Observer>(
     run: &Run<'_, O>,
     conn: Connection<S>,
@@ -59,17 +51,17 @@ pub(crate) fn adopt_tables<S: Alter + Drop, O: Observer>(
     }
 }
 
-// A copy in memory of the volumes of tables, which make each change first.
+// A copy in memory of the volumes of tables. Each change is made in the tables first.
 type Copied<'a, S, O> = Through<MemKeeper, KeeperChanges<Reserved<'a, S, O>>>;
 
-// What calls are answered from.
+// The source of the answers to calls.
 #[derive(Drop)]
 enum Source<'a, S: Alter, O> {
     Copy(Copied<'a, S, O>),
     File(Reserved<'a, S, O>),
 }
 
-// A copy in memory of the volumes of tables. Memory for calls is held until the copy is made.
+// Copies the volumes of tables into memory. Memory for calls is held back until the copy is made.
 fn copy_tables<'a, S: Alter + Drop, O: Observer>(
     run: &Run<'a, O>,
     tables: Tables<S>,
@@ -96,8 +88,8 @@ fn copy_tables<'a, S: Alter + Drop, O: Observer>(
     }
 }
 
-// What calls over tables are answered from: a copy in memory, if reads are to be answered from there and
-// memory has room for it, otherwise the file.
+// The source for calls over tables: a copy in memory, if the options want one and memory has room for it;
+// otherwise the file.
 fn source_of<'a, S: Alter + Drop, O: Observer>(
     run: &Run<'a, O>,
     tables: Tables<S>,
@@ -125,7 +117,7 @@ fn source_of<'a, S: Alter + Drop, O: Observer>(
     }
 }
 
-// The connection of tables after calls. The observer hears why the database refused the first one that it
+// The connection of tables after calls. The observer gets the cause of the first call that the database
 // refused.
 fn give_back<S: Alter, O: Observer>(run: &Run<'_, O>, tables: Tables<S>) -> Connection<S>
     ensures { result ≡ connection_of S.Store tables }
@@ -136,11 +128,11 @@ fn give_back<S: Alter, O: Observer>(run: &Run<'_, O>, tables: Tables<S>) -> Conn
     tables.into_connection()
 }
 
-/// Serves calls over adopted tables, and gives their connection back. `is_new` is reported.
+/// Serves calls over adopted tables, and returns their connection. The report has `is_new` as it is given.
 ///
 /// # Errors
 ///
-/// Where the database refuses a read of the volumes, which are to be copied into memory. No call is read.
+/// If the database refuses a read while the volumes are copied into memory. No call is read.
 pub(crate) fn serve_adopted<S: Alter + Drop, O: Observer, R: Read, W: Write>(
     run: &Run<'_, O>,
     tables: Tables<S>,

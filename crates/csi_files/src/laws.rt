@@ -17,9 +17,9 @@ pub fn found_again<D: Disk>(config: &Config)
     one_state();
 }
 
-/// A run of [`create_and_serve`](crate::Run::create_and_serve) over two files, whichever of its ends it has,
-/// is a run of a life of these files: a first one too, over files that hold no database yet. What is said is
-/// of each outcome of a crash after the run.
+/// A run of [`create_and_serve`](crate::Run::create_and_serve) over two files, with any of its ends, is a run
+/// of a life of these files. So is a first run, over files that hold no database yet. The law speaks of each
+/// outcome of a crash after the run.
 ///
 /// One end is left out: an opening that fails while it reads the schema, because memory is refused or a read
 /// fails. Nothing is written there (docs/THEOREMS.md, "From files to files").

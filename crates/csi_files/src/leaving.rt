@@ -13,8 +13,8 @@ use sqlite_trees::error::StoreError;
 use sqlite_trees::store::Store;
 use std::alloc::Global;
 
-/// The files of a connection, with no further input or output on them. What was committed may still be in the
-/// WAL alone; what was not committed is lost.
+/// The files of a connection, with no further input or output on them. The last commit may still be in the
+/// WAL alone; changes that were not committed are lost.
 ///
 /// The next opening finds a database that a stop at this moment may have left.
 pub fn leave<D: Disk + Drop>(conn: Connection<FileStore<D>>) -> Files<D>
@@ -23,8 +23,8 @@ pub fn leave<D: Disk + Drop>(conn: Connection<FileStore<D>>) -> Files<D>
     conn.into_store().close()
 }
 
-// As `leave`, and returns true if the store was open. A store that meets a fault shuts itself, and keeps what
-// was committed before.
+// As `leave`, and returns true if the store was open. A store that meets a fault shuts itself, and keeps the
+// last commit.
 fn leave_open<D: Disk + Drop>(conn: Connection<FileStore<D>>) -> (Files<D>, bool)
     ensures left { IsLeft D.Disk conn result.0 }
     ensures open { AreClean D.Disk result.0.log result.0.db → IsTrue result.1
@@ -41,7 +41,7 @@ fn leave_open<D: Disk + Drop>(conn: Connection<FileStore<D>>) -> (Files<D>, bool
 /// # Errors
 ///
 /// If a fault has shut the store, or the WAL is not copied to its end. The files are then as [`leave`] leaves
-/// them: what was committed is in the WAL, in the database file or in both.
+/// them: the last commit is in the WAL, in the database file or in both.
 pub(crate) fn close<D: Disk + Drop>(
     alloc: Global,
     conn: Connection<FileStore<D>>,

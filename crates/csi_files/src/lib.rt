@@ -6,25 +6,24 @@
 //! unless it is not to, serves calls, and closes the files. [`Run::adopt_and_serve`] is the same from an open
 //! connection on, and [`Run::serve_path`] is `create_and_serve` over the files at a path.
 //!
-//! `specs/Files.antt` says which State the bytes of two files have (`HasState`). It is the premise of a run
-//! and what a run leaves, so runs compose: the next run begins from what is left (`laws`), unless an opening
-//! fails while it reads the schema. `specs/Starting.antt` says from which files a first run may start
-//! (`MayStart`), and `specs/Serving.antt` what is left where the files are not closed. A stop is taken for a
-//! disk that freezes: what the clauses say of the outcomes of a crash of such a disk is what a stop there
-//! leaves.
+//! `specs/Files.antt` says which State the bytes of two files have (`HasState`). That is the premise of a run
+//! and its promise, so runs compose: the next run begins from the files that the last one left (`laws`),
+//! unless an opening fails while it reads the schema. `specs/Starting.antt` has the files that a first run
+//! may start from (`MayStart`), and `specs/Serving.antt` the files of a run that did not close them. A stop
+//! is taken for a disk that freezes: the outcomes of a crash of such a disk are the files that a stop leaves.
 //!
-//! `run.rt` has what a run works with, what it comes to and how it fails. `path.rt` goes from a path to
-//! files, `starting.rt` from files that may hold no database yet to a connection, `serving.rt` from a
-//! connection to closed files, and `adopted.rt` serves calls over the tables on a connection to any store.
-//! `making.rt` makes a database in files that hold none, and `reserve.rt` keeps memory for the next opening
-//! of tables; `leaving.rt` gives files up as they are or closes them, and `copying.rt` copies the WAL into
-//! the database file. `specs/Streams.antt` has what a run reads and writes.
+//! `run.rt` has the parts of a run, its report and its failures. `path.rt` goes from a path to files,
+//! `starting.rt` from files that may hold no database yet to a connection, `serving.rt` from a connection to
+//! closed files, and `adopted.rt` serves calls over the tables on a connection to any store. `making.rt`
+//! makes a database in files that hold none, and `reserve.rt` keeps memory for the next opening of tables;
+//! `leaving.rt` gives files up as they are or closes them, and `copying.rt` copies the WAL into the database
+//! file. `specs/Streams.antt` has the bytes that a run reads and writes.
 //!
-//! The lemmas go the same way: a run is seen through other models of its store (`RunLemmas`), as one over a
-//! copy in memory is (`ThroughLemmas`); files that are given up hold what the connection may have left
-//! (`LeaveLemmas`), as do those whose WAL is copied (`CopyLemmas`) and those that are not opened
-//! (`UnopenedLemmas`); the State of files is that of the tables on them (`FilesLemmas`); and files in which
-//! a database was made have the first State (`StartingLemmas`).
+//! The lemmas go the same way: a run is seen through other models of its store (`RunLemmas`), as a run over a
+//! copy in memory is (`ThroughLemmas`); files that are given up hold an outcome of the connection
+//! (`LeaveLemmas`), as do files whose WAL is copied (`CopyLemmas`) and files that are not opened
+//! (`UnopenedLemmas`); the State of files is the State of the tables on them (`FilesLemmas`); and files with
+//! a new database have the first State (`StartingLemmas`).
 //!
 //! ```rust
 //! let run = Run { alloc, config: &config, options, observer: &observer };

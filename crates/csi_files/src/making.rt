@@ -45,7 +45,7 @@ pub enum NotLaidOut {
     Failed(Error),
 }
 
-// Only the first page is written, so there is nothing to keep in memory.
+// Only the first page is written, so no page is kept in memory.
 fn options(seed: u64) -> Options {
     Options {
         cache_pages: 1,
@@ -105,7 +105,7 @@ fn make<D: Disk>(alloc: Global, pair: Files<D>, seed: u64) -> Result<Files<D>, (
     }
 }
 
-// What is seen of files by their lengths, so that nothing of a database is read or synced here.
+// The state of files by their lengths, so that no part of a database is read or synced here.
 #[derive(Clone, Copy)]
 enum Lengths {
     // The database file is longer than a page.
@@ -185,7 +185,7 @@ fn reads_torn<D: Disk>(file: &mut D, room: &mut [u8]) -> io::Result<bool>
     Ok(is_torn(room))
 }
 
-// The same of so many bytes.
+// As above, for a file of `len` bytes.
 fn has_torn<D: Disk>(alloc: Global, file: &mut D, len: usize) -> io::Result<bool>
     requires { IsTrue (D.Disk.is_usable file.old) }
     ensures value { IfOk result (λ is. IsTrue (D.Disk.is_clean file.new) → len ≡ length (D.Disk.seen file.old)
@@ -260,9 +260,9 @@ fn failed(error: io::Error) -> NotLaidOut
 ///
 /// # Errors
 ///
-/// Where the log of an empty file may have changes, the files cannot be read or written, or memory is
-/// refused. The files come back: unchanged in the first case, otherwise with what a stop might have left. No
-/// files are called corrupt: those that hold something else than a database are left to who opens them.
+/// If the log of an empty file may have changes, if the files cannot be read or written, or for want of
+/// memory. The files come back: unchanged in the first case, otherwise as a stop might have left them. No
+/// files are called corrupt: files that hold no database are left to the opening.
 pub fn lay_out<D: Disk>(
     alloc: Global,
     mut pair: Files<D>,

@@ -26,16 +26,20 @@ const BUSY: Error = Error::SqliteFailure(ErrorCode::DatabaseBusy);
 
 /// The files at a path.
 ///
-/// That these are the files at the path, and that nobody else writes to them, is trusted, as in
+/// It is trusted that these are the files at the path, and that no other program writes to them, as in
 /// `sqlite_std_file::open`.
 pub struct FilesAt<'a, S> {
     /// The operating system, which gives the files.
     pub rt: HostRuntime,
-    /// The path of the database file. Its WAL is next to it. SQLite takes `:memory:` and a URI for something
-    /// else than a file: neither is given.
+    /// The path of the database file. Its WAL is next to it. SQLite does not take `:memory:` or a URI for a
+    /// file: neither is opened.
     pub path: &'a str,
     /// What the files hold. The clauses of a run hold for any bytes.
     pub start: S,
+    /// The most pages of the database file that are kept in memory, of 1,024 bytes each. An opening looks
+    /// each row up in an index, in no order of pages: it reads a page again for nearly each row if fewer are
+    /// kept than the file has.
+    pub cache_pages: usize,
 }
 
 // How SQLite names why the operating system did not give the files.
@@ -50,8 +54,7 @@ fn open_error(cause: OpenError) -> Error
     }
 }
 
-// The files at a path, which are made where they are missing. SQLite takes `:memory:` and a URI for something
-// else than a file.
+// The files at a path. Missing files are made. SQLite does not take `:memory:` or a URI for a file.
 fn files_at<S: Start>(rt: &HostRuntime, path: &str, start: S) -> Result<Files<FileFrom<S>>, Error>
     ensures usable { IfOk result (λ files. IsTrue (file_is_usable S.Start files.log)
         × IsTrue (file_is_usable S.Start files.db)) }
@@ -67,13 +70,16 @@ fn files_at<S: Start>(rt: &HostRuntime, path: &str, start: S) -> Result<Files<Fi
     }
 }
 
-// How files are opened: with a seed drawn at random, which distinguishes the frames of a new WAL from
-// those of an old one.
-fn opening(rt: &HostRuntime) -> Result<Options, Error>
+// The options of an opening, with a seed that is drawn at random. It tells the frames of a new WAL from the
+// frames of an old one.
+fn opening(rt: &HostRuntime, cache_pages: usize) -> Result<Options, Error>
     ensures { IfErr result (λ e. e ≡ no_file_error NotSeeded) }
 {
     match RandomState::new(rt) {
-        Ok(state) => Ok(Options::new(state.hash_one(&0u8))),
+        Ok(state) => Ok(Options {
+            cache_pages,
+            ..Options::new(state.hash_one(&0u8))
+        }),
         Err(_) => Err(CANNOT_OPEN),
     }
 }
@@ -119,12 +125,17 @@ impl<O: Observer> Run<'_, O> {
             (streams (R.remaining reader.old) (R.remaining reader.new)
             (W.contents writer.old) (W.contents writer.new))) }
     {
-        let FilesAt { rt, path, start } = at;
+        let FilesAt {
+            rt,
+            path,
+            start,
+            cache_pages,
+        } = at;
         let files = match files_at(&rt, path, start) {
             Ok(files) => files,
             Err(error) => return Err(RunFailure::NoFiles(error)),
         };
-        match opening(&rt) {
+        match opening(&rt, cache_pages) {
             Ok(opening) => self.create_and_serve(files, opening, reader, writer),
             Err(error) => Err(RunFailure::NoFiles(error)),
         }

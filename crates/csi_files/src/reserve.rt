@@ -15,29 +15,28 @@ ghost use Rattle.csi_files.specs.Reserving.{AreBlocks, IsFull, blocks_for, cap_b
 
 use crate::run::Observer;
 use csi_keeper::{
-    Attachment, CapKey, Change, Keeper, Kind, Listed, PageFold, PageWithNodes, StoreFault, Usage,
-    Volume,
+    Attachment, CapKey, Change, Keeper, Kind, PageWithNodes, StoreFault, Usage, Volume,
 };
 use csi_tables::Tables;
 use csi_types::{Items, Text, map_bytes};
 use sqlite::Alter;
 use std::alloc::{AllocError, Global};
 
-// An opening reads each table whole. A row takes so many bytes then, and those of what is in it.
+// An opening reads each table whole. A row takes this number of bytes, and the bytes of its texts and blobs.
 const ROW_BYTES: usize = 256;
 
 // So does a capability, and the name of its file system.
 const CAP_BYTES: usize = 4;
 
-// Memory is kept in blocks of so many bytes.
+// Memory is held in blocks of this number of bytes.
 const BLOCK_BYTES: usize = 1 << 20;
 
-// So many blocks are left for calls where no more memory can be kept: for the pages that they read and write,
-// for their frames and for their replies.
+// The blocks that are left for calls once no more memory can be held: for the pages that they read and write,
+// their frames and their replies.
 const ROOM_BLOCKS: usize = 4;
 
-// Memory that is only held. The call is not inlined: otherwise a compiler may see that nobody uses it, and
-// take none.
+// A block of memory that is held and not used. The call is not inlined: a compiler may otherwise see that the
+// block is not used, and allocate none.
 #[inline(never)]
 fn held(alloc: Global, bytes: usize) -> Result<Vec<u8>, AllocError>
     ensures { IfOk result (λ block. bytes ≤ vec_capacity block) }
@@ -45,12 +44,12 @@ fn held(alloc: Global, bytes: usize) -> Result<Vec<u8>, AllocError>
     Vec::with_capacity(alloc, bytes)
 }
 
-/// Memory for calls, 4 MiB, which is there once this is dropped. It is held in blocks as long as the longest
-/// message, since memory that is free is seldom in one piece.
+/// Holds memory for calls, 4 MiB, until it is dropped. Each of its blocks is as large as the longest message,
+/// since free memory is seldom in one piece.
 ///
 /// # Errors
 ///
-/// Where there is no memory.
+/// For want of memory.
 #[tactic(auto, using(crate::proofs::ReserveLemmas::no_blocks, crate::proofs::ReserveLemmas::one_more))]
 pub(crate) fn room(alloc: Global) -> Result<Vec<Vec<u8>>, AllocError>
     ensures count { IfOk result (λ blocks. vec_len blocks ≡ 4) }
@@ -189,9 +188,9 @@ fn bytes_of(change: &Change) -> usize
     }
 }
 
-/// Tables, and memory for their next opening. A change that adds to them keeps memory for what it adds first,
-/// and is answered `NoMemory` where there is none, and not made; the tables are not down then. One that takes
-/// away keeps no memory.
+/// Tables, and memory for their next opening. A change that adds to the tables first holds memory for its
+/// rows. If there is no such memory, the change is answered `NoMemory` and not made, and the tables are not
+/// down. A change that removes rows holds no memory.
 ///
 /// Over tables that are copied into memory, a page is answered `NoMemory` where the observer has no room.
 #[derive(Drop)]
@@ -281,7 +280,8 @@ impl<'a, S: Alter, O: Observer> Reserved<'a, S, O> {
         has_room
     }
 
-    // Keeps memory for what a change adds. One that takes away is made also where less is kept than is to be.
+    // Holds memory for the rows that a change adds. A change that removes rows is made also if less memory is
+    // held than wanted.
     fn reserve_for(&mut self, change: &Change) -> Result<(), StoreFault>
         ensures unchanged { self.new.tables ≡ self.old.tables }
         ensures kept { OnOk result (0 < change_bytes change.now → is_down S.Store self.old.tables ≡ false
@@ -356,15 +356,6 @@ impl<S: Alter, O: Observer> Keeper for Reserved<'_, S, O> {
         self.tables.page(alloc, after, count)
     }
 
-    fn published_nodes(
-        &mut self,
-        alloc: Global,
-        after: u64,
-        count: u32,
-    ) -> Result<Items<Items<Text>>, StoreFault> {
-        self.tables.published_nodes(alloc, after, count)
-    }
-
     fn page_with_nodes(
         &mut self,
         alloc: Global,
@@ -375,15 +366,6 @@ impl<S: Alter, O: Observer> Keeper for Reserved<'_, S, O> {
             return Err(StoreFault::NoMemory);
         }
         self.tables.page_with_nodes(alloc, after, count)
-    }
-
-    fn listing(
-        &mut self,
-        alloc: Global,
-        after: u64,
-        count: u32,
-    ) -> Result<Items<Listed>, StoreFault> {
-        self.tables.listing(alloc, after, count)
     }
 
     fn apply(&mut self, alloc: Global, change: &Change) -> Result<(), StoreFault> {

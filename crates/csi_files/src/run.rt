@@ -1,4 +1,4 @@
-//! A run of calls over tables in files: what it works with, what it comes to, and how it fails.
+//! A run of calls over tables in files: its parts, its report, and its failures.
 
 ghost use Rattle.std.specs.Prelude.{◌≡◌, option_map};
 ghost use Rattle.csi_files.specs.Leaving.{files_of};
@@ -11,8 +11,8 @@ use sqlite::{Error, Files, Leftover};
 use sqlite_disk::Disk;
 use std::alloc::Global;
 
-/// Is called with what is done before the first call is answered, and with why calls were refused after
-/// the last one.
+/// Is told the steps of a run before the first call is answered, and after the last call why calls were
+/// refused.
 pub trait Observer {
     /// The database had no table, and new ones were made.
     fn made(&self);
@@ -31,8 +31,8 @@ pub trait Observer {
     /// tables grow. Without room the volumes are not copied, and a change that adds to the tables is refused
     /// for want of memory.
     ///
-    /// Memory that the system refuses by itself need not be counted. Memory that ends the process must be,
-    /// as by the limit of a control group on Linux.
+    /// Memory that the system refuses need not be counted. Memory that ends the process must be, as by the
+    /// limit of a control group on Linux.
     fn has_room(&self, opening: usize) -> bool;
 }
 
@@ -44,10 +44,10 @@ pub struct RunOptions {
     /// Whether each read is answered from the file. Otherwise the volumes are copied into memory, and reads
     /// are answered from there.
     pub is_low_memory: bool,
-    /// How many bytes of memory an opening of the tables takes, which reads each table whole. While reads
-    /// are answered from the file, they are held for the next opening, as far as there is memory, and what a
-    /// call adds is held in addition. The call is refused for want of memory where there is none for that, or
-    /// where the observer has no room.
+    /// The bytes of memory that an opening of the tables takes, since it reads each table whole. While reads
+    /// are answered from the file, this memory is held for the next opening, as far as there is memory, and
+    /// with each call the memory for the rows that it adds. A call is refused for want of memory if that
+    /// memory cannot be held, or if the observer has no room.
     pub reserve: usize,
 }
 
@@ -60,7 +60,7 @@ pub struct Run<'a, O> {
     pub config: &'a Config,
     /// How the calls are served.
     pub options: RunOptions,
-    /// Is called with what is done.
+    /// Is told the steps of the run.
     pub observer: &'a O,
 }
 
@@ -99,7 +99,7 @@ pub enum Refusal {
     NotCopied(StoreFault),
 }
 
-/// The stage in which a run over files failed: why, and what is left of the files.
+/// The stage at which a run over files failed, the error, and the files after that.
 pub enum RunFailure<D: Disk> {
     /// The operating system did not give the files at a path. No call was read.
     NoFiles(Error),
@@ -107,12 +107,11 @@ pub enum RunFailure<D: Disk> {
     NotOpened(Error, Leftover<D>),
     /// The database was refused. The files keep what they had. No call was read.
     Refused(Refusal, Files<D>),
-    /// Calls were served, and the store refused some: what the run came to. The WAL was copied into the
-    /// database file, if the disk and memory allowed it: what was committed is in the WAL, in the database
-    /// file or in both.
+    /// Calls were served, and the store refused some. The WAL was copied into the database file, if the disk
+    /// and memory allowed it: the committed changes are in the WAL, in the database file or in both.
     Left(RunReport, Files<D>),
-    /// Calls were served, and the WAL was not copied into the database file: what the run came to, and why.
-    /// What was committed is in the WAL, in the database file or in both.
+    /// Calls were served, and the WAL was not copied into the database file, for this error. The committed
+    /// changes are in the WAL, in the database file or in both.
     NotClosed(RunReport, Error, Files<D>),
 }
 
@@ -130,8 +129,8 @@ impl<D: Disk + Drop> Drop for RunFailure<D> {
 }
 
 impl<D: Disk + Drop> RunFailure<D> {
-    /// What is left of the files, with no further input or output on them. There are no files if the
-    /// operating system did not give them.
+    /// The files after the run, with no further input or output on them. `None` if the operating system did
+    /// not give them.
     pub fn into_files(self) -> Option<Files<D>>
         ensures { option_map (λ files. (files.log, files.db)) result ≡ files_of self }
     {

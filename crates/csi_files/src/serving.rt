@@ -25,8 +25,8 @@ use sqlite_disk::Disk;
 use std::alloc::Global;
 use std::io::{Read, Write};
 
-// Closes the connection to files over which calls were served. If the store refused some, it does not matter
-// whether the WAL is copied.
+// Closes the connection to files after calls. If the store refused some, it does not matter whether the WAL
+// is copied.
 fn finish<D: Disk + Drop>(
     alloc: Global,
     report: RunReport,

@@ -1,4 +1,4 @@
-//! Calls over two files, of which a database is made first where they hold none.
+//! Calls over two files. A database is made first if they hold none.
 
 ghost use Rattle.std.specs.Prelude.{◌≡◌, false, IfErr, IfOk, IsTrue};
 ghost use Rattle.sqlite_wal.specs.Reads.{AreClean};
@@ -38,7 +38,7 @@ fn code_of(why: NotLaidOut, fault: StoreError) -> ErrorCode
     }
 }
 
-// Files in which a database is made where they hold none yet. An error has a name of SQLite's.
+// Makes a database in files that hold none yet. An error has a name of SQLite's.
 fn made<D: Disk + Drop>(
     alloc: Global,
     files: Files<D>,
@@ -63,32 +63,32 @@ impl<O: Observer> Run<'_, O> {
     /// Serves the volume machine over a database file and its WAL: makes a database where they hold none yet,
     /// opens them, adopts their tables, serves calls, and closes the files.
     ///
-    /// For each State that the files have before (`HasState`), what is read and written, how the run ends and
-    /// what it counts is said by the table of ends of `csi_server::serve`, and the files have the State after
-    /// the calls. A first run starts from the first State, also after a stop in the middle of the making
-    /// (`MayStart`). Files without a table get new ones, and the first State, unless the options refuse them.
-    /// Where memory has no room for a copy of the volumes, reads are answered from the file.
+    /// For each State that the files have before (`HasState`), the table of ends of `csi_server::serve` says
+    /// which bytes are read and written, how the run ends and which calls it counts; the files then have the
+    /// State after the calls. A first run starts from the first State, also after a stop in the middle of the
+    /// making (`MayStart`). Files without a table get new ones, and the first State, unless the options
+    /// refuse them. If memory has no room for a copy of the volumes, reads are answered from the file.
     ///
-    /// All of that is promised while the disks return what was written to them (`AreClean`). Over any disk
-    /// the calls that were read have their replies, in order (`writes`), and after `Ok` the store has refused
-    /// none.
+    /// All of that is promised while the disks return the bytes that were written to them (`AreClean`). Over
+    /// any disk the calls that were read have their replies, in order (`writes`), and after `Ok` the store
+    /// has refused none.
     ///
     /// # Errors
     ///
     /// `NotOpened` and `Refused`: the next run starts as this one would have, and nothing is read or written.
-    /// `Left`, where the store refused a call, and `NotClosed`, where the WAL was not copied into the
-    /// database file: the run is as said above, and what is left has the State after the calls, or the one
-    /// that a refused call would have made.
+    /// `Left`, if the store refused a call, and `NotClosed`, if the WAL was not copied into the database
+    /// file: the run is as above, and the files have the State after the calls, or the State that a refused
+    /// call would have made.
     ///
     /// # Not promised
     ///
-    /// That the disk returns what was written. That memory is there, and so that a run answers `Ok`:
-    /// tests rule out a body that always answers `NotOpened`. That a run is copied unless it is not to
-    /// be or memory was refused.
+    /// That the disk returns the bytes that were written. That memory is there, and so that a run answers
+    /// `Ok`: tests rule out a body that always answers `NotOpened`. That the volumes are copied into memory
+    /// if memory allows it.
     ///
-    /// What a stop leaves of the repair of a file in which an earlier release was stopped, and that a file
-    /// that was left half made is never refused for its WAL: rows show both. If an opening fails while it
-    /// reads the schema, the clauses speak of the trees that the store reads, and not of bytes.
+    /// The files after a stop in the repair of a file in which an earlier release was stopped, and that a
+    /// file that was left half made is never refused for its WAL: rows show both. If an opening fails while
+    /// it reads the schema, the clauses speak of the trees that the store reads, and not of bytes.
     pub fn create_and_serve<D: Disk + Drop, R: Read, W: Write>(
         &self,
         files: Files<D>,

@@ -30,7 +30,7 @@ kind_cmp (Mount t) (Mount u) = text_cmp t u
 abbrev pub key_cmp : CapKey → CapKey → Ordering
 key_cmp a b = ordering_then (kind_cmp a.kind b.kind) (nat_cmp a.mode b.mode)
 
--- the keys rise, so none is there twice
+-- the keys rise, so no key is there twice
 abbrev pub AreOrdered : List CapKey → Type 0
 AreOrdered keys = IsStrictlySortedBy key_cmp keys
 

@@ -1,4 +1,4 @@
--- What a call makes of a keeper's count of refusals, and what it is answered.
+-- A keeper's count of refusals after a call, and the answer to the call.
 use Rattle.std.specs.Prelude.{◌≡◌, ◌≢◌, ◌↔◌, IsTrue, OnErr, Result, Ok, Err}
 use Rattle.csi_keeper.specs.Keeper.{count_after}
 use Rattle.csi_keeper.specs.declared.change.StoreFault.{StoreFault}
@@ -12,7 +12,7 @@ answered (Err NoMemory) = Err NoMemory
 answered (Err Refused) = Err Refused
 answered (Err Down) = Err Refused
 
--- A call starts: it is answered `Down` where the keeper is down, and nowhere else, and that is counted.
+-- A call starts. It is answered `Down` exactly if the keeper is down, and that is counted.
 pub record Starts (old new : Health) (result : Result (Unit {0}) StoreFault) : Type 0 where
   pub down : (result ≡ Err Down) ↔ IsTrue old.is_down
   pub fault : OnErr result (result ≡ Err Down)

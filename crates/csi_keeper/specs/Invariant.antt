@@ -1,4 +1,4 @@
--- What is so of each State that the machine reaches.
+-- The invariant of each State that the machine reaches.
 use Rattle.std.specs.Prelude.{◌≡◌, ℕ, ◌<◌, ◌≤◌, true, List, Some, None, IsSome, length, sum}
 use Rattle.std.specs.FinMap.{get, len}
 use Rattle.std.specs.List.{list_all}

@@ -1,4 +1,4 @@
--- What a call of a keeper does, by what is seen of the keeper before it and after it.
+-- The calls of a keeper, by its model before the call and after it.
 use Rattle.std.specs.Prelude.{◌≡◌, ◌↔◌, IsTrue, IfOk, ◌⊎◌, ℕ, ◌+◌, ◌-◌, ◌^◌, ◌≤◌, min, Result, Ok, Err}
 use Rattle.csi_keeper.specs.Model.{Model}
 use Rattle.csi_keeper.specs.State.{State, changed, Allows}
@@ -22,7 +22,7 @@ module _ (old new : Model State) where
     pub ties : new.doubt ≡ 0 → old.tied → new.tied
     pub down : new.is_down ≡ old.is_down
 
-  -- what a read answers is so of each State that the keeper may have
+  -- the answer to a read holds for each State that the keeper may have
   abbrev pub Tells : (State → Type 0) → Type 0
   Tells P = new.doubt ≡ 0 → (s : State) → old.holds s → P s
 
@@ -48,16 +48,15 @@ Changes old new change (Err NoMemory) = Fails old new change
 Changes old new change (Err Refused) = Fails old new change
 Changes old new change (Err Down) = IsQuiet old new
 
--- A read: what it answers is so of each State, nothing moves, a refusal is counted, and that the keeper is
--- down is reported where it is, and nowhere else.
+-- A read: its answer holds for each State, nothing moves, a refusal is counted, and `Down` is answered
+-- exactly if the keeper is down.
 pub record Reads {X : Type 0} (old new : Model State) (result : Result X StoreFault) (IsSo : State → X → Type 0) : Type 0 where
   pub value : IfOk result (λ x. Tells old new (λ s. IsSo s x))
   pub quiet : IsQuiet old new
   pub count : new.refusals ≡ count_after old.refusals result
   pub down : (result ≡ Err Down) ↔ IsTrue old.is_down
 
--- A change: it is made or fails, a refusal is counted, and that the keeper is down is reported where it is,
--- and nowhere else.
+-- A change: it is made or fails, a refusal is counted, and `Down` is answered exactly if the keeper is down.
 pub record Applies {X : Type 0} (old new : Model State) (change : Change) (result : Result X StoreFault) : Type 0 where
   pub changes : Changes old new change result
   pub count : new.refusals ≡ count_after old.refusals result

@@ -4,7 +4,7 @@ use Rattle.std.specs.Prelude.{ℕ, Bool}
 pub record Model (S : Type 0) : Type 1 where
   -- the states that it may have
   pub holds : S → Type 0
-  -- 0 while what it is over has answered what was written
+  -- 0 while the disk or store below has returned the bytes that were written to it
   pub doubt : ℕ
   -- how many calls were refused, up to 2 ^ 64 - 1
   pub refusals : ℕ

@@ -1,4 +1,4 @@
--- The State of the volume machine, what is read of it, and what a change makes of it.
+-- The State of the volume machine, the reads of it, and the changes.
 use Rattle.std.specs.Prelude.{◌≡◌, ℕ, ◌+◌, ◌-◌, ◌^◌, ◌<◌, ◌≤◌, ◌==◌, not, min, nat_lt, List, [], Option, None, Some, IsSome, map, filter, find, take}
 use Rattle.std.specs.Prelude.{sum, length, bytes_eq, ⊤}
 use Rattle.std.specs.declared.cmp.Ordering.{Ordering}
@@ -76,7 +76,7 @@ page s after count = take count (beyond s after)
 abbrev pub published : State → ℕ → List Text
 published s number = map (λ a. a.node) (attached s number)
 
--- those of each volume of a page
+-- the nodes of each volume of a page
 abbrev pub published_of_page : State → ℕ → ℕ → List (List Text)
 published_of_page s after count = map (λ v. published s v.number) (page s after count)
 
@@ -108,7 +108,7 @@ Allows s (Detach n node) = ⊤
 Allows s (DetachAll n) = ⊤
 Allows s (SetMutable n m) = IsSome (get s.volumes n)
 
--- what is asked of the caller
+-- the bounds that a caller must keep
 abbrev pub IsBounded : Change → Type 0
 IsBounded (AddVolume v) = (v.number < 2 ^ 62) × (v.bytes ≤ 2 ^ 62) × AreOrdered v.caps
 IsBounded (RemoveVolume n) = ⊤

@@ -18,7 +18,7 @@ abbrev pub or_zero : Option Total → Total
 or_zero None = zero_total
 or_zero (Some t) = t
 
--- the total among entries; none is 0
+-- the total of a pool among entries; 0 if it has none
 abbrev pub total_at : List (Text × Total) → Text → Total
 total_at es pool = or_zero (lookup (is_at (text_cmp pool)) es)
 
@@ -46,6 +46,6 @@ told t = record { volumes = up_to_u64 t.volumes; bytes = up_to_u64 t.bytes }
 abbrev pub IsReserved : Totals → Text → Type 0
 IsReserved t pool = (n : Total) × (lookup (is_at (text_cmp pool)) t.tree.entries ≡ Some n)
 
--- what is kept of each pool is what its volumes sum to
+-- the total kept for each pool is the sum over its volumes
 abbrev pub AreTotals : Totals → State → Type 0
 AreTotals t s = (pool : Text) → total_of t pool ≡ the_total (length (sizes s pool)) (sum (sizes s pool))

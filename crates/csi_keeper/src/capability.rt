@@ -122,7 +122,7 @@ fn wider_mode(mode: u8) -> Option<u8>
     }
 }
 
-/// The kind of a key with the wider mode, if there is one: one that has it has the key too.
+/// The key with the wider mode, if its kind has one. A volume with the wider key has the key too.
 pub fn wider_key(key: CapKey) -> Option<CapKey>
     ensures { result ≡ wider_key key }
 {
@@ -164,8 +164,8 @@ pub fn has_key(keys: &[CapKey], key: &CapKey) -> bool
     has_same(keys, key) || has_wider(keys, key)
 }
 
-/// Whether a volume can be made for the key: block with each known mode, mount with those in which
-/// no node writes while others have the volume (CSI specification, 'CreateVolume').
+/// Returns true if a volume can be made for the key: block with each known mode, mount with the modes that
+/// let no node write while others have the volume (CSI specification, 'CreateVolume').
 pub fn supported(key: &CapKey) -> bool
     ensures { result ≡ is_supported_key key.now }
 {

@@ -1,4 +1,4 @@
-//! How what is kept changes, what is reported of it, and why a call fails.
+//! Changes of the State, the usage of a pool, and the faults of a call.
 
 ghost use Rattle.std.specs.Prelude.{◌≡◌, ◌≢◌, IfErr, IfOk};
 ghost use Rattle.csi_keeper.specs.declared.change.Change.TheVariants.{AddVolume};

@@ -1,4 +1,4 @@
-//! Copies of what is kept.
+//! Copies of volumes, attachments and keys.
 
 ghost use Rattle.std.specs.Prelude.{◌≡◌, IfOk};
 

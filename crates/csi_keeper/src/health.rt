@@ -9,7 +9,7 @@ use crate::change::StoreFault;
 
 /// Whether a keeper is down, and how many of its calls were refused.
 ///
-/// A keeper starts each call here, does what was asked, and finishes the call with the answer.
+/// A keeper starts each call here, does its work, and finishes the call with the answer.
 ///
 /// ```rust
 /// self.health.start_call()?;
@@ -57,12 +57,12 @@ impl Health {
         Ok(())
     }
 
-    /// Finishes a read with what was answered. It leaves the keeper up.
+    /// Finishes a read with its answer. It leaves the keeper up.
     ///
     /// # Errors
     ///
-    /// The fault of the answer, where `Refused` is counted. This keeper is not down, so a `Down` from what it
-    /// is over is a refusal.
+    /// The fault of the answer, with `Refused` counted. This keeper is not down, so a `Down` from the keeper
+    /// below is a refusal.
     pub fn finish_call<T>(&mut self, answer: Result<T, StoreFault>) -> Result<T, StoreFault>
         ensures { Finishes self.old self.new answer result }
     {
@@ -76,7 +76,7 @@ impl Health {
         }
     }
 
-    /// Finishes a change with what was answered. After any fault, also want of memory, the keeper is down.
+    /// Finishes a change with its answer. After any fault, also want of memory, the keeper is down.
     ///
     /// # Errors
     ///

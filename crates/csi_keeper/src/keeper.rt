@@ -3,14 +3,14 @@
 ghost use Rattle.std.specs.Prelude.{◌≡◌, is_some};
 ghost use Rattle.std.specs.FinMap.{get};
 ghost use Rattle.std.specs.Option.{option_map};
-ghost use Rattle.csi_keeper.specs.State.{State, IsBounded, named, used, sizes, attached, attached_at, count_at, page, published_of_page};
+ghost use Rattle.csi_keeper.specs.State.{State, IsBounded, named, used, sizes, attached, attached_at, count_at, page};
 ghost use Rattle.csi_keeper.specs.Listing.{IsPageWithNodes, listing};
 ghost use Rattle.csi_keeper.specs.Keeper.{Applies, Reads};
 ghost use Rattle.csi_keeper.specs.Model.{Model};
 
 use crate::capability::CapKey;
 use crate::change::{Change, StoreFault, Usage};
-use crate::listed::{Listed, PageWithNodes, listed_each};
+use crate::listed::{PageWithNodes, listed_each};
 use crate::page::{PageFold, fold_listed};
 use crate::volume::{Attachment, Volume};
 use csi_types::{Items, Text};
@@ -24,12 +24,11 @@ use std::alloc::Global;
 /// down each call but `refusals` is answered `Down`, and nothing moves; no call is answered so
 /// otherwise.
 ///
-/// A keeper may be over something that answers other than it was written to, as a broken disk
-/// does. What is promised of the State is promised while that has not been seen: while `doubt`,
-/// which never falls, is 0.
+/// A keeper may be over a disk that returns other bytes than were written to it. The promises about the State
+/// hold while no such bytes were seen: while `doubt`, which never falls, is 0.
 ///
-/// Any call but `refusals` may be answered `NoMemory` or `Refused`; the State stays then. What is
-/// answered belongs to the caller.
+/// Any call but `refusals` may be answered `NoMemory` or `Refused`; the State stays then. An answer belongs
+/// to the caller.
 ///
 /// # Not promised
 ///
@@ -51,22 +50,22 @@ pub trait Keeper {
     fn next_number(&mut self) -> Result<u64, StoreFault>
         ensures { Reads (model self.old) (model self.new) result (λ s n. n ≡ s.next) };
 
-    /// The volume of a name, byte for byte; `None` where there is none.
+    /// The volume of a name, byte for byte; `None` if no volume has it.
     fn by_name(&mut self, alloc: Global, name: &str) -> Result<Option<Volume>, StoreFault>
         ensures { Reads (model self.old) (model self.new) result (λ s v. v ≡ named s name.now) };
 
-    /// The volume of a number; `None` where there is none.
+    /// The volume of a number; `None` if no volume has it.
     fn by_number(&mut self, alloc: Global, number: u64) -> Result<Option<Volume>, StoreFault>
         ensures { Reads (model self.old) (model self.new) result (λ s v. v ≡ get s.volumes number) };
 
-    /// Whether a volume has a number. Nothing of the volume is copied, so that a volume can be deleted where
-    /// there is no memory for a copy of it.
+    /// Returns true if a volume has this number. The volume is not copied, so that it can be deleted without
+    /// memory for a copy.
     fn has_volume(&mut self, number: u64) -> Result<bool, StoreFault>
         ensures { Reads (model self.old) (model self.new) result
             (λ s has. has ≡ is_some (get s.volumes number)) };
 
-    /// The capability keys of the volume of a number; `None` where there is none. It costs no more than
-    /// `by_number`, and less where a keeper need not copy the rest of the volume.
+    /// The capability keys of the volume of a number; `None` if no volume has it. It costs no more than
+    /// `by_number`, and less if a keeper need not copy the rest of the volume.
     fn caps_of(&mut self, alloc: Global, number: u64) -> Result<Option<Items<CapKey>>, StoreFault>
         ensures { Reads (model self.old) (model self.new) result
             (λ s keys. keys ≡ option_map (λ v. v.caps) (get s.volumes number)) }
@@ -112,49 +111,18 @@ pub trait Keeper {
     fn page(&mut self, alloc: Global, after: u64, count: u32) -> Result<Items<Volume>, StoreFault>
         ensures { Reads (model self.old) (model self.new) result (λ s xs. xs ≡ page s after count) };
 
-    /// The nodes that each volume of a page is published at, in byte order of their ids: the page of
-    /// `page`, volume by volume (CSI 1.x, `ListVolumesResponse.VolumeStatus.published_node_ids`). It
-    /// is one read for the whole page.
-    fn published_nodes(
-        &mut self,
-        alloc: Global,
-        after: u64,
-        count: u32,
-    ) -> Result<Items<Items<Text>>, StoreFault>
-        ensures { Reads (model self.old) (model self.new) result
-            (λ s xs. xs ≡ published_of_page s after count) };
-
-    /// The page of `page`, and the nodes of `published_nodes`. It costs no more than both, and less where a
-    /// keeper finds both by one search.
+    /// The volumes of `page`, and the ids of the nodes that each is published at, in byte order (CSI 1.x,
+    /// `ListVolumesResponse.VolumeStatus.published_node_ids`). It is one read for the whole page.
     fn page_with_nodes(
         &mut self,
         alloc: Global,
         after: u64,
         count: u32,
     ) -> Result<PageWithNodes, StoreFault>
-        ensures { Reads (model self.old) (model self.new) result (λ s p. IsPageWithNodes s after count p) }
-    {
-        let volumes = self.page(alloc, after, count)?;
-        let nodes = self.published_nodes(alloc, after, count)?;
-        Ok(PageWithNodes { volumes, nodes })
-    }
+        ensures { Reads (model self.old) (model self.new) result (λ s p. IsPageWithNodes s after count p) };
 
-    /// What a listing reports of the volumes of a page, and of the nodes of each. It costs no more than
-    /// `page_with_nodes`, and less where a keeper has the parts at hand.
-    fn listing(
-        &mut self,
-        alloc: Global,
-        after: u64,
-        count: u32,
-    ) -> Result<Items<Listed>, StoreFault>
-        ensures { Reads (model self.old) (model self.new) result (λ s xs. xs ≡ listing s after count) }
-    {
-        let PageWithNodes { volumes, nodes } = self.page_with_nodes(alloc, after, count)?;
-        Ok(listed_each(alloc, volumes.as_slice(), nodes)?)
-    }
-
-    /// Folds what `listing` reports, volume by volume. It costs no more, and less where a keeper has no need
-    /// of the list.
+    /// Gives a fold each volume of `page_with_nodes` with its nodes, as a listing reports them. It costs no
+    /// more than `page_with_nodes`, and less if a keeper can pass references.
     ///
     /// After an error the fold has taken some of the volumes.
     fn fold_page<F: PageFold>(
@@ -168,7 +136,8 @@ pub trait Keeper {
             (λ s _. F.folds fold.old (listing s after count) fold.new) }
         ensures kept { F.keeps fold.old fold.new }
     {
-        let listed = self.listing(alloc, after, count)?;
+        let PageWithNodes { volumes, nodes } = self.page_with_nodes(alloc, after, count)?;
+        let listed = listed_each(alloc, volumes.as_slice(), nodes)?;
         Ok(fold_listed(listed.as_slice(), fold)?)
     }
 

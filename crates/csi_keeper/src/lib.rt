@@ -1,17 +1,16 @@
-//! What is kept of volumes: the State, how it changes, and what keeps it.
+//! The State of volumes, its changes, and the trait of the stores that keep it.
 //!
-//! `specs/State.antt` is the State of volumes as finite maps, what is read of it as filters of their entries,
-//! and what each change makes of it; `specs/Invariant.antt` is what is so of each State that the machine
-//! comes to; `specs/Keeper.antt` says what a call of a keeper does to what contracts see of it.
-//! docs/MACHINE.md says them in prose. `specs/facts/` has what follows from these definitions and is wanted
-//! above as well: sums over a pool after a change, the orders of the maps, what a chain of reads leaves, what
-//! supported keys have.
+//! `specs/State.antt` has the State of volumes as finite maps, its reads as filters of their entries, and its
+//! changes; `specs/Invariant.antt` has the invariant of each State that the machine reaches;
+//! `specs/Keeper.antt` has the effect of each call on the model of a keeper. docs/MACHINE.md says them in
+//! prose. `specs/facts/` has facts about these definitions that crates above use too: sums over a pool after
+//! a change, the orders of the maps, chains of reads, supported keys.
 //!
-//! The trait [`Keeper`] is all that the step of requests uses. What keepers share is here too:
-//! the running totals of pools, [`Totals`], copies of what is kept ([`copy_volume`], [`copy_attachment`]),
-//! the count of refusals with whether a keeper is down ([`Health`]), what a listing says of a volume
-//! ([`listed_at`], [`listed_each`]), and what is made of that, volume by volume ([`PageFold`]). The keepers
-//! are in crates above: `csi_memory` in memory, `csi_tables` in SQLite, `csi_through` over two.
+//! The step of requests uses only the trait [`Keeper`]. This crate also has the parts that keepers share: the
+//! running totals of pools, [`Totals`], copies of volumes and attachments ([`copy_volume`],
+//! [`copy_attachment`]), the count of refusals with the state of a keeper that is down ([`Health`]), the
+//! entries of a listing ([`listed_at`], [`listed_each`]), and folds over them ([`PageFold`]). The keepers are
+//! in crates above: `csi_memory` in memory, `csi_tables` in SQLite, `csi_through` over two.
 //!
 //! ```rust
 //! let number = keeper.next_number()?;

@@ -57,7 +57,7 @@ pub struct PageWithNodes {
     pub nodes: Items<Items<Text>>,
 }
 
-/// What is reported of a volume that is published at these nodes.
+/// The entry of a volume that is published at these nodes.
 ///
 /// # Errors
 ///
@@ -74,7 +74,7 @@ pub fn listed_at(alloc: Global, volume: &Volume, nodes: Items<Text>) -> Result<L
     })
 }
 
-/// What is reported of volumes and the nodes of each, of as many as there are of both.
+/// The entries of volumes and the nodes of each. It ends with the shorter of the two lists.
 ///
 /// # Errors
 ///

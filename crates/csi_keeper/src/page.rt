@@ -7,15 +7,15 @@ ghost use Rattle.csi_keeper.specs.declared.listed.Listed.{Listed as Told};
 use crate::listed::{Listed, ListedRow};
 use std::alloc::AllocError;
 
-/// What is made of what a listing says of volumes, one by one in order.
+/// A fold over the entries of a listing, one by one in order.
 pub trait PageFold {
-    /// What a fold becomes over what is listed of volumes, in their order.
+    /// The fold after the entries of volumes, in their order.
     ghost folds: { Self → List Told → Self → Type 0 };
 
     /// What stays of a fold also where it fails.
     ghost keeps: { Self → Self → Type 0 };
 
-    /// Takes what is reported of the next volume.
+    /// Takes the entry of the next volume.
     ///
     /// # Errors
     ///
@@ -25,14 +25,14 @@ pub trait PageFold {
             → folds first (rows ++ row_told row.now ∷ []) self.new) }
         ensures kept { (first : Self) → keeps first self.old → keeps first self.new };
 
-    /// Over no volume a fold stays what it is.
+    /// A fold over no volume does not change.
     ghost starts: { (fold : Self) → folds fold [] fold };
 
     /// All of a fold stays where it takes none.
     ghost stays: { (fold : Self) → keeps fold fold };
 }
 
-/// Folds what is reported of volumes.
+/// Folds the entries of volumes.
 ///
 /// # Errors
 ///

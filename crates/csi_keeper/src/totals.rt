@@ -18,7 +18,7 @@ pub struct Total {
     pub bytes: u128,
 }
 
-/// The total of each pool. A pool that was never named has none of either.
+/// The total of each pool. The total of a pool that was never named is 0 volumes and 0 bytes.
 ///
 /// A keeper of volumes has one in addition to its rows, so that what a pool has used is found in O(log n) for
 /// n pools. An entry stays for each pool that a volume was ever added to.

@@ -18,9 +18,8 @@ pub struct Volume {
     pub caps: Items<CapKey>,
     /// The parameters that it was created with (`CreateVolumeRequest.parameters`).
     pub params: Map,
-    /// The parameters that can be changed while it exists
-    /// (`CreateVolumeRequest.mutable_parameters`, and those of `ControllerModifyVolumeRequest` laid
-    /// over them).
+    /// The parameters that can be changed while the volume exists (`CreateVolumeRequest.mutable_parameters`,
+    /// overwritten by `ControllerModifyVolumeRequest.mutable_parameters`).
     pub mutable: Map,
 }
 

@@ -28,8 +28,9 @@ abbrev pub state_after : State → State → Result Verdict StoreFault → State
 state_after s t (Ok v) = t
 state_after s t (Err e) = s
 
--- What a stop may leave: after an answer that moved the State only the new one, after one that did not only
--- what it might before; where memory or the store refused, also the State that the request would have made.
+-- The survivors of a call: after an answer that moved the State only the new State; after an answer that did
+-- not, only the old survivors; after a refusal of memory or the store also the State that the request would
+-- have made.
 abbrev pub Leaves : (State → Type 0) → (State → Type 0) → State → State → Result Verdict StoreFault → Type 0
 Leaves old new s t (Ok v) = ((t ≡ s) × ((u : State) → new u → old u)) ⊎ ((u : State) → new u → u ≡ t)
 Leaves old new s t (Err NoMemory) = (u : State) → new u → old u ⊎ (u ≡ t)
@@ -54,20 +55,19 @@ pub record Answered (config : Config) (plan : State → Plan) (old new : Model S
   pub same : OnErr result (Promises config old new (λ s. new.holds s))
   -- a fault of the keeper is counted
   pub count : new.refusals ≡ count_after old.refusals result
-  -- a survivor is an old one, or the State with the change, where there is one
+  -- a survivor is an old one, or the State with the change, if the plan has a change
   pub crash : Promises config old new (λ s. (t : State) → new.survivors t → old.survivors t ⊎ (IsSome (plan s).change × (t ≡ after s (plan s).change)))
   pub idle : result ≡ Err Down → new.doubt ≡ 0 → (t : State) → new.survivors t → old.survivors t
   pub settled : OnOk result (Promises config old new (λ s. IsSome (plan s).change → (t : State) → new.survivors t → t ≡ after s (plan s).change))
   -- for a plan that changes nothing the keeper is only read
   pub quiet : Promises config old new (λ s. (plan s).change ≡ None → IsQuiet old new)
   pub ties : Promises config old new (λ s. old.tied → new.tied)
-  -- over a keeper that is down nothing is answered but what is so of each State
+  -- a keeper that is down allows only answers that hold for each State
   pub down : TellsDown old.is_down (λ v. (s : State) → (v ≡ verdict_of (plan s).outcome) × (now ≡ out ++ body_of (plan s).outcome)
       × ((plan s).change ≡ None)) result
   pub stays : old.is_down ≡ true → new.is_down ≡ true
 
--- it is so of each State that allows the plan's change and that the keeper may have had, where nothing is in
--- doubt
+-- the promise for each State that allows the plan's change and that the keeper may have had, while doubt is 0
 abbrev pub Allowed : Plan → Model State → Model State → (State → Type 0) → Type 0
 Allowed plan old new P = new.doubt ≡ 0 → (s : State) → old.holds s → IfSome plan.change (Allows s) → P s
 
@@ -81,14 +81,14 @@ pub record Carries (plan : Plan) (old new : Model State) (result : Result Verdic
   pub crash : Allowed plan old new (λ s. (t : State) → new.survivors t → old.survivors t ⊎ (IsSome plan.change × (t ≡ after s plan.change)))
   pub idle : result ≡ Err Down → new.doubt ≡ 0 → (t : State) → new.survivors t → old.survivors t
   pub settled : OnOk result (Allowed plan old new (λ s. IsSome plan.change → (t : State) → new.survivors t → t ≡ after s plan.change))
-  -- one that changes nothing asks nothing of the keeper
+  -- a plan without a change only reads the keeper
   pub quiet : plan.change ≡ None → IsQuiet old new
   pub alone : plan.change ≡ None → IfErr result (λ e. e ≡ NoMemory)
   pub ties : Allowed plan old new (λ s. old.tied → new.tied)
   pub down : TellsDown old.is_down (λ v. plan.change ≡ None) result
   pub stays : old.is_down ≡ true → new.is_down ≡ true
 
--- A request is performed: its body is appended, what is reported and the State after it are those of one step
+-- A request is performed: its body is appended, the report and the State after it are the result of one step
 -- of the machine, and a fault of the keeper is counted and leaves the State.
 pub record Performs (config : Config) (request : Request) (old new : Model State) (out now : List ℕ) (result : Result Verdict StoreFault) : Type 0 where
   pub clean : old.doubt ≤ new.doubt

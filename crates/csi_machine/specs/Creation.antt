@@ -1,4 +1,4 @@
--- What is done about a create, as a plan.
+-- The outcome of a create, as a plan.
 use Rattle.std.specs.Prelude.{Some}
 use Rattle.csi_types.specs.declared.responses.Response.TheVariants as response
 use Rattle.csi_keeper.specs.declared.change.Change.TheVariants.{AddVolume}

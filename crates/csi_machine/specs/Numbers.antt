@@ -4,8 +4,8 @@ use Rattle.std.specs.FinMap.{get}
 use Rattle.csi_keeper.specs.State.{State, with_mutable}
 use Rattle.csi_keeper.specs.declared.volume.Volume.{Volume}
 
--- The next number is no smaller. A number before it that no volume has is no volume's later. A number of a
--- volume before and after is of one volume, of which only the mutable parameters may have changed.
+-- The next number is no smaller. A number below it that no volume has is never given again. If a number has a
+-- volume before and after, it is the same volume, with other mutable parameters at most.
 pub record NumbersRise (s t : State) : Type 0 where
   pub next : s.next ≤ t.next
   pub gone : (n : ℕ) → n < s.next → get s.volumes n ≡ None → get t.volumes n ≡ None

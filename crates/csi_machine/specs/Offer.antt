@@ -14,7 +14,7 @@ use Rattle.csi_keeper.specs.Texts.{Text}
 use Rattle.csi_rules.specs.Size.{size}
 use Rattle.csi_rules.specs.Topology.{terms}
 
--- the topology of a GetCapacity as a term; none is the empty one
+-- the topology of a GetCapacity as a term; without a topology the empty term
 abbrev pub term_of : Option TextMap → TextMap
 term_of None = empty
 term_of (Some t) = t
@@ -23,8 +23,8 @@ term_of (Some t) = t
 abbrev pub exactly : ℕ → CapacityRange
 exactly n = record { required = pos n; limit = pos n }
 
--- the size of the range that is asked for is this one, as that of `exactly` it is, and the topology is one of
--- the terms
+-- the requested range has exactly this size, as the range of `exactly` has, and the topology is one of the
+-- terms
 pub record AsksFor (config : Config) (r : CreateVolume) (topology : Option TextMap) (n : ℕ) : Type 0 where
   pub sized : size config.sizes r.range ≡ Some n
   pub term : Has (terms r.topology) (term_of topology)

@@ -27,7 +27,7 @@ is_any (row ∷ rows) = true
 abbrev pub token_when : ℕ → Bool → Text
 token_when last is_more = if is_more then decimal last else []
 
--- the body of the page after a number, of at most so many volumes, is after other bytes
+-- after the bytes `before` comes the body of the page after this number, with at most `count` volumes
 abbrev pub IsPage : Config → State → ℕ → ℕ → List ℕ → List ℕ → Type 0
 IsPage config s after most old new =
     new ≡ old ++ response_bytes (response.List (map (entry_of config s) (listed s after most))

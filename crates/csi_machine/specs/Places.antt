@@ -17,7 +17,7 @@ pub record IsPlaced (config : Config) (place : PoolPlacement) : Type 0 where
 abbrev pub ArePlaced : Config → List PoolPlacement → Type 0
 ArePlaced config places = AllByRecursion (IsPlaced config) places
 
--- what is answered of a volume, by what a listing says of it
+-- the entry of a volume, by the fields that a listing has of it
 abbrev pub entry_at : Config → Listed → Entry
 entry_at config row = record {
   volume = Some (record {

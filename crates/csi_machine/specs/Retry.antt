@@ -29,7 +29,7 @@ moved_by config s r Down = s
 moved_by config s r Unanswered = (step config s r).1
 moved_by config s r Answered = (step config s r).1
 
--- the State after a try: one that is refused keeps it
+-- the State after a try: a refused try keeps it
 abbrev pub after_try : Config → State → Try → State
 after_try config s t = moved_by config s t.request t.end
 
@@ -49,8 +49,8 @@ abbrev pub reported_of : Config → State → List Try → List Told
 reported_of config s [] = []
 reported_of config s (t ∷ ts) = told_by config s t.request t.end ++ reported_of config (after_try config s t) ts
 
--- What a stop may leave of a session in which a try was marked: what that try would have made, if no later
--- try moved the State.
+-- The States that a stop may leave of a session with a marked try: the State that this try would have made,
+-- if no later try moved the State.
 pub record IsDue (config : Config) (s : State) (tries : List Try) (t : State) : Type 0 where
   pub before : List Try
   pub refused : Try
@@ -117,7 +117,7 @@ after_once config s (r ∷ rs) = after_once config (step config s r).1 rs
 
 -- ---- a life of one request
 
--- a session in which a request is tried once, and one in which it is tried again and answered
+-- two sessions: a request is tried once, and is then tried again and answered
 abbrev pub twice : Request → Ending → List (List Try)
 twice r end = (record { request = r; end = end } ∷ []) ∷ (record { request = r; end = Answered } ∷ []) ∷ []
 

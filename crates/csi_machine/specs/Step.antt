@@ -116,7 +116,7 @@ abbrev pub limited_by : Plan → Result Response Reason → Plan
 limited_by p (Err reason) = refuse reason
 limited_by p (Ok r) = if nat_le (length (response_bytes r)) MAX_BODY_BYTES then p else refuse ReplyTooLarge
 
--- what is left of a plan by what its body is reported as
+-- a plan after its body was appended or refused
 abbrev pub by_verdict : Plan → Verdict → Plan
 by_verdict p verdict.Done = p
 by_verdict p (verdict.Refused reason) = refuse reason

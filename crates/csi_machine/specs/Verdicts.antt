@@ -26,13 +26,13 @@ abbrev pub verdict_of : Result Response Reason → Verdict
 verdict_of (Ok r) = verdict.Done
 verdict_of (Err reason) = verdict.Refused reason
 
--- a body comes after what was in the vector, and anything else leaves the vector as it was
+-- a body is appended to the bytes of the vector, and any other result leaves the vector
 abbrev pub Appended : {E : Type 0} → List ℕ → List ℕ → Result Verdict E → Type 0
 Appended old new (Ok verdict.Done) = (body : List ℕ) × (new ≡ old ++ body) × (length body ≤ MAX_BODY_BYTES)
 Appended old new (Ok (verdict.Refused reason)) = new ≡ old
 Appended old new (Err e) = new ≡ old
 
--- what is answered is what is to be reported; where the call fails nothing is
+-- the result is the report; a call that fails reports nothing
 abbrev pub IsReported : {E : Type 0} → Told → List ℕ → List ℕ → Result Verdict E → Type 0
 IsReported told old new (Ok verdict.Done) = (body : List ℕ) × (told ≡ Says body) × (new ≡ old ++ body)
 IsReported told old new (Ok (verdict.Refused reason)) = told ≡ Denies reason

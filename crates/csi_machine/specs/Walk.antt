@@ -20,7 +20,7 @@ use Rattle.csi_machine.specs.Step.{plan, step}
 use Rattle.csi_keeper.specs.Texts.{Text}
 use Rattle.csi_machine.specs.Verdicts.{Told, Says, Denies}
 
--- a call of a walk: its next page, of so many entries, or any other request
+-- a call of a walk: its next page, with this number of entries, or any other request
 pub data Call : Type 0 where
   Next : ℕ → Call
   Other : Request → Call
@@ -46,8 +46,8 @@ asked_with token most = request.List (record { max_entries = pos most; token = t
 abbrev pub shown : Config → State → Request → Option (List Entry × Text)
 shown config s r = listing_told (plan config s r).outcome (step config s r).0
 
--- a page of a walk: the State at it, its entries, and the token of the next one, which is empty where there
--- is none
+-- a page of a walk: the State at it, its entries, and the token of the next page, which is empty after the
+-- last page
 pub record Page : Type 0 where
   pub at : State
   pub entries : List Entry
@@ -62,7 +62,7 @@ abbrev pub next_token : Text → Option (List Entry × Text) → Text
 next_token token None = token
 next_token token (Some p) = p.1
 
--- the pages of a walk from a State on, of which the first begins after a token
+-- the pages of a walk from a State on; the first page begins after this token
 abbrev pub pages : Config → State → Text → List Call → List Page
 pages config s token [] = []
 pages config s token (Next most ∷ calls) =

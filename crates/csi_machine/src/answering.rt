@@ -21,8 +21,8 @@ use csi_keeper::{Keeper, StoreFault};
 use csi_types::{CreateVolume, Map, Request};
 use std::alloc::Global;
 
-// Appends the body of a plan's response, and makes its change then: a body for which memory is
-// refused leaves the State, and a fault of the keeper takes the body back.
+// Appends the body of a plan's response, and then makes its change. If memory is refused for the body, the
+// State stays; a fault of the keeper removes the body again.
 #[inline(always)]
 fn finish<K: Keeper, P: Outcome>(
     alloc: Global,
@@ -88,8 +88,8 @@ fn append_creation<K: Keeper>(
 /// Answers a request over any keeper by one step of the machine: the plan that the keeper's State
 /// gives the request. The body of its response is appended to `out`, and then its change is made.
 ///
-/// What is promised of a State is promised of each one of the invariant that the keeper may have,
-/// while its doubt is 0. After an answer that moved the State, a stop leaves the State after it.
+/// A promise of the State holds for each State of the invariant that the keeper may have, while its doubt is
+/// 0. After an answer that moved the State, a stop leaves the State after it.
 ///
 /// # Errors
 ///

@@ -1,5 +1,5 @@
-//! The plan of each request: what it is answered, and the one change that it makes, by reads alone; and
-//! pages, which are answered as they are read.
+//! The plan of each request, made by reads alone: its answer, and the one change that it makes. Pages are
+//! answered as they are read.
 #![tactic(auto, using(csi_keeper::specs::facts::Reads::quiet_same, csi_keeper::specs::facts::Reads::quiet_then))]
 
 ghost use Rattle.std.specs.Prelude.{◌≡◌, None, IfErr, IfOk, IfSome, IsTrue};

@@ -1,4 +1,4 @@
-//! What is done about a create. Its response is written from the volume, and not made first.
+//! The outcome of a create. Its response is written from the volume, and not made first.
 
 ghost use Rattle.std.specs.Prelude.{Some};
 ghost use Rattle.csi_types.specs.declared.responses.Response.TheVariants as response;
@@ -16,7 +16,7 @@ use csi_types::{Map, Reason};
 use itoa::Buffer;
 use std::alloc::{AllocError, Global};
 
-/// What is done about a create. Next to a volume are the segments of its pool.
+/// The outcome of a create. Next to a volume are the segments of its pool.
 #[derive(Drop)]
 pub(crate) enum Creation<'a> {
     /// It is refused.

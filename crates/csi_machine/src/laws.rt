@@ -43,8 +43,8 @@ pub fn ids()
     ensures only { (t : Text) (n : ℕ) → number_of_id t ≡ Some n → t ≡ id n }
 {}
 
-/// The State after a request meets the invariant, where the State before it does and the request passes
-/// the checks of its arguments. What is answered does not matter.
+/// The State after a request meets the invariant, if the State before it does and the request passes the
+/// checks of its arguments. It does not matter whether the request is answered.
 #[inline(always)]
 pub fn kept(config: &Config)
     ensures { (s : State) (r : Request) → IsInvariant config.now s → checked r ≡ None
@@ -53,9 +53,9 @@ pub fn kept(config: &Config)
     configured(config);
 }
 
-/// No number is given twice: a request lowers no next number, gives no number again whose volume was deleted,
-/// and changes nothing of a volume that keeps its number but its mutable parameters. What is answered does
-/// not matter.
+/// No number is given twice: a request lowers no next number, does not give the number of a deleted volume
+/// again, and changes only the mutable parameters of a volume that stays. It does not matter whether the
+/// request is answered.
 #[inline(always)]
 pub fn numbers(config: &Config)
     ensures { (s : State) (r : Request) → IsInvariant config.now s → checked r ≡ None
@@ -67,10 +67,10 @@ pub fn numbers(config: &Config)
 /// A walk over the pages of a listing, from a State of the invariant (CSI specification,
 /// 'ListVolumes').
 ///
-/// Its first page has an empty token, each next one the token that the page before returned, and other
-/// requests that pass the checks of their arguments come anywhere. No page is refused for its token;
-/// what is listed existed at its page; nothing is listed twice; and what existed at each page of a walk
-/// that came to its end is listed.
+/// The first page has an empty token, each next one the token that the page before returned. Other requests
+/// that pass the checks of their arguments come anywhere. No page is refused for its token; each listed
+/// volume existed at its page; no volume is listed twice; and a walk that came to its end has listed each
+/// volume that existed at all of its pages.
 ///
 /// # Not promised
 ///
@@ -152,11 +152,11 @@ pub fn repeat(config: &Config)
 /// 'Timeouts').
 ///
 /// From a State of the invariant a client tries requests that pass the checks of their arguments, in order,
-/// each over and over until it is answered. A try may be refused inside, or since the store is down, an
-/// answer may be lost, and between any two tries a stop may end the session. Other clients may make requests
-/// that change nothing at any time: Probe, ListVolumes, GetCapacity, ValidateVolumeCapabilities, and those
-/// about the plugin. The answers, and each State that may be left in the end, are those of the requests taken
-/// once each.
+/// each again and again until it is answered. A try may be refused inside, or because the store is down, an
+/// answer may be lost, and a stop may end the session between any two tries. Other clients may make requests
+/// that change nothing at any time: Probe, ListVolumes, GetCapacity, ValidateVolumeCapabilities, and the
+/// calls about the plugin. The answers, and each State that may be left in the end, are the answers and the
+/// State of the requests taken once each.
 #[inline(always)]
 pub fn retry(config: &Config)
     ensures { (s t : State) (requests : List Request) (sessions : List (List Try)) (told : List Told)

@@ -1,11 +1,11 @@
 //! The volume machine: what a request makes of the volumes that a keeper keeps.
 //!
 //! A request is answered by its *plan* ([`Plan`], `plan.rt`): a response or a refusal, and at most one
-//! change. `response.rt` says what a response is, and `body.rt` how its body is appended to a reply, or
-//! refused where no reply holds it. Plans are made by reads of the keeper and by the rules of `csi_rules`,
-//! each next to its definitions in `specs/`: `identity.rt` has those of the calls that say what the plugin
-//! is, `modify.rt` that of ControllerModifyVolume, `validate.rt` that of ValidateVolumeCapabilities, and
-//! `calls/` a file for each other request (`planned.rt`).
+//! change. `response.rt` has the responses, and `body.rt` appends the body of a response to a reply, or
+//! refuses it if no reply holds it. Plans are made by reads of the keeper and by the rules of `csi_rules`,
+//! each next to its definitions in `specs/`: `identity.rt` plans the calls about the plugin, `modify.rt`
+//! ControllerModifyVolume, `validate.rt` ValidateVolumeCapabilities, and `calls/` has a file for each other
+//! request (`planned.rt`).
 //!
 //! `answering.rt` makes of a plan an answer (`outcome.rt`): it appends the body of its response, makes the
 //! change, and cuts the body off again where that fails. Three requests are answered with what their plans

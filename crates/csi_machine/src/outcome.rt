@@ -1,4 +1,4 @@
-//! What is done about a request: a body or a refusal, and the one change that is made after the body.
+//! The outcome of a request: a body or a refusal, and the one change that is made after the body.
 
 ghost use Rattle.std.specs.Prelude.{◌≡◌, ◌≤◌, ◌++◌, length, IfOk, OnOk, OnErr, IfSome};
 ghost use Rattle.envelope.specs.declared.limits.TheConstants.{MAX_BODY_BYTES};
@@ -12,7 +12,7 @@ use crate::plan::Plan;
 use csi_keeper::{Keeper, StoreFault};
 use std::alloc::{AllocError, Global};
 
-/// What is done about a request, as a plan says it.
+/// The outcome of a request, in a plan.
 pub(crate) trait Outcome: Drop {
     /// The plan.
     ghost plan: { Self → AnyPlan };

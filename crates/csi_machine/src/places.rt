@@ -11,7 +11,7 @@ use csi_rules::{context_of, segments_at, topology_of};
 use csi_types::{Map, Text, copy_text};
 use std::alloc::{AllocError, Global};
 
-/// What is answered alike of each volume of a pool.
+/// The fields that are the same for all volumes of a pool.
 #[derive(Drop)]
 pub(crate) struct PoolPlacement {
     pub(crate) pool: Text,
@@ -43,7 +43,7 @@ fn is_of(place: &PoolPlacement, pool: &str) -> bool
     place.pool.as_str() == pool
 }
 
-/// The first place of a pool; `None` only where there is none yet.
+/// The first place of a pool; `None` before the first volume of the pool.
 #[inline(always)]
 pub(crate) fn placement_named<'a>(
     places: &'a [PoolPlacement],

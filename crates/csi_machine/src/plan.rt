@@ -15,7 +15,7 @@ pub(crate) type Planning = Result<Plan, StoreFault>;
 
 /// What a request is answered, and the change that is made before it is.
 pub struct Plan {
-    /// The response, or the reason for which the request is refused and changes nothing.
+    /// The response, or the reason of a refusal, which changes nothing.
     pub outcome: Result<PlannedResponse, Reason>,
     /// What changes, if anything.
     pub change: Option<Boxed<Change>>,

@@ -18,7 +18,7 @@ pub(crate) trait Planned {
     /// The plan that a State gives it.
     ghost planned: { AnyConfig → State → Self → AnyPlan };
 
-    /// The requests about a volume that are named by no volume's id, for which no State is needed.
+    /// The requests about a volume whose id is the id of no volume. They need no State.
     ghost names_none: { Self → Type 0 };
 
     /// Its plan, by reads of the keeper alone; none where no State is needed.

@@ -45,7 +45,7 @@ fn append_published(readonly: bool, out: &mut Vec<u8>) -> Result<Verdict, AllocE
     Ok(limit_body(out, from))
 }
 
-/// A response. Those of DeleteVolume, ControllerPublishVolume, ControllerUnpublishVolume and
+/// A response. The responses to DeleteVolume, ControllerPublishVolume, ControllerUnpublishVolume and
 /// ControllerModifyVolume take no memory.
 #[derive(Drop)]
 pub struct PlannedResponse {

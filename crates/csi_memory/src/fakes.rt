@@ -7,13 +7,12 @@ ghost use Rattle.csi_memory.specs.Holding.{Holds};
 ghost use Rattle.csi_memory.specs.Fakes.{burnt, calls_left, is_shut, kept, refusals_of, Burns, fused_model};
 ghost use Rattle.csi_keeper.specs.Keeper.{Applies, Reads, count_after};
 ghost use Rattle.csi_keeper.specs.Listing.{IsPageWithNodes, listing};
-ghost use Rattle.csi_keeper.specs.State.{IsBounded, attached, attached_at, count_at, named, page, published_of_page, sizes, used, first_state};
+ghost use Rattle.csi_keeper.specs.State.{IsBounded, attached, attached_at, count_at, named, page, sizes, used, first_state};
 ghost use Rattle.csi_keeper.specs.declared.change.StoreFault.TheVariants.{Down, Refused};
 
 use crate::mem::MemKeeper;
 use csi_keeper::{
-    Attachment, CapKey, Change, Health, Keeper, Listed, PageFold, PageWithNodes, StoreFault, Usage,
-    Volume,
+    Attachment, CapKey, Change, Health, Keeper, PageFold, PageWithNodes, StoreFault, Usage, Volume,
 };
 use csi_types::{Items, Text};
 use std::alloc::{AllocError, Global};
@@ -208,20 +207,6 @@ impl Keeper for FusedMem {
         self.keeper.page(alloc, after, count)
     }
 
-    fn published_nodes(
-        &mut self,
-        alloc: Global,
-        after: u64,
-        count: u32,
-    ) -> Result<Items<Items<Text>>, StoreFault>
-        ensures reads { Reads (fused_model self.old) (fused_model self.new) result
-            (λ s xs. xs ≡ published_of_page s after count) }
-        ensures burns { Burns self.old self.new result }
-    {
-        self.fuse.burn()?;
-        self.keeper.published_nodes(alloc, after, count)
-    }
-
     fn page_with_nodes(
         &mut self,
         alloc: Global,
@@ -234,20 +219,6 @@ impl Keeper for FusedMem {
     {
         self.fuse.burn()?;
         self.keeper.page_with_nodes(alloc, after, count)
-    }
-
-    fn listing(
-        &mut self,
-        alloc: Global,
-        after: u64,
-        count: u32,
-    ) -> Result<Items<Listed>, StoreFault>
-        ensures reads { Reads (fused_model self.old) (fused_model self.new) result
-            (λ s xs. xs ≡ listing s after count) }
-        ensures burns { Burns self.old self.new result }
-    {
-        self.fuse.burn()?;
-        self.keeper.listing(alloc, after, count)
     }
 
     fn fold_page<F: PageFold>(

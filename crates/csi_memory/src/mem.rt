@@ -11,7 +11,8 @@ ghost use Rattle.csi_memory.specs.Holding.{Holds};
 ghost use Rattle.csi_memory.specs.Restoring.{CanRestore, from_number, restored};
 
 use csi_keeper::{
-    Attachment, CapKey, Change, Keeper, PageFold, StoreFault, Totals, Usage, Volume, copy_volume,
+    Attachment, CapKey, Change, Keeper, PageFold, PageWithNodes, StoreFault, Totals, Usage, Volume,
+    copy_volume,
 };
 use csi_maps::{
     CompactMap, Names, StoredVolume, attached_to, caps_at, count_at, drop_name, fold_after,
@@ -247,13 +248,16 @@ impl Keeper for MemKeeper {
     }
 
     #[tactic(auto, using(csi_keeper::specs::facts::Reads::quiet_same, crate::proofs::ReadLemmas::held_nodes))]
-    fn published_nodes(
+    fn page_with_nodes(
         &mut self,
         alloc: Global,
         after: u64,
         count: u32,
-    ) -> Result<Items<Items<Text>>, StoreFault> {
-        Ok(nodes_after(alloc, &self.volumes, &self.attachments, after, count)?)
+    ) -> Result<PageWithNodes, StoreFault> {
+        Ok(PageWithNodes {
+            volumes: volumes_after(alloc, &self.volumes, after, count)?,
+            nodes: nodes_after(alloc, &self.volumes, &self.attachments, after, count)?,
+        })
     }
 
     #[inline(always)]

@@ -1,4 +1,4 @@
--- From which pool a volume is made.
+-- The choice of the pool of a new volume.
 use Rattle.std.specs.Prelude.{ℕ, ◌-◌, ◌&&◌, nat_le, Bool, List, Option, map, find, sum_by}
 use Rattle.std.specs.Option.{option_map}
 use Rattle.std.specs.List.{flat_map}
@@ -24,7 +24,7 @@ free r = r.0.bytes - r.1.bytes
 abbrev pub rooms : Config → State → List Room
 rooms config s = map (λ p. (p, used s p.name)) config.pools
 
--- by the place of the term, and then by that of the pool
+-- by the place of the term, and then by the place of the pool
 abbrev pub pairs : List TextMap → List Room → List (TextMap × Room)
 pairs ts rs = flat_map (λ t. map (λ r. (t, r)) rs) ts
 

@@ -9,8 +9,8 @@ use Rattle.csi_keeper.specs.declared.change.StoreFault.{StoreFault}
 use Rattle.csi_keeper.specs.declared.volume.Volume.{Volume}
 use Rattle.csi_rules.specs.Down.{TellsDown}
 
--- What is found is so of each State that the keeper may have, nothing moves, and a refusal is counted. Over a
--- keeper that is down nothing is found but what is so of every State.
+-- The answer holds for each State that the keeper may have, nothing moves, and a refusal is counted. An
+-- answer over a keeper that is down holds for every State.
 pub record Finds {X : Type 0} (old new : Model State) (result : Result X StoreFault) (IsSo : State → X → Type 0) : Type 0 where
   pub value : IfOk result (λ x. Tells old new (λ s. IsSo s x))
   pub quiet : IsQuiet old new

@@ -1,4 +1,4 @@
--- What is answered of a volume (CSI specification, 'CreateVolume', the message Volume).
+-- The answer about a volume (CSI specification, 'CreateVolume', the message Volume).
 use Rattle.std.specs.Prelude.{ℕ, ℤ, pos, ◌-◌, ◌^◌, ◌==◌, min, List, [], ◌∷◌, Option, None, Some, codes, if◌then◌else◌}
 use Rattle.std.specs.FinMap.{empty, insert, len}
 use Rattle.csi_types.specs.Maps.{TextMap}
@@ -30,6 +30,6 @@ topology_of segments = if len segments == 0 then [] else segments ∷ []
 abbrev pub info_at : TextMap → Volume → VolumeInfo
 info_at segments v = record { bytes = signed v.bytes; id = id v.number; context = insert empty (codes "pool") v.pool; topology = topology_of segments }
 
--- what is answered of a volume
+-- the answer about a volume
 abbrev pub info : Config → Volume → VolumeInfo
 info config v = info_at (segments_at config v.pool) v

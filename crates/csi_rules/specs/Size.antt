@@ -15,15 +15,15 @@ rounded_down n = n / GRANULE_BYTES * GRANULE_BYTES
 abbrev pub rounded_up : ℕ → ℕ
 rounded_up n = rounded_down (n + (GRANULE_BYTES - 1))
 
--- 0 is not given: what is required, rounded up; or otherwise the default size, and at most the limit, rounded
--- down
+-- 0 means that a bound is not given: the required size, rounded up; otherwise the default size, but at most
+-- the limit, rounded down
 abbrev pub requested_bytes : Sizes → ℕ → ℕ → ℕ
 requested_bytes sizes required limit =
     if nat_lt 0 required then rounded_up required
     else (if nat_lt 0 limit then min sizes.default_bytes (rounded_down limit) else sizes.default_bytes)
 
--- a size that is not zero, nor above a limit that is given, nor above the greatest one; what is required is
--- compared before it is rounded, too, which is never what decides: rounded up it is no smaller
+-- A size that is not zero, nor above a given limit, nor above the greatest size. The required size is
+-- compared before it is rounded, too, which never decides: rounded up it is no smaller.
 abbrev pub within : Sizes → ℕ → ℕ → ℕ → Option ℕ
 within sizes required limit n =
     if nat_lt 0 n && (limit == 0 || nat_le n limit) && nat_le n sizes.greatest_bytes && nat_le required sizes.greatest_bytes then Some n else None
@@ -31,7 +31,7 @@ within sizes required limit n =
 abbrev pub size_by : Sizes → ℕ → ℕ → Option ℕ
 size_by sizes required limit = within sizes required limit (requested_bytes sizes required limit)
 
--- the size of a volume for which a range is asked, or none
+-- the size of a volume for this range, or none
 abbrev pub size : Sizes → Option CapacityRange → Option ℕ
 size sizes None = size_by sizes 0 0
 size sizes (Some r) = size_by sizes (whole r.required) (whole r.limit)

@@ -15,13 +15,13 @@ abbrev pub or_empty : List TextMap → List TextMap
 or_empty [] = empty ∷ []
 or_empty (t ∷ ts) = t ∷ ts
 
--- the terms in the order in which they are tried: the preferred ones, and then the requisite ones, or the
--- empty term where there is none
+-- the terms in the order of the tries: the preferred ones, and then the requisite ones, or the empty term if
+-- none is given
 abbrev pub terms : Option Requirement → List TextMap
 terms None = empty ∷ []
 terms (Some r) = r.preferred ++ or_empty r.requisite
 
--- a pool of these segments serves a requisite term, or there is none
+-- a pool of these segments serves a requisite term, or no requisite term is given
 abbrev pub is_reachable : TextMap → Option Requirement → Bool
 is_reachable segments None = true
 is_reachable segments (Some r) = length r.requisite == 0 || list_any (serves segments) r.requisite

@@ -8,9 +8,8 @@ use csi_types::{Capability, Items};
 use std::alloc::{AllocError, Global};
 use std::collections::BTreeSet;
 
-// So many keys are looked through one by one; more are put in order first.
-// The keys of a volume are in order by the invariant, which a `requires` cannot name, so their set is built
-// again for each comparison.
+// Up to this number of keys is searched one by one; longer lists are sorted first. The keys of a volume are
+// in order by the invariant, which a `requires` cannot name, so their set is built again for each comparison.
 const FEW_KEYS: usize = 4;
 
 #[tactic(auto, using(crate::specs::facts::Capability::keys_more, crate::specs::facts::Capability::keys_same, crate::specs::facts::Capability::keys_none))]

@@ -1,4 +1,4 @@
-//! From which pool a volume is made.
+//! The choice of the pool of a new volume.
 
 ghost use Rattle.std.specs.Prelude.{◌≡◌, ◌&&◌, nat_le, Some, [], ◌∷◌, find, map, IfOk};
 ghost use Rattle.std.specs.FinMap.{empty};
@@ -31,7 +31,7 @@ impl Room<'_> {
     }
 }
 
-// A pool, and what is used of it.
+// A pool and its usage.
 #[inline(always)]
 fn read_room<'a, K: Keeper>(keeper: &mut K, pool: &'a Pool) -> Result<Room<'a>, StoreFault>
     ensures pool { IfOk result (λ r. r.pool.now ≡ pool.now) }
@@ -42,7 +42,7 @@ fn read_room<'a, K: Keeper>(keeper: &mut K, pool: &'a Pool) -> Result<Room<'a>, 
     Ok(Room { pool, used })
 }
 
-/// The pools in the order of the configuration, and what is used of each.
+/// The pools in the order of the configuration, with the usage of each.
 #[tactic(auto, using(csi_keeper::specs::facts::Reads::quiet_same, csi_keeper::specs::facts::Reads::quiet_then))]
 #[inline(always)]
 pub fn read_rooms<'a, K: Keeper>(
@@ -147,8 +147,8 @@ fn pool_by<'a>(
     pool_requisite(alloc, rooms, wanted.requisite.as_slice(), size)
 }
 
-/// The pool that a volume of this size is made in: of the first term, in the order of
-/// preference, for which a pool serves it and has room, the first such pool.
+/// The pool for a new volume of this size: the first pool, in the order of the configuration, that serves the
+/// first term, in the order of preference, that any pool with room serves.
 pub fn choose<'a>(
     alloc: Global,
     rooms: &[Room<'a>],

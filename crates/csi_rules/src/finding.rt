@@ -9,8 +9,8 @@ use csi_keeper::{CapKey, Keeper, StoreFault, Volume};
 use csi_types::{Items, Text};
 use std::alloc::Global;
 
-/// The volume of an id, with its number; `None` where there is none of that id. For a text that is no
-/// volume's id the keeper is not asked.
+/// The volume of an id, with its number; `None` if no volume has the id. The keeper is not asked for a text
+/// that is no volume's id.
 ///
 /// # Errors
 ///
@@ -34,8 +34,8 @@ pub fn volume_of<K: Keeper>(
     }
 }
 
-/// The capability keys of the volume of an id, with its number; `None` where there is none of that id.
-/// For a text that is no volume's id the keeper is not asked.
+/// The capability keys of the volume of an id, with its number; `None` if no volume has the id. The keeper is
+/// not asked for a text that is no volume's id.
 ///
 /// # Errors
 ///
@@ -59,8 +59,8 @@ pub fn caps_of<K: Keeper>(
     }
 }
 
-/// The number of the volume of an id; `None` where there is none of that id. Nothing of the volume is copied,
-/// and for a text that is no volume's id the keeper is not asked.
+/// The number of the volume of an id; `None` if no volume has the id. The volume is not copied, and the
+/// keeper is not asked for a text that is no volume's id.
 ///
 /// # Errors
 ///

@@ -1,4 +1,4 @@
-//! What is answered of a volume.
+//! The answer about a volume.
 
 ghost use Rattle.std.specs.Prelude.{◌≡◌, IfOk, codes};
 ghost use Rattle.std.specs.Option.{option_copied};
@@ -57,8 +57,7 @@ fn pool_named<'a>(pools: &'a [Pool], name: &Text) -> Option<&'a Pool>
     pools.iter().find(|pool| pool.name == *name)
 }
 
-/// The segments of the first pool that has the name; those of `nowhere` where the configuration has
-/// no such pool.
+/// The segments of the first pool that has the name; `nowhere` if the configuration has no such pool.
 pub fn segments_at<'a>(config: &'a Config, pool: &Text, nowhere: &'a Map) -> &'a Map
     requires { nowhere.now ≡ empty }
     ensures { result.now ≡ segments_at config.now pool.now }

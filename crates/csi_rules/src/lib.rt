@@ -1,14 +1,13 @@
-//! The rules by which the volume machine plans: values of the State and of requests, and the reads that they
-//! rest on.
+//! The rules that the volume machine plans by: values of the State and of requests, and the reads that they
+//! need.
 //!
-//! [`keys_of`] and [`have_keys`] say which keys capabilities have and whether they are had (`capability.rt`),
-//! [`size`] and [`has_size`] how large a volume is made (`sizes.rt`), [`serves`] and [`is_reachable`] which
-//! pools serve a topology (`topology.rt`), [`choose`] from which pool a volume is made (`choice.rt`),
-//! [`is_overcommitted`] whether a pool is too small for its volumes (`commitment.rt`), and [`has_conflict`]
-//! whether attachments of a volume cannot exist together (`conflict.rt`).
-//! `ids.rt` has ids and the numbers in ids and tokens, `info.rt` what is answered of a volume, and
-//! `finding.rt` reads of a keeper. Each has its definitions in `specs/`, and `specs/facts/` has what follows
-//! from these and is wanted above as well.
+//! [`keys_of`] and [`have_keys`] give the keys of capabilities and compare them (`capability.rt`), [`size`]
+//! and [`has_size`] the size of a new volume (`sizes.rt`), [`serves`] and [`is_reachable`] the pools that
+//! serve a topology (`topology.rt`), [`choose`] the pool of a new volume (`choice.rt`). [`is_overcommitted`]
+//! finds a pool that is too small for its volumes (`commitment.rt`), and [`has_conflict`] attachments of a
+//! volume that cannot coexist (`conflict.rt`). `ids.rt` has ids and the numbers in ids and tokens, `info.rt`
+//! the answer about a volume, and `finding.rt` reads of a keeper. Each has its definitions in `specs/`;
+//! `specs/facts/` has facts about them that crates above use too.
 //!
 //! ```rust
 //! let rooms = read_rooms(alloc, config, keeper)?;

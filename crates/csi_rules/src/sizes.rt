@@ -6,7 +6,7 @@ ghost use Rattle.csi_rules.specs.Size.{whole, rounded_down, requested_bytes, siz
 use csi_config::{GRANULE_BYTES, Sizes};
 use csi_types::CapacityRange;
 
-/// A number that is not negative; 0 for one that is.
+/// A number that is not negative; 0 for a negative one.
 fn whole(number: i64) -> u64
     ensures value { result ≡ whole number }
     ensures fits { result < 2 ^ 63 }
@@ -39,7 +39,7 @@ fn size_by(sizes: &Sizes, required: u64, limit: u64) -> Option<u64>
     ensures { result ≡ size_by sizes.now required limit }
 {
     let bytes = requested_bytes(sizes, required, limit);
-    // What is required is compared too, and never decides: rounded up it is no smaller.
+    // The required size is compared too, and never decides: rounded up it is no smaller.
     let is_within = bytes > 0
         && (limit == 0 || bytes <= limit)
         && bytes <= sizes.greatest_bytes
@@ -47,11 +47,11 @@ fn size_by(sizes: &Sizes, required: u64, limit: u64) -> Option<u64>
     if is_within { Some(bytes) } else { None }
 }
 
-/// The size of a volume for which a range is asked, in bytes; `None` where it is out of range (CSI
-/// specification, 'CreateVolume', `CapacityRange`).
+/// The size of a volume for a range, in bytes; `None` if it is out of range (CSI specification,
+/// 'CreateVolume', `CapacityRange`).
 ///
-/// What is required is rounded up to a multiple of 1 MiB; where nothing is, the size is the default,
-/// or the limit rounded down where that is smaller.
+/// The required size is rounded up to a multiple of 1 MiB. Without a required size it is the default, or the
+/// limit rounded down if the limit is smaller.
 pub fn size(sizes: &Sizes, range: &Option<CapacityRange>) -> Option<u64>
     ensures { result ≡ size sizes.now range.now }
 {

@@ -20,8 +20,8 @@ fn serves_one(segments: &Map, terms: &[Map]) -> bool
     terms.iter().any(|term| serves(segments, term))
 }
 
-/// Whether a pool of these segments serves a requisite term, or none is given (CSI specification,
-/// 'CreateVolume', `TopologyRequirement`).
+/// Returns true if a pool of these segments serves a requisite term, or if no requisite term is given (CSI
+/// specification, 'CreateVolume', `TopologyRequirement`).
 pub fn is_reachable(segments: &Map, topology: &Option<Requirement>) -> bool
     ensures { result ≡ is_reachable segments.now topology.now }
 {

@@ -16,7 +16,7 @@ use Rattle.csi_server.specs.Serving.{Answered, AreReplied, Broken, CutOff, HasFa
 use Rattle.csi_server.specs.declared.running.PieceOutcome.{PieceOutcome}
 use Rattle.csi_server.specs.declared.running.PieceOutcome.TheVariants.{Fed, Faulty, Cut}
 
--- What was answered so far, of the stream whose first bytes are these.
+-- The answers so far, for a stream whose first bytes are these.
 pub record SoFar {S : Type 0} (m : Machine S) (start now : Model S) (s : S) (bytes : List ℕ) (held holds : Option (List ℕ)) : Type 0 where
   pub events : List Event
   pub run : Runs m start now s events
@@ -37,16 +37,16 @@ pub record Live {S : Type 0} (m : Machine S) (start now : Model S) (s : S) (read
 abbrev pub IsLive : {S : Type 0} → Machine S → Model S → Model S → S → List ℕ → FramerState → Option (List ℕ) → Option (List ℕ) → Type 0
 IsLive m start now s read framer held holds = now.doubt ≡ 0 → Live m start now s read framer held holds
 
--- what was read was taken, or the run is over
+-- the piece was taken, or the run is over
 abbrev pub Steps : {S : Type 0} → Machine S → Model S → Model S → S → List ℕ → FramerState → Option (List ℕ) → Option (List ℕ) → PieceOutcome → Type 0
 Steps m start now s read framer held holds Fed = Live m start now s read framer held holds
 Steps m start now s read framer held holds (Faulty f) = (f.why ≢ EndOfInput)
     × Answered m start now s read held holds (λ calls. HasFault read calls f.why f.at) []
 Steps m start now s read framer held holds Cut = CutOff m start now s read ⊥ held holds
 
--- ---- whatever the service
+-- ---- any service
 
--- The same of what was written: one reply of the table to each call.
+-- As `SoFar`, of the bytes alone: one reply of the table to each call.
 pub record Replying (read : List ℕ) (framer : FramerState) (held holds : Option (List ℕ)) : Type 0 where
   pub given : List ℕ
   pub calls : List CallBytes
@@ -88,7 +88,7 @@ Refuses f held holds ReadFailed = ⊥
 Refuses f held holds TurnsSpent = ⊥
 Refuses f held holds NoMemory = ⊥
 
--- What is done where the input ends: nothing, or the frame that was begun is refused.
+-- The end of the input: nothing is done, or the frame that was begun is refused.
 abbrev pub Finishes : FramerState → Option (List ℕ) → Option (List ℕ) → RunEnd → Type 0
 Finishes s held holds end =
     (IsUnfinished s.held → s.fault ≡ None → s.held ≡ [] → (end ≡ Done) × Keeps held holds)

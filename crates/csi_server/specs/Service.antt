@@ -17,7 +17,7 @@ abbrev pub reply_of : {U : Type 0} → Result U Refusal → List ℕ → ReplyBy
 reply_of (Ok done) buffer = record { status = 0; text = []; body = drop REPLY_HEAD_BYTES buffer }
 reply_of (Err r) buffer = refused_by r
 
--- there is that room, and the body is none that a reply can't hold
+-- the room for the head is there, and a reply can hold the body
 abbrev pub HasBody : List ℕ → Type 0
 HasBody buffer = (REPLY_HEAD_BYTES ≤ length buffer) × (length buffer ≤ REPLY_HEAD_BYTES + MAX_BODY_BYTES)
 

@@ -16,16 +16,17 @@ use Rattle.csi_server.specs.declared.end.RunEnd.{RunEnd}
 use Rattle.csi_server.specs.declared.end.RunEnd.TheVariants.{Done, Malformed, ReadFailed, TurnsSpent, WriteFailed, NoMemory}
 use Rattle.csi_server.specs.Machine.{Machine, Event, Runs, Answers, replies, state_after, step, refusal, calls_of}
 
--- what was read has these calls, and then this fault: that of its grammar, or an end of the input too early
+-- the bytes that were read have these calls, and then this fault: a fault of the grammar, or an early end of
+-- the input
 abbrev pub HasFault : List ℕ → List CallBytes → FrameWhy → ℕ → Type 0
 HasFault read calls EndOfInput at = Stream read calls Open × (at ≡ length read)
 HasFault read calls why at = Stream read calls (Fault why at)
 
--- what was read has these calls and no fault
+-- the bytes that were read have these calls and no fault
 abbrev pub HasNoFault : List ℕ → List CallBytes → Type 0
 HasNoFault read calls = Stream read calls Clean ⊎ Stream read calls Open
 
--- what was read begins with these calls
+-- the bytes that were read begin with these calls
 pub record BeginsWithCalls (read : List ℕ) (calls : List CallBytes) : Type 0 where
   pub rest : List ℕ
   pub whole : read ≡ frames calls ++ rest
@@ -81,10 +82,9 @@ abbrev pub Serves : {S : Type 0} → Machine S → Model S → Model S → Optio
 Serves {S} m old new unread left held holds end =
     (read : List ℕ) × Consumes unread left read × (new.doubt ≡ 0 → (s : S) → old.holds s → Ended m old new s read (IsAtEnd left) held holds end)
 
--- ---- what is so of every service, also of one whose store lied, or that has a state of which nothing is
--- promised
+-- ---- the promise for every service, also for a service over a store that lied
 
--- No piece is read after the one in which a fault shows: before the last piece there is none.
+-- No piece is read after the piece with a fault: no earlier piece has one.
 pub record IsPrompt (read : List ℕ) : Type 0 where
   pub before : List ℕ
   pub piece : List ℕ
@@ -106,8 +106,8 @@ pub record Replied (held holds : Option (List ℕ)) (IsEnd : List CallBytes → 
   pub replied : AreReplied calls rs
   pub written : Appends held holds (flat_map reply rs ++ last)
 
--- What was read begins with these calls and one more, whose reply was being written. No piece is read after
--- the one in which that call ends.
+-- The bytes that were read begin with these calls and one more, whose reply was being written. No piece is
+-- read after the piece that ends this call.
 pub record IsLast (read : List ℕ) (calls : List CallBytes) (part : List ℕ) : Type 0 where
   pub call : CallBytes
   pub rest : List ℕ
@@ -118,7 +118,7 @@ pub record IsLast (read : List ℕ) (calls : List CallBytes) (part : List ℕ) :
   pub formed : IsReply r
   pub prefix : IsPrefix part (reply r)
 
--- What was read has this fault, whose frame was being written.
+-- The bytes that were read have this fault, whose frame was being written.
 pub record IsRefused (read : List ℕ) (AtEnd : Type 0) (calls : List CallBytes) (part : List ℕ) : Type 0 where
   pub fault : FrameFault
   pub has : HasFault read calls fault.why fault.at

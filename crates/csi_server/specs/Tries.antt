@@ -117,8 +117,7 @@ IsLifeOfCalls config s (session ∷ sessions) heard t =
 
 -- ---- a life of one call
 
--- a session in which a call is made and its reply is not heard, and one in which it is made again and its
--- reply is heard
+-- two sessions: a call is made and its reply is not heard, and the call is made again and its reply is heard
 abbrev pub twice : CallBytes → Mark → List (List Exchange)
 twice call mark =
     (record { event = record { call = call; mark = mark }; is_heard = false } ∷ [])

@@ -1,4 +1,4 @@
--- The volume machine over calls, and what is seen of a keeper.
+-- The volume machine over calls, and the model of a keeper in a run.
 use Rattle.std.specs.Prelude.{◌≡◌, ℕ, Bool, true, not, List, [], ◌∷◌, ◌++◌, drop, Some, None, Result, Ok, Err}
 use Rattle.std.specs.List.{AllByRecursion}
 use Rattle.envelope.specs.Envelope.{ReplyBytes}
@@ -30,12 +30,11 @@ asks_keeper r = not (is_of_plugin r)
 abbrev pub volumes : Config → Machine State
 volumes config = requests method_at asks_keeper (step config)
 
--- a keeper as a run sees it: of the States that it may have those of the invariant, and the rest as the
--- keeper has it
+-- a keeper as a run sees it: the States of the invariant that it may have, and the rest of its model as it is
 abbrev pub seen : Config → Model State → Model State
 seen config m = record m { holds = λ s. m.holds s × IsInvariant config s }
 
--- the reply to a call of which the machine answered this, where the body is after room for the head
+-- the reply to a call with this answer of the machine; the body is after room for the head
 abbrev pub RepliesTo : List ℕ → ReplyBytes → Result Verdict StoreFault → Type 0
 RepliesTo out r (Ok verdict.Done) = r ≡ record { status = 0; text = []; body = drop REPLY_HEAD_BYTES out }
 RepliesTo out r (Ok (verdict.Refused q)) = r ≡ refused q

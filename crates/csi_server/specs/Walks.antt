@@ -13,7 +13,7 @@ use Rattle.csi_server.specs.Machine.{step as call_step}
 use Rattle.csi_server.specs.Tries.{Exchange, asked}
 use Rattle.csi_server.specs.Volumes.{volumes}
 
--- a call among those of a walk: for its next page, of so many entries, or any other call, of anyone
+-- a call of a walk: for its next page, with this number of entries, or any other call of any client
 pub record Turn : Type 0 where
   pub exchange : Exchange
   pub page : Option ℕ
@@ -33,8 +33,8 @@ shown_by config s token (Some most) mark is_heard = shown_heard config s token m
 abbrev pub shown_in : Config → State → Text → Turn → Option (List Entry × Text)
 shown_in config s token t = shown_by config s token t.page t.exchange.event.mark t.exchange.is_heard
 
--- The pages of a walk from a State on, of which the first begins after a token. A call that shows nothing is
--- no page, and the next one is asked for with the same token.
+-- The pages of a walk from a State on; the first page begins after this token. A call that shows nothing is
+-- no page, and the next page is asked for with the same token.
 abbrev pub pages : Config → State → Text → List Turn → List Page
 pages config s token [] = []
 pages config s token (t ∷ ts) =

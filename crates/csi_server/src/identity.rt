@@ -50,7 +50,7 @@ fn respond(
     }
 }
 
-// Makes the frame that of the response to a request.
+// Replaces the frame with the frame of the response to a request.
 fn put_response(
     alloc: Global,
     names: &PluginNames<'_>,

@@ -37,8 +37,8 @@ use csi_machine::laws::{
 };
 use envelope::laws::decimal_is_text;
 
-/// After a run in which neither memory nor the store refused a call, what a stop may leave is the state after
-/// the run: a call that is answered, also that the store is down, adds nothing to it.
+/// After a run without a call that memory or the store refused, a stop may leave only the state after the
+/// run: a call that is answered, also that the store is down, adds nothing to it.
 pub fn stop_leaves_state<C, S: Service<C>>(config: &C)
     ensures { (old new : S) (s : S.State) (events : List Event)
         → Runs (S.machine config.now) (S.model config.now old) (S.model config.now new) s events
@@ -121,10 +121,10 @@ pub fn pending<K: Keeper>(config: &Config)
         ⊎ IsPending config.now s events t }
 {}
 
-/// A call asks for a request exactly where its path names a method, its message is read as that request, and
-/// the request passes the checks of its arguments. It is answered as the machine answers the request. One
-/// that asks for none has the same reply from each State, under each configuration, and leaves each as it is.
-/// Each request that can be encoded and passes the checks is that of a call.
+/// A call asks for a request exactly if its path names a method, its message is read as that request, and the
+/// request passes the checks of its arguments. It is answered as the machine answers the request. A call that
+/// asks for no request has the same reply from each State, under each configuration, and leaves each State.
+/// Each request that can be encoded and passes the checks has a call.
 pub fn asking()
     ensures exact { (call : CallBytes) (r : Request) → (asked call ≡ Some r) ↔ Asks call r }
     ensures answered { (config : AnyConfig) (s : MachineState) (call : CallBytes) (r : Request)
@@ -139,9 +139,9 @@ pub fn asking()
 }
 
 /// The calls of a session are tries of the requests that they ask for: the State after them and the replies
-/// that were heard are those of the tries, and what [`pending`] says that they leave is just what the tries
-/// leave. So over any keeper, after a run from a State that alone would have been left by a stop, a stop
-/// leaves what the tries leave.
+/// that were heard are the State and the answers of the tries, and the States that they may leave
+/// ([`pending`]) are exactly the States that the tries may leave. So over any keeper, after a run from a
+/// State that alone would have been left by a stop, a stop leaves a State that the tries leave.
 pub fn tries<K: Keeper>(config: &Config)
     ensures after { (s : MachineState) (session : List Exchange)
         → state_after (volumes config.now) s (events_of session)
@@ -160,17 +160,17 @@ pub fn tries<K: Keeper>(config: &Config)
 /// Requests that a client asks for over and over, each until it hears the reply, are each taken once (CSI
 /// specification, 'Timeouts').
 ///
-/// From a State of the invariant: a call may be refused inside, a reply may be lost, and between any two
-/// calls a stop may end the session, which leaves what [`pending`] says. Other clients may make calls that
+/// From a State of the invariant: a call may be refused inside, a reply may be lost, and a stop may end the
+/// session between any two calls, which leaves a State of [`pending`]. Other clients may make calls that
 /// change nothing at any time, as Probe, ListVolumes and GetCapacity, and calls that are no request or are
-/// refused for their arguments. What the client hears of its requests, and each State that may be left in the
-/// end, are those of the requests taken once each.
+/// refused for their arguments. The replies that the client hears, and each State that may be left in the
+/// end, are the replies and the State of the requests taken once each.
 ///
 /// # Not promised
 ///
-/// That a request is ever answered, or that a start succeeds. What two clients hear of which both make
-/// requests that may change something, each between the other's tries. That a new connection is over what the
-/// stop left: the law asks that of it.
+/// That a request is ever answered, or that a start succeeds. The replies to two clients that both make
+/// requests that may change something, each between the other's tries. That a new connection is over a State
+/// that the stop left: the law asks that of it.
 ///
 /// A contract speaks of calls that returned. That a process which ends inside a call leaves what a
 /// disk leaves that fails from there on is shown by the rows of stops of `test_tables`.
@@ -187,11 +187,11 @@ pub fn retry(config: &Config)
 /// Calls that walk over the pages of a listing, from a State of the invariant (CSI specification,
 /// 'ListVolumes').
 ///
-/// The first page is asked for with an empty token, each next one with the token of the page before. A
-/// call for a page that is refused inside, or whose reply is not heard, is no page of the walk, and the
-/// page is asked for again with its token. Other calls may come anywhere, from anyone. No page is refused
-/// for its token; what is listed existed at its page; nothing is listed twice; and what existed at each
-/// page of a walk that came to its end is listed.
+/// The first page is asked for with an empty token, each next one with the token of the page before. A call
+/// for a page that is refused inside, or whose reply is not heard, is no page of the walk, and the page is
+/// asked for again with its token. Other calls may come anywhere, from any client. No page is refused for its
+/// token; each listed volume existed at its page; no volume is listed twice; and a walk that came to its end
+/// has listed each volume that existed at all of its pages.
 pub fn walk(config: &Config)
     ensures read { (s : MachineState) (turns : List Turn) → IsInvariant config.now s
         → AreAsked config.now s [] turns → AreRead config.now s [] turns }
@@ -225,8 +225,8 @@ pub fn made_twice(config: &Config)
 {}
 
 /// Each call is idempotent (CSI specification, 'Timeouts'): from a State of the invariant the same call, made
-/// again at once, has the same reply and leaves the same State, also one that is not read or does not pass
-/// the checks.
+/// again at once, has the same reply and leaves the same State. So has a call that is not read or does not
+/// pass the checks.
 pub fn repeat(config: &Config)
     ensures { (s : MachineState) (call : CallBytes) → IsInvariant config.now s
         → (volumes config.now).respond ((volumes config.now).respond s call).1 call

@@ -1,9 +1,9 @@
 //! The server: it reads frames of calls and writes the frames of their replies.
 //!
 //! The engine, [`run_service`], knows nothing of methods: it feeds a `Framer`, hands each call to a
-//! [`Service`], and writes what the service answers. Its proof is over any service, reader and writer, by the
-//! public clauses of `frames_core` alone. `specs/Machine.antt` says what a run over calls replies and leaves,
-//! `specs/Serving.antt` what is read and written by each end of a run.
+//! [`Service`], and writes the service's answers. Its proof is over any service, reader and writer, by the
+//! public clauses of `frames_core` alone. `specs/Machine.antt` has the replies and the states of a run over
+//! calls, `specs/Serving.antt` the bytes that are read and written by each end of a run.
 //!
 //! A service writes a body after room for the reply's head into one buffer that is kept from call to call,
 //! so a reply goes out as one write. `message.rt` decodes and checks the message of a call.

@@ -84,9 +84,8 @@ fn answer_piece<C, S: Service<C>, W: Write>(
 ///
 /// # Not promised
 ///
-/// That memory is there, that a read or a write succeeds, that a peer got what was written, and
-/// anything about time. A call may be refused for memory where memory was not refused: tests rule
-/// that out.
+/// That memory is there, that a read or a write succeeds, that a peer received the bytes, and anything about
+/// time. A call may be refused for memory although memory was not refused: tests rule that out.
 ///
 /// No clause knows the bytes of a reader or writer that does not report them, such as a socket; the
 /// body treats each alike, and tests of `csid` as a process compare what comes out. Rows of
@@ -152,7 +151,7 @@ fn refuse<W: Write>(fault: &FrameFault, writer: &mut W) -> RunEnd
     }
 }
 
-// The input ended: what was begun and isn't whole is refused.
+// The input ended: a frame that was begun and is not complete is refused.
 fn finish<W: Write>(framer: &mut Framer, writer: &mut W) -> RunEnd
     ensures { Finishes framer.old (W.contents writer.old) (W.contents writer.new) result }
 {

@@ -23,7 +23,7 @@ use envelope::Call;
 use std::alloc::Global;
 use std::io::{Read, Write};
 
-// The answer to a call of which the machine answered this.
+// The reply for this answer of the machine.
 fn answer_of(verdict: Result<Verdict, StoreFault>) -> CallResult
     ensures reply { (buffer : List ℕ) → RepliesTo buffer (reply_of result buffer) verdict }
     ensures room { (buffer : List ℕ) → (verdict ≡ Ok Verdict.Done → HasBody buffer)
@@ -94,10 +94,10 @@ impl<K: Keeper> Service<Config> for K {
 
 /// Serves the volume machine over a keeper.
 ///
-/// For every byte stream, however it is cut, what is written are the framed replies of the volume
-/// machine over the calls that the stream has, up to its first malformed frame, which is refused at
-/// its place; the keeper then has that machine's State. No pool is overcommitted in it. A call that
-/// is refused for memory or by the store is answered `INTERNAL` and leaves the State as before it.
+/// For every byte stream, however it is cut, the bytes that are written are the framed replies of the volume
+/// machine over the calls that the stream has, up to its first malformed frame, which is refused at its
+/// place; the keeper then has that machine's State. No pool is overcommitted in it. A call that is refused
+/// for memory or by the store is answered `INTERNAL` and leaves the State as before it.
 ///
 /// `serves` says this by the way the run ends, from each State of the invariant that the keeper may
 /// have had, while what the keeper is over is not in doubt at the end; also, the keeper's count
@@ -105,9 +105,8 @@ impl<K: Keeper> Service<Config> for K {
 /// 2^64 - 1, and where a stop at the start could only leave the State, a stop at the end leaves the
 /// last State, or what [`pending`](crate::laws::pending) says.
 ///
-/// `writes` says without any premise what is written: one reply of the envelope's table to each call that was
-/// read. It also says that a fault or a failed write is the end of reading: it shows in the last 4,096 bytes
-/// that are read.
+/// `writes` has no premise: one reply of the envelope's table is written to each call that was read. It also
+/// says that a fault or a failed write ends the reading: it shows in the last 4,096 bytes that are read.
 ///
 /// # Not promised
 ///

@@ -7,7 +7,6 @@ use Rattle.sqlite.specs.Held.{Held}
 use Rattle.sqlite.specs.Store.{Ghosts}
 use Rattle.csi_keeper.specs.Health as health
 use Rattle.csi_keeper.specs.Health.{Finishes, Starts}
-use Rattle.csi_keeper.specs.Listing.{listed_of, listing}
 use Rattle.csi_keeper.specs.Keeper.{Changes, Reads, count_after}
 use Rattle.csi_keeper.specs.State.{State, AttachmentKey, attached, page, published_of_page, published}
 use Rattle.csi_keeper.specs.declared.change.Change.{Change}
@@ -118,6 +117,3 @@ no_page s after count far h = sym (take_none count _ (ap (map (λ e. e.1)) (none
 
 pub no_nodes : (s : State) (after count : ℕ) → 2 ^ 63 ≤ after → IsStorable s → [] ≡ published_of_page s after count
 no_nodes s after count far h = ap (map (λ (v : Volume). published s v.number)) (no_page s after count far h)
-
-pub no_listing : (s : State) (after count : ℕ) → 2 ^ 63 ≤ after → IsStorable s → [] ≡ listing s after count
-no_listing s after count far h = ap (map (listed_of s)) (no_page s after count far h)

@@ -14,10 +14,8 @@ use Rattle.csi_types.specs.declared.requests.CreateVolume.{CreateVolume}
 use Rattle.csi_types.specs.declared.requests.Request.TheVariants.{Create}
 use Rattle.csi_codec.specs.Reading.{read_request}
 use Rattle.csi_keeper.specs.Capability.{key_of}
-use Rattle.csi_keeper.specs.Listing.{listed_each}
 use Rattle.csi_keeper.specs.Texts as texts
 use Rattle.csi_keeper.specs.declared.capability.CapKey.{CapKey}
-use Rattle.csi_keeper.specs.declared.listed.Listed.{Listed}
 use Rattle.csi_keeper.specs.declared.listed.PageWithNodes.{PageWithNodes}
 use Rattle.csi_keeper.specs.declared.volume.Attachment.{Attachment}
 use Rattle.csi_keeper.specs.declared.volume.Volume.{Volume}
@@ -168,15 +166,9 @@ module _ {S : Type 0} (g : Ghosts S) (old new : Held S) where
   abbrev pub TellsCount : texts.Text → ℕ → Type 0
   TellsCount node n = (xs : List ℕ) × TellsAttached node xs × (n ≡ length xs)
 
-  -- a page of volumes with the nodes of each, and parts of it
+  -- a page of volumes with the nodes of each
   abbrev pub TellsPageWithNodes : ℕ → ℕ → PageWithNodes → Type 0
   TellsPageWithNodes after count p = IsReadOfRows g old new (λ db rows. ArePageWithNodes after count db rows.0 rows.1) IsPageOf p
 
   abbrev pub TellsPageBelow : ℕ → ℕ → PageWithNodes → Type 0
   TellsPageBelow after count p = TellsBelow after (record { volumes = []; nodes = [] }) (TellsPageWithNodes after count) p
-
-  abbrev pub TellsPublished : ℕ → ℕ → List (List texts.Text) → Type 0
-  TellsPublished after count nodes = (p : PageWithNodes) × TellsPageBelow after count p × (nodes ≡ p.nodes)
-
-  abbrev pub TellsListing : ℕ → ℕ → List Listed → Type 0
-  TellsListing after count xs = (p : PageWithNodes) × TellsPageBelow after count p × (xs ≡ listed_each p.volumes p.nodes)

@@ -3,15 +3,14 @@
 ghost use Rattle.std.specs.Prelude.{◌≡◌, ◌≤◌, ◌^◌, [], None, false, IfOk, IsTrue, OnErr, is_some};
 ghost use Rattle.std.specs.FinMap.{get};
 ghost use Rattle.std.specs.Option.{option_map};
-ghost use Rattle.csi_keeper.specs.Listing.{IsPageWithNodes, listing};
-ghost use Rattle.csi_keeper.specs.State.{IsBounded, attached, attached_at, count_at, named, page, published_of_page, sizes, used};
+ghost use Rattle.csi_keeper.specs.Listing.{IsPageWithNodes};
+ghost use Rattle.csi_keeper.specs.State.{IsBounded, attached, attached_at, count_at, named, page, sizes, used};
 
 use crate::changes::{NUMBERS, make};
 use crate::fault::{TablesError, store_answer};
 use crate::read;
 use csi_keeper::{
-    Attachment, CapKey, Change, Health, Keeper, Listed, PageWithNodes, StoreFault, Totals, Usage,
-    Volume, listed_each,
+    Attachment, CapKey, Change, Health, Keeper, PageWithNodes, StoreFault, Totals, Usage, Volume,
 };
 use csi_sql::IdleConnection;
 use csi_types::{Items, Text};
@@ -87,7 +86,7 @@ impl<S: Alter> Tables<S> {
 impl<S: Alter> Keeper for Tables<S> {
     ghost use Rattle.csi_keeper.specs.Keeper.{Applies, Reads};
     ghost use Rattle.csi_tables.specs.Keeping.{TablesRefuses, refuses_change, tables_model};
-    ghost use Rattle.csi_tables.specs.Reading.{TellsAttached, TellsAttachments, TellsBelow, TellsCaps, TellsCount, TellsExistence, TellsListing, TellsNamed, TellsNext, TellsNumbered, TellsPage, TellsPageBelow, TellsPublished, TellsSizes};
+    ghost use Rattle.csi_tables.specs.Reading.{TellsAttached, TellsAttachments, TellsBelow, TellsCaps, TellsCount, TellsExistence, TellsNamed, TellsNext, TellsNumbered, TellsPage, TellsPageBelow, TellsSizes};
 
     ghost model = { λ t. tables_model S.Store t };
 
@@ -278,44 +277,6 @@ impl<S: Alter> Keeper for Tables<S> {
         let answer = read::page_with_nodes(alloc, &mut self.conn, after, count);
         self.note(&answer);
         self.health.finish_call(store_answer(answer))
-    }
-
-    fn published_nodes(
-        &mut self,
-        alloc: Global,
-        after: u64,
-        count: u32,
-    ) -> Result<Items<Items<Text>>, StoreFault>
-        ensures reads { Reads (tables_model S.Store self.old) (tables_model S.Store self.new) result
-            (λ s xs. xs ≡ published_of_page s after count) }
-        ensures exact { IfOk result (TellsPublished S.Store self.old.conn self.new.conn after count) }
-        ensures refused { TablesRefuses S.Store self.old self.new ⊥ result }
-        ensures limit { self.new.conn.step_limit ≡ self.old.conn.step_limit }
-        ensures error_only_if { 2 ^ 63 ≤ after → OnErr result (IsTrue self.old.health.is_down) }
-    {
-        let PageWithNodes { nodes, .. } = self.page_with_nodes(alloc, after, count)?;
-        Ok(nodes)
-    }
-
-    fn listing(
-        &mut self,
-        alloc: Global,
-        after: u64,
-        count: u32,
-    ) -> Result<Items<Listed>, StoreFault>
-        ensures reads { Reads (tables_model S.Store self.old) (tables_model S.Store self.new) result
-            (λ s xs. xs ≡ listing s after count) }
-        ensures exact { IfOk result (TellsListing S.Store self.old.conn self.new.conn after count) }
-        ensures refused { TablesRefuses S.Store self.old self.new ⊥ result }
-        ensures limit { self.new.conn.step_limit ≡ self.old.conn.step_limit }
-        ensures error_only_if { 2 ^ 63 ≤ after → OnErr result (IsTrue self.old.health.is_down) }
-    {
-        if after >= NUMBERS {
-            self.health.start_call()?;
-            return Ok(Items::new(alloc));
-        }
-        let PageWithNodes { volumes, nodes } = self.page_with_nodes(alloc, after, count)?;
-        Ok(listed_each(alloc, volumes.as_slice(), nodes)?)
     }
 
     fn apply(&mut self, alloc: Global, change: &Change) -> Result<(), StoreFault>

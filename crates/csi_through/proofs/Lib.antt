@@ -1,4 +1,5 @@
 mod CopyLemmas
 mod FaultLemmas
 mod OpeningLemmas
+mod ReadLemmas
 mod StoppedLemmas

@@ -5,15 +5,17 @@ ghost use Rattle.std.specs.Option.{option_map};
 ghost use Rattle.std.specs.Prelude.{◌≡◌, ◌≢◌, ◌↔◌, true, false, Err, IfErr, IfOk, IsTrue, OnErr, OnOk, is_some};
 ghost use Rattle.csi_memory.specs.Holding.{mem_model};
 ghost use Rattle.csi_keeper.specs.Keeper.{Applies, IsQuiet, count_after};
-ghost use Rattle.csi_keeper.specs.Listing.{listing};
-ghost use Rattle.csi_keeper.specs.State.{IsBounded, attached, attached_at, count_at, named, page, published_of_page, sizes, used};
+ghost use Rattle.csi_keeper.specs.Listing.{IsPageWithNodes, listing};
+ghost use Rattle.csi_keeper.specs.State.{IsBounded, attached, attached_at, count_at, named, page, sizes, used};
 ghost use Rattle.csi_keeper.specs.declared.change.StoreFault.TheVariants.{Down, NoMemory};
 ghost use Rattle.csi_through.specs.Copying.{IsCopy, IsWhy};
 ghost use Rattle.csi_through.specs.Through.{HasMissed, Opens, ReadsThrough, through_model};
 
 use crate::change_store::{ChangeStore, KeeperChanges};
 use crate::copying::copy_of;
-use csi_keeper::{Attachment, CapKey, Change, Health, Keeper, PageFold, StoreFault, Usage, Volume};
+use csi_keeper::{
+    Attachment, CapKey, Change, Health, Keeper, PageFold, PageWithNodes, StoreFault, Usage, Volume,
+};
 use csi_memory::MemKeeper;
 use csi_types::{Items, Text};
 use std::alloc::Global;
@@ -284,17 +286,17 @@ impl<M: Keeper, D: ChangeStore> Keeper for Through<M, D> {
         self.health.finish_call(answer)
     }
 
-    fn published_nodes(
+    fn page_with_nodes(
         &mut self,
         alloc: Global,
         after: u64,
         count: u32,
-    ) -> Result<Items<Items<Text>>, StoreFault>
+    ) -> Result<PageWithNodes, StoreFault>
         ensures { ReadsThrough M.model D.model self.old self.new result
-            (λ s xs. xs ≡ published_of_page s after count) }
+            (λ s p. IsPageWithNodes s after count p) }
     {
         start_call(&mut self.health, self.is_current)?;
-        let answer = self.memory.published_nodes(alloc, after, count);
+        let answer = self.memory.page_with_nodes(alloc, after, count);
         self.health.finish_call(answer)
     }
 

@@ -1,2 +1,3 @@
+pub mod Leading
 pub mod Reading
 pub mod Serving

@@ -1,4 +1,4 @@
--- What is read of a change store before calls are served over it.
+-- The reading of a change store before calls are served over it.
 use Rattle.std.specs.Prelude.{◌≡◌, ◌⊎◌, ℕ, false, true, List, Some, None}
 use Rattle.sqlite.specs.Held.{Held, state}
 use Rattle.sqlite.specs.Store.{Ghosts}
@@ -36,8 +36,8 @@ module _ {P : Type 0} (exchanged : P → P → List ℕ → Received → Type 0)
   abbrev pub ChecksMeta : Notes → Type 0
   ChecksMeta notes = ((notes.format ≡ Some LATEST_FORMAT) × (new ≡ old)) ⊎ ((notes.format ≡ None) × (notes.has_rows ≡ false) × MakesMeta)
 
--- What is asked of a change store before calls are served: all its pages, and then, where it has no row, that
--- it makes its row of meta. The peer is as this left it.
+-- The requests to a change store before calls are served: for all its pages, and then, if it has no row, that
+-- it makes its row of meta. The peer is as these exchanges left it.
 pub record AsksAll {P : Type 0} (exchanged : P → P → List ℕ → Received → Type 0) (old new : P) : Type 0 where
   pub pages : List (List PageItem)
   pub notes : Notes
@@ -61,7 +61,7 @@ pub record IsUnused {P : Type 0} (through : Through MemKeeper (RemoteChangeStore
   pub change_store_up : through.change_store.is_down ≡ false
 
 module _ {S : Type 0} (g : Ghosts S) (config : Config) (conn : Held S) {P : Type 0} (exchanged : P → P → List ℕ → Received → Type 0) (old : P) where
-  -- the disk returned what was written, and the database had no table
+  -- the disk returned the bytes that were written, and the database had no table
   abbrev pub IsOverNone : Tables S → Type 0
   IsOverNone t = ((tables_model g t).doubt ≡ 0) × ((state g conn).now.schema ≡ no_schema)
 

@@ -1,4 +1,4 @@
--- What is said of calls over the files at a path, by what they came to.
+-- The results of calls over the files at a path, and how the program reports them.
 use Rattle.std.specs.Prelude.{◌≡◌, ◌⊎◌, ℕ, true, false, List, [], Option, None, Some, Result, Ok, Err, IfOk, IfErr, IsErrAnd, IsTrue}
 use Rattle.sqlite_disk.specs.declared.modelled.Modelled.{Modelled}
 use Rattle.sqlite_disk.specs.declared.Disk as disk
@@ -23,12 +23,12 @@ use Rattle.csid_settings.specs.Statuses.{IsOrNoMemory}
 use Rattle.csid_settings.specs.declared.command.TablesFile.{TablesFile}
 use Rattle.csid.specs.declared.serving.TablesFailure.{TablesFailure}
 
--- a failure of the tables, or want of memory, and this report of calls
+-- a failure of the tables or of memory, with this report of calls
 abbrev pub FailsAfter : Option RunReport → Result RunReport TablesFailure → Type 0
 FailsAfter report said = IsErrAnd said (λ failure. IsOrNoMemory 4 failure.cause × (failure.report ≡ report))
 
 module _ {D : Type 0} {g : disk.Ghosts D} where
-  -- what is said where the files were not closed
+  -- the report of a run that failed
   abbrev pub SaysFailure : RunFailure D g → Result RunReport TablesFailure → Type 0
   SaysFailure (NoFiles error) said = FailsAfter None said
   SaysFailure (NotOpened error rest) said = FailsAfter None said
@@ -36,7 +36,7 @@ module _ {D : Type 0} {g : disk.Ghosts D} where
   SaysFailure (Left report files) said = said ≡ Ok report
   SaysFailure (NotClosed report error files) said = FailsAfter (Some report) said
 
-  -- what is said of a run that came to this
+  -- the report of a run that had this outcome
   abbrev pub Says : Result (Closed D) (RunFailure D g) → Result RunReport TablesFailure → Type 0
   Says (Ok closed) said = said ≡ Ok closed.report
   Says (Err failure) said = SaysFailure failure said
@@ -45,13 +45,13 @@ module _ {S : Type 0} (first : start.Ghosts S) (config : Config) (file : TablesF
   abbrev File : Type 0
   File = Modelled Host S calls.ghosts first
 
-  -- what calls came to over files that held what `first` says: all that a run over the files at a path
-  -- promises
+  -- the outcome of calls over files that began as `first`: all that `serve_path` promises
   pub record IsOutcome (bytes : Streams) (outcome : Result (Closed File) (RunFailure File over_calls)) : Type 0 where
     pub served : IfOk outcome (λ r. Serves (volumes config) (start_model (image_at first) r.report.is_new)
         (seen config (files_model over_calls r.files r.report.refusals r.report.is_down)) bytes.unread bytes.left bytes.held bytes.holds r.report.end)
     pub after : IfOk outcome (λ r. StartsThen config (image_at first) bytes r.report (AreClean over_calls r.files.log r.files.db)
         (LeavesAfter over_calls config r.files))
+    pub usable : IfOk outcome (λ r. IsTrue (over_calls.is_usable r.files.log) × IsTrue (over_calls.is_usable r.files.db))
     pub alone : IfOk outcome (λ r. HasAlone over_calls r.files)
     pub writes : AllServed over_calls (λ report. Writes bytes.unread bytes.left bytes.held bytes.holds report.end) outcome
     pub none_refused : IfOk outcome (λ r. HasRefusedNone r.report)
@@ -59,7 +59,8 @@ module _ {S : Type 0} (first : start.Ghosts S) (config : Config) (file : TablesF
     pub existing : IsAsked over_calls file.is_existing outcome
     pub not_served : IfErr outcome (IsNotServedAt first config bytes)
 
-  -- The files were not opened, and nothing was read or written; or calls came to something, and that is said.
+  -- The files were not opened, and no byte was read or written; or the calls had an outcome, which is
+  -- reported.
   abbrev pub IsAnswered : Streams → Result RunReport TablesFailure → Type 0
   IsAnswered bytes said = (AreUntouched bytes × FailsAfter None said)
       ⊎ ((outcome : Result (Closed File) (RunFailure File over_calls)) × IsOutcome bytes outcome × Says outcome said)
@@ -68,6 +69,6 @@ module _ {S : Type 0} (first : start.Ghosts S) (config : Config) (file : TablesF
   abbrev pub IsServed : Option (List ℕ) → Option (List ℕ) → Option (List ℕ) → Result RunReport TablesFailure → Type 0
   IsServed unread held holds said = (left : Option (List ℕ)) × IsAnswered (streams unread left held holds) said
 
--- no call was served, over files whose reads are not answered from a copy
+-- a run without calls over the files, which were not copied into memory
 abbrev pub IsSurveyed : {S : Type 0} → start.Ghosts S → Config → TablesFile → Result RunReport TablesFailure → Type 0
 IsSurveyed first config file said = (held holds : Option (List ℕ)) × IsServed first config (record file { is_low_memory = true }) (Some []) held holds said

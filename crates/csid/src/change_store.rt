@@ -1,8 +1,8 @@
-//! Volumes that a change store keeps, which another program is: its socket, what it says at the start, and
-//! calls over both.
+//! Calls over the volumes of a change store, which is another program, and is reached by its socket.
 
-ghost use Rattle.std.specs.Prelude.{◌≡◌, false, IfErr, IfOk, OnOk};
+ghost use Rattle.std.specs.Prelude.{◌≡◌, false, IfErr, IfOk, IsTrue, OnOk};
 ghost use Rattle.csi_change_store.specs.Items.{seen_notes};
+ghost use Rattle.csid.specs.Leading.{IsUsable, Leads};
 ghost use Rattle.csid.specs.Reading.{AreTaken, IsAgreed, IsCopied, IsReadFrom, MakesMeta, ChecksMeta};
 ghost use Rattle.csid_settings.specs.Statuses.{IsOrNoMemory};
 
@@ -32,12 +32,12 @@ use std::cell::Cell;
 use std::rc::Rc;
 use std::{io, str};
 
-/// A peer whose exchanges begin a deadline, and whether it was asked for something. What it gives is what the
-/// peer gave.
+/// A peer whose exchanges have a deadline, and that notes that it was asked. It passes frames and replies on
+/// as they are.
 pub(crate) struct TrackedPeer<P> {
     peer: P,
     deadline: Rc<Deadline>,
-    // For who answers calls over it.
+    // Set by each exchange, and cleared by the writer of a reply.
     is_asked: Rc<Cell<bool>>,
 }
 
@@ -66,18 +66,19 @@ impl<P: Peer> Peer for TrackedPeer<P> {
 /// The connection to a change store.
 pub(crate) type ChangeStorePeer = TrackedPeer<Channel<TimedStream, TimedStream>>;
 
-/// What is kept in memory of a change store's volumes, and the change store.
+/// The keeper over a change store: a copy of its volumes in memory, and the change store, which makes each
+/// change first.
 pub(crate) type Remote = Through<MemKeeper, RemoteChangeStore<ChangeStorePeer>>;
 
-/// A change store that was read.
+/// A change store whose volumes were read.
 pub(crate) struct OpenChangeStore {
-    /// Its keeper.
+    /// Answers calls from the copy in memory.
     pub(crate) keeper: Remote,
-    /// Its connection, to ask whether it leads.
+    /// The connection to the change store, to ask whether it leads.
     pub(crate) stream: TimedStream,
-    /// Whether it was asked for a change since the last reply.
+    /// Whether the change store was asked for a change since the last reply.
     pub(crate) is_asked: Rc<Cell<bool>>,
-    /// Whether it did not lead once: what it has is read again.
+    /// Whether a reply was held back because the change store did not lead: its volumes are read again then.
     pub(crate) is_cut: bool,
 }
 
@@ -93,24 +94,41 @@ impl Drop for OpenChangeStore {
 }
 
 impl OpenChangeStore {
-    /// Whether calls may be answered over it: nothing was refused, and it leads.
-    pub(crate) fn is_usable(&self, alloc: Global) -> bool {
+    /// Returns true if calls may be answered from the copy: it has each change, no change was refused, no
+    /// reply was held back, and the change store answers that it leads.
+    pub(crate) fn is_usable(&self, alloc: Global) -> bool
+        ensures { IsTrue result → IsUsable self.now }
+    {
         let has_all = self.keeper.is_current() && !self.keeper.is_down();
         has_all && !self.is_cut && leads(alloc, &self.stream)
     }
 }
 
-/// Whether a change store leads, as it says itself. What was read of it is then what it has.
-pub(crate) fn leads(alloc: Global, stream: &TimedStream) -> bool {
-    let Ok(frame) = lead_frame(alloc) else {
-        return false;
-    };
-    stream.deadline().begin_exchange();
-    let received = Channel::new(stream, stream).exchange(alloc, frame.as_slice());
+// Returns true if a change store replied OK.
+fn is_agreed(received: Received) -> bool
+    ensures { IsTrue result → IsAgreed received }
+{
     matches!(received, Received::Reply(reply) if reply.status == 0)
 }
 
-/// A change store, as far as the replies to a peer need it.
+// Returns true if a change store answers that it leads.
+fn is_leading<P: Peer>(alloc: Global, change_store: &mut P) -> bool
+    ensures { IsTrue result → Leads P.exchanged change_store.old change_store.new }
+{
+    let Ok(frame) = lead_frame(alloc) else {
+        return false;
+    };
+    is_agreed(change_store.exchange(alloc, frame.as_slice()))
+}
+
+/// Returns true if the change store at the other end of a connection answers that it leads. The copy of its
+/// volumes is then still what it has.
+pub(crate) fn leads(alloc: Global, stream: &TimedStream) -> bool {
+    stream.deadline().begin_exchange();
+    is_leading(alloc, &mut Channel::new(stream, stream))
+}
+
+/// Asks a change store before each reply whether it leads.
 #[derive(Clone, Copy, Drop)]
 pub(crate) struct ChangeStoreLeadership<'a> {
     pub(crate) stream: &'a TimedStream,
@@ -120,14 +138,14 @@ pub(crate) struct ChangeStoreLeadership<'a> {
 }
 
 impl Leadership for ChangeStoreLeadership<'_> {
-    // A change that was asked for shows it too: it is made while the change store leads alone. Otherwise
-    // another change store may have led since, and made changes that are not in memory.
+    // An answer to a change shows it too, since the change store makes a change only while it leads.
+    // Otherwise another change store may have led since, and made changes that the copy lacks.
     fn holds(&mut self) -> bool {
         self.is_asked.replace(false) || leads(self.alloc, self.stream)
     }
 }
 
-// A change store that cannot be had.
+// The failure of the program for an error of the connection to a change store.
 fn change_store_failure(alloc: Global, path: &str, error: &io::Error) -> Failure
     ensures { IsOrNoMemory 4 result }
 {
@@ -137,7 +155,7 @@ fn change_store_failure(alloc: Global, path: &str, error: &io::Error) -> Failure
     }
 }
 
-// Why the database in memory has no rows of a change store.
+// The failure of the program for rows that do not go into the database in memory.
 fn rows_failure(alloc: Global, path: &str, fault: &RowsFault) -> Failure
     ensures { IsOrNoMemory 4 result }
 {
@@ -150,7 +168,7 @@ fn rows_failure(alloc: Global, path: &str, fault: &RowsFault) -> Failure
     }
 }
 
-// A reply that says no.
+// The failure of the program for a reply that refuses a request.
 fn refusal_failure(alloc: Global, path: &str, reply: &ReceivedReply) -> Failure
     ensures { IsOrNoMemory 4 result }
 {
@@ -160,7 +178,7 @@ fn refusal_failure(alloc: Global, path: &str, reply: &ReceivedReply) -> Failure
     }
 }
 
-// What came instead of a reply that says OK.
+// The failure of the program for anything but a reply that says OK.
 fn received_failure(alloc: Global, path: &str, received: &Received) -> Failure
     ensures { IsOrNoMemory 4 result }
 {
@@ -173,7 +191,7 @@ fn received_failure(alloc: Global, path: &str, received: &Received) -> Failure
     }
 }
 
-// Why the rows of a change store were not read.
+// The failure of the program for rows that were not read.
 fn pages_failure(alloc: Global, path: &str, fault: &ReadFault) -> Failure
     ensures { IsOrNoMemory 4 result }
 {
@@ -186,7 +204,7 @@ fn pages_failure(alloc: Global, path: &str, fault: &ReadFault) -> Failure
     }
 }
 
-// Whether a change store agreed.
+// Fails unless a change store replied OK.
 fn agreed(alloc: Global, path: &str, received: Received) -> Result<(), Failure>
     ensures agreed { OnOk result (IsAgreed received) }
     ensures failure { IfErr result (λ failure. IsOrNoMemory 4 failure) }
@@ -197,7 +215,7 @@ fn agreed(alloc: Global, path: &str, received: Received) -> Result<(), Failure>
     }
 }
 
-// Has a change store without any row make the row of meta, as it is in the new tables here.
+// Makes a change store that has no row add the row of meta that new tables have.
 fn make_meta<P: Peer>(alloc: Global, path: &str, change_store: &mut P) -> Result<(), Failure>
     ensures made { OnOk result (MakesMeta P.exchanged change_store.old change_store.new) }
     ensures failure { IfErr result (λ failure. IsOrNoMemory 4 failure) }
@@ -208,8 +226,8 @@ fn make_meta<P: Peer>(alloc: Global, path: &str, change_store: &mut P) -> Result
     }
 }
 
-// Whether the row of meta has the format of a change store. Where there is none, rows have none to go with,
-// and a change store without any row is given one.
+// Fails unless the row of meta has the format of change stores. A change store without any row gets a row of
+// meta; rows without a row of meta are refused.
 fn check_or_make_meta<P: Peer>(
     alloc: Global,
     path: &str,
@@ -232,7 +250,7 @@ fn check_or_make_meta<P: Peer>(
     }
 }
 
-// Why tables of this format are not taken.
+// Why tables of this format are refused.
 fn format_fault(format: Option<u64>) -> AdoptFault {
     match format {
         Some(format) if format != 0 => AdoptFault::Newer {
@@ -243,7 +261,7 @@ fn format_fault(format: Option<u64>) -> AdoptFault {
 }
 
 // Makes tables on a connection to a new database, fills them with the rows of a change store, and judges them
-// as those of a file are judged.
+// like tables in a file.
 fn read_tables<P: Peer, S: Alter + Drop>(
     rt: &HostRuntime,
     config: &Config,
@@ -266,8 +284,8 @@ fn read_tables<P: Peer, S: Alter + Drop>(
     keeper_over(rt, path, conn, config)
 }
 
-// Reads and judges all that a change store has, over a connection to a new database, and says what that is.
-// The database is gone after that.
+// Reads all rows of a change store into a new database, judges them, copies the volumes into memory, and
+// reports how many there are. The database is dropped after that.
 fn read_change_store<P: Peer + Drop, S: Alter + Drop>(
     console: &Console<'_>,
     config: &Config,
@@ -294,8 +312,8 @@ fn read_change_store<P: Peer + Drop, S: Alter + Drop>(
     }
 }
 
-// The same over files in memory: there a row that comes in takes as many steps as its tree is deep, where the
-// store of rows in memory would move all rows after it.
+// As `read_change_store`, with the new database in files in memory: a new row costs O(log n) steps there, and
+// O(n) in the kit's store of rows.
 fn read_over_memory<P: Peer + Drop>(
     console: &Console<'_>,
     config: &Config,
@@ -310,7 +328,7 @@ fn read_over_memory<P: Peer + Drop>(
     read_change_store(console, config, path, change_store, conn)
 }
 
-// A connection to a change store, and the peer over it, which notes that it was asked.
+// Connects to a change store. The peer uses the same connection, and notes that it was asked.
 fn reach(
     rt: &HostRuntime,
     path: &str,
@@ -326,17 +344,18 @@ fn reach(
     Ok((stream, peer))
 }
 
-/// Reads and judges all that a change store has, and says what that is.
+/// Connects to a change store, reads and judges its rows, and reports how many volumes it has.
 ///
 /// # Errors
 ///
-/// Where the change store cannot be had, its rows are refused, or memory is.
+/// If the change store cannot be reached or does not reply, if its rows are refused, or for want of memory.
 pub(crate) fn open_change_store(
     console: &Console<'_>,
     config: &Config,
     path: &str,
 ) -> Result<OpenChangeStore, Failure>
-    ensures { IfErr result (λ failure. IsOrNoMemory 4 failure) }
+    ensures usable { IfOk result IsUsable }
+    ensures failure { IfErr result (λ failure. IsOrNoMemory 4 failure) }
 {
     let rt = console.rt;
     let Ok(is_asked) = Rc::new(rt.alloc(), Cell::new(false)) else {

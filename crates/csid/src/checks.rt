@@ -35,7 +35,7 @@ pub(crate) fn check_tables(
 ///
 /// # Errors
 ///
-/// Where the tables cannot be read, what is listed cannot be written, or memory is refused.
+/// If the tables cannot be read, if the list cannot be written, or for want of memory.
 pub(crate) fn list_tables(
     console: &Console<'_>,
     path: &str,

@@ -1,13 +1,13 @@
-//! A file of tables and its WAL before they are opened: whether there are tables, and whether new ones may be
-//! made.
+//! Checks of a file of tables and its WAL before they are opened: whether the file has tables, and whether
+//! new tables may be made in it.
 
 use csi_files::WAL_WITH_FRAME_BYTES;
 use std::fs::{self, File};
 use std::io::{self, ErrorKind, Read};
 use thiserror::Error;
 
-// The header of SQLite's file, and after it how the first page begins: its kind, and where the number of its
-// cells is.
+// The bytes of the header of an SQLite file and of the first fields of its first page, and the offsets of the
+// page's kind and of its number of cells.
 const HEADER_BYTES: usize = 105;
 
 const KIND_AT: usize = 100;
@@ -16,35 +16,35 @@ const CELLS_AT: usize = 103;
 
 const LEAF: u8 = 13;
 
-// How many times its bytes in the file a row takes in memory at most.
+// The most bytes of memory that a byte of a row in the file takes.
 const OPENING_FACTOR: u64 = 6;
 
-/// Why a file is not taken for tables, and none are made in it.
+/// Why a file is refused.
 #[derive(Clone, Copy, Debug, Error)]
 pub(crate) enum FileFault {
-    /// SQLite takes its path for something else.
+    /// SQLite does not take the path for a file.
     #[error("csid needs the path of a file, and this is none for SQLite")]
     NoPath,
-    /// It is a named pipe, a socket or a device, an opening of which may wait for ever.
+    /// It is a named pipe, a socket or a device: opening one may block for ever.
     #[error("it is no regular file")]
     NotRegular,
-    /// There is no file.
+    /// It does not exist.
     #[error("there is no such file, and none is made")]
     Missing,
     /// It has no tables.
     #[error("it has no tables, and none are made")]
     Blank,
-    /// What was in it is lost: its WAL has changes of it.
+    /// It lost its content: it has no byte, and its WAL has changes.
     #[error("it is empty or missing, but its WAL, '-wal', has changes: put back the copy of the file that this WAL belongs to, or move the WAL away to begin with no volumes")]
     Emptied,
 }
 
-// Whether the first bytes of a file are those of one without tables: its first page is a leaf of no cells.
+// Returns true if the first bytes of a file show no tables: its first page is a leaf without cells.
 fn is_blank(head: &[u8; HEADER_BYTES]) -> bool {
     head[KIND_AT] == LEAF && head[CELLS_AT] == 0 && head[CELLS_AT + 1] == 0
 }
 
-// The path of a file's WAL, which lies next to the file that links lead to, or to where it would be made.
+// The path of a file's WAL. It is next to the file that links lead to, or where that file would be made.
 fn wal_path(rt: &HostRuntime, path: &str) -> io::Result<String> {
     match fs::canonicalize(rt, path) {
         Ok(real) => Ok(format!(in rt.alloc(); "{}-wal", real.as_str())?),
@@ -55,18 +55,18 @@ fn wal_path(rt: &HostRuntime, path: &str) -> io::Result<String> {
     }
 }
 
-// Whether a file's WAL has a change.
+// Returns true if a file's WAL has a change.
 fn has_frames(rt: &HostRuntime, path: &str) -> io::Result<bool> {
     let wal = wal_path(rt, path)?;
     Ok(fs::metadata(rt, wal.as_str()).is_ok_and(|found| found.len() >= WAL_WITH_FRAME_BYTES as u64))
 }
 
-// Whether a path leads to something that is neither a regular file nor a folder.
+// Returns true if a path leads to neither a regular file nor a folder.
 fn is_special(rt: &HostRuntime, path: &str) -> bool {
     fs::metadata(rt, path).is_ok_and(|found| !found.is_file() && !found.is_dir())
 }
 
-/// Why a file or its WAL is not opened, by its kind. A folder is left to the opening, which refuses it at
+/// The fault of a file or a WAL that is no regular file. A folder is left to the opening, which refuses it at
 /// once.
 pub(crate) fn fault_of_kind(rt: &HostRuntime, path: &str) -> Option<FileFault> {
     let is_special_wal = wal_path(rt, path).is_ok_and(|wal| is_special(rt, wal.as_str()));
@@ -76,7 +76,7 @@ pub(crate) fn fault_of_kind(rt: &HostRuntime, path: &str) -> Option<FileFault> {
     None
 }
 
-// Whether a file has no byte, or is missing.
+// Returns true if a file is empty or missing.
 fn is_empty(rt: &HostRuntime, path: &str) -> io::Result<bool> {
     match fs::metadata(rt, path) {
         Ok(found) => Ok(found.is_file() && found.len() == 0),
@@ -85,8 +85,8 @@ fn is_empty(rt: &HostRuntime, path: &str) -> io::Result<bool> {
     }
 }
 
-// How many bytes of a file are in its free pages: a page's size is at 16 of the header, where 1 is 65,536,
-// and the number of the free ones at 36.
+// The bytes of a file's free pages. The size of a page is at offset 16 of the header, where 1 is 65,536, and
+// the number of free pages at offset 36.
 fn free_bytes(rt: &HostRuntime, path: &str) -> io::Result<u64> {
     let mut head = [0; HEADER_BYTES];
     File::open(rt, path)?.read_exact(&mut head)?;
@@ -98,8 +98,8 @@ fn free_bytes(rt: &HostRuntime, path: &str) -> io::Result<u64> {
     Ok(u64::from(free).saturating_mul(page))
 }
 
-// How many bytes a file and its WAL have, without the pages that are free in the file. A page that the WAL
-// takes again is counted with the WAL.
+// The bytes of a file and its WAL, without the free pages of the file. A free page that is used again is
+// counted with the WAL.
 fn bytes_of(rt: &HostRuntime, path: &str) -> io::Result<u64> {
     let wal = wal_path(rt, path)?;
     let wal_bytes = fs::metadata(rt, wal.as_str()).map_or(0, |found| found.len());
@@ -108,15 +108,15 @@ fn bytes_of(rt: &HostRuntime, path: &str) -> io::Result<u64> {
     Ok(of_file.saturating_sub(free).saturating_add(wal_bytes))
 }
 
-/// How many bytes of memory an opening of a file takes at most for its rows. The shortest rows, of some 45
-/// bytes in the file, take less than six times as many; a long row takes less than twice its bytes.
+/// The most bytes of memory that an opening of a file takes for its rows. The shortest rows, of some 45 bytes
+/// in the file, take less than six times as many; a long row takes less than twice its bytes.
 pub(crate) fn opening_bytes(rt: &HostRuntime, path: &str) -> usize {
     let bytes = bytes_of(rt, path).unwrap_or(0);
     bytes.saturating_mul(OPENING_FACTOR) as usize
 }
 
-/// Why no tables may be made in a file, as far as its length and its WAL show it. An opening would begin the
-/// WAL again, and the changes in it would be lost.
+/// The fault of an empty or missing file whose WAL has changes. An opening would begin the WAL again, and the
+/// changes in it would be lost.
 pub(crate) fn fault_of_wal(rt: &HostRuntime, path: &str) -> Option<FileFault> {
     match (is_empty(rt, path), has_frames(rt, path)) {
         (Ok(true), Ok(true)) => Some(FileFault::Emptied),
@@ -124,7 +124,7 @@ pub(crate) fn fault_of_wal(rt: &HostRuntime, path: &str) -> Option<FileFault> {
     }
 }
 
-// Whether the file has nothing of tables, and nothing is in its WAL.
+// Returns true if the file has no tables, and its WAL no changes.
 fn has_nothing(rt: &HostRuntime, path: &str) -> io::Result<bool> {
     let mut file = File::open(rt, path)?;
     if has_frames(rt, path)? {
@@ -138,8 +138,8 @@ fn has_nothing(rt: &HostRuntime, path: &str) -> io::Result<bool> {
     }
 }
 
-/// Why a file has no tables, as far as that is seen without an opening. What cannot be read is left to the
-/// opening.
+/// The fault of a file without tables, as far as a read of its header shows. A file that cannot be read is
+/// left to the opening.
 pub(crate) fn fault_of_existing(rt: &HostRuntime, path: &str) -> Option<FileFault> {
     if let Some(fault) = fault_of_wal(rt, path) {
         return Some(fault);

@@ -6,9 +6,8 @@ use std::os::unix::fs::{OpenOptionsExt, PermissionsExt};
 // Its owner alone may read and write a file that is made.
 const OWNER: u32 = 0o600;
 
-/// Makes a file that is missing, for its owner alone, whatever the process's mask is. What cannot be made so
-/// is left to the opening, which says why.
-/// The kit's library would make a database with 0644.
+/// Makes a missing file with mode 0600, whatever the umask is. An error is left to the opening, which reports
+/// it. The kit's library would make a database with 0644.
 pub(crate) fn make_private(rt: &HostRuntime, path: &str) {
     if !matches!(fs::exists(rt, path), Ok(false)) {
         return;

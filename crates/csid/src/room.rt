@@ -3,7 +3,7 @@
 use std::cell::Cell;
 use std::fs;
 
-// Where control groups are mounted: those of version 2, and of version 1 the groups that limit memory.
+// Where control groups are mounted: groups of version 2, and of version 1 the groups that limit memory.
 const GROUPS: &str = "/sys/fs/cgroup";
 
 const MEMORY_GROUPS: &str = "/sys/fs/cgroup/memory";
@@ -47,8 +47,8 @@ impl Limit {
         }
     }
 
-    // Whether it may grow once more as since the last look, and a next opening of tables may take these bytes
-    // after what is in use now is given back.
+    // Returns true if the process may grow again as much as since the last look, and if an opening of tables
+    // may take these bytes after the memory in use now is released.
     fn has_room(&self, used: u64, opening: u64) -> bool {
         let grown = used.saturating_sub(self.last.replace(used));
         let is_spent = used.saturating_add(grown) > self.most;
@@ -80,7 +80,7 @@ fn used(rt: &HostRuntime) -> Option<Usage> {
     })
 }
 
-// The number in a file of a control group; nothing, where there is no such file or no limit.
+// The number in a file of a control group; `None` without such a file or without a limit.
 fn limit_in(rt: &HostRuntime, root: &str, group: &str, file: &str) -> Option<u64> {
     let path = format!(in rt.alloc(); "{root}{group}/{file}").ok()?;
     let text = fs::read_to_string(rt, path.as_str()).ok()?;
@@ -170,8 +170,8 @@ impl Drop for MemoryGauge {
 }
 
 impl MemoryGauge {
-    /// The limits as they are now: those of the control groups of the process, and of its address space. A
-    /// limit that the system does not report counts as none.
+    /// The current limits: of the control groups of the process, and of its address space. A limit that the
+    /// system does not report counts as no limit.
     pub(crate) fn new(rt: &HostRuntime) -> MemoryGauge {
         let Some(used) = used(rt) else {
             return MemoryGauge {
@@ -189,7 +189,8 @@ impl MemoryGauge {
         }
     }
 
-    /// Whether there is memory for what is done, and for a next opening of tables that takes `opening` bytes.
+    /// Returns true if there is memory for calls, and for a next opening of tables that takes `opening`
+    /// bytes.
     pub(crate) fn has_room(&self, opening: usize) -> bool {
         if self.address_space.is_none() && self.resident.is_none() {
             return true;
@@ -203,7 +204,7 @@ impl MemoryGauge {
     }
 }
 
-// Whether there is room where there is a limit.
+// Returns true if there is room below a limit, or no limit.
 fn has_room_in(limit: &Option<Limit>, used: u64, opening: u64) -> bool {
     match limit {
         Some(limit) => limit.has_room(used, opening),

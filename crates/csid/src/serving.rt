@@ -1,5 +1,5 @@
-//! Calls over the tables in a file. `csi_files` opens, adopts, serves and closes them; here the words for
-//! that and the status are chosen.
+//! Calls over the tables in a file. `csi_files` opens, adopts, serves and closes the tables; this module
+//! gives each of its failures a text and an exit status.
 
 ghost use Rattle.std.specs.Prelude.{◌≡◌, None, Some};
 ghost use Rattle.std.specs.Fmt.{option_append};
@@ -19,18 +19,21 @@ use sqlite_disk::Disk;
 use std::alloc::Global;
 use std::io::{Read, Write};
 
+// The most pages of a file that an opening keeps in memory, 2 MiB.
+const CACHE_PAGES: usize = 2000;
+
 /// Why a run over tables failed.
 #[derive(Drop)]
 pub(crate) struct TablesFailure {
-    /// Why the tables cannot be had, or why their file was not closed.
+    /// Why the tables cannot be opened, or why their file was not closed.
     pub(crate) cause: Failure,
-    /// What the calls came to, if the file was not closed after them. What was committed is then in the WAL
-    /// next to it.
+    /// The report of the calls, if the file was not closed after them. The committed changes are then in the
+    /// WAL next to the file.
     pub(crate) report: Option<RunReport>,
 }
 
 impl TablesFailure {
-    // No call was read.
+    // A failure before the first call was read.
     fn unserved(cause: Failure) -> TablesFailure
         ensures { (result.cause ≡ cause) × (result.report ≡ None) }
     {
@@ -41,7 +44,7 @@ impl TablesFailure {
     }
 }
 
-// Why a database was refused.
+// The failure of the program for a database that was refused.
 fn refusal_failure(alloc: Global, path: &str, refusal: &Refusal) -> Failure
     ensures { IsOrNoMemory 4 result }
 {
@@ -52,7 +55,7 @@ fn refusal_failure(alloc: Global, path: &str, refusal: &Refusal) -> Failure
     }
 }
 
-// What a run over the files at a path came to.
+// The report of a run over the files at a path, or its failure with a text and a status.
 fn outcome_of<D: Disk + Drop>(
     alloc: Global,
     path: &str,
@@ -88,18 +91,18 @@ pub(crate) struct TablesRun<'a, O> {
     pub(crate) config: &'a Config,
     /// The file.
     pub(crate) file: TablesFile<'a>,
-    /// Hears how the calls are served.
+    /// Reports how the calls are served.
     pub(crate) observer: &'a O,
 }
 
 impl<O: Observer> TablesRun<'_, O> {
-    /// Serves the calls that a peer has sent and those that a reader gives after them. The file is made where
-    /// it is missing and may be made. `start` is what it and its WAL held: the clause holds for any bytes.
+    /// Serves the calls in `sent` and those that the reader gives after them. A missing file is made, unless
+    /// the file must exist. `start` is the content of the file and its WAL: the clause holds for any.
     ///
     /// # Errors
     ///
-    /// Why no call was served: the tables cannot be had, or memory is refused. Or why the file was not closed
-    /// after the calls.
+    /// If the tables cannot be opened, or for want of memory: no call was served. If the file was not closed:
+    /// the report of the calls is in the failure.
     pub(crate) fn serve_file<S: Start, R: Read, W: Write>(
         &self,
         start: S,
@@ -133,16 +136,17 @@ impl<O: Observer> TablesRun<'_, O> {
             rt: self.rt,
             path,
             start,
+            cache_pages: CACHE_PAGES,
         };
         let outcome = run.serve_path(at, &mut sent.chain(reader), writer);
         outcome_of(self.rt.alloc(), path, outcome)
     }
 }
 
-/// Where nothing reports how calls are served: the replies are the same.
+/// An observer that reports nothing. The replies are the same.
 #[derive(Clone, Copy)]
 pub(crate) struct SilentObserver<'a> {
-    /// How much memory there is.
+    /// The limits of this process's memory.
     pub(crate) gauge: &'a MemoryGauge,
 }
 

@@ -1,6 +1,7 @@
-//! `csid serve`: connections to a Unix socket.
+//! `csid serve`: calls of connections to a Unix socket.
 
-ghost use Rattle.std.specs.Prelude.{IfErr};
+ghost use Rattle.std.specs.Prelude.{IfErr, IfOk};
+ghost use Rattle.csid.specs.Leading.{IsUsable};
 ghost use Rattle.csid_settings.specs.Statuses.{IsOrNoMemory};
 
 use crate::change_store::{ChangeStoreLeadership, OpenChangeStore, open_change_store};
@@ -29,12 +30,12 @@ use std::os::unix::fs::{PermissionsExt, chown};
 use std::os::unix::net::UnixListener;
 use std::time::Instant;
 
-// Who may connect: the owner, or the owner and a group.
+// The modes of the socket's file: only the owner may connect, or the owner and a group.
 const OWNER: u32 = 0o600;
 
 const OWNER_AND_GROUP: u32 = 0o660;
 
-// Why the socket failed.
+// The failure of the program for an error of the socket at this path.
 fn of_socket(alloc: Global, path: &str, error: &io::Error) -> Failure
     ensures { IsOrNoMemory 7 result }
 {
@@ -45,7 +46,7 @@ fn of_socket(alloc: Global, path: &str, error: &io::Error) -> Failure
     }
 }
 
-// Gives the socket's file its mode, whatever the process's mask is. The group gets its rights last.
+// Sets the mode of the socket's file, independent of the umask. The group gets its rights last.
 fn restrict(rt: &HostRuntime, path: &str, group: Option<u32>) -> io::Result<()> {
     fs::set_permissions(rt, path, Permissions::from_mode(OWNER))?;
     if group.is_none() {
@@ -55,7 +56,7 @@ fn restrict(rt: &HostRuntime, path: &str, group: Option<u32>) -> io::Result<()> 
     fs::set_permissions(rt, path, Permissions::from_mode(OWNER_AND_GROUP))
 }
 
-// A socket at the path, for its owner and a group. Where its mode cannot be set, it is taken away again.
+// Binds a socket for its owner and a group. If its mode cannot be set, the file is removed again.
 fn bind(rt: &HostRuntime, path: &str, group: Option<u32>) -> io::Result<UnixListener> {
     let listener = UnixListener::bind(rt, path)?;
     match restrict(rt, path, group) {
@@ -67,7 +68,7 @@ fn bind(rt: &HostRuntime, path: &str, group: Option<u32>) -> io::Result<UnixList
     }
 }
 
-// A socket at the path, to which the owner may connect, and this group.
+// Binds a socket at the path. The owner and this group may connect.
 fn listen(rt: &HostRuntime, path: &str, group: Option<&str>) -> Result<UnixListener, Failure>
     ensures { IfErr result (λ failure. IsOrNoMemory 7 failure) }
 {
@@ -85,14 +86,14 @@ fn listen(rt: &HostRuntime, path: &str, group: Option<&str>) -> Result<UnixListe
     }
 }
 
-// Says how a run of calls ended.
-fn tell_run(console: &Console<'_>, ending: Ending, now: Instant, end: RunEnd) {
+// Reports how the calls of a connection ended, unless they ended well.
+fn report_outcome(console: &Console<'_>, ending: Ending, now: Instant, end: RunEnd) {
     if let Err(failure) = outcome(Endpoint::Connection, end) {
         console.report_end(ending, now, &failure);
     }
 }
 
-// Says how a connection ended, whose peer was waited for no longer, or not.
+// Reports how a connection ended. `ending` is why its turn ended, `is_cut` is true if a reply was held back.
 fn report_end(console: &Console<'_>, ending: Option<Ending>, is_cut: bool, end: RunEnd) {
     let Ok(now) = Instant::now(console.rt) else {
         return;
@@ -102,12 +103,12 @@ fn report_end(console: &Console<'_>, ending: Option<Ending>, is_cut: bool, end: 
         (RunEnd::WriteFailed, _) if is_cut => console.say(
             &"the change store does not lead any more",
         ),
-        (RunEnd::Malformed(_), _) => tell_run(console, Ending::Malformed, now, end),
-        _ => tell_run(console, Ending::Failed, now, end),
+        (RunEnd::Malformed(_), _) => report_outcome(console, Ending::Malformed, now, end),
+        _ => report_outcome(console, Ending::Failed, now, end),
     }
 }
 
-/// What the connections of a socket are served with.
+/// The parts of a server that each connection is served with.
 #[derive(Clone, Copy)]
 struct Service<'a> {
     console: &'a Console<'a>,
@@ -116,7 +117,7 @@ struct Service<'a> {
     gauge: &'a MemoryGauge,
 }
 
-// The turn of a connection. Where there is none, that is said.
+// Begins the turn of a connection. If that fails, the error is reported.
 fn turn_of<'a>(
     console: &'a Console<'a>,
     waiting: &'a mut Waiting,
@@ -131,8 +132,8 @@ fn turn_of<'a>(
     }
 }
 
-// Answers the calls of one connection over a keeper, until it ends or a change store does not lead any more.
-// Whether that is why it ended.
+// Answers the calls of one connection over a keeper. Returns true if it ended because the change store lost
+// its lead.
 fn serve_one<K: Keeper, L: Leadership + Drop>(
     service: &Service<'_>,
     waiting: &mut Waiting,
@@ -156,8 +157,7 @@ fn serve_one<K: Keeper, L: Leadership + Drop>(
     writer.is_cut()
 }
 
-// Refuses what a connection has sent, which begins no call: so no volume is asked for, and the tables are not
-// opened.
+// Refuses the bytes of a connection whose first frame is malformed. The tables are not opened for it.
 fn refuse_peer(service: &Service<'_>, waiting: &mut Waiting, peer: &Pending) {
     match MemKeeper::new(service.console.rt.alloc(), FIRST_NUMBER) {
         Ok(mut keeper) => {
@@ -167,21 +167,22 @@ fn refuse_peer(service: &Service<'_>, waiting: &mut Waiting, peer: &Pending) {
     }
 }
 
-// What is said of calls that the store refused.
+// Reported if the keeper of a connection is down.
 const IS_DOWN: &str =
     "a change was refused, by the database or for memory; from then on the connection was answered that the store is down";
 
-// Of those that it refused while memory did not have what the file has.
+// Reported if the copy in memory lacks a change that the file has.
 const IS_BEHIND: &str =
     "there was no memory for a change that was made; from then on the connection was answered that the store refused its calls";
 
+// Reported if reads of a connection were refused.
 const NO_READ: &str = "the database refused a read";
 
-// What is said where volumes are not copied into memory, though they were to be.
+// Reported if memory is too small for a copy of the volumes.
 const NO_COPY: &str =
     "there was no memory for a copy of the volumes: each read of the connection goes to the file";
 
-// Says how the calls of a connection are served over a file.
+// Reports how the calls of a connection are served over a file.
 #[derive(Clone, Copy)]
 struct Announcer<'a> {
     console: &'a Console<'a>,
@@ -212,7 +213,7 @@ impl Observer for Announcer<'_> {
     }
 }
 
-// Says of calls over a file what the replies did not.
+// Reports refusals of the store, since the replies do not say their cause.
 fn report_calls(console: &Console<'_>, path: &str, report: &RunReport) {
     if report.is_down {
         console.say_of(path, &IS_DOWN);
@@ -222,7 +223,7 @@ fn report_calls(console: &Console<'_>, path: &str, report: &RunReport) {
     }
 }
 
-// Says how a run over tables ended, and what went wrong with them.
+// Reports how the calls of a connection over tables ended, and why the tables failed.
 fn report_run(
     console: &Console<'_>,
     path: &str,
@@ -242,43 +243,45 @@ fn report_run(
     }
 }
 
-/// The change store, if volumes are in one.
+/// The change store of a server.
 struct KnownChangeStore {
-    /// The change store as it was read; nothing, where it could not be had.
+    /// The open change store, or `None`.
     open: Option<OpenChangeStore>,
-    /// Why it could not be had, as it was said last; nothing, where it was had since.
-    said: String,
+    /// The last error that was reported for it; empty once it opens.
+    reported: String,
 }
 
 impl Drop for KnownChangeStore {
     fn drop(self) {
         let KnownChangeStore {
             open: _open,
-            said: _said,
+            reported: _reported,
         } = self;
     }
 }
 
-// Says why the change store cannot be had, unless that was said last: where another program leads, each
-// connection finds it so.
-fn say_why(console: &Console<'_>, said: &mut String, failure: &Failure) {
+// Reports why the change store cannot be opened, unless that was the last report: while another program
+// leads, each connection fails in the same way.
+fn report_unavailable(console: &Console<'_>, reported: &mut String, failure: &Failure) {
     let Ok(text) = format!(in console.rt.alloc(); "{failure}") else {
         console.say(failure);
         return;
     };
-    if text.as_str() != said.as_str() {
+    if text.as_str() != reported.as_str() {
         console.say(failure);
-        *said = text;
+        *reported = text;
     }
 }
 
-// The change store as it is, or read again where calls may not be answered over it.
+// The open change store if calls may be answered over it; otherwise it is opened again.
 fn existing_change_store(
     console: &Console<'_>,
     config: &Config,
     path: &str,
     change_store: Option<OpenChangeStore>,
-) -> Result<OpenChangeStore, Failure> {
+) -> Result<OpenChangeStore, Failure>
+    ensures { IfOk result IsUsable }
+{
     if let Some(open) = change_store {
         if open.is_usable(console.rt.alloc()) {
             return Ok(open);
@@ -287,35 +290,37 @@ fn existing_change_store(
     open_change_store(console, config, path)
 }
 
-// Answers the calls of a connection over a change store, and gives the change store back.
+// Answers the calls of a connection over an open change store, and returns the change store.
 fn serve_open(
     service: &Service<'_>,
     waiting: &mut Waiting,
     path: &str,
-    mut open: OpenChangeStore,
+    mut store: OpenChangeStore,
     peer: &Pending,
-) -> OpenChangeStore {
-    // What was read at its opening says nothing of a reply.
-    open.is_asked.set(false);
+) -> OpenChangeStore
+    requires { IsUsable store }
+{
+    // A reply needs an answer that came after this connection's call.
+    store.is_asked.set(false);
     let leading = ChangeStoreLeadership {
-        stream: &open.stream,
-        is_asked: &open.is_asked,
+        stream: &store.stream,
+        is_asked: &store.is_asked,
         alloc: service.console.rt.alloc(),
     };
-    open.is_cut = serve_one(service, waiting, &mut open.keeper, peer, leading);
-    if open.keeper.is_down() {
+    store.is_cut = serve_one(service, waiting, &mut store.keeper, peer, leading);
+    if store.keeper.is_down() {
         service.console.say_of(
             path,
             &"a change was refused by the change store, or nobody knows of it, or there was no memory; from then on the connection was answered that the store is down",
         );
-    } else if !open.keeper.is_current() {
+    } else if !store.keeper.is_current() {
         service.console.say_of(path, &IS_BEHIND);
     }
-    open
+    store
 }
 
-// Answers the calls of one connection over a change store. Where it cannot be had, the connection is closed
-// unanswered, and the next one tries again.
+// Answers the calls of one connection over the change store. If it cannot be opened, the connection is closed
+// without a reply, and the next connection tries again.
 fn serve_over_change_store(
     service: &Service<'_>,
     waiting: &mut Waiting,
@@ -326,15 +331,15 @@ fn serve_over_change_store(
     let console = service.console;
     match existing_change_store(console, service.config, path, change_store.open.take()) {
         Ok(open) => {
-            change_store.said.clear();
+            change_store.reported.clear();
             change_store.open = Some(serve_open(service, waiting, path, open, peer));
         }
-        Err(failure) => say_why(console, &mut change_store.said, &failure),
+        Err(failure) => report_unavailable(console, &mut change_store.reported, &failure),
     }
 }
 
-// Says that the peer of a connection had gone. One that sent nothing was not refused anything.
-fn tell_gone(console: &Console<'_>, peer: &Pending) {
+// Reports a connection whose peer had gone before its turn, if the peer had sent anything.
+fn report_gone(console: &Console<'_>, peer: &Pending) {
     if peer.first.sent.is_empty() {
         return;
     }
@@ -343,8 +348,8 @@ fn tell_gone(console: &Console<'_>, peer: &Pending) {
     }
 }
 
-// Serves calls over the tables of a server, which are opened for them: those that a peer has sent, and those
-// that come. What the replies do not show is said.
+// Opens the tables of a server and serves the calls of a connection over them: those in `sent`, and those
+// that the reader gives after them. Errors that no reply shows are reported.
 fn serve_tables<R: Read, W: Write>(
     service: &Service<'_>,
     sent: &[u8],
@@ -376,8 +381,8 @@ fn serve_tables<R: Read, W: Write>(
     report_run(console, file.path, ending.get(), ended);
 }
 
-// Answers the calls of one connection, if its peer is there. A peer that has gone, as after a call that was
-// given up while another was answered, costs no opening of the tables.
+// Answers the calls of one connection. The tables are not opened for a peer that has gone, as after a call
+// that was given up while another connection was served.
 fn serve_peer<'a>(
     service: &'a Service<'a>,
     waiting: &'a mut Waiting,
@@ -386,7 +391,7 @@ fn serve_peer<'a>(
 ) {
     let console = service.console;
     if has_gone(&peer.stream) {
-        return tell_gone(console, peer);
+        return report_gone(console, peer);
     }
     if matches!(peer.first.start, Some(Start::NoCall)) {
         return refuse_peer(service, waiting, peer);
@@ -407,25 +412,25 @@ fn serve_peer<'a>(
     );
 }
 
-// The change store as it is at the start, if volumes are to be in one. Where it cannot be had, that is said,
-// and the first connection tries again.
+// Opens the change store at the start, if the volumes are in one. If that fails, the error is reported, and
+// the first connection tries again.
 fn first_change_store(service: &Service<'_>) -> KnownChangeStore {
     let console = service.console;
     let mut change_store = KnownChangeStore {
         open: None,
-        said: String::new(console.rt.alloc()),
+        reported: String::new(console.rt.alloc()),
     };
     if let Volumes::ChangeStore(path) = service.serving.volumes {
         match open_change_store(console, service.config, path) {
             Ok(open) => change_store.open = Some(open),
-            Err(failure) => say_why(console, &mut change_store.said, &failure),
+            Err(failure) => report_unavailable(console, &mut change_store.reported, &failure),
         }
     }
     change_store
 }
 
-// A socket for the connections of a server, whose tables were looked at. The socket is made before the tables
-// are opened, so that the file of a server that runs is left alone.
+// Binds the socket of a server, and surveys its tables. The socket is bound first, so that the file of a
+// server that is running is not opened.
 fn listen_over<'a>(
     console: &'a Console<'a>,
     config: &'a Config,
@@ -441,7 +446,7 @@ fn listen_over<'a>(
     Ok(listener)
 }
 
-// The connections that wait at a socket.
+// The queue of connections at a socket.
 fn waiting_at(
     rt: &HostRuntime,
     serving: &Serving<'_>,
@@ -455,7 +460,7 @@ fn waiting_at(
     }
 }
 
-// The next connection that is served; nothing, where no further one is taken.
+// The next connection to serve, or `None` after the last.
 fn next_peer(service: &Service<'_>, waiting: &mut Waiting) -> Result<Option<Pending>, Failure>
     ensures { IfErr result (λ failure. IsOrNoMemory 7 failure) }
 {
@@ -465,12 +470,13 @@ fn next_peer(service: &Service<'_>, waiting: &mut Waiting) -> Result<Option<Pend
     }
 }
 
-/// Answers the calls of connections to a socket, in order, until so many were served or the socket fails.
+/// Answers the calls of connections to a socket, one connection after the other, until `serving.connections`
+/// were served.
 ///
 /// # Errors
 ///
-/// Where the path of the tables is refused, the socket cannot be made or gives no
-/// connection, or memory is refused.
+/// If the path of the tables is refused, if the socket cannot be bound or accepts no connection, or for want
+/// of memory.
 pub(crate) fn serve_socket<'a>(
     console: &'a Console<'a>,
     config: &'a Config,

@@ -1,4 +1,4 @@
-//! What the tables in a file have, as a server says at its start.
+//! The survey at the start of a server: it opens and judges the tables in a file, and reports their counts.
 
 ghost use Rattle.std.specs.Prelude.{[], Some};
 ghost use Rattle.csid.specs.Serving.{IsSurveyed};
@@ -15,7 +15,7 @@ use sqlite::{Error, Start, Unknown};
 use std::cell::Cell;
 use std::io::{empty, sink};
 
-// Says that new tables were made, and keeps what tables have.
+// Reports that new tables were made, and keeps the counts of the tables.
 #[derive(Drop)]
 struct Surveyor<'a> {
     console: &'a Console<'a>,
@@ -36,14 +36,14 @@ impl Observer for Surveyor<'_> {
 
     fn refused(&self, _cause: &Error) {}
 
-    // No call comes that would need it.
+    // No call is served that would need memory.
     fn has_room(&self, _opening: usize) -> bool {
         true
     }
 }
 
-// A run without calls over the tables in a file, where `start` is what it and its WAL held. What went wrong
-// is said, and what the tables have. The file is closed by then.
+// A run without calls over the tables in a file; `start` is the content of the file and its WAL. The file is
+// closed before a failure or the counts are reported.
 fn run_without_calls<'a, S: Start>(
     console: &'a Console<'a>,
     config: &'a Config,
@@ -76,8 +76,8 @@ fn run_without_calls<'a, S: Start>(
     ended
 }
 
-/// Opens and judges the tables in a file once, as a run without calls does, and says what they have, or why
-/// they cannot be had or the file was not closed.
+/// Opens and judges the tables in a file once, by a run without calls, and reports their counts, or why they
+/// cannot be opened or their file was not closed.
 pub(crate) fn survey<'a>(console: &'a Console<'a>, config: &'a Config, file: &TablesFile<'a>) {
     let _ = run_without_calls(console, config, file, Unknown);
 }

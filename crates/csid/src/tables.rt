@@ -8,10 +8,10 @@ use crate::making::make_private;
 use csid_settings::{Failure, TablesFile};
 use std::alloc::Global;
 
-/// What is said where tables were made.
+/// Reported when new tables were made.
 pub(crate) const NEW_TABLES: &str = "no tables were there, and new ones were made";
 
-// Whether a file was found to be without fault.
+// Fails if a file has a fault.
 fn existing_failure(alloc: Global, path: &str, fault: Option<FileFault>) -> Result<(), Failure>
     ensures { IfErr result (λ failure. IsOrNoMemory 4 failure) }
 {
@@ -21,16 +21,16 @@ fn existing_failure(alloc: Global, path: &str, fault: Option<FileFault>) -> Resu
     }
 }
 
-// Whether SQLite takes a path for the name of something else than a file.
+// Returns true if SQLite does not take a path for a file.
 fn names_no_file(path: &str) -> bool {
     path == ":memory:" || path.starts_with("file:")
 }
 
-/// Looks whether a path may be that of a file of tables.
+/// Checks whether a path may name a file of tables.
 ///
 /// # Errors
 ///
-/// It is empty, SQLite takes it for something else, or memory is refused.
+/// If it is empty, if SQLite does not take it for a file, or for want of memory.
 pub(crate) fn check_path(rt: &HostRuntime, path: &str) -> Result<(), Failure>
     ensures { IfErr result (λ failure. IsOrNoMemory 4 failure) }
 {
@@ -43,40 +43,40 @@ pub(crate) fn check_path(rt: &HostRuntime, path: &str) -> Result<(), Failure>
     Ok(())
 }
 
-// Looks whether a file and its WAL, if they exist, are of a kind that can be opened at once. A named pipe, a
-// socket and a device are not.
+// Checks that a file and its WAL, if they exist, are regular files. Opening a named pipe, a socket or a
+// device may block.
 fn check_kind(rt: &HostRuntime, path: &str) -> Result<(), Failure>
     ensures { IfErr result (λ failure. IsOrNoMemory 4 failure) }
 {
     existing_failure(rt.alloc(), path, fault_of_kind(rt, path))
 }
 
-/// Looks whether a file that must have tables has some, as far as that is seen without an opening. Nothing is
+/// Checks that a file that must have tables has some, as far as a read of its header shows. Nothing is
 /// changed.
 ///
 /// # Errors
 ///
-/// Where it has none, or memory is refused.
+/// If it has none, or for want of memory.
 pub(crate) fn check_existing(rt: &HostRuntime, path: &str) -> Result<(), Failure>
     ensures { IfErr result (λ failure. IsOrNoMemory 4 failure) }
 {
     existing_failure(rt.alloc(), path, fault_of_existing(rt, path))
 }
 
-// Looks whether new tables may be made in a file that has none, as far as that is seen without an opening:
-// not in one that has no byte while its WAL has changes. Nothing is changed.
+// Checks whether new tables may be made in a file without tables, without opening it: not in an empty file
+// whose WAL has changes. Nothing is changed.
 fn check_wal(rt: &HostRuntime, path: &str) -> Result<(), Failure>
     ensures { IfErr result (λ failure. IsOrNoMemory 4 failure) }
 {
     existing_failure(rt.alloc(), path, fault_of_wal(rt, path))
 }
 
-/// Looks whether a file may be opened for tables, as far as that is seen without an opening: its path and its
-/// kind, and whether it has tables, or new ones may be made. Nothing is changed.
+/// Checks the path and the kind of a file, and that it has tables or may get new ones, as far as its header
+/// and its WAL show. Nothing is changed.
 ///
 /// # Errors
 ///
-/// Why it may not, or memory is refused.
+/// Why the file may not be opened, or want of memory.
 pub(crate) fn check_file(rt: &HostRuntime, file: &TablesFile<'_>) -> Result<(), Failure>
     ensures { IfErr result (λ failure. IsOrNoMemory 4 failure) }
 {
@@ -89,7 +89,7 @@ pub(crate) fn check_file(rt: &HostRuntime, file: &TablesFile<'_>) -> Result<(), 
     }
 }
 
-/// Looks at a file before it is opened, and makes one that is missing and may be made, for its owner alone.
+/// Checks a file before it is opened, and makes a missing file with mode 0600 if it may be made.
 ///
 /// # Errors
 ///

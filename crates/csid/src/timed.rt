@@ -9,7 +9,7 @@ use std::time::{Duration, Instant};
 // The seconds for a frame and its whole reply. After them it is unknown whether a change was made.
 const EXCHANGE_SECONDS: u64 = 30;
 
-// The seconds in which all rows must have been read at an opening.
+// The seconds that all rows may take at an opening.
 const ROWS_SECONDS: u64 = 300;
 
 /// Until when a change store may take.

@@ -17,7 +17,7 @@ is_never Never = true
 is_never Now = false
 is_never (Then begun) = false
 
--- a wait at a time: what was not waited for before is waited for since then
+-- a wait at a time: the first wait begins the time
 abbrev pub waited : Instant → Since → Since
 waited now Never = Never
 waited now Now = Then now
@@ -29,7 +29,7 @@ begin_of now Never = None
 begin_of now Now = Some now
 begin_of now (Then begun) = Some begun
 
--- bytes begin a call where none is under way; further bytes of a call begin nothing
+-- the first bytes of a call begin it; further bytes begin nothing
 abbrev pub after_bytes : Since → Since
 after_bytes Never = Now
 after_bytes Now = Now
@@ -54,12 +54,13 @@ pub record IsBegun (begun : Since) (clock : CallClock) : Type 0 where
 abbrev pub IsBetweenCalls : CallClock → Type 0
 IsBetweenCalls clock = IsBegun Never clock × (clock.is_reply ≡ false)
 
--- a reply is waited for: its time goes on if it has begun, and otherwise begins, whatever the call took
+-- A write of a reply waits. The reply's time begins with the first wait, and does not depend on the call's
+-- time.
 abbrev pub BeginsReply : CallClock → CallClock → Bool → Type 0
 BeginsReply old new true = (old.is_reply ≡ false) × IsBegun Now new × (new.is_reply ≡ true)
 BeginsReply old new false = (old.is_reply ≡ true) × (new ≡ old)
 
--- the time that a call or a reply has left; none is over where nothing is under way
+-- the time that a call or a reply has left; between two calls no time is over
 abbrev pub Leaves : ℕ → Option Instant → Instant → Result (Option Duration) Ending → Ending → Type 0
 Leaves allowed None now (Ok left) ending = left ≡ None
 Leaves allowed None now (Err e) ending = ⊥
@@ -100,8 +101,8 @@ abbrev pub delayed_at : Instant → Option Instant → Instant
 delayed_at now None = now
 delayed_at now (Some delayed) = delayed
 
--- how long the peer may still delay others: the longer one of what is left of their second, and of a tenth of
--- a second of its own
+-- How long the peer may still delay others: the longer of the rest of their second, and of a tenth of a
+-- second of its own.
 abbrev pub DelayLeft : Instant → Instant → Instant → Result Duration Ending → Type 0
 DelayLeft since delayed now (Ok left) = (shared : Option Duration) × (own : Option Duration) × LeftOf (seconds WANTED_SECONDS) since now shared
     × LeftOf (SHORTEST_MILLIS * 1_000_000) delayed now own × IsLonger shared own (Some left)
@@ -115,7 +116,7 @@ MayDelay since now old new result = ((is_never old.begun ≡ true) × (result �
     ⊎ ((is_never old.begun ≡ false) × (new ≡ record old { delayed = Some (delayed_at now old.delayed) })
     × DelayLeft since (delayed_at now old.delayed) now result)
 
--- a call or a reply that is under way goes on: what was waited for is waited for since the same time
+-- a call or a reply goes on: it has begun at the same time
 abbrev pub GoesOnSince : Since → Since → Type 0
 GoesOnSince Never new = new ≡ Never
 GoesOnSince Now new = is_never new ≡ false

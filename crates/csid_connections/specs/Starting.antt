@@ -28,7 +28,7 @@ BeginsCall bytes = (call : CallBytes) × (size : ℕ) × IsCall call × (size �
 abbrev pub BeginsNoCall : List ℕ → Type 0
 BeginsNoCall bytes = (bytes ≡ []) ⊎ ((why : FrameWhy) × (at : ℕ) × FaultAt bytes why at)
 
--- they are refused at their first frame, whatever follows
+-- their first frame is malformed, and no further bytes can change that
 abbrev pub BeginsFault : List ℕ → Type 0
 BeginsFault bytes = (why : FrameWhy) × (at : ℕ) × FaultAt bytes why at × (why ≢ EndOfInput)
 
@@ -49,7 +49,7 @@ is_known (Some Call) = true
 is_known (Some NoCall) = true
 is_known (Some Open) = false
 
--- the time of the first byte: the one that is known, else the time of this piece
+-- the time of the first byte: a known time, or the time of this piece
 abbrev pub begun_by : Option Instant → Instant → Option Instant
 begun_by None now = Some now
 begun_by (Some begun) now = Some begun
@@ -68,8 +68,8 @@ Accepts piece now old new Nothing = ⊥
 Accepts piece now old new Something = Notes piece now old new
 Accepts piece now old new Lost = ⊤
 
--- A look at what is unread, of which this is left: nothing came, and the times stay, or a piece of it came,
--- which is noted. Of a connection that is lost nothing is said.
+-- A read, by the unread bytes before and after it: no bytes came, and the times stay, or bytes came and are
+-- noted. Nothing is said of a connection that is lost.
 abbrev pub Finds : (unread left : Option (List ℕ)) → Instant → FirstBytes → FirstBytes → PeerInput → Type 0
 Finds unread left now old new Nothing = Keeps unread left × (new.sent.items ≡ old.sent.items) × (new.start ≡ Some Open)
     × (new.since ≡ old.since) × (new.begun ≡ old.begun)
@@ -85,22 +85,22 @@ passed_from (Some begun) now = passed begun now
 abbrev pub spent_nanos : FirstBytes → ℕ
 spent_nanos first = passed_from first.begun first.since
 
--- its peer has sent nothing for as long as it may
+-- the peer was silent for the whole time that it may be
 abbrev pub IsIdle : Option Duration → Instant → FirstBytes → Type 0
 IsIdle idle now first = IsSomeAnd idle (λ longest. as_nanos longest ≤ passed first.since now)
 
--- its peer began a call as long ago as a call may take
+-- the peer began a call, and the whole time of a call has passed
 abbrev pub IsSlow : Instant → FirstBytes → Type 0
 IsSlow now first = IsSomeAnd first.begun (λ begun. seconds CALL_SECONDS ≤ passed begun now)
 
--- so long a time is over before its peer is idle or slow, or just then
+-- this time ends before the peer is idle or slow, or at that moment
 pub record IsInTime (idle : Option Duration) (now : Instant) (first : FirstBytes) (left : Duration) : Type 0 where
   pub sending : IfSome idle (λ longest. as_nanos left + passed first.since now ≤ as_nanos longest)
   pub call : IfSome first.begun (λ begun. as_nanos left + passed begun now ≤ seconds CALL_SECONDS)
   pub some : 0 < as_nanos left
 
--- How long a connection without a whole call is waited for: neither is its peer idle nor slow before that;
--- for ever, where none of the two times has begun or is given; or how it ends.
+-- How long a connection may go on without a complete call: its peer is neither idle nor slow before that time
+-- is over. It is for ever if no time is given and no call has begun. Or why the connection ends.
 abbrev pub WaitsFor : Option Duration → Instant → FirstBytes → Result (Option Duration) Ending → Type 0
 WaitsFor idle now first (Ok None) = (idle ≡ None) × (first.begun ≡ None)
 WaitsFor idle now first (Ok (Some left)) = IsInTime idle now first left

@@ -5,7 +5,7 @@ use Rattle.std.specs.Time.{instant_nanos}
 use Rattle.std.specs.declared.time.Duration.{Duration}
 use Rattle.std.specs.declared.time.Instant.{Instant}
 
--- the nanoseconds of so many seconds
+-- nanoseconds of seconds
 abbrev pub seconds : ℕ → ℕ
 seconds n = n * 1_000_000_000
 
@@ -13,7 +13,7 @@ seconds n = n * 1_000_000_000
 abbrev pub passed : Instant → Instant → ℕ
 passed begun now = instant_nanos now - instant_nanos begun
 
--- what is left at `now` of a time of so many nanoseconds that began then; nothing, where it is over
+-- the rest at `now` of a time of `longest` nanoseconds that began at `begun`; `None` if it is over
 abbrev pub LeftOf : ℕ → Instant → Instant → Option Duration → Type 0
 LeftOf longest begun now None = longest ≤ passed begun now
 LeftOf longest begun now (Some left) = (as_nanos left + passed begun now ≡ longest) × (0 < as_nanos left)

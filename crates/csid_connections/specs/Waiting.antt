@@ -49,8 +49,8 @@ TakesOut (Some place) old new one = ((d : Pending) → one ≡ Some (slice_index
 abbrev pub StayFew : List Pending → List Pending → Type 0
 StayFew old new = length old ≤ MOST → length new ≤ MOST
 
--- how long a connection that waits may send nothing: as long as is given, and ten seconds where no further
--- connection is taken
+-- How long a connection in the queue may send nothing: for the given time, and for ten seconds once no
+-- further connection is accepted.
 abbrev pub IsSilence : Option Duration → ℕ → Option Duration → Type 0
 IsSilence idle left None = (idle ≡ None) × (left ≡ 0 → ⊥)
 IsSilence idle left (Some longest) = ((idle ≡ Some longest) ⊎ ((left ≡ 0) × (as_nanos longest ≡ seconds CALL_SECONDS)))
@@ -64,12 +64,12 @@ pub record IsNew (now : Instant) (one : Pending) : Type 0 where
   pub begun : one.first.begun ≡ None
 
 module _ (idle : Option Duration) (left : ℕ) (now : Instant) where
-  -- its peer has sent nothing for as long as it may
+  -- the peer was silent for the whole time that it may be
   abbrev pub IsSilent : FirstBytes → Type 0
   IsSilent first = IsIdle idle now first ⊎ ((left ≡ 0) × (seconds CALL_SECONDS ≤ passed first.since now))
 
-  -- The rules by which a connection that has sent no call ends at a look: its peer was silent or slow for as
-  -- long as it may, or it failed.
+  -- Why a connection without a call ends at a look: its peer was silent or slow for too long, or the
+  -- connection failed.
   abbrev pub Ends : FirstBytes → Ending → Type 0
   Ends first Idle = IsSilent first
   Ends first Slow = IsSlow now first
@@ -87,8 +87,8 @@ module _ (idle : Option Duration) (left : ℕ) (now : Instant) where
     pub unknown : is_ready one ≡ false → Finds None None now one.first later.first Something
         ⊎ (Finds None None now one.first later.first Nothing × ((IsSilent later.first ⊎ IsSlow now later.first) → ⊥))
 
-  -- After a look at each connection, in order: each goes on in its place, or it had sent no call, and has
-  -- ended.
+  -- After a read from each connection, in order: each connection stays and keeps its order, or it had sent no
+  -- call and has ended.
   abbrev pub LooksAt : List Pending → List Pending → Type 0
   LooksAt [] new = new ≡ []
   LooksAt (one ∷ rest) new = ((later : Pending) × (more : List Pending) × (new ≡ later ∷ more) × GoesOn one later × LooksAt rest more)
@@ -100,11 +100,11 @@ module _ (idle : Option Duration) (left : ℕ) (now : Instant) where
   TurnsOver [] new = new ≡ []
   TurnsOver (one ∷ rest) new = ((later : Pending) × GoesOn one later × (new ≡ rest ++ later ∷ [])) ⊎ ((is_ready one ≡ false) × (new ≡ rest))
 
--- those that wait without the oldest that has sent no call, where so many wait that no further one can
+-- a full queue without its oldest connection that has sent no call
 abbrev pub with_room : List Pending → List Pending
 with_room pending = if nat_le MOST (length pending) then without (position has_no_call pending) pending else pending
 
--- those that wait after so many times the oldest that has sent no call was closed
+-- the queue after the oldest connection without a call was closed `n` times
 abbrev pub closed : ℕ → List Pending → List Pending
 closed zero pending = pending
 closed (suc n) pending = without (position has_no_call (closed n pending)) (closed n pending)
@@ -115,7 +115,7 @@ module _ (now : Instant) where
   abbrev pub ComesIn : List Pending → List Pending → Type 0
   ComesIn old new = (new ≡ with_room old) ⊎ ((one : Pending) × IsNew now one × (new ≡ with_room old ++ one ∷ []))
 
-  -- so many connections come in, one after the other, while there is room
+  -- `n` connections come in, in order, while there is room
   abbrev pub ComeIn : ℕ → List Pending → List Pending → Type 0
   ComeIn zero old new = new ≡ old
   ComeIn (suc n) old new = (mid : List Pending) × ComeIn n old mid × (is_full mid ≡ false) × ComesIn mid new
@@ -136,13 +136,13 @@ module _ (idle : Option Duration) where
     pub takes : TakesIn now old among left still
     pub looks : LooksAt idle still now among new
 
-  -- so many looks, one after the other
+  -- `n` looks, in order
   abbrev pub Waits : ℕ → (old new : List Pending) (left still : ℕ) → Type 0
   Waits zero old new left still = (new ≡ old) × (still ≡ left)
   Waits (suc n) old new left still = (mid : List Pending) × (between : ℕ) × (now : Instant) × Waits n old mid left between × Looks now mid new between still
 
-  -- After some looks the oldest connection is taken out of which it is known what it begins. None is only
-  -- where no further one is taken, and none waits.
+  -- After some looks the oldest connection that is ready is taken out of the queue. `None` means that no
+  -- further connection is accepted, and that the queue is empty.
   pub record GivesNext (old new : List Pending) (left still : ℕ) (next : Option Pending) : Type 0 where
     pub looks : ℕ
     pub last : List Pending

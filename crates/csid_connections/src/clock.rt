@@ -1,4 +1,4 @@
-//! The time that the peer of a connection takes: for the call that it sends, and for the reply that it takes.
+//! The time that the peer of a connection takes to send a call and to take its reply.
 
 ghost use Rattle.std.specs.Prelude.{◌≡◌, ◌-◌, ◌*◌, None, false, true};
 ghost use Rattle.std.specs.Duration.{as_nanos};
@@ -11,19 +11,19 @@ use crate::limits::{CALL_SECONDS, SHORTEST_MILLIS, WANTED_SECONDS, left_of};
 use csid_console::Ending;
 use std::time::{Duration, Instant};
 
-/// When something began of which the time counts only while it is waited for.
+/// The beginning of a time that counts from the first wait for it.
 #[derive(Clone, Copy)]
 pub(crate) enum Since {
     /// Nothing has begun.
     Never,
-    /// It has begun, and was not waited for so far.
+    /// It has begun, and has not been waited for yet.
     Now,
-    /// It was waited for first then.
+    /// It was waited for first at this time.
     Then(Instant),
 }
 
 impl Since {
-    // When it began: now, where it was not waited for so far; nothing, where nothing began.
+    // When it began: `now` at the first wait. `None` if it has not begun.
     fn start(&mut self, now: Instant) -> Option<Instant>
         ensures { SharesTime now self.old self.new result }
     {
@@ -38,24 +38,24 @@ impl Since {
     }
 }
 
-/// The time of a call or a reply, by the call and not by its bytes or its connection. It begins with the
-/// first byte of the call, or with the first write of the reply that waits, and ends with the reply.
+/// The time of the current call or reply. A call's time begins with its first byte, a reply's with its first
+/// write that waits. Both end with the reply; further bytes do not begin them again.
 #[derive(Clone, Copy)]
 pub(crate) struct CallClock {
-    // When the peer did something last.
+    // When the peer last sent or took bytes.
     active: Since,
-    // When the call began that it sends, or the reply that it takes.
+    // When the call or the reply began.
     begun: Since,
-    // How long that may take in all.
+    // How long the call or the reply may take in all.
     allowed: Duration,
-    // When it was waited for first, in this call or reply, while another connection was ready.
+    // When this call or reply first delayed another connection that was ready.
     delayed: Option<Instant>,
-    // Whether it is a reply.
+    // Whether a reply is being written, and not a call read.
     is_reply: bool,
 }
 
 impl CallClock {
-    /// A first call is under way, of which the peer has taken this time so far.
+    /// The clock of a first call, for which the peer has taken `spent` so far.
     pub(crate) fn new(spent: Duration) -> CallClock
         ensures first { (result.begun ≡ Since.Now) × (result.active ≡ Since.Now) × (result.delayed ≡ None)
             × (result.is_reply ≡ false) }
@@ -70,14 +70,14 @@ impl CallClock {
         }
     }
 
-    /// Whether neither a call nor a reply is under way.
+    /// Returns true if no call has begun since the last reply.
     pub(crate) fn is_between_calls(&self) -> bool
         ensures { result ≡ is_never self.now.begun }
     {
         matches!(self.begun, Since::Never)
     }
 
-    /// Notes that bytes of a call came, the first of it or further ones, or the end of all.
+    /// Notes that bytes of a call came, or the end of the stream.
     pub(crate) fn note_bytes(&mut self)
         ensures { NotesBytes self.old self.new }
     {
@@ -87,14 +87,14 @@ impl CallClock {
         }
     }
 
-    /// Notes that bytes of a reply were taken.
+    /// Notes that the peer took bytes of a reply.
     pub(crate) fn note_taken(&mut self)
         ensures { self.new ≡ record self.old { active = Since.Now } }
     {
         self.active = Since::Now;
     }
 
-    /// Notes that a reply is waited for. Whether it is the first time: a reply has a time of its own.
+    /// Notes that a write of a reply waits. Returns true the first time, which begins the reply's time.
     pub(crate) fn begin_reply(&mut self) -> bool
         ensures { BeginsReply self.old self.new result }
     {
@@ -106,7 +106,7 @@ impl CallClock {
         true
     }
 
-    /// Notes that a reply was written whole: the next call has not begun.
+    /// Notes that a reply was written whole. The next call has not begun.
     pub(crate) fn end_reply(&mut self)
         ensures { IsBetweenCalls self.new }
     {
@@ -114,7 +114,7 @@ impl CallClock {
         self.begin(Since::Never);
     }
 
-    // Begins a call or a reply, or none.
+    // Begins a call or a reply, or the time between two calls.
     fn begin(&mut self, begun: Since)
         ensures all { (self.new.active ≡ Since.Now) × (self.new.begun ≡ begun) × (self.new.delayed ≡ None)
             × (self.new.is_reply ≡ self.old.is_reply) }
@@ -126,11 +126,11 @@ impl CallClock {
         self.delayed = None;
     }
 
-    /// How long the call or the reply may still take that is under way; `None` without an end, where none is.
+    /// How long the current call or reply may still take; `None` between two calls.
     ///
     /// # Errors
     ///
-    /// [`Ending::Slow`] where its time is over.
+    /// [`Ending::Slow`] if its time is over.
     pub(crate) fn left_of_call(&mut self, now: Instant) -> Result<Option<Duration>, Ending>
         ensures { IsTimed now self.old self.new result }
     {
@@ -143,12 +143,12 @@ impl CallClock {
         }
     }
 
-    /// How much longer the peer may do nothing, by `--idle`: the time `blocked` of it was waited for in a
-    /// read or a write that blocked.
+    /// How long the peer may still do nothing, of `idle`; `None` for ever. Of that time, `blocked` passed in
+    /// a read or a write that blocked.
     ///
     /// # Errors
     ///
-    /// [`Ending::Idle`] where that time is over.
+    /// [`Ending::Idle`] if that time is over.
     pub(crate) fn left_of_idle(
         &mut self,
         idle: Option<Duration>,
@@ -172,8 +172,7 @@ impl CallClock {
     ///
     /// # Errors
     ///
-    /// [`Ending::Idle`] between two calls, where it may not, and [`Ending::Preempted`] where that time is
-    /// over.
+    /// [`Ending::Idle`] between two calls, when it may not, and [`Ending::Preempted`] if that time is over.
     pub(crate) fn left_for_others(
         &mut self,
         since: Instant,
@@ -195,7 +194,7 @@ impl CallClock {
     }
 }
 
-// The longer one of two times, of which each may be over.
+// The longer of two times; `None` is over.
 fn longer(one: Option<Duration>, other: Option<Duration>) -> Option<Duration>
     ensures { IsLonger one other result }
 {

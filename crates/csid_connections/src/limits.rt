@@ -9,18 +9,18 @@ use std::time::{Duration, Instant};
 /// itself. A reply must be taken in as many seconds.
 pub(crate) const CALL_SECONDS: u64 = 10;
 
-/// The seconds for which a connection that is ready waits for the peer of the one being served. All that wait
-/// share them: they count from the time since when the first of these has been ready.
+/// The seconds for which the peer being served may delay connections that are ready. They count from the time
+/// when the first of these became ready.
 pub(crate) const WANTED_SECONDS: u64 = 1;
 
-/// The milliseconds for which the peer of a connection being served may delay a call or a reply in any case,
-/// also where others have waited longer than [`WANTED_SECONDS`].
+/// The milliseconds for which the peer being served may delay a call or a reply even if others have waited
+/// longer than [`WANTED_SECONDS`].
 pub(crate) const SHORTEST_MILLIS: u64 = 100;
 
 /// The seconds after which a connection being served is closed between two calls if another one is ready.
 pub(crate) const TURN_SECONDS: u64 = 60;
 
-/// How much is left at `now` of a time that began at `begun`; `None` where it is over.
+/// The part that is left at `now` of a time that began at `begun`; `None` if it is over.
 pub(crate) fn left_of(longest: Duration, begun: Instant, now: Instant) -> Option<Duration>
     ensures { LeftOf (as_nanos longest) begun now result }
 {
@@ -28,7 +28,7 @@ pub(crate) fn left_of(longest: Duration, begun: Instant, now: Instant) -> Option
     if left.is_zero() { None } else { Some(left) }
 }
 
-/// The shorter one of two times, of which `None` has no end.
+/// The shorter of two times; `None` has no end.
 pub(crate) fn least(one: Option<Duration>, other: Option<Duration>) -> Option<Duration>
     ensures { IsLeast one other result }
 {

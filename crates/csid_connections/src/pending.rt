@@ -13,50 +13,50 @@ use std::io::{self, ErrorKind, Read};
 use std::os::unix::net::UnixStream;
 use std::time::{Duration, Instant};
 
-/// With so many bytes of a first frame a connection is served: the rest is under way. So what waits takes
-/// little memory.
+/// The bytes of a first frame with which a connection is served even if the frame is not complete. They bound
+/// the memory of the queue.
 const ENOUGH: usize = 4096;
 
-/// What the first bytes of a connection begin.
+/// How the first bytes of a connection begin.
 #[derive(Clone, Copy)]
 pub enum Start {
-    /// A call, whole or for the most part.
+    /// With a call: a complete frame, or its first 4,096 bytes.
     Call,
-    /// No call: the first frame is malformed whatever follows, or there is none.
+    /// With no call: the first frame is malformed, or the connection ended before it.
     NoCall,
-    /// It is not known yet.
+    /// With an incomplete frame.
     Open,
 }
 
-/// What a look at a connection gave.
+/// The result of a read from a connection that does not block.
 #[derive(Clone, Copy)]
 pub enum PeerInput {
-    /// Nothing has come.
+    /// No bytes.
     Nothing,
-    /// Bytes, or the end of them.
+    /// Bytes, or the end of the stream.
     Something,
-    /// It has failed, or there is no memory for it.
+    /// An error, or no memory for the bytes.
     Lost,
 }
 
-/// What a connection has sent so far.
+/// The bytes that a connection has sent so far.
 #[derive(Drop)]
 pub struct FirstBytes {
-    /// All bytes that it has sent, in order.
+    /// The bytes, in order.
     pub sent: Vec<u8>,
-    /// What they begin; `None` where the connection was not looked at yet.
+    /// How they begin; `None` before the first read.
     pub start: Option<Start>,
-    // When a byte of it came last, or the connection itself.
+    // When the last byte came, or the connection itself.
     since: Instant,
-    // When its first byte came.
+    // When the first byte came.
     begun: Option<Instant>,
 }
 
-/// A connection that waits.
+/// A connection in the queue.
 pub struct Pending {
-    /// The connection. A read or a write of it does not wait while it is among those that wait.
+    /// The stream. While it is in the queue, its reads and writes do not block.
     pub stream: UnixStream,
-    /// What it has sent so far.
+    /// The bytes that it has sent so far.
     pub first: FirstBytes,
 }
 
@@ -69,7 +69,7 @@ impl Drop for Pending {
     }
 }
 
-// What the bytes begin that a connection has sent, up to its end or so far.
+// How the bytes begin that a connection has sent so far, or has sent in all.
 fn start_of(sent: &[u8], has_ended: bool) -> Start
     ensures { Begins sent.now has_ended result }
 {
@@ -82,13 +82,13 @@ fn start_of(sent: &[u8], has_ended: bool) -> Start
     }
 }
 
-// Whether a read that does not wait found nothing.
+// Returns true if a read found no bytes.
 fn is_nothing(error: &io::Error) -> bool {
     matches!(error.kind(), ErrorKind::WouldBlock | ErrorKind::Interrupted)
 }
 
 impl FirstBytes {
-    // None of a connection that came then.
+    // No bytes, of a connection that came at `since`.
     fn new(alloc: Global, since: Instant) -> FirstBytes
         ensures { (result.sent.items ≡ []) × (result.start ≡ None) × (result.since ≡ since)
             × (result.begun ≡ None) }
@@ -101,19 +101,19 @@ impl FirstBytes {
         }
     }
 
-    /// Whether it is known what they begin.
+    /// Returns true if a first frame is complete or known to be malformed.
     pub fn is_known(&self) -> bool
         ensures { result ≡ is_known self.now.start }
     {
         matches!(self.start, Some(Start::Call | Start::NoCall))
     }
 
-    /// How long the connection may go on without a whole call, and `None` where that has no end: its peer may
-    /// send nothing for as long as `idle`, and has ten seconds from the first byte of its first call on.
+    /// How long the connection may go on without a complete call; `None` for ever. Its peer may send nothing
+    /// for `idle`, and has ten seconds from the first byte of its first call.
     ///
     /// # Errors
     ///
-    /// How it ends, where one of the two times is over.
+    /// [`Ending::Idle`] or [`Ending::Slow`] if one of the two times is over.
     pub fn patience(&self, idle: Option<Duration>, now: Instant) -> Result<Option<Duration>, Ending>
         ensures { WaitsFor idle now self.now result }
     {
@@ -128,8 +128,7 @@ impl FirstBytes {
         Ok(longest)
     }
 
-    /// The time that the peer has taken so far for its first call: from its first byte to the last one that
-    /// is kept here.
+    /// The time that the peer has taken for its first call so far: from its first byte to its last.
     pub fn spent(&self) -> Duration
         ensures { as_nanos result ≡ spent_nanos self.now }
     {
@@ -139,14 +138,14 @@ impl FirstBytes {
         }
     }
 
-    /// When the last byte came, which made known what the connection begins.
+    /// When the last byte came, with which the connection became ready.
     pub fn since(&self) -> Instant
         ensures { result ≡ self.now.since }
     {
         self.since
     }
 
-    // Adds a piece, which is empty at the end.
+    // Adds the bytes of a read. They are empty at the end of the stream.
     fn accept(&mut self, piece: &[u8], now: Instant) -> PeerInput
         ensures { Accepts piece.now now self.old self.new result }
     {
@@ -159,7 +158,7 @@ impl FirstBytes {
         PeerInput::Something
     }
 
-    // Adds what can be read now, a piece of it.
+    // Reads once, and adds the bytes.
     fn receive<R: Read>(&mut self, reader: &mut R, now: Instant) -> PeerInput
         ensures { Finds (R.remaining reader.old) (R.remaining reader.new) now self.old self.new result }
     {
@@ -176,7 +175,7 @@ impl FirstBytes {
 }
 
 impl Pending {
-    /// A connection that has sent nothing so far.
+    /// A connection that came at `since` and has sent nothing yet.
     pub fn new(alloc: Global, stream: UnixStream, since: Instant) -> Pending
         ensures new { IsNew since result }
         ensures stream { result.stream ≡ stream }
@@ -187,8 +186,7 @@ impl Pending {
         }
     }
 
-    /// Takes what has come, a piece of it. Once it is known what the connection begins, the rest is left to
-    /// those who serve it.
+    /// Reads once. A connection that is ready is not read from: the rest belongs to its turn.
     pub fn receive(&mut self, now: Instant) -> PeerInput
         ensures known { is_known self.old.first.start ≡ true
             → (result ≡ PeerInput.Nothing) × (self.new.first ≡ self.old.first) }

@@ -2,11 +2,12 @@
 //! polled. Once another connection is ready, the one being served is closed as soon as it has no call left to
 //! answer, and may delay a call or a reply only for a short time.
 
-ghost use Rattle.std.specs.Prelude.{◌≡◌, Bool, true, false, ⊤, OnOk};
+ghost use Rattle.std.specs.Prelude.{◌≡◌, Bool, true, false, Some, ⊤, OnOk};
 ghost use Rattle.std.specs.Io.{ReadsAtMost, WritesAtMost};
 ghost use Rattle.std.specs.Io.KnownBytes.{Keeps, ReadConsumes, WriteAppends};
 ghost use Rattle.csid_console.specs.declared.ready.Way.{Way};
 ghost use Rattle.csid_connections.specs.Calling.{GoesOnCall, IsBetweenCalls, is_never};
+ghost use Rattle.csid_connections.specs.declared.clock.Since.{Since};
 
 use crate::clock::CallClock;
 use crate::limits::{TURN_SECONDS, WANTED_SECONDS, least};
@@ -19,19 +20,19 @@ use std::os::fd::AsRawFd;
 use std::os::unix::net::UnixStream;
 use std::time::{Duration, Instant};
 
-/// A connection whose peer is waited for.
+/// A connection that is read and written without blocking for long.
 trait Stream {
-    // It was looked at for a way, and this was found.
+    // A look at the stream for a way returned this.
     ghost found: { Self → Way → Bool → Type 0 } = { λ _ _ _. ⊤ };
 
-    /// Whether a read or a write ends at once, also by a failure.
+    /// Returns true if a read or a write would end at once, also with an error.
     fn is_ready(&self, way: Way) -> bool
         ensures { found self.now way result };
 
-    /// Has each read and each write end at once from here on.
+    /// Makes each later read and write end at once.
     fn stop_blocking(&self) -> io::Result<()>;
 
-    /// Has a wait of the connections that wait also end when this one can be written.
+    /// Makes a wait of the queue also end when this stream can be written.
     fn watch_both(&self, waiting: &Waiting) -> io::Result<()>;
 }
 
@@ -49,38 +50,38 @@ impl Stream for UnixStream {
     }
 }
 
-// Whether a read or a write was given up, as nothing came or was taken, and may be made again.
+// Returns true if the call moved no bytes and may be made again.
 fn may_wait(error: &io::Error) -> bool {
     matches!(error.kind(), ErrorKind::WouldBlock | ErrorKind::Interrupted)
 }
 
-// The time so many seconds later.
+// `now` and this many seconds; `now` where the clock has no such time.
 fn later(now: Instant, seconds: u64) -> Instant {
     now.checked_add(Duration::from_secs(seconds)).unwrap_or(now)
 }
 
-// What the turn of a connection is at, and what it waits with.
+// The state of a turn.
 #[derive(Drop)]
 struct Steps<'a, S> {
     console: &'a Console<'a>,
     stream: &'a S,
     waiting: &'a mut Waiting,
-    // The time of the call or the reply that is under way.
+    // The time of the current call or reply.
     clock: CallClock,
     // When the turn ends if another connection is ready then.
     until: Instant,
-    // When the queue is polled again though no call of the stream waits: a peer that sends a byte now and
-    // then would keep it from that.
+    // When the queue is polled again even if no read blocks: a peer that sends a byte now and then would
+    // otherwise keep the queue from being polled.
     poll_at: Instant,
-    // Whether a read or a write blocks, for a second at most.
+    // Whether a read or a write may block, for a second at most.
     is_blocking: bool,
-    // Why the peer was not waited for any longer, where it was not.
+    // Why the turn ended, or `None` while it goes on.
     ending: Option<Ending>,
 }
 
 impl<S: Stream> Steps<'_, S> {
-    // Looks who waits. Once another connection is ready, reads and writes no longer block. What the socket
-    // refuses is reported between two connections.
+    // Polls the queue. Once another connection is ready, reads and writes no longer block. An error of the
+    // socket is reported between two connections.
     fn look(&mut self, now: Instant) -> io::Result<()>
         ensures { (self.new.clock ≡ self.old.clock) × (self.new.stream ≡ self.old.stream) }
     {
@@ -92,16 +93,17 @@ impl<S: Stream> Steps<'_, S> {
         Ok(())
     }
 
-    // Ends the turn.
+    // Ends the turn for this reason, and returns the error of the read or write that it ends.
     fn end(&mut self, ending: Ending) -> io::Error
-        ensures { (self.new.clock ≡ self.old.clock) × (self.new.stream ≡ self.old.stream) }
+        ensures kept { (self.new.clock ≡ self.old.clock) × (self.new.stream ≡ self.old.stream) }
+        ensures ending { self.new.ending ≡ Some ending }
     {
         self.ending = Some(ending);
         io::Error::from(ErrorKind::TimedOut)
     }
 
-    // How much longer the peer may be waited for, or why it may not. The first second of doing nothing was
-    // waited for in a read or a write that blocked.
+    // How long the peer may still delay a read or a write, or why the turn ends. Where reads block, a second
+    // of the peer's silence has passed in the read itself.
     fn patience(&mut self, now: Instant) -> Result<Option<Duration>, Ending>
         ensures call { GoesOnCall self.old.clock self.new.clock }
         ensures stream { self.new.stream ≡ self.old.stream }
@@ -115,7 +117,7 @@ impl<S: Stream> Steps<'_, S> {
         }
     }
 
-    // Looks who waits, and waits itself until the peer has done something, or may do nothing no longer.
+    // Polls the queue until the stream is ready, or until the peer's time is over.
     fn wait(&mut self, way: Way) -> io::Result<()>
         ensures ready { OnOk result (S.found self.new.stream.now way true) }
         ensures call { GoesOnCall self.old.clock self.new.clock }
@@ -135,7 +137,7 @@ impl<S: Stream> Steps<'_, S> {
         Err(io::Error::from(ErrorKind::TimedOut))
     }
 
-    // The same for a peer that takes bytes. A reply has a time of its own.
+    // Waits until the stream can be written. A reply has a time of its own.
     fn wait_to_write(&mut self) -> io::Result<()>
         ensures ready { OnOk result (S.found self.new.stream.now Way.Write true) }
         ensures reply { OnOk result (self.new.clock.is_reply ≡ true) }
@@ -147,8 +149,8 @@ impl<S: Stream> Steps<'_, S> {
         self.wait(Way::Write)
     }
 
-    // Ends the turn between two calls if its time is over and another connection is ready. If none is, it is
-    // looked again a second later.
+    // Ends the turn between two calls if its time is over and another connection is ready. If no other
+    // connection is ready, the queue is polled again a second later.
     fn end_between_calls(&mut self, now: Instant) -> io::Result<()>
         ensures { (self.new.clock ≡ self.old.clock) × (self.new.stream ≡ self.old.stream) }
     {
@@ -163,7 +165,7 @@ impl<S: Stream> Steps<'_, S> {
         Ok(())
     }
 
-    // Ends the turn in a call if the time of the call is over. Otherwise the queue is polled, at most once a
+    // Ends the turn during a call if the time of the call is over. Otherwise polls the queue, at most once a
     // second.
     fn go_on_in_call(&mut self, now: Instant) -> io::Result<()>
         ensures call { GoesOnCall self.old.clock self.new.clock }
@@ -179,7 +181,7 @@ impl<S: Stream> Steps<'_, S> {
         self.look(now)
     }
 
-    // What is done before each read.
+    // Checks the time of the turn and of the call before a read.
     fn begin_read(&mut self) -> io::Result<()>
         ensures call { GoesOnCall self.old.clock self.new.clock }
         ensures stream { self.new.stream ≡ self.old.stream }
@@ -192,11 +194,12 @@ impl<S: Stream> Steps<'_, S> {
         }
     }
 
-    // Reads what comes next. Waits for it where nothing has come.
+    // Reads the next bytes, and waits for them if need be.
     fn read<R: Read>(&mut self, reader: &mut R, buf: &mut [u8]) -> io::Result<usize>
         ensures bound { ReadsAtMost result buf.new }
         ensures bytes { ReadConsumes (R.remaining reader.old) (R.remaining reader.new) result buf.new }
         ensures begun { OnOk result (is_never self.new.clock.begun ≡ false) }
+        ensures active { OnOk result (self.new.clock.active ≡ Since.Now) }
         ensures call { is_never self.old.clock.begun ≡ false → GoesOnCall self.old.clock self.new.clock }
     {
         self.begin_read()?;
@@ -213,10 +216,11 @@ impl<S: Stream> Steps<'_, S> {
         Err(io::Error::from(ErrorKind::TimedOut))
     }
 
-    // Writes what is taken. Waits for that where nothing is taken.
+    // Writes as many bytes as the stream takes, and waits for it if need be.
     fn write<W: Write>(&mut self, writer: &mut W, buf: &[u8]) -> io::Result<usize>
         ensures bound { WritesAtMost result buf.now }
         ensures bytes { WriteAppends (W.contents writer.old) (W.contents writer.new) result buf.now }
+        ensures active { OnOk result (self.new.clock.active ≡ Since.Now) }
     {
         for _ in 0..u64::MAX {
             match writer.write(buf) {
@@ -230,7 +234,7 @@ impl<S: Stream> Steps<'_, S> {
         Err(io::Error::from(ErrorKind::TimedOut))
     }
 
-    // Ends a reply, which was written whole.
+    // Ends a reply that was written whole.
     fn end_reply(&mut self)
         ensures { IsBetweenCalls self.new.clock }
     {
@@ -238,22 +242,22 @@ impl<S: Stream> Steps<'_, S> {
     }
 }
 
-/// The turn of a connection. A read or a write waits no longer for its peer than it may.
+/// The turn of a connection: bounds how long its reads and writes wait for the peer.
 #[derive(Drop)]
 pub struct Turn<'a> {
     stream: &'a UnixStream,
     steps: RefCell<Steps<'a, UnixStream>>,
-    /// Why the peer was not waited for any longer; `None` where it was.
+    /// Why the turn ended before the peer closed the connection; `None` otherwise.
     pub ending: Cell<Option<Ending>>,
 }
 
 impl<'a> Turn<'a> {
-    /// The turn of a connection that has sent something. Where no other one is ready, a read or a write of
-    /// its stream blocks for a second at most from here on, and only then is it looked who else waits.
+    /// Begins the turn of a connection that has sent bytes. While no other connection is ready, a read or a
+    /// write of its stream may block for up to a second, and the queue is polled after that.
     ///
     /// # Errors
     ///
-    /// Where the system refuses.
+    /// If the system refuses a setting of the stream or the time.
     pub fn new(
         console: &'a Console<'a>,
         peer: &'a Pending,
@@ -283,7 +287,7 @@ impl<'a> Turn<'a> {
         })
     }
 
-    /// What calls are read from.
+    /// Returns the reader of the connection's calls.
     pub fn reader(&self) -> TurnReader<'_, 'a, &'a UnixStream> {
         TurnReader {
             turn: self,
@@ -291,7 +295,7 @@ impl<'a> Turn<'a> {
         }
     }
 
-    /// What replies are written to.
+    /// Returns the writer of the connection's replies.
     pub fn writer(&self) -> TurnWriter<'_, 'a, &'a UnixStream> {
         TurnWriter {
             turn: self,
@@ -300,8 +304,7 @@ impl<'a> Turn<'a> {
     }
 }
 
-/// The end of a connection that its calls are read from. What a read gives is what the stream gives, in
-/// order, also after a wait.
+/// Reads the calls of a connection. It returns the bytes of the stream in order, also after a wait.
 #[derive(Drop)]
 pub struct TurnReader<'t, 'a, R> {
     turn: &'t Turn<'a>,
@@ -321,8 +324,8 @@ impl<R: Read> Read for TurnReader<'_, '_, R> {
     }
 }
 
-/// The end of a connection that its replies are written to. What a write takes is what the stream takes, in
-/// order, also after a wait. A flush ends a reply.
+/// Writes the replies of a connection. It passes its bytes to the stream in order, also after a wait. A flush
+/// ends a reply.
 #[derive(Drop)]
 pub struct TurnWriter<'t, 'a, W> {
     turn: &'t Turn<'a>,

@@ -1,5 +1,5 @@
-//! The connections that wait to be served. All are looked at, so that one that sends nothing keeps no other
-//! one waiting.
+//! The queue of connections that wait to be served. Each look reads from all of them, so a connection that
+//! sends nothing delays no other one.
 
 ghost use Rattle.std.specs.Prelude.{◌≡◌, ◌≤◌, ◌-◌, ◌+◌, ◌*◌, ℕ, None, false, true, IfOk, IfSome, [], length, slice_index_or};
 ghost use Rattle.std.specs.List.{list_any, position};
@@ -20,26 +20,26 @@ use std::os::fd::{AsRawFd, RawFd};
 use std::os::unix::net::{UnixListener, UnixStream};
 use std::time::{Duration, Instant};
 
-// At most so many wait. Beyond them the oldest is closed of those that have sent no call.
+// The most connections that wait. A further one replaces the oldest that has sent no call.
 const MOST: usize = 256;
 
-// So many are taken between two looks at all.
+// The most connections that are accepted in one look.
 const AT_ONCE: usize = 64;
 
-// Which source is ready does not matter: all are looked at.
+// Which source is ready does not matter, since a look reads from all.
 const ANY: Token = Token(0);
 
-/// The connections that wait, and the socket that they come from.
+/// The queue of connections, and the socket that accepts them.
 pub struct Waiting {
     listener: UnixListener,
     poll: Poll,
     events: Events,
     pending: VecDeque<Pending>,
-    // How many connections are still taken.
+    // How many connections are still accepted.
     left: u32,
-    // How long one may send nothing.
+    // How long a connection may send nothing; `None` for ever.
     idle: Option<Duration>,
-    // Whether something came at the last look.
+    // Whether a connection or bytes came at the last look.
     is_stirring: bool,
 }
 
@@ -57,13 +57,13 @@ impl Drop for Waiting {
     }
 }
 
-// Has a wait end when a source can be read.
+// Makes a wait end when a source can be read.
 fn watch(poll: &Poll, source: RawFd) -> io::Result<()> {
     poll.registry()
         .register(&mut SourceFd(&source), ANY, Interest::READABLE)
 }
 
-// The line of a connection that ended so.
+// The line for a connection that was closed for this reason.
 #[derive(Clone, Copy)]
 struct Ended(Ending);
 
@@ -88,18 +88,18 @@ impl Display for Ended {
     }
 }
 
-/// Says that a connection ended so.
+/// Reports that a connection was closed, and why.
 pub fn report_ending(console: &Console<'_>, ending: Ending, now: Instant) {
     console.report_end(ending, now, &Ended(ending));
 }
 
 impl Waiting {
-    /// Nobody yet; so many connections are taken from the socket, and none of them waits for its peer longer
-    /// than so many seconds.
+    /// An empty queue on `listener`. It accepts `connections` in all; each is closed after `idle` seconds of
+    /// silence.
     ///
     /// # Errors
     ///
-    /// Where the system or memory refuses.
+    /// If the system refuses to poll the socket, or for want of memory.
     pub fn new(
         rt: &HostRuntime,
         listener: UnixListener,
@@ -122,21 +122,21 @@ impl Waiting {
         })
     }
 
-    /// How long a peer may send nothing, or take nothing; `None` without an end.
+    /// How long a peer may send nothing, or take nothing; `None` for ever.
     pub fn idle(&self) -> Option<Duration>
         ensures { result ≡ self.now.idle }
     {
         self.idle
     }
 
-    /// Whether one that waits has sent what it is served for.
+    /// Returns true if a connection in the queue has sent a complete first frame or is known to be malformed.
     pub fn has_ready(&self) -> bool
         ensures { result ≡ list_any is_ready self.now.pending.items }
     {
         self.pending.iter().any(|one| one.first.is_known())
     }
 
-    /// Since when the connection has been ready that has been for the longest time; `None` where no one is.
+    /// When the first of the connections that are ready became so; `None` if no connection is ready.
     pub fn ready_since(&self) -> Option<Instant> {
         let mut earliest = None;
         for one in self.pending.iter() {
@@ -148,8 +148,8 @@ impl Waiting {
         earliest
     }
 
-    // How long a connection that waits may send nothing. Once no further one is taken, the last ones may not
-    // for ever, so that the program ends.
+    // How long a connection in the queue may send nothing. Once no further connection is accepted, that has
+    // an end, so that the program ends.
     fn silence(&self) -> Option<Duration>
         ensures { IsSilence self.now.idle self.now.left result }
     {
@@ -159,11 +159,11 @@ impl Waiting {
         least(self.idle, Some(Duration::from_secs(CALL_SECONDS)))
     }
 
-    /// Has a wait also end when a connection that was taken from here can be written.
+    /// Makes a wait also end when this connection, which was in the queue, can be written.
     ///
     /// # Errors
     ///
-    /// Where the system refuses.
+    /// If the system refuses.
     pub fn watch_both(&self, stream: &UnixStream) -> io::Result<()> {
         let source = stream.as_raw_fd();
         let both = Interest::READABLE | Interest::WRITABLE;
@@ -172,7 +172,7 @@ impl Waiting {
             .reregister(&mut SourceFd(&source), ANY, both)
     }
 
-    // A connection that is waited for.
+    // A connection that has just been accepted.
     fn begin(&self, alloc: Global, stream: UnixStream, now: Instant) -> io::Result<Pending>
         ensures { IfOk result (IsNew now) }
     {
@@ -181,7 +181,7 @@ impl Waiting {
         Ok(Pending::new(alloc, stream, now))
     }
 
-    // The place of the oldest one of those that have sent no call.
+    // The place of the oldest connection that has sent no call.
     fn oldest(&self) -> Option<usize>
         ensures { result ≡ position has_no_call self.now.pending.items }
     {
@@ -190,7 +190,7 @@ impl Waiting {
             .position(|it| matches!(it.first.start, Some(Start::Open)))
     }
 
-    // Closes that one.
+    // Closes the oldest connection that has sent no call.
     fn close_oldest(&mut self, console: &Console<'_>, now: Instant)
         ensures closed { self.new.pending.items
             ≡ without (position has_no_call self.old.pending.items) self.old.pending.items }
@@ -202,14 +202,14 @@ impl Waiting {
         }
     }
 
-    // Whether no further one can wait, not instead of another either.
+    // Returns true if no further connection can wait, nor replace another one.
     fn is_full(&self) -> bool
         ensures { result ≡ is_full self.now.pending.items }
     {
         self.pending.len() >= MOST && self.oldest().is_none()
     }
 
-    // Takes a connection in.
+    // Adds a connection to the queue.
     fn admit(&mut self, console: &Console<'_>, stream: UnixStream, now: Instant)
         ensures few { is_full self.old.pending.items ≡ false
             → StayFew self.old.pending.items self.new.pending.items }
@@ -229,8 +229,8 @@ impl Waiting {
         }
     }
 
-    // Where the system gives no further connection while some wait, as for want of descriptors, half of them
-    // make room.
+    // Closes up to half of the queue if the system refuses a further connection, as for want of descriptors.
+    // The error is returned if the queue is empty.
     fn make_room(&mut self, console: &Console<'_>, error: io::Error, now: Instant) -> io::Result<()>
         ensures few { length self.new.pending.items ≤ length self.old.pending.items }
         ensures room { (n : ℕ) × (n * 2 ≤ length self.old.pending.items + 1)
@@ -249,7 +249,7 @@ impl Waiting {
         Ok(())
     }
 
-    // Takes the connections in that are there, some at a time.
+    // Accepts the connections that have come, some of them at a time.
     fn accept_some(&mut self, console: &Console<'_>, now: Instant) -> io::Result<()>
         ensures few { StayFew self.old.pending.items self.new.pending.items }
         ensures takes { TakesIn now self.old.pending.items self.new.pending.items
@@ -269,7 +269,7 @@ impl Waiting {
         Ok(())
     }
 
-    // Looks at a connection. Nothing, where it goes on waiting, or how it ended.
+    // Reads from a connection. Returns why it is closed, or `None` if it goes on waiting.
     fn ending_of(&mut self, one: &mut Pending, now: Instant) -> Option<Ending>
         ensures others { (self.new.pending ≡ self.old.pending) × (self.new.left ≡ self.old.left)
             × (self.new.idle ≡ self.old.idle) }
@@ -288,8 +288,7 @@ impl Waiting {
         }
     }
 
-    // Looks at the connection that waits first, and puts it last unless it has ended. How it ended, if it
-    // has.
+    // Reads from the first connection of the queue and makes it the last, or closes it and returns why.
     fn look_at_first(&mut self, now: Instant) -> Option<Ending>
         ensures turns { TurnsOver self.old.idle self.old.left now
             self.old.pending.items self.new.pending.items }
@@ -306,7 +305,7 @@ impl Waiting {
         }
     }
 
-    // Looks at each connection, in order.
+    // Reads from each connection, in order.
     fn receive_all(&mut self, console: &Console<'_>, now: Instant)
         ensures looks { LooksAt self.old.idle self.old.left now
             self.old.pending.items self.new.pending.items }
@@ -321,7 +320,7 @@ impl Waiting {
         }
     }
 
-    // The place of the oldest connection of which it is known what it begins.
+    // The place of the oldest connection that is ready.
     fn first_ready(&self) -> Option<usize>
         ensures place { result ≡ position is_ready self.now.pending.items }
         ensures ready { IfSome result (λ place. (d : Pending)
@@ -330,7 +329,7 @@ impl Waiting {
         self.pending.iter().position(|it| it.first.is_known())
     }
 
-    // That connection, which waits no longer.
+    // Takes the oldest connection that is ready out of the queue.
     fn pop_ready(&mut self) -> Option<Pending>
         ensures taken { TakesOut (position is_ready self.old.pending.items)
             self.old.pending.items self.new.pending.items result }
@@ -343,7 +342,7 @@ impl Waiting {
         self.pending.remove(place)
     }
 
-    // How long all of them may go on waiting; without an end where they may for ever.
+    // How long no connection of the queue has to be closed; `None` for ever.
     fn patience(&self, now: Instant) -> Option<Duration> {
         let mut longest = None;
         for one in self.pending.iter() {
@@ -358,11 +357,11 @@ impl Waiting {
         longest
     }
 
-    /// Takes connections in that are there, and what has come of those that wait.
+    /// Accepts connections, and reads from each connection of the queue.
     ///
     /// # Errors
     ///
-    /// Where the socket gives no connection while none waits.
+    /// If the socket refuses a connection while the queue is empty.
     pub fn look(&mut self, console: &Console<'_>, now: Instant) -> io::Result<()>
         ensures few { StayFew self.old.pending.items self.new.pending.items }
         ensures looks { Looks self.old.idle now self.old.pending.items self.new.pending.items
@@ -376,12 +375,12 @@ impl Waiting {
         accepted
     }
 
-    /// Waits until something comes, one that waits may wait no longer, or so long a time is over. Where the
-    /// last look found something, it does not.
+    /// Waits until a connection or bytes come, until a connection of the queue has to be closed, or for
+    /// `longest`. It returns at once if the last look found something.
     ///
     /// # Errors
     ///
-    /// Where the system lets nobody wait.
+    /// If the system refuses to wait.
     pub fn wait(
         &mut self,
         console: &Console<'_>,
@@ -398,12 +397,12 @@ impl Waiting {
         self.poll.poll(&mut self.events, least(longest, own))
     }
 
-    /// The next connection of which it is known what it begins, the oldest first; none where no further
-    /// one is taken.
+    /// The oldest connection that has sent a complete first frame or is known to be malformed. `None` after
+    /// the last connection.
     ///
     /// # Errors
     ///
-    /// Where the socket gives no connection while none waits, or the system lets nobody wait.
+    /// If the socket refuses a connection while the queue is empty, or the system refuses to wait.
     pub fn next(&mut self, console: &Console<'_>) -> io::Result<Option<Pending>>
         ensures ready { IfOk result (λ next. IfSome next (λ one. is_ready one ≡ true)) }
         ensures few { StayFew self.old.pending.items self.new.pending.items }

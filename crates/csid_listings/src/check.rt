@@ -51,8 +51,8 @@ pub fn check_config(console: &Console<'_>, path: &str) -> Result<(), Failure> {
     tell(console.rt, &Summary { config: &config })
 }
 
-// What tables in memory have that are adopted. It is read first, since an adoption makes them ones of the
-// latest format. Of a row for which they are refused more is said.
+// The counts of tables in memory that are adopted. The tables are counted first, since an adoption upgrades
+// them to the latest format. If they are refused for a row, more is reported of that row.
 fn adopted<S: Alter + Drop>(
     console: &Console<'_>,
     path: &str,

@@ -38,7 +38,7 @@ fn read_failure(alloc: Global, path: &str, error: &io::Error) -> Failure
     }
 }
 
-// The bytes of a file, of which there are none where there is no file.
+// The bytes of a file; no bytes if there is no file.
 fn bytes_of(rt: &HostRuntime, path: &str) -> Result<Vec<u8>, Failure>
     ensures { IfErr result (λ failure. IsOrNoMemory 4 failure) }
 {
@@ -49,8 +49,7 @@ fn bytes_of(rt: &HostRuntime, path: &str) -> Result<Vec<u8>, Failure>
     }
 }
 
-// The first bytes of a WAL, as many as its header has; fewer where the file is shorter, none where there is
-// no file.
+// The header of a WAL: its first 32 bytes, fewer of a shorter file, and no bytes without a file.
 fn header_of(rt: &HostRuntime, path: &str) -> Result<Vec<u8>, Failure>
     ensures { IfErr result (λ failure. IsOrNoMemory 4 failure) }
 {
@@ -212,7 +211,7 @@ fn open_copy(rt: &HostRuntime, path: &str) -> Result<Connection<FileStore<Memory
     open(rt.alloc(), path, copy)
 }
 
-/// What is done over a copy of tables.
+/// A task over a copy of tables.
 #[derive(Clone, Copy)]
 pub(crate) enum CopyTask<'a> {
     /// They are judged by a configuration.
@@ -240,13 +239,13 @@ fn over_tables<S: Alter + Drop>(
     })
 }
 
-/// Does a task over a copy of the tables in a file, with what is in its WAL, by reads alone: no lock is
-/// taken, and nothing is made or changed on the disk. The result of the task is the value.
+/// Does a task over a copy of the tables in a file and its WAL, by reads alone: no lock is taken, and no file
+/// is made or changed. The result of the task is the value.
 ///
 /// # Errors
 ///
-/// Where there is no file, it cannot be read, is written all the time, is no database or has no tables; where
-/// a journal is next to it; or where memory is refused.
+/// If the file does not exist, cannot be read, is written all the time, is no database or has no tables; if a
+/// journal is next to it; or for want of memory.
 pub(crate) fn over_tables_copy(
     console: &Console<'_>,
     path: &str,

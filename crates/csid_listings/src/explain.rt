@@ -1,5 +1,5 @@
-//! More about the row for which tables are refused: what its volume is, or by how much its pool or its node
-//! is too full.
+//! Reports more about the row that made csid refuse tables: its volume, or by how many bytes its pool or how
+//! many volumes its node is too full.
 
 use command_line::size_text;
 use csi_adoption::AdoptFault;
@@ -10,7 +10,7 @@ use sqlite::types::ValueRef;
 use sqlite::{Alter, Connection, Error, ErrorCode};
 use std::alloc::{AllocError, Global};
 
-// Why there is nothing to say.
+// Why no more is reported.
 enum Silence {
     // A row has no such value, or the database fails.
     Unread,
@@ -121,7 +121,7 @@ fn line<S: Alter>(
     }
 }
 
-/// Says more about the row for which tables are refused, where there is more to say.
+/// Reports more about the row that made csid refuse tables, if there is more to report.
 pub(crate) fn explain<S: Alter>(
     console: &Console<'_>,
     path: &str,

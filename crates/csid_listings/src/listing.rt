@@ -19,7 +19,7 @@ use csid_settings::{Chosen, Failure};
 use sqlite::{Alter, Connection};
 use std::alloc::Global;
 
-// So many volumes are read at once.
+// The number of volumes that are read at once.
 const PAGE: u32 = 1000;
 
 // No number of a volume is as great: a column has no greater one.
@@ -47,7 +47,7 @@ fn has(chosen: &Chosen<'_>, volume: &Volume, nodes: &Items<Text>) -> bool {
         && is_at(chosen.node, nodes)
 }
 
-/// What is done with each volume that is listed.
+/// A visitor of the volumes that are listed.
 trait Visit {
     fn visit(&mut self, volume: &Volume, nodes: &Items<Text>) -> Result<(), Failure>;
 }
@@ -126,7 +126,7 @@ impl<S: Alter + Drop> TablesCopy<'_, S> {
 ///
 /// # Errors
 ///
-/// Where the tables cannot be read, what is listed cannot be written, or memory is refused.
+/// If the tables cannot be read, if the list cannot be written, or for want of memory.
 pub fn list_tables(
     console: &Console<'_>,
     path: &str,

@@ -13,7 +13,7 @@ use sqlite::{Connection, Error, ErrorCode, FileStore, Files, Options};
 use sqlite_disk::{Disk, Memory};
 use std::alloc::Global;
 
-// The seeds of new write-ahead logs: nobody else sees these files.
+// The seed of new write-ahead logs. No other program sees these files.
 const SEED: u64 = 1;
 
 // A file in memory.
@@ -48,8 +48,8 @@ pub fn files_of(alloc: Global, wal: &[u8], db: &[u8]) -> Result<Files<Memory>, F
     })
 }
 
-/// Whether memory was refused to a database in memory. SQLite reports that of a file as a failure of its
-/// disk, and a file in memory has no other one.
+/// Returns true if memory was refused to a database in memory. SQLite reports that as a failure of the disk,
+/// and a file in memory has no other failure.
 pub fn is_no_memory(error: &Error) -> bool {
     matches!(error, Error::SqliteFailure(ErrorCode::SystemIoFailure))
 }
@@ -74,8 +74,8 @@ pub(crate) fn memory_adoption_failure(alloc: Global, path: &str, fault: &AdoptFa
     }
 }
 
-/// A connection to the database that a file and its WAL hold; an empty one, where there is nothing in them.
-/// An error names the path.
+/// A connection to the database in a file and its WAL; to an empty database if both are empty. An error names
+/// the path.
 ///
 /// # Errors
 ///

@@ -16,8 +16,8 @@ use std::alloc::Global;
 use test_kit::{RowFault, bytes_of, bytes_text};
 use wire::{fields_answer, prefixes_answer, write_answer};
 
-/// The answer to a row: a method's name, a word that says what is asked, and the bytes of a message; or a
-/// word that has no method, and what it takes.
+/// The answer to a row: a method's name, a question, and the bytes of a message; or a question without a
+/// method, and its arguments.
 pub(crate) fn answer(alloc: Global, row: &str) -> Result<String, RowFault> {
     let (name, rest) = first_word(row)?;
     match name {
@@ -34,7 +34,7 @@ pub(crate) fn answer(alloc: Global, row: &str) -> Result<String, RowFault> {
     }
 }
 
-// What is read is passed on at once to a function that does not name its type: so large a value is expensive
+// A message is passed on at once to a function that does not name its type: a value of this size is expensive
 // to own.
 fn message_answer(
     alloc: Global,
@@ -66,7 +66,7 @@ fn read_answer<M: Message>(
 
 // A request or a response.
 trait Message: Drop {
-    // What is answered of it to a question, where it was read from these bytes.
+    // The answer to a question about the message that was read from these bytes.
     fn answer(&self, alloc: Global, question: &str, bytes: &[u8]) -> Result<String, RowFault>;
 }
 
@@ -105,7 +105,7 @@ fn checked(request: &Request) -> &'static str {
     }
 }
 
-// The canonical bytes, or a word where they are those of the row.
+// The canonical bytes, or a word if they are the bytes of the row.
 fn compared(alloc: Global, bytes: &[u8], canonical: &[u8]) -> Result<String, RowFault> {
     if canonical == bytes {
         return displayed(alloc, &"same");

@@ -23,7 +23,7 @@ use std::os::unix::net::UnixListener;
 use std::process::ExitCode;
 use test_kit::{AnswerRow, AnswerSection, RowAnswer, RowFault, Rows, answer_rows};
 
-// The exit status where there is no socket.
+// The exit status without a socket.
 const SOCKET: u8 = 7;
 
 // A section that keeps nothing from row to row.

@@ -1,5 +1,5 @@
-//! Rows that put a stream of calls together and try it: it is served again and again, each time with
-//! something else cut short or refused, and what comes is compared with what the rows want.
+//! Rows that put a stream of calls together and try it: it is served again and again, each time with another
+//! part cut short or refused, and the outcome is compared with the outcome that the row wants.
 
 mod again;
 mod compared;
@@ -73,7 +73,7 @@ impl AnswerRow for Streams {
     }
 }
 
-// What is sent, and what it is to be answered.
+// The bytes to send, and the wanted answer.
 fn wanted(words: &str) -> Result<(&str, &str), RowFault> {
     words.split_once(" => ").ok_or(RowFault::NotRow)
 }

@@ -1,5 +1,5 @@
-//! A value as the text of an answer. What is shown is passed by reference to a function that does not name
-//! its type.
+//! A value as the text of an answer. A value is passed by reference to a function that does not name its
+//! type.
 
 use std::alloc::Global;
 use std::fmt::{Debug, Display};

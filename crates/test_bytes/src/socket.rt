@@ -52,8 +52,8 @@ impl AnswerRow for Calls<'_> {
     }
 }
 
-// Sends bytes over a new connection, ends the writing, and serves it. How the run ended is seen in what is
-// received.
+// Sends bytes over a new connection, ends the writing, and serves it. The received bytes show how the run
+// ended.
 fn served(
     rt: &HostRuntime,
     listener: &UnixListener,

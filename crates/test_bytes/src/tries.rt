@@ -8,10 +8,10 @@ use envelope::{ReplyFault, ReplyWhy};
 use std::alloc::{AllocError, Global};
 use test_kit::{RowFault, number_at, word_at, words_of};
 
-// What is sent; a line does not look into it.
+// The frame of a call. Its bytes do not matter to the line.
 const FRAME: &[u8] = b"the frame of a call";
 
-/// The answer to a row: a word that says what is asked, and what it takes.
+/// The answer to a row: a question and its arguments.
 pub(crate) fn answer(alloc: Global, row: &str) -> Result<String, RowFault> {
     let words = words_of(alloc, row)?;
     match word_at(&words, 0)? {

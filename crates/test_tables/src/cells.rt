@@ -34,7 +34,7 @@ pub(crate) fn put_row(out: &mut String, alloc: Global, row: &Row) -> Result<(), 
     Ok(())
 }
 
-/// The text of rows, which is `none` where there is no row.
+/// The text of rows; `none` without a row.
 pub(crate) fn or_none(mut text: String) -> Result<String, AllocError> {
     if text.is_empty() {
         text.push_str("none")?;

@@ -1,4 +1,4 @@
-//! Constraints of what is stored in tables in memory.
+//! Constraints over the rows of tables in memory.
 
 use crate::database::{idle, make, run, without_tables};
 use crate::scans::Scan;
@@ -187,11 +187,11 @@ fn ask<S: Alter, T: RowTrial + Drop>(
 // The words for a row that breaks a constraint.
 #[derive(Clone, Copy)]
 enum Words {
-    // What it is named by.
+    // The name of the row.
     Row,
-    // Those of a constraint of volumes.
+    // The cells of a constraint of volumes.
     Volume(VolumeConstraint),
-    // Those of a constraint of attachments.
+    // The cells of a constraint of attachments.
     Attachment(AttachmentConstraint),
 }
 

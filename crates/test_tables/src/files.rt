@@ -1,5 +1,5 @@
-//! Runs of `csi_files` over files in memory: what is made of files that hold no database, and runs over disks
-//! that stop, are full, or lie.
+//! Runs of `csi_files` over files in memory: the making of a database, and runs over disks that stop, are
+//! full, or lie.
 
 pub(crate) mod disks;
 pub(crate) mod laying;
@@ -61,8 +61,8 @@ impl<D: TestDisk> Bench<D> {
         Ok(format!(in alloc; "{outcome}: {}", bytes_text(alloc, &replies)?)?)
     }
 
-    // The same of a database file of which a byte is read with bits turned: the one so many bytes after the
-    // first place where a text is. The files stay as they are.
+    // As above, but the database file lies: reads return one byte with other bits, the byte at this distance
+    // after the first place that has a text. The files stay as they are.
     fn lie(&mut self, alloc: Global, row: &str) -> Result<String, RowFault> {
         let (lie, calls) = row.split_once(" / ").ok_or(RowFault::NotRow)?;
         let words = words_of(alloc, lie)?;

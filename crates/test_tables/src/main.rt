@@ -1,7 +1,6 @@
-//! Answers rows about tables: statements and scans over them, the constraints of what is stored in them, the
-//! volume machine over them, tables that are adopted or not, the tables in files of which the disk stopped in
-//! a call, and runs from files to files. What the rows of a section look like is at its head in the file
-//! `stdin` of this crate.
+//! Answers rows about tables: statements and scans over them, the constraints of their rows, the volume
+//! machine over them, their adoption, tables in files whose disk stopped in a call, and runs from files to
+//! files. The file `stdin` of this crate says at the head of each section how its rows look.
 #![tactic(auto)]
 
 mod adoption;

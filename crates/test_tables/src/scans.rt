@@ -16,8 +16,7 @@ use std::alloc::Global;
 use std::fmt::Write;
 use test_kit::{RowFault, number_at, word_at, words_of};
 
-/// The answer to a row: what a database begins as, what is asked of it, and the statements that come
-/// before.
+/// The answer to a row: how a database begins, the statements that come first, and the scan.
 pub(crate) fn answer(alloc: Global, row: &str) -> Result<String, RowFault> {
     let (start, rest) = row.split_once(" | ").ok_or(RowFault::NotRow)?;
     let (question, statements) = rest.split_once(" | ").ok_or(RowFault::NotRow)?;
@@ -41,7 +40,7 @@ fn begin<S: Alter>(conn: &mut Connection<S>, start: &str, statements: &str) -> R
     }
 }
 
-// Whether the tables are ours, and nothing else is there.
+// Whether the database has our tables and no others.
 fn is_ours<S: Alter>(alloc: Global, conn: &IdleConnection<S>) -> Result<String, RowFault> {
     let word = if is_our_schema(conn.schema()) {
         "ours"
@@ -51,7 +50,7 @@ fn is_ours<S: Alter>(alloc: Global, conn: &IdleConnection<S>) -> Result<String, 
     Ok(String::from_str(alloc, word)?)
 }
 
-// What is asked of the rows of our tables.
+// Scans the rows of our tables.
 fn ask<S: Alter>(
     alloc: Global,
     conn: &mut IdleConnection<S>,

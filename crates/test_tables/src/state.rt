@@ -1,7 +1,7 @@
 //! The State of a keeper, as a text.
 
 use csi_config::Config;
-use csi_keeper::{Keeper, Volume};
+use csi_keeper::{Keeper, PageWithNodes, Volume};
 use csi_types::{Items, Text};
 use std::alloc::Global;
 use std::fmt::Write;
@@ -28,8 +28,7 @@ fn put_volumes<K: Keeper>(
     alloc: Global,
     keeper: &mut K,
 ) -> Result<(), RowFault> {
-    let volumes = keeper.page(alloc, 0, MOST_VOLUMES)?;
-    let nodes = keeper.published_nodes(alloc, 0, MOST_VOLUMES)?;
+    let PageWithNodes { volumes, nodes } = keeper.page_with_nodes(alloc, 0, MOST_VOLUMES)?;
     put_each(text, volumes.as_slice(), nodes.as_slice())
 }
 

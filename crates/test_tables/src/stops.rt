@@ -26,7 +26,7 @@ use troubled::{Trouble, lying};
 pub(crate) enum Ending {
     /// Closed.
     Closed,
-    /// What was committed is in the WAL alone.
+    /// The committed changes are in the WAL alone.
     Open,
     /// Closed, with tables of format 1.
     Older,
@@ -53,8 +53,7 @@ impl<D: TestDisk> Bench<D> {
         })
     }
 
-    /// Serves calls by `csi_files` over the files, of which the database file may lie, and says what that
-    /// came to.
+    /// Serves calls by `csi_files` over the files and reports the outcome. The database file may lie.
     pub(crate) fn serve(
         &mut self,
         alloc: Global,
@@ -111,7 +110,7 @@ impl<D: TestDisk> Bench<D> {
         }
     }
 
-    // Files in which no database was made: a database file with these bytes, and a log without any.
+    // Files without a database: a database file with these bytes, and an empty log.
     fn set_files(&mut self, alloc: Global, bytes: &str) -> Result<String, RowFault> {
         let bytes = bytes_of(alloc, bytes)?;
         self.files = Files {
@@ -122,7 +121,7 @@ impl<D: TestDisk> Bench<D> {
         Ok(format!(in alloc; "{} bytes", bytes.len())?)
     }
 
-    // New files with the tables, over which these calls are made.
+    // New files with the tables, after these calls.
     fn begin(&mut self, alloc: Global, calls: &str, ending: Ending) -> Result<String, RowFault> {
         let calls = bytes_of(alloc, calls)?;
         let disks = new_disks::<D>(alloc, NEVER);

@@ -1,4 +1,4 @@
--- What is supported, and what a set has.
+-- Supported keys, and the keys of a set.
 use Rattle.std.proofs.Common.{◌≡◌, ◌∙◌, refl, ap, sym, ℕ, pos, ℤ, ◌==◌, eqb-true, Bool, true, false, not, ◌&&◌, ◌||◌, cond, List, [], ◌∷◌, Option, Some, None}
 use Rattle.std.specs.List.{list_all}
 use Rattle.std.specs.Option.{option_map}
@@ -12,7 +12,7 @@ use Rattle.csi_keeper.specs.declared.capability.Kind.{Kind}
 use Rattle.csi_keeper.specs.declared.capability.Kind.TheVariants.{Block, Mount}
 use Rattle.csi_keeper.specs.facts.Finite.{none_some, tied}
 
--- where there is no key, none is one of them
+-- a missing key is in no list
 pub has_same_none : (ks : List CapKey) → has_same ks None ≡ false
 has_same_none [] = refl
 has_same_none (k ∷ ks) = has_same_none ks
@@ -21,7 +21,7 @@ both : (a b : Bool) → (a && b) ≡ true → (a ≡ true) × (b ≡ true)
 both true b e = (refl, e)
 both false b e = absurd (cc)
 
--- what is supported has a known mode
+-- a supported access has a known mode
 pub supported_known : (a : Access) (m : Option ℤ) → is_supported_access a m ≡ true → is_known_mode m ≡ true
 supported_known access.Missing m e = absurd (cc (e))
 supported_known access.Block m e = e

@@ -24,7 +24,7 @@ both true b h = (tt, h)
 both false b h = absurd h
 
 module _ {K X : Type 0} {R : K → K → Ordering} (o : IsTotalOrder R) (exact : fin.IsAntisymmetric R) where
-  -- what is after one more
+  -- an entry after one was added: the new one, or an old one
   pub inserted : (m : fin.FinMap R X) (k : K) (x : X) (q : K) (v : X) → fin.get (fin.insert m k x) q ≡ Some v → ((q ≡ k) × (x ≡ v)) ⊎ (fin.get m q ≡ Some v)
   inserted m k x q v e = elim (eq_by_cmp R q k) as (λ b. eq_by_cmp R q k ≡ b → cond b (Some x) (fin.get m q) ≡ Some v → ((q ≡ k) × (x ≡ v))
       ⊎ (fin.get m q ≡ Some v)) [
@@ -39,7 +39,7 @@ module _ {K X : Type 0} {R : K → K → Ordering} (o : IsTotalOrder R) (exact :
     | false ↦ λ t. refl
   ] refl
 
-  -- what is after one less
+  -- an entry after one was removed: an old one with another key
   pub removed : (m : fin.FinMap R X) (k q : K) (v : X) → fin.get (fin.remove m k) q ≡ Some v → (q ≡ k → ⊥) × (fin.get m q ≡ Some v)
   removed m k q v e = elim (eq_by_cmp R q k) as (λ b. eq_by_cmp R q k ≡ b → cond b None (fin.get m q) ≡ Some v → (q ≡ k → ⊥) × (fin.get m q ≡ Some v)) [
     | true ↦ λ t h. absurd (none_some v h)
@@ -72,7 +72,7 @@ module _ {K X : Type 0} {R : K → K → Ordering} (o : IsTotalOrder R) (exact :
       ] refl
       ∙ sym (fin.get-insert o (fin.remove m k) k x q ∙ ap (cond (eq_by_cmp R q k) (Some x)) (fin.get-remove o m k q)))
 
-  -- what was put somewhere is there
+  -- a value that was put at a key is there
   pub put_there : (m : fin.FinMap R X) (k : K) (x : X) → fin.get (fin.insert m k x) k ≡ Some x
   put_there m k x = fin.get-insert o m k x k ∙ ap (λ b. cond b (Some x) (fin.get m k)) (ap is_eq (tied_itself o k))
 
@@ -132,7 +132,7 @@ less_apart a Less e l = ap is_eq e
 less_apart a Equal e l = absurd l
 less_apart a Greater e l = absurd l
 
--- what is so of each key and its value is so of each entry
+-- a property of each key and its value is a property of each entry
 module _ {K X : Type 0} {R : K → K → Ordering} (o : IsTotalOrder R) (exact : fin.IsAntisymmetric R) where
   pub found_below : (x k : K) (v : X) (es : List (K × X)) → T (below_all R x es) → fin.find R k es ≡ Some v → T (is_lt (R x k))
   found_below x k v [] b f = absurd (none_some v f)

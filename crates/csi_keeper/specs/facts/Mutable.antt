@@ -16,7 +16,7 @@ use Rattle.csi_keeper.specs.facts.Sums.{in_order, count_cons, total_cons, measur
 abbrev Volumes : Type 0
 Volumes = fin.FinMap nat_cmp Volume
 
--- the volume of a number after the change, and the one that it was
+-- the volume of a number after the change, and the same volume before it
 pub stood : (vs : Volumes) (n : ℕ) (m : TextMap) (q : ℕ) (w : Volume) → fin.get (mutable_set vs n m (fin.get vs n)) q ≡ Some w
     → (v : Volume) × (fin.get vs q ≡ Some v) × ((w ≡ v) ⊎ ((q ≡ n) × (w ≡ with_mutable m v)))
 stood vs n m q w e = go (fin.get vs n) refl e

@@ -23,7 +23,7 @@ quiet_then {a} {b} {c} p q =
 pub read_same : {X : Type 0} (a : Model State) (x : X) {IsSo : State → X → Type 0} → a.is_down ≡ false → Tells a a (λ s. IsSo s x) → Reads a a (Ok x) IsSo
 read_same a x up told = record { value = told; quiet = quiet_same a; count = refl; down = (λ e. absurd (cc (e)), λ is. absurd (cc (is, up))) }
 
--- what is so of each answer
+-- a property of each answer
 pub if_ok : {X E : Type 0} {P Q : X → Type 0} → ((x : X) → P x → Q x) → (r : Result X E) → IfOk r P → IfOk r Q
 if_ok f (Ok x) h = f x h
 if_ok f (Err e) h = h

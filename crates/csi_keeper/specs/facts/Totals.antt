@@ -18,7 +18,7 @@ total_more t n b m e = ap (λ (x : Total). more x m) e ∙ ap₂ the_total (omeg
 total_less : (t : Total) (n b m : ℕ) → t ≡ the_total (1 + n) (m + b) → less t m ≡ the_total n b
 total_less t n b m e = ap (λ (x : Total). less x m) e ∙ ap₂ the_total (omega arith) (omega arith)
 
--- where the volume's pool is this one, its total is that of the volume's pool
+-- if two names are the same pool, their totals are the same
 moved : (pools : Totals) (s : State) (one other : Text) → same_text one other ≡ true → AreTotals pools s
     → total_of pools one ≡ the_total (length (sizes s other)) (sum (sizes s other))
 moved pools s one other t totals = subst (λ (p : Text). total_of pools one ≡ the_total (length (sizes s p)) (sum (sizes s p)))

@@ -23,7 +23,7 @@ served rs at = filter (is_served at) rs
 abbrev pub greatest : List ℕ → ℕ
 greatest xs = fold max 0 xs
 
--- the greatest size of which a volume can be made
+-- the greatest size that a volume can have
 abbrev pub greatest_size : Config → List Room → ℕ
 greatest_size config rs = min config.sizes.greatest_bytes (greatest (map free rs))
 

@@ -45,11 +45,11 @@ abbrev pub token_for : ℕ → List Volume → Text
 token_for last [] = []
 token_for last (v ∷ vs) = decimal last
 
--- a volume, and nodes at which it is published
+-- a volume, and the nodes that it is published at
 abbrev pub entry_with : Config → Volume → List Text → Entry
 entry_with config v nodes = record { volume = Some (info config v); nodes = Some nodes }
 
--- a volume, and the nodes at which it is published
+-- a volume of a State, and the nodes that it is published at
 abbrev pub entry_of : Config → State → Volume → Entry
 entry_of config s v = entry_with config v (published s v.number)
 

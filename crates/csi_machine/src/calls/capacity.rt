@@ -34,7 +34,8 @@ fn is_served(topology: &Option<Map>, room: &Room<'_>) -> bool
     }
 }
 
-// The sum of what is free where the topology is served, and the greatest free part.
+// The sum of the free bytes of the pools that serve the topology, and the greatest number of free bytes in
+// one of them.
 fn free_in(rooms: &[Room<'_>], topology: &Option<Map>) -> (u64, u64)
     ensures sum { result.0 ≡ up_to_u64 (sum_by free (served (map room_value rooms.now) topology.now)) }
     ensures greatest { result.1 ≡ greatest (map free (served (map room_value rooms.now) topology.now)) }
@@ -84,8 +85,8 @@ fn capacity_of(
     tell_capacity(alloc, sum, config.sizes().greatest_bytes.min(greatest))
 }
 
-/// What is free in the pools that serve the topology, and the greatest size of which a volume can be
-/// made there. Nothing is where a capability is not supported.
+/// Answers the free bytes of the pools that serve the topology, and the greatest size that a volume can have
+/// there. Both are 0 if a capability is not supported.
 impl Planned for GetCapacity {
     ghost planned = { capacity };
 

@@ -44,7 +44,7 @@ fn is_compatible(
     )
 }
 
-// What is done where a volume of the name exists.
+// The plan of a create if a volume of this name exists.
 fn again<'a>(
     alloc: Global,
     config: &'a Config,
@@ -120,7 +120,7 @@ fn place<'a>(
     place_in(alloc, request, next, bytes, pool)
 }
 
-// What is done where no volume of the name exists.
+// The plan of a create if no volume of this name exists.
 #[tactic(auto, using(crate::proofs::CreateLemmas::fresh_bounded))]
 fn fresh<'a>(
     alloc: Global,
@@ -155,8 +155,8 @@ fn create_fresh<'a, K: Keeper>(
     Ok(fresh(alloc, config, &rooms, next, request)?)
 }
 
-/// What is done about a request, by reads of the keeper alone; `nowhere` is an empty map, of segments
-/// where there are none.
+/// The plan of a create, made by reads of the keeper alone; `nowhere` is an empty map, the segments of a pool
+/// that is not configured.
 ///
 /// A volume of the name is answered again if it is as the request asks, and refused otherwise.
 /// Without one a volume is made in the chosen pool, unless the size is out of range, there are too

@@ -29,7 +29,7 @@ fn delete_volume(alloc: Global, number: u64, attachments: &[Attachment]) -> Resu
     )
 }
 
-/// A volume that is attached is refused; one that does not exist is answered as deleted.
+/// A volume that is attached is refused; a volume that does not exist is answered as deleted.
 impl Planned for DeleteVolume {
     ghost planned = { λ config s r. delete s r };
 

@@ -79,7 +79,7 @@ fn write_page<K: Keeper>(
     Ok(put_token(alloc, page.last, rest.is_any, &mut page.body)?)
 }
 
-// Appends the body of a page, or refuses one that no reply holds.
+// Appends the body of a page, or refuses a page that is too large for a reply.
 #[inline(always)]
 fn append_after<K: Keeper>(
     alloc: Global,

@@ -53,7 +53,7 @@ fn detach(
     )
 }
 
-/// A volume that is not published there, or does not exist, is answered as one that was.
+/// A volume that is not published there, or does not exist, is answered as unpublished.
 impl Planned for Unpublish {
     ghost planned = { λ config s r. unpublish s r };
 

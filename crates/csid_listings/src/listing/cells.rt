@@ -54,7 +54,7 @@ fn words(alloc: Global, texts: &Items<Text>) -> Result<String, AllocError> {
     or_dash(cell)
 }
 
-/// What is over the columns of volumes.
+/// The headings of the columns of volumes.
 pub(crate) const HEADINGS: [&str; 8] = [
     "ID",
     "NAME",

@@ -1,12 +1,12 @@
-//! What is listed, on its way to standard output.
+//! Standard output, for lists.
 
 use csid_settings::Failure;
 use std::io::Write;
 
-// So many bytes are collected before they are written.
+// The number of bytes that are collected before they are written.
 const FULL: usize = 1 << 16;
 
-/// Standard output, to which many bytes are written at once.
+/// Standard output, written in large pieces.
 #[derive(Drop)]
 pub(crate) struct Output<'a> {
     rt: &'a HostRuntime,
@@ -21,7 +21,7 @@ impl<'a> Output<'a> {
         }
     }
 
-    /// Writes what was collected.
+    /// Writes the collected bytes.
     pub(crate) fn flush(&mut self) -> Result<(), Failure> {
         let mut out = self.rt.stdout();
         let written = out

@@ -13,7 +13,7 @@ pub(crate) enum Kind {
     Replies,
 }
 
-// What bytes begin with, as a text: a frame and its size, or what is wrong.
+// The beginning of bytes, as a text: a frame and its size, or the fault.
 #[derive(Drop)]
 enum Part {
     Nothing,

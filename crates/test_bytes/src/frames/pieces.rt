@@ -47,7 +47,7 @@ fn feed_all(
     Ok(())
 }
 
-// What is known where the input ends.
+// The state of a framer at the end of the input.
 fn put_end(alloc: Global, framer: &AnyFramer, out: &mut String) -> Result<(), RowFault> {
     match framer.fault_text(alloc)? {
         Some(text) => put_part(out, &text),

@@ -1,4 +1,4 @@
-//! What came of a run, and what was wanted.
+//! The outcome of a run, and the wanted outcome.
 
 use csi_server::RunEnd;
 use std::alloc::{AllocError, Global};
@@ -14,15 +14,15 @@ pub(crate) enum End<'a> {
     WriteFailed,
 }
 
-/// What is wanted of a run.
+/// The wanted outcome of a run.
 #[derive(Clone, Copy)]
 pub(crate) struct Wanted<'a> {
     pub(crate) end: End<'a>,
-    /// What is written first, which are replies.
+    /// The replies, which are written first.
     pub(crate) replies: &'a [u8],
-    /// What is written after them, and that is all.
+    /// The bytes after them, up to the end.
     pub(crate) last: &'a [u8],
-    /// What is kept then.
+    /// The State after the run.
     pub(crate) kept: &'a str,
 }
 
@@ -35,14 +35,14 @@ pub(crate) struct Served {
     pub(crate) kept: String,
 }
 
-/// What is tried: the words, and a number.
+/// The name of a trial: its words, and a number.
 #[derive(Clone, Copy)]
 pub(crate) struct Trial {
     pub(crate) name: &'static str,
     pub(crate) number: u64,
 }
 
-/// Compares what came with what was wanted.
+/// Compares an outcome with the wanted one.
 ///
 /// # Errors
 ///

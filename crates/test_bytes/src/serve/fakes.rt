@@ -42,14 +42,14 @@ pub(crate) struct Pieces<'a> {
     // The sizes of the first piece and of the others.
     first: usize,
     size: usize,
-    // How many reads come before the one that fails, if one does.
+    // The number of reads before a read fails; `None` if no read fails.
     fails_after: Option<u64>,
     // How many bytes are still to come until a fault is known, if there is one.
     until_fault: Option<usize>,
 }
 
 impl<'a> Pieces<'a> {
-    /// Pieces of at most so many bytes.
+    /// Pieces of at most `size` bytes.
     pub(crate) fn new(bytes: &'a [u8], size: usize) -> Pieces<'a> {
         Pieces {
             bytes,
@@ -60,7 +60,7 @@ impl<'a> Pieces<'a> {
         }
     }
 
-    /// The first piece has at most so many bytes.
+    /// A first piece of at most `first` bytes.
     pub(crate) fn cut_at(bytes: &'a [u8], first: usize) -> Pieces<'a> {
         Pieces {
             bytes,
@@ -71,7 +71,7 @@ impl<'a> Pieces<'a> {
         }
     }
 
-    /// Pieces of one byte, of which so many come before a read fails.
+    /// Pieces of one byte. After `pieces` of them a read fails.
     pub(crate) fn failing(bytes: &'a [u8], pieces: u64) -> Pieces<'a> {
         Pieces {
             bytes,
@@ -82,7 +82,7 @@ impl<'a> Pieces<'a> {
         }
     }
 
-    /// The same, of which so many bytes make a fault known.
+    /// The same pieces; their first `known_at` bytes show a fault.
     pub(crate) fn with_fault_at(self, known_at: Option<usize>) -> Pieces<'a> {
         Pieces {
             until_fault: known_at,
@@ -91,8 +91,8 @@ impl<'a> Pieces<'a> {
     }
 }
 
-/// Gives pieces to a server that reads so many bytes at once as it should, and has flushed what it
-/// wrote before. Any other read fails.
+/// Gives pieces to a server whose reads have the right size, and that has flushed its earlier output. Any
+/// other read fails.
 #[derive(Drop)]
 pub(crate) struct Reader<'a> {
     pieces: Pieces<'a>,
@@ -116,7 +116,7 @@ impl<'a> Reader<'a> {
         }
     }
 
-    // Whether this read fails. One read less is left before the one that does.
+    // Whether this read fails. Counts down to the read that does.
     fn is_failing(&mut self) -> bool {
         match self.pieces.fails_after {
             Some(0) => {
@@ -171,8 +171,7 @@ pub(crate) enum Trouble {
     Flush,
 }
 
-/// How a writer takes bytes: at most so many a write, and once, at a set call of its kind, with
-/// trouble.
+/// How a writer takes bytes: up to a limit a write, and with trouble once, at a given call of its kind.
 #[derive(Clone, Copy)]
 pub(crate) struct Takes {
     size: usize,
@@ -186,7 +185,7 @@ impl Takes {
         Takes::troubled(usize::MAX, Trouble::Never, 0)
     }
 
-    /// So many bytes a write, with trouble after so many calls of its kind.
+    /// `size` bytes a write, with trouble after `after` calls of its kind.
     pub(crate) fn troubled(size: usize, trouble: Trouble, after: u64) -> Takes {
         Takes {
             size,

@@ -21,7 +21,7 @@ pub(crate) fn kept<K: Keeper>(alloc: Global, keeper: &mut K) -> Result<String, R
     Ok(text)
 }
 
-// None of the keepers that are looked at refuses anything but memory.
+// These keepers refuse calls only for memory.
 fn refused(_fault: StoreFault) -> RowFault {
     RowFault::NoMemory
 }

@@ -38,7 +38,7 @@ impl Server<'_> {
         self.run_on(alloc, &mut keeper, pieces, takes)
     }
 
-    /// Serves a stream over a keeper, and looks what is kept.
+    /// Serves a stream over a keeper, and reads the keeper's State.
     ///
     /// # Errors
     ///
@@ -58,7 +58,7 @@ impl Server<'_> {
         })
     }
 
-    /// Serves a stream over a keeper: how that ends, and what is written.
+    /// Serves a stream over a keeper. Returns the end of the run, and the bytes that were written.
     ///
     /// # Errors
     ///

@@ -1,4 +1,4 @@
-//! What is tried with a stream over a store that refuses a call.
+//! Trials of a stream over a store that refuses a call.
 
 use super::compared::{Served, Trial, Wanted, compare};
 use super::fakes::{GREATEST_PIECE, Pieces, Takes};
@@ -18,8 +18,8 @@ const STORE_DOWN: &[u8] = b"\x0d\x00\x0dstore is down\x00\x00\x00\x00\x00";
 /// More calls of the store than any row makes.
 pub(super) const MOST_CALLS: u64 = 1_000_000;
 
-/// A run over a store that refuses a call: its end, what was written, and how many refusals the store
-/// counted.
+/// A run over a store that refuses a call: its end, the bytes that were written, and the count of refusals of
+/// the store.
 #[derive(Drop)]
 pub(super) struct Run {
     end: RunEnd,
@@ -35,7 +35,7 @@ pub(super) struct Refused {
     pub(super) is_down: bool,
 }
 
-// What is wanted of it: the replies to all calls, what is kept, and how many refusals are counted.
+// The wanted outcome: the replies to all calls, the State, and the count of refusals.
 #[derive(Drop)]
 struct Replies {
     bytes: Vec<u8>,
@@ -49,7 +49,7 @@ impl Trials<'_> {
     ///
     /// # Errors
     ///
-    /// The first run that differs from what is wanted.
+    /// The first run with another outcome than the wanted one.
     pub(crate) fn store(&self) -> Result<(), RowFault> {
         let mut seen = 0;
         for at in 0..MOST_CALLS {
@@ -71,14 +71,15 @@ impl Trials<'_> {
         Err(RowFault::Refused("another call than the next was refused"))
     }
 
-    // The first call that asks the store, of those after so many.
+    // The first call, from this one on, that asks the store.
     fn first_asking(&self, from: usize) -> Option<usize> {
         let calls = self.stream.calls.get(from..)?;
         let place = calls.iter().position(|call| call.asks)?;
         from.checked_add(place)
     }
 
-    // A call of the store is refused: the call in which it was, or none if there are fewer.
+    // Refuses a call of the store. Returns the call of the stream that made it, or `None` if there are fewer
+    // calls.
     fn refuse(&self, at: u64) -> Result<Option<usize>, RowFault> {
         let trial = Trial {
             name: "refused call of the store",
@@ -87,11 +88,12 @@ impl Trials<'_> {
         self.judge(trial, &self.serve_refusing(at)?)
     }
 
-    /// The call in which a read or a change was refused, or none where none was: all came then as it should.
+    /// The call whose read or change was refused, or `None` if no call was refused and the outcome is the
+    /// usual one.
     ///
     /// # Errors
     ///
-    /// What differs from what is wanted.
+    /// The difference from the wanted outcome.
     pub(super) fn judge(&self, trial: Trial, came: &Refused) -> Result<Option<usize>, RowFault> {
         if came.refusals == 0 {
             compare(self.alloc, trial, &came.served, &self.whole())?;
@@ -164,7 +166,7 @@ impl Trials<'_> {
         })
     }
 
-    /// How many calls were answered as ever, before one that was not.
+    /// The number of calls that were answered as usual, before the first other answer.
     pub(super) fn answered(&self, written: &[u8]) -> usize {
         let mut answered = 0;
         for call in 0..self.stream.calls.len() {
@@ -175,8 +177,7 @@ impl Trials<'_> {
         answered
     }
 
-    // What is wanted where the change of a call is refused: the store is down for the calls after
-    // it that ask it.
+    // The wanted outcome if the change of a call is refused: the store is down for later calls that ask it.
     fn after_change(&self, call: usize) -> Result<Replies, AllocError> {
         let mut bytes = self.refused_behind(call)?;
         let refused = self.put_refused(call.saturating_add(1), STORE_DOWN, &mut bytes)?;
@@ -187,8 +188,8 @@ impl Trials<'_> {
         })
     }
 
-    /// The replies to the calls after so many, where each that asks the store is refused like this. How many
-    /// are.
+    /// Puts the replies to the calls from this one on, with this refusal for each call that asks the store.
+    /// Returns the number of refusals.
     pub(super) fn put_refused(
         &self,
         behind: usize,
@@ -214,7 +215,7 @@ impl Trials<'_> {
         Ok(bytes)
     }
 
-    // What is wanted where a read of a call is refused: the rest is as if the call had not come.
+    // The wanted outcome if a read of a call is refused: the rest is as if the call had not come.
     fn after_read(&self, call: usize) -> Result<Replies, RowFault> {
         let input = self.input_without(call)?;
         let pieces = Pieces::new(&input, GREATEST_PIECE);
@@ -229,7 +230,7 @@ impl Trials<'_> {
         })
     }
 
-    // All frames but that of a call.
+    // All frames except the frame of a call.
     fn input_without(&self, call: usize) -> Result<Vec<u8>, AllocError> {
         let (start, _) = self.stream.ends_of(call);
         let (end, _) = self.stream.ends_of(call.saturating_add(1));

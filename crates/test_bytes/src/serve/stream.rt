@@ -1,4 +1,4 @@
-//! A stream of calls, and what is wanted of it.
+//! A stream of calls, and its wanted outcome.
 
 use std::alloc::{AllocError, Global};
 
@@ -68,7 +68,7 @@ impl Stream {
         Ok(())
     }
 
-    /// Appends bytes of which the last makes a fault known.
+    /// Appends bytes whose last one shows a fault.
     pub(crate) fn put_fault(
         &mut self,
         alloc: Global,
@@ -80,7 +80,7 @@ impl Stream {
         Ok(())
     }
 
-    /// Appends bytes that nobody looks at, after a fault.
+    /// Appends bytes after a fault, which are not read.
     pub(crate) fn put_behind(&mut self, bytes: &[u8]) -> Result<(), AllocError> {
         self.input.extend_from_slice(bytes)?;
         Ok(())

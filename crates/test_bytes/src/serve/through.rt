@@ -1,4 +1,4 @@
-//! What is tried with a stream over a memory and a log, of which one refuses a call.
+//! Trials of a stream over a memory and a log, one of which refuses a call.
 
 use super::compared::{Trial, Wanted, compare};
 use super::store::{MOST_CALLS, Refused, STORE_REFUSED};
@@ -13,7 +13,7 @@ impl Trials<'_> {
     ///
     /// # Errors
     ///
-    /// The first run that differs from what is wanted.
+    /// The first run with another outcome than the wanted one.
     pub(crate) fn change_store(&self) -> Result<(), RowFault> {
         for at in 0..MOST_CALLS {
             let trial = Trial {
@@ -40,12 +40,12 @@ impl Trials<'_> {
         self.look(run, is_down, &mut change_store)
     }
 
-    /// Each read is refused in turn by the memory, and each change that the log has made. The log has what
-    /// was answered with OK.
+    /// Each read is refused in turn by the memory, and each change that the log has made. The log has each
+    /// change that was answered OK.
     ///
     /// # Errors
     ///
-    /// The first run that differs from what is wanted.
+    /// The first run with another outcome than the wanted one.
     pub(crate) fn memory(&self) -> Result<(), RowFault> {
         for at in 0..MOST_CALLS {
             if !self.refuse_in_memory(at)? {
@@ -55,7 +55,7 @@ impl Trials<'_> {
         Err(RowFault::Refused("the memory was asked too often"))
     }
 
-    // A call of the memory is refused: whether there are so many.
+    // Refuses a call of the memory. Returns false if there are fewer calls.
     fn refuse_in_memory(&self, at: u64) -> Result<bool, RowFault> {
         let memory = FusedMem::new(self.alloc, 1, at)?;
         let change_store = MemKeeper::new(self.alloc, 1)?;

@@ -1,4 +1,4 @@
-//! What is tried with a stream: pieces, ends, reads and writes.
+//! Trials of a stream: pieces, ends, reads and writes.
 
 use super::compared::{End, Trial, Wanted, compare};
 use super::fakes::{GREATEST_PIECE, Pieces, Takes, Trouble};
@@ -10,7 +10,7 @@ use test_kit::RowFault;
 // A longer stream is served in pieces alone.
 const LONGEST: usize = 4096;
 
-/// A stream, its server, and what is kept after the first of its calls: after none, one, and so on.
+/// A stream, its server, and the States after none of its calls, after the first one, and so on.
 #[derive(Clone, Copy)]
 pub(crate) struct Trials<'a> {
     pub(crate) alloc: Global,
@@ -19,7 +19,7 @@ pub(crate) struct Trials<'a> {
     pub(crate) kept: &'a [String],
 }
 
-/// What is kept after none, one and so on of the calls of a stream.
+/// The States after none of the calls of a stream, after the first one, and so on.
 pub(crate) fn kept_after_each(
     alloc: Global,
     server: Server<'_>,
@@ -36,7 +36,7 @@ pub(crate) fn kept_after_each(
 }
 
 impl Trials<'_> {
-    /// Tries all, and says what was tried.
+    /// Makes all trials, and names them.
     ///
     /// # Errors
     ///
@@ -65,7 +65,7 @@ impl Trials<'_> {
         }
     }
 
-    /// What is kept after the first calls.
+    /// The State after the first calls.
     pub(crate) fn kept_after(&self, calls: usize) -> &str {
         match self.kept.get(calls) {
             Some(text) => text.as_str(),
@@ -73,7 +73,7 @@ impl Trials<'_> {
         }
     }
 
-    /// What is wanted of the whole stream.
+    /// The wanted outcome of the whole stream.
     pub(crate) fn whole(&self) -> Wanted<'_> {
         let end = match &self.stream.fault {
             Some(fault) => End::StreamFault(fault.text.as_str()),
@@ -139,7 +139,7 @@ impl Trials<'_> {
         Ok(())
     }
 
-    // The input ends after so many bytes.
+    // The input ends after `at` bytes.
     fn end(&self, at: usize) -> Result<(), RowFault> {
         let (boundary, _) = self.stream.ends_of(self.stream.calls_within(at));
         if at == boundary {
@@ -150,7 +150,7 @@ impl Trials<'_> {
         self.ended(at, End::StreamFault(text.as_str()), frame.as_slice())
     }
 
-    // The input ends after so many bytes, and the run like this, unless they make a fault known.
+    // The input ends after `at` bytes, and the run like this, unless the bytes show a fault.
     fn ended<'w>(&'w self, at: usize, end: End<'w>, last: &'w [u8]) -> Result<(), RowFault> {
         let bytes = self.stream.input.get(..at).unwrap_or(&[]);
         let pieces = Pieces::new(bytes, GREATEST_PIECE);
@@ -162,8 +162,7 @@ impl Trials<'_> {
         self.attempt(trial, pieces, Takes::all(), &wanted)
     }
 
-    // What is wanted where the first bytes come, and then no more: this end, unless they make a fault
-    // known.
+    // The wanted outcome if only the first bytes come: this end, unless they show a fault.
     fn front<'w>(&'w self, bytes: usize, end: End<'w>, last: &'w [u8]) -> Wanted<'w> {
         if self.stream.is_faulty_within(bytes) {
             return self.whole();
@@ -177,7 +176,7 @@ impl Trials<'_> {
         }
     }
 
-    // Each read of a byte fails, also the one that would find the end.
+    // Each read of a byte fails in turn, the read of the end included.
     fn reads(&self) -> Result<(), RowFault> {
         for at in 0..=self.stream.input.len() {
             let pieces = Pieces::failing(self.stream.input.as_slice(), at as u64);
@@ -200,7 +199,7 @@ impl Trials<'_> {
         Ok(())
     }
 
-    // Each write of so many bytes has its trouble, and then none.
+    // Each write of `size` bytes has this trouble in turn, and then no write has.
     fn writes_of(&self, size: usize, trouble: Trouble) -> Result<(), RowFault> {
         let mut before = 0;
         for call in 0..=self.stream.calls.len() {
@@ -214,8 +213,8 @@ impl Trials<'_> {
         self.attempt(trial, self.whole_pieces(), takes, &self.whole())
     }
 
-    // Each write of a reply, before which so many were made, has its trouble. How many were made
-    // after it.
+    // Each write of a reply has this trouble in turn, after `before` earlier writes. Returns the number of
+    // writes after the reply.
     fn writes_of_reply(
         &self,
         call: usize,
@@ -247,7 +246,7 @@ impl Trials<'_> {
         Ok(count)
     }
 
-    // What is wanted where writing the reply of a call ends after so many bytes: the call is done.
+    // The wanted outcome if the writing of a call's reply ends after `written` bytes: the call is done.
     fn stopped(&self, call: usize, written: usize) -> Wanted<'_> {
         let done = call.saturating_add(1).min(self.stream.calls.len());
         let reply = self.stream.reply(call);

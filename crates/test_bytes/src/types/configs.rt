@@ -9,7 +9,7 @@ use test_kit::{RowFault, map_of, nodes_of, number_at, plugin_of, pools_of};
 
 const MEBIBYTE: u64 = 1_048_576;
 
-/// The fault of a configuration with what the words give, or a word where there is none.
+/// The fault of a configuration with the values of these words, or a word if it has no fault.
 pub(crate) fn config_answer(alloc: Global, kind: &str, words: &[&str]) -> Result<String, RowFault> {
     match config_of(alloc, kind, words)? {
         Ok(_) => displayed(alloc, &"faultless"),

@@ -1,4 +1,4 @@
-//! What is made of files that hold no database yet.
+//! The making of a database in files that hold none yet.
 
 ghost use Rattle.std.specs.Prelude.{IfOk, IsTrue};
 ghost use Rattle.sqlite_disk.specs.Memory.{memory_is_usable};
@@ -90,7 +90,7 @@ pub(crate) fn lay(
     Ok(())
 }
 
-/// Lays out a file of each of the beginnings of these bytes, from none of them to all.
+/// Lays out a file of each prefix of these bytes, from the empty one to all of them.
 pub(crate) fn lay_each(alloc: Global, page: &[u8], bytes: &[u8]) -> Result<Laid, RowFault> {
     let mut laid = Laid::none();
     for len in 0..=bytes.len() {
@@ -108,7 +108,7 @@ fn with_odd(alloc: Global, bytes: &[u8], at: usize) -> Result<Vec<u8>, RowFault>
     Ok(odd)
 }
 
-/// Lays out a file of these bytes of which each in turn is another one.
+/// Lays out a file of these bytes for each of the bytes, with that byte replaced.
 pub(crate) fn lay_odd(alloc: Global, page: &[u8], bytes: &[u8]) -> Result<Laid, RowFault> {
     let mut laid = Laid::none();
     for at in 0..bytes.len() {

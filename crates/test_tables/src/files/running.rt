@@ -24,7 +24,7 @@ impl Observer for Unheard {
 
     fn refused(&self, _cause: &Error) {}
 
-    // Memory is refused where there is none.
+    // There is always room: rows refuse memory in another way.
     fn has_room(&self, _opening: usize) -> bool {
         true
     }

@@ -1,4 +1,4 @@
-//! The two files of a database, in memory, which stop after so many of their calls.
+//! The two files of a database, in memory, which stop after a number of their calls.
 
 ghost use Rattle.std.specs.Prelude.{◌≡◌, false, IfOk};
 
@@ -11,10 +11,10 @@ use std::alloc::Global;
 use std::fmt;
 use test_kit::RowFault;
 
-// The seed of the salts in the log, of which no answer depends.
+// The seed of the salts in the log. No answer depends on it.
 const SEED: u64 = 7;
 
-/// So many calls of each file that neither stops.
+/// More calls than a run makes, so that neither file stops.
 pub(crate) const NEVER: (u64, u64) = (u64::MAX, u64::MAX);
 
 /// The file that stops.
@@ -24,23 +24,23 @@ pub(crate) enum Which {
     Log,
     /// The database file.
     Database,
-    /// Each of the two, after so many calls of its own.
+    /// Each of the two, after this number of its own calls.
     Both,
 }
 
-/// A moment at which a disk stops, and what becomes of it.
+/// The moment of a stop, and the fate of the writes before it.
 #[derive(Clone, Copy)]
 pub(crate) struct Stop {
     /// What stops.
     pub(crate) which: Which,
-    /// After so many calls of the disk.
+    /// After this number of calls of the disk.
     pub(crate) calls: u64,
     /// The connection is closed in the end, and not dropped.
     pub(crate) closes: bool,
-    /// What was not synchronised is lost.
+    /// Whether writes are lost that were not synchronised.
     pub(crate) loses: bool,
-    /// The run is one of `csi_files`, over files of which this becomes. Otherwise tables are adopted on a
-    /// connection to files that stop.
+    /// The trouble of the files in a run of `csi_files`. Without one, tables are adopted on a connection to
+    /// files that stop.
     pub(crate) trouble: Option<Trouble>,
 }
 
@@ -76,7 +76,7 @@ impl fmt::Display for Stop {
     }
 }
 
-/// Two files that nobody has opened.
+/// Two new files.
 pub(crate) fn new_files(alloc: Global) -> Files<Memory> {
     Files {
         log: Memory::new(alloc),
@@ -84,7 +84,7 @@ pub(crate) fn new_files(alloc: Global) -> Files<Memory> {
     }
 }
 
-// Files that stop after so many calls of the log and of the database file.
+// Files that stop after these numbers of calls of the log and of the database file.
 fn fused<D: TestDisk>(files: Files<Memory>, calls: (u64, u64)) -> Files<D> {
     Files {
         log: D::over(files.log, calls.0, u64::MAX, None),
@@ -92,7 +92,7 @@ fn fused<D: TestDisk>(files: Files<Memory>, calls: (u64, u64)) -> Files<D> {
     }
 }
 
-/// Two files that nobody has opened, which stop so.
+/// Two new files that stop after these numbers of calls.
 pub(crate) fn new_disks<D: TestDisk>(alloc: Global, calls: (u64, u64)) -> Files<D> {
     fused(new_files(alloc), calls)
 }
@@ -120,7 +120,7 @@ pub(crate) fn copied_files(
     })
 }
 
-/// Files with the same bytes, all synchronised, which stop after so many calls of the log and of the
+/// Files with the same bytes, all synchronised, which stop after these numbers of calls of the log and of the
 /// database file.
 pub(crate) fn copies<D: TestDisk>(
     alloc: Global,
@@ -185,7 +185,7 @@ fn end<D: Disk + Drop>(conn: Connection<FileStore<D>>, closes: bool) -> Files<D>
     }
 }
 
-/// What is done over a database, on any disk.
+/// A task over a database, on any disk.
 pub(crate) trait Task {
     /// Does it, and gives the connection back.
     fn run<S: Alter + Drop>(&mut self, conn: Connection<S>) -> Connection<S>

@@ -10,10 +10,10 @@ use sqlite_disk::{Files, Memory};
 use std::alloc::{AllocError, Global};
 use test_kit::RowFault;
 
-// The status of a reply to a call for which the store failed.
+// The status of a reply after the store failed.
 const INTERNAL: u8 = 13;
 
-/// A call, and what is made of it over files that do not stop.
+/// A call, and its reply and State over files that do not stop.
 #[derive(Clone, Copy)]
 pub(crate) struct Wanted<'a> {
     pub(crate) alloc: Global,
@@ -27,7 +27,7 @@ pub(crate) struct Wanted<'a> {
     pub(crate) whole: &'a Outcome,
 }
 
-/// What a run leaves in which the disk stops.
+/// The reply and the files of a run with a stop.
 #[derive(Drop)]
 pub(crate) struct Left {
     /// The disk stopped.
@@ -36,7 +36,7 @@ pub(crate) struct Left {
     pub(crate) files: Files<Memory>,
 }
 
-/// What the next start finds of files, in which the same call is made again.
+/// The State that the next start finds in the files, and the reply to the same call made again.
 #[derive(Drop)]
 pub(crate) struct Found {
     pub(crate) files: Files<Memory>,
@@ -55,7 +55,7 @@ pub(crate) struct Came {
 }
 
 impl Wanted<'_> {
-    /// A run over files in which the disk stops.
+    /// A run over files with a stop.
     pub(crate) fn run<D: TestDisk>(
         &self,
         files: &Files<Memory>,
@@ -197,7 +197,7 @@ impl Wanted<'_> {
         Err(self.unlike(stop, reply, found)?)
     }
 
-    // Whether a reply is that of a disk that does not stop, or none, or that the store failed.
+    // Whether a reply is the reply of a disk that does not stop, or none, or says that the store failed.
     fn is_reply(&self, reply: &[u8]) -> bool {
         reply.is_empty()
             || reply == self.whole.replies.as_slice()

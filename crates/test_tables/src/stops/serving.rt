@@ -84,7 +84,7 @@ pub(crate) fn serve_files<D: Disk + Drop>(
     over(alloc, files, closes, &mut serving).0
 }
 
-/// What was not wanted, and why.
+/// A result that was not wanted, and the wanted one.
 pub(crate) fn unlike<W: fmt::Display, T: fmt::Display>(
     alloc: Global,
     what: &W,

@@ -69,10 +69,11 @@ impl Way {
 #[derive(Drop)]
 pub(crate) struct Trials<'a> {
     wanted: Wanted<'a>,
-    // A run stops so many calls later than the last one.
+    // The number of calls between the stops of two runs.
     step: u64,
     way: Way,
-    // What was found last, which is not looked for again of the same bytes: most calls of a disk are reads.
+    // The last State that was found. Most calls of a disk are reads, and files with the same bytes are not
+    // opened again.
     found: Option<Found>,
     seen: Seen,
 }
@@ -93,8 +94,8 @@ impl<'a> Trials<'a> {
         }
     }
 
-    /// The disk stops at each of its calls, or with a step above 1 at each of so many: first the log, then
-    /// the database file, then both; what was not synchronised is kept, and then lost.
+    /// The disk stops at each of its calls, or with a step above 1 at every `step`-th: first the log, then
+    /// the database file, then both. Writes that were not synchronised are kept, and then lost.
     ///
     /// # Errors
     ///
@@ -127,7 +128,7 @@ impl<'a> Trials<'a> {
         Err(RowFault::NotRow)
     }
 
-    // What a second start leaves, where there is one.
+    // The files after a second start, if there is one.
     fn left_again<D: TestDisk>(
         &self,
         files: Files<Memory>,

@@ -1,5 +1,5 @@
-//! The two files of a database, in memory, with troubles: they stop after so many of their calls, are full
-//! after so many writes, or lie.
+//! The two files of a database, in memory, with troubles: they stop after a number of calls, are full after a
+//! number of writes, or lie.
 
 use super::disks::{Stop, copied_files};
 use crate::files::disks::{Lie, TestDisk};
@@ -36,7 +36,7 @@ pub(crate) fn troubled<D: TestDisk>(
     })
 }
 
-/// Files with the same bytes, of which the database file lies so, if it does.
+/// Files with the same bytes; the database file lies if `lie` says so.
 pub(crate) fn lying<D: TestDisk>(
     alloc: Global,
     files: &Files<Memory>,

@@ -11,7 +11,7 @@ use csi_types::{Items, MAX_MAP_BYTES, Map, Text, map_bytes};
 use std::alloc::{AllocError, Global};
 use test_kit::{RowFault, number_at, word_at, words_of};
 
-/// Makes the call of a row, and shows what it was answered.
+/// Makes the call of a row, and shows its answer.
 pub(crate) fn call<K: Keeper>(
     alloc: Global,
     keeper: &mut K,
@@ -75,8 +75,8 @@ fn numbers<K: Keeper>(alloc: Global, keeper: &mut K, words: &[&str]) -> Result<S
 fn places<K: Keeper>(alloc: Global, keeper: &mut K, words: &[&str]) -> Result<String, RowFault> {
     match word_at(words, 0)? {
         "nodes" => {
-            let nodes = keeper.published_nodes(alloc, number_at(words, 1)?, number_at(words, 2)?);
-            nodes_in_words(alloc, nodes?.as_slice())
+            let page = keeper.page_with_nodes(alloc, number_at(words, 1)?, number_at(words, 2)?);
+            nodes_in_words(alloc, page?.nodes.as_slice())
         }
         "attachments" => {
             let attachments = keeper.attachments(alloc, number_at(words, 1)?);

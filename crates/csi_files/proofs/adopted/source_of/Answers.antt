@@ -4,7 +4,7 @@ use Rattle.csi_files.proofs.adopted.source_of.Goals as goal
 
 pub returns-in-NoMemory-clause-source : goal.returns-in-NoMemory-clause-source
 returns-in-NoMemory-clause-source g c =
-    inr (subst₂ (λ mid fault. IsUncopied g.S.Store c.args.tables mid fault) (sym c.new-in-NoMemory.ensures.tables) c.in-NoMemory.is c.in-Err.ensures.uncopied)
+    inr (c.if-run.false, subst₂ (λ mid fault. IsUncopied g.S.Store c.args.tables mid fault) (sym c.new-in-NoMemory.ensures.tables) c.in-NoMemory.is c.in-Err.ensures.uncopied)
 
 pub returns-in-Refused : goal.returns-in-Refused
 returns-in-Refused g c = record {

@@ -20,6 +20,7 @@ returns g c =
         record {
           served = c.serve_path-outcome.ensures.served;
           after = c.serve_path-outcome.ensures.after;
+          usable = c.serve_path-outcome.ensures.usable;
           alone = c.serve_path-outcome.ensures.alone;
           writes = c.serve_path-outcome.ensures.writes;
           none_refused = c.serve_path-outcome.ensures.none_refused;
