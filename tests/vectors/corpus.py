@@ -25,30 +25,12 @@ HEAD = """\
 
 # Groups: the steps of each name, under a title.
 GROUPS = [
-    Reader("calls.txt").groups,
-    frames.CUT,
-    Reader("arguments.txt").groups,
-    modes.GROUPS,
-    Reader("modify.txt").groups,
-    modes.PAIRS,
-    identity.GROUPS,
-    frames.GROUPS,
-    Reader("wire.txt").groups,
-    create_fields.GROUPS,
-    capabilities.GROUPS,
-    maps.GROUPS,
-    malformed.GROUPS,
-    fields.GROUPS,
-    checks.GROUPS,
-    limits.GROUPS,
-    create_volume.GROUPS,
-    modify_volume.GROUPS,
-    delete_volume.GROUPS,
-    publish_volume.GROUPS,
-    validate_volume.GROUPS,
-    list_volumes.GROUPS,
-    get_capacity.GROUPS,
-    streams.GROUPS,
+    Reader("calls.txt").groups, frames.CUT, Reader("arguments.txt").groups, modes.GROUPS,
+    Reader("modify.txt").groups, modes.PAIRS, identity.GROUPS, frames.GROUPS,
+    Reader("wire.txt").groups, create_fields.GROUPS, capabilities.GROUPS, maps.GROUPS,
+    malformed.GROUPS, fields.GROUPS, checks.GROUPS, limits.GROUPS, create_volume.GROUPS,
+    modify_volume.GROUPS, delete_volume.GROUPS, publish_volume.GROUPS, validate_volume.GROUPS,
+    list_volumes.GROUPS, get_capacity.GROUPS, streams.GROUPS,
 ]
 
 

@@ -13,22 +13,17 @@ GROUPS = {}
 
 GROUPS["Ids of volumes, and DeleteVolume"] = {
     "id-leading-zero": [
-        CREATE_A,
-        (delete(vol("vol-01")), DONE),
+        CREATE_A, (delete(vol("vol-01")), DONE),
         (validate(vol("vol-01"), BLOCK), NO_VOLUME),
         (publish(vol("vol-01"), N1, BLOCK), NO_VOLUME),
-        (unpublish(vol("vol-01")), DONE),
-        LIST_1,
+        (unpublish(vol("vol-01")), DONE), LIST_1,
     ],
     **{
-        "id-"
-        + words: [
-            CREATE_A,
-            (delete(vol(other)), DONE),
-            (validate(vol(other), BLOCK), NO_VOLUME),
-            LIST_1,
+        "id-" + suffix: [
+            CREATE_A, (delete(vol(other)), DONE),
+            (validate(vol(other), BLOCK), NO_VOLUME), LIST_1,
         ]
-        for words, other in (
+        for suffix, other in (
             ("zero", "vol-0"),
             ("without-number", "vol-"),
             ("without-dash", "vol1"),
@@ -58,43 +53,24 @@ GROUPS["Ids of volumes, and DeleteVolume"] = {
     "delete-twice": [CREATE_A, DELETE_1, DELETE_1, LIST_NONE],
     "delete-one-of-two": [CREATE_A, CREATE_B, DELETE_1, (listing(), page(listed(2, MIB, P1)))],
     "delete-in-use": [
-        CREATE_A,
-        PUBLISH_1,
-        DELETE_IN_USE,
-        DELETE_IN_USE,
-        LIST_1_AT_N1,
-        UNPUBLISH_1,
-        DELETE_1,
+        CREATE_A, PUBLISH_1, DELETE_IN_USE, DELETE_IN_USE, LIST_1_AT_N1, UNPUBLISH_1, DELETE_1,
         LIST_NONE,
     ],
     "delete-in-use-at-the-second-node": [
         (create(A, cap(block(5))), CREATED),
         (publish(VOL_1, N1, cap(block(5))), WRITER),
-        (publish(VOL_1, N2, cap(block(5))), WRITER),
-        UNPUBLISH_1,
-        DELETE_IN_USE,
-        (unpublish(VOL_1, N2), DONE),
-        DELETE_1,
+        (publish(VOL_1, N2, cap(block(5))), WRITER), UNPUBLISH_1, DELETE_IN_USE,
+        (unpublish(VOL_1, N2), DONE), DELETE_1,
     ],
     "numbers-rise-over-deletes": [
-        CREATE_A,
-        CREATE_B,
-        DELETE_2,
-        DELETE_1,
-        CREATE_C,
-        (delete(VOL_3), DONE),
-        (create(A, BLOCK), created(4, MIB, P1)),
-        DELETE_1,
+        CREATE_A, CREATE_B, DELETE_2, DELETE_1, CREATE_C, (delete(VOL_3), DONE),
+        (create(A, BLOCK), created(4, MIB, P1)), DELETE_1,
         (listing(), page(listed(4, MIB, P1))),
     ],
     "numbers-of-deleted-volumes-name-nothing": [
-        CREATE_A,
-        DELETE_1,
-        (create(A, BLOCK), CREATED_2),
+        CREATE_A, DELETE_1, (create(A, BLOCK), CREATED_2),
         (publish(VOL_1, N1, BLOCK), NO_VOLUME),
-        (validate(VOL_1, BLOCK), NO_VOLUME),
-        UNPUBLISH_ALL,
-        DELETE_1,
+        (validate(VOL_1, BLOCK), NO_VOLUME), UNPUBLISH_ALL, DELETE_1,
         (listing(), page(listed(2, MIB, P1))),
     ],
 }

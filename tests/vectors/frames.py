@@ -4,26 +4,23 @@ from tests.vectors.messages import (
     A, B, BLOCK, PROBE_PATH, UNKNOWN, VOL_1, controller, create, fault, frame, malformed, num,
     probe, unhex,
 )
-from tests.vectors.steps import CREATE_A, DELETE_1, LIST_NONE, PROBE
+from tests.vectors.steps import CREATE_A, DELETE_1, LIST_NONE, PROBE, each
 
 GROUPS = {}
-# A call that creates the volume a, and a probe.
-CUT_CALLS = [
-    ("probe", unhex("0016 2f6373692e76312e4964656e746974792f50726f6265 00 00000000")),
-    (
-        "create",
-        unhex(
-            "001f 2f6373692e76312e436f6e74726f6c6c65722f437265617465566f6c756d65 00"
-            " 0000000b 0a0161 1a060a001a020801"
-        ),
+# A probe, and a call that creates the volume a.
+CUT_CALLS = {
+    "probe": unhex("0016 2f6373692e76312e4964656e746974792f50726f6265 00 00000000"),
+    "create": unhex(
+        "001f 2f6373692e76312e436f6e74726f6c6c65722f437265617465566f6c756d65 00"
+        " 0000000b 0a0161 1a060a001a020801"
     ),
-]
+}
 CUT = {
     "In plain bytes: each front of a frame": {
         "%s-cut-at-%d" % (name, at): (call[:at], fault("end of input at byte %d" % at))
-        for name, call in CUT_CALLS
+        for name, call in CUT_CALLS.items()
         for at in range(1, len(call))
-    }
+    },
 }
 
 GROUPS["Paths of no method"] = {
@@ -40,19 +37,15 @@ GROUPS["Paths of no method"] = {
     "path-of-another-version": (frame("/csi.v0.Identity/Probe"), UNKNOWN),
     "probe-of-the-controller": (frame("/csi.v1.Controller/Probe"), UNKNOWN),
     "create-of-the-identity-service": [
-        (frame("/csi.v1.Identity/CreateVolume", A, BLOCK), UNKNOWN),
-        LIST_NONE,
+        (frame("/csi.v1.Identity/CreateVolume", A, BLOCK), UNKNOWN), LIST_NONE,
     ],
-    "node-service": [
-        (frame("/csi.v1.Node/NodeGetInfo"), UNKNOWN),
-        (frame("/csi.v1.Node/NodeStageVolume", VOL_1), UNKNOWN),
-    ],
-    "methods-left-out": [
-        (controller("DeleteSnapshot"), UNKNOWN),
-        (controller("ListSnapshots"), UNKNOWN),
-        (controller("ControllerExpandVolume"), UNKNOWN),
-        (controller("ControllerGetVolume"), UNKNOWN),
-    ],
+    "node-service": each(
+        UNKNOWN, frame("/csi.v1.Node/NodeGetInfo"), frame("/csi.v1.Node/NodeStageVolume", VOL_1),
+    ),
+    "methods-left-out": each(
+        UNKNOWN, controller("DeleteSnapshot"), controller("ListSnapshots"),
+        controller("ControllerExpandVolume"), controller("ControllerGetVolume"),
+    ),
     "unknown-method-before-malformed": [
         (controller("CreateSnapshot", unhex("00")), UNKNOWN),
         (probe(unhex("00")), malformed(0)),
@@ -67,9 +60,7 @@ GROUPS["Frames: the length of the path"] = {
     "path-length-before-a-path-byte": (frame(" " * 129), fault("bad path length at byte 0")),
     "path-length-after-a-call": [PROBE, (unhex("0000"), fault("bad path length at byte 29"))],
     "path-length-after-three-calls": [
-        PROBE,
-        CREATE_A,
-        (controller("CreateSnapshot"), UNKNOWN),
+        PROBE, CREATE_A, (controller("CreateSnapshot"), UNKNOWN),
         (unhex("0081") + probe(), fault("bad path length at byte 118")),
     ],
 }
@@ -86,9 +77,7 @@ GROUPS["Frames: the bytes of the path"] = {
     "path-two-bad-bytes": (frame("/\t\n"), fault("bad path at byte 3")),
     "path-bad-before-the-end-of-input": (unhex("0016 2f 20"), fault("bad path at byte 3")),
     "path-bad-after-calls": [
-        PROBE,
-        PROBE,
-        (frame("/csi.v1.Identity/Pro\rbe") + probe(), fault("bad path at byte 80")),
+        PROBE, PROBE, (frame("/csi.v1.Identity/Pro\rbe") + probe(), fault("bad path at byte 80")),
     ],
 }
 
@@ -102,8 +91,7 @@ GROUPS["Frames: the flag"] = {
     "path-before-flag": (frame("/ a", flag=1), fault("bad path at byte 3")),
     "flag-before-length": (probe()[:24] + unhex("01 ffffffff"), fault("bad flag at byte 24")),
     "flag-after-a-create": [
-        CREATE_A,
-        (frame(PROBE_PATH, flag=1) + probe(), fault("bad flag at byte 73")),
+        CREATE_A, (frame(PROBE_PATH, flag=1) + probe(), fault("bad flag at byte 73")),
     ],
     "flag-after-a-refusal": [
         (controller("CreateSnapshot"), UNKNOWN),
@@ -113,29 +101,23 @@ GROUPS["Frames: the flag"] = {
 
 GROUPS["Frames: the length of the message"] = {
     "length-of-2-to-the-24": (
-        probe()[:25] + unhex("01000000"),
-        fault("message too long at byte 25"),
+        probe()[:25] + unhex("01000000"), fault("message too long at byte 25"),
     ),
     "length-of-2-to-the-31": (
-        probe()[:25] + unhex("80000000"),
-        fault("message too long at byte 25"),
+        probe()[:25] + unhex("80000000"), fault("message too long at byte 25"),
     ),
     "length-greatest": (probe()[:25] + unhex("ffffffff"), fault("message too long at byte 25")),
     "length-too-long-and-more-bytes": (
-        probe()[:25] + unhex("00100001") + probe() * 3,
-        fault("message too long at byte 25"),
+        probe()[:25] + unhex("00100001") + probe() * 3, fault("message too long at byte 25"),
     ),
     "length-1-mib-is-not-too-long": (
-        probe()[:25] + unhex("00100000"),
-        fault("end of input at byte 29"),
+        probe()[:25] + unhex("00100000"), fault("end of input at byte 29"),
     ),
     "length-too-long-for-an-unknown-method": (
-        frame("/")[:4] + unhex("00100001"),
-        fault("message too long at byte 4"),
+        frame("/")[:4] + unhex("00100001"), fault("message too long at byte 4"),
     ),
     "length-after-a-call": [
-        PROBE,
-        (probe()[:25] + unhex("00200000") + probe(), fault("message too long at byte 54")),
+        PROBE, (probe()[:25] + unhex("00200000") + probe(), fault("message too long at byte 54")),
     ],
     "length-after-a-malformed-message": [
         (probe(unhex("00")), malformed(0)),
@@ -156,20 +138,16 @@ GROUPS["Ends of the input within a frame"] = {
     "end-after-the-second-flag": [PROBE, (probe()[:25], fault("end of input at byte 54"))],
     "end-in-the-second-length": [PROBE, (probe()[:27], fault("end of input at byte 56"))],
     "end-before-the-second-message": [
-        PROBE,
-        (create(A, BLOCK)[:38], fault("end of input at byte 67")),
+        PROBE, (create(A, BLOCK)[:38], fault("end of input at byte 67")),
     ],
     "end-in-the-second-message": [
-        CREATE_A,
-        (create(B, BLOCK)[:48], fault("end of input at byte 97")),
+        CREATE_A, (create(B, BLOCK)[:48], fault("end of input at byte 97")),
     ],
     "end-after-a-malformed-message": [
         (probe(unhex("00")), malformed(0)),
         (unhex("00"), fault("end of input at byte 31")),
     ],
     "end-after-calls-of-a-volume": [
-        CREATE_A,
-        DELETE_1,
-        (create(A, BLOCK)[:20], fault("end of input at byte 114")),
+        CREATE_A, DELETE_1, (create(A, BLOCK)[:20], fault("end of input at byte 114")),
     ],
 }

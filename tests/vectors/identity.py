@@ -17,26 +17,21 @@ GROUPS["Identity and capability calls"] = {
     "what-the-plugin-is": [
         (identity("GetPluginInfo"), NAMED),
         (identity("GetPluginCapabilities"), SERVICES),
-        (controller("ControllerGetCapabilities"), METHODS),
-        PROBE,
+        (controller("ControllerGetCapabilities"), METHODS), PROBE,
     ],
     "info-with-unknown-fields": (identity("GetPluginInfo", ANY_FIELDS), NAMED),
     "plugin-capabilities-with-unknown-fields": (
-        identity("GetPluginCapabilities", ANY_FIELDS),
-        SERVICES,
+        identity("GetPluginCapabilities", ANY_FIELDS), SERVICES,
     ),
     "controller-capabilities-with-unknown-fields": (
-        controller("ControllerGetCapabilities", ANY_FIELDS),
-        METHODS,
+        controller("ControllerGetCapabilities", ANY_FIELDS), METHODS,
     ),
     "probe-with-unknown-fields": (probe(ANY_FIELDS), READY),
     "info-malformed": (identity("GetPluginInfo", name("a"), unhex("0b")), malformed(3)),
     "plugin-capabilities-malformed": (
-        identity("GetPluginCapabilities", num(1, 1), unhex("0a01")),
-        malformed(2),
+        identity("GetPluginCapabilities", num(1, 1), unhex("0a01")), malformed(2),
     ),
     "controller-capabilities-malformed": (
-        controller("ControllerGetCapabilities", fixed32(1), unhex("00")),
-        malformed(5),
+        controller("ControllerGetCapabilities", fixed32(1), unhex("00")), malformed(5),
     ),
 }

@@ -1,13 +1,11 @@
 """Texts that are not UTF-8, and embedded messages that are malformed."""
 
 from tests.vectors.messages import (
-    A, BLOCK, CREATED, EXT4, MODE_1, N1, NOT_UTF8, VOL_1, ZONE_A, block, cap, capacity, create,
+    A, BLOCK, CREATED, EXT4, K_V, MODE_1, N1, NOT_UTF8, VOL_1, ZONE_A, block, cap, capacity, create,
     create_in, delete, entry, listing, malformed, max_entries, mount, mount_flag, msg, num,
     parameter, preferred, publish, required, requisite, segment, size, starting_token, txt, unhex,
     unpublish, validate, within,
 )
-
-
 
 GROUPS = {}
 
@@ -17,25 +15,21 @@ GROUPS["Texts that are not UTF-8, each occurrence is looked at"] = {
     "utf8-name-then-a-better-one": (create(BLOCK, txt(1, NOT_UTF8), A), malformed(8)),
     "utf8-name-then-a-worse-one": (create(A, txt(1, NOT_UTF8), BLOCK), malformed(3)),
     "utf8-first-of-two-bad-fields": (
-        create(A, txt(1, NOT_UTF8), parameter(NOT_UTF8, "v")),
-        malformed(3),
+        create(A, txt(1, NOT_UTF8), parameter(NOT_UTF8, "v")), malformed(3),
     ),
     "utf8-parameter-key": (create(A, BLOCK, parameter(NOT_UTF8, "v")), malformed(11)),
     "utf8-parameter-value": (create(A, BLOCK, parameter("k", NOT_UTF8)), malformed(11)),
     "utf8-parameter-key-that-loses": (
-        create(A, BLOCK, msg(4, txt(1, NOT_UTF8), txt(1, "k"))),
-        malformed(11),
+        create(A, BLOCK, msg(4, txt(1, NOT_UTF8), txt(1, "k"))), malformed(11),
     ),
     "utf8-parameter-value-that-loses": (
-        create(A, BLOCK, parameter("k", NOT_UTF8), parameter("k", "v")),
-        malformed(11),
+        create(A, BLOCK, parameter("k", NOT_UTF8), K_V), malformed(11),
     ),
     "utf8-secret-value": (create(A, BLOCK, entry(5, "k", NOT_UTF8)), malformed(11)),
     "utf8-fs": (create(A, cap(mount(1, txt(1, NOT_UTF8)))), malformed(3)),
     "utf8-fs-that-loses": (create(A, cap(mount(1, txt(1, NOT_UTF8), EXT4))), malformed(3)),
     "utf8-fs-of-a-mount-that-is-cleared": (
-        create(A, cap(msg(2, txt(1, NOT_UTF8)), msg(1), MODE_1)),
-        malformed(3),
+        create(A, cap(msg(2, txt(1, NOT_UTF8)), msg(1), MODE_1)), malformed(3),
     ),
     "utf8-flag": (create(A, cap(mount(1, mount_flag("ro"), txt(2, NOT_UTF8)))), malformed(3)),
     "utf8-mount-group": (create(A, BLOCK, cap(mount(1, txt(3, NOT_UTF8)))), malformed(11)),
@@ -75,8 +69,8 @@ GROUPS["Texts that are not UTF-8, each occurrence is looked at"] = {
         (capacity(msg(1, block(1)), within(segment(NOT_UTF8, ""))), malformed(8)),
     ],
     **{
-        "utf8-" + words: (create(txt(1, unhex(digits)), BLOCK), malformed(0))
-        for words, digits in (
+        "utf8-" + suffix: (create(txt(1, unhex(digits)), BLOCK), malformed(0))
+        for suffix, digits in (
             ("continuation-alone", "80"),
             ("two-bytes-cut", "c3"),
             ("two-bytes-and-a-letter", "c361"),
@@ -100,8 +94,8 @@ GROUPS["Texts that are not UTF-8, each occurrence is looked at"] = {
         )
     },
     **{
-        "utf8-" + words: (create(txt(1, unhex(digits)), BLOCK), CREATED)
-        for words, digits in (
+        "utf8-" + suffix: (create(txt(1, unhex(digits)), BLOCK), CREATED)
+        for suffix, digits in (
             ("least-two", "c2a0"),
             ("greatest-two", "dfbf"),
             ("least-three", "e0a080"),
@@ -115,18 +109,19 @@ GROUPS["Texts that are not UTF-8, each occurrence is looked at"] = {
         )
     },
     **{
-        "utf8-continuation-at-%d-of-128"
-        % at: (create(txt(1, b"a" * at + unhex("80") + b"a" * (127 - at)), BLOCK), malformed(0))
+        "utf8-continuation-at-%d-of-128" % at: (
+            create(txt(1, b"a" * at + unhex("80") + b"a" * (127 - at)), BLOCK), malformed(0),
+        )
         for at in (0, 1, 15, 16, 31, 32, 63, 64, 126, 127)
     },
     **{
-        "utf8-three-bytes-at-%d-of-128"
-        % at: (create(txt(1, b"a" * at + unhex("e282ac") + b"a" * (125 - at)), BLOCK), CREATED)
+        "utf8-three-bytes-at-%d-of-128" % at: (
+            create(txt(1, b"a" * at + unhex("e282ac") + b"a" * (125 - at)), BLOCK), CREATED,
+        )
         for at in (14, 15, 30, 31, 62, 63, 125)
     },
     "utf8-three-bytes-cut-at-the-end-of-128": (
-        create(txt(1, b"a" * 126 + unhex("e282")), BLOCK),
-        malformed(0),
+        create(txt(1, b"a" * 126 + unhex("e282")), BLOCK), malformed(0),
     ),
     "utf8-surrogate-in-the-middle-of-4096": (
         create(A, BLOCK, parameter("k", b"v" * 2000 + unhex("eda080") + b"v" * 2092)),
@@ -138,45 +133,38 @@ GROUPS["Embedded messages that are malformed, at the field of the call that hold
     "embedded-range-tag": (create(A, msg(2, unhex("00")), BLOCK), malformed(3)),
     "embedded-range-cut": (create(A, BLOCK, msg(2, unhex("08"))), malformed(11)),
     "embedded-range-then-a-good-one": (
-        create(A, msg(2, unhex("0880")), size(required(1)), BLOCK),
-        malformed(3),
+        create(A, msg(2, unhex("0880")), size(required(1)), BLOCK), malformed(3),
     ),
     "embedded-capability-group": (create(A, cap(msg(1), unhex("0b"))), malformed(3)),
     "embedded-capability-second": (create(A, BLOCK, cap(unhex("0a01"))), malformed(11)),
     "embedded-mode-cut": (create(A, cap(msg(1), msg(3, unhex("08")))), malformed(3)),
     "embedded-mode-joined-would-be-good": (
-        create(A, cap(msg(1), msg(3, unhex("08")), msg(3, unhex("01")))),
-        malformed(3),
+        create(A, cap(msg(1), msg(3, unhex("08")), msg(3, unhex("01")))), malformed(3),
     ),
     "embedded-block-with-a-bad-field": (create(A, cap(msg(1, unhex("08")), MODE_1)), malformed(3)),
     "embedded-block-that-is-cleared": (
-        create(A, cap(msg(1, unhex("08")), msg(2), MODE_1)),
-        malformed(3),
+        create(A, cap(msg(1, unhex("08")), msg(2), MODE_1)), malformed(3),
     ),
     "embedded-mount-beyond-its-end": (create(A, cap(unhex("1203 0a0365"), MODE_1)), malformed(3)),
     "embedded-map-entry": (create(A, BLOCK, msg(4, unhex("0a"))), malformed(11)),
     "embedded-secret-entry": (
-        create(A, BLOCK, msg(5, txt(1, "k"), unhex("1202 76"))),
-        malformed(11),
+        create(A, BLOCK, msg(5, txt(1, "k"), unhex("1202 76"))), malformed(11),
     ),
     "embedded-source": (create(A, BLOCK, msg(6, unhex("00"))), malformed(11)),
     "embedded-requirement": (create_in(unhex("0a")), malformed(11)),
     "embedded-term": (create_in(requisite(unhex("0a02 0a"))), malformed(11)),
     "embedded-segment": (
-        create_in(requisite(ZONE_A), preferred(msg(1, unhex("0a01")))),
-        malformed(11),
+        create_in(requisite(ZONE_A), preferred(msg(1, unhex("0a01")))), malformed(11),
     ),
     "text-cut-short": [
         (create(A, unhex("0a05 6162")), malformed(3)),
         (delete(unhex("0a06"), b"vol-1"), malformed(0)),
     ],
     "malformed-after-long-parameters": (
-        create(A, BLOCK, parameter("k", "v" * 4095), unhex("3a")),
-        malformed(4115),
+        create(A, BLOCK, parameter("k", "v" * 4095), unhex("3a")), malformed(4115),
     ),
     "embedded-unknown-is-not-looked-into": (
-        create(A, cap(msg(1), msg(9, unhex("0b")), MODE_1), msg(9, unhex("0b"))),
-        CREATED,
+        create(A, cap(msg(1), msg(9, unhex("0b")), MODE_1), msg(9, unhex("0b"))), CREATED,
     ),
     "embedded-in-publish": [
         (publish(VOL_1, N1, cap(unhex("0a"))), malformed(11)),

@@ -200,6 +200,8 @@ READONLY = num(4, 1)
 BLOCK, MODE_1 = cap(block(1)), msg(3, num(1, 1))
 SINGLE_WRITER, MULTI_WRITER = cap(block(4)), cap(block(5))
 EXT4 = fs_type("ext4")
+MOUNT, MOUNT_EXT4 = cap(mount(1)), cap(mount(1, EXT4))
+K_V = parameter("k", "v")
 A, B, C = name("a"), name("b"), name("c")
 VOL_1, VOL_2, VOL_3 = vol("vol-1"), vol("vol-2"), vol("vol-3")
 N1, N2 = node("n1"), node("n2")
@@ -207,7 +209,7 @@ ZONE_A, ZONE_B, ZONE_C = segment("zone", "a"), segment("zone", "b"), segment("zo
 RACK = segment("rack", "1")
 TIER = parameter("tier", "gold")
 NOT_UTF8 = unhex("ff")
-# A text of one byte more than is taken.
+# A capability whose text has one byte more than is taken.
 LONG_FS_TYPE = cap(mount(1, fs_type("f" * 129)))
 # Mount flags of 4,096 bytes, which is the most.
 FLAGS = mount_flag("f" * 2048) * 2
@@ -226,14 +228,9 @@ P1, P2 = ("p1", "a"), ("p2", "b")
 
 
 def volume(number, size, pool):
-    return b"".join(
-        [
-            num(1, size),
-            txt(2, "vol-%d" % number),
-            entry(3, "pool", pool[0]),
-            msg(5, entry(1, "zone", pool[1])),
-        ]
-    )
+    name, zone = pool
+    fields = num(1, size), txt(2, "vol-%d" % number), entry(3, "pool", name)
+    return b"".join(fields) + msg(5, entry(1, "zone", zone))
 
 
 def created(number, size, pool):
@@ -261,9 +258,8 @@ def free(available, maximum):
     """The reply of GetCapacity. A number that is 0 is left out, but not the message that holds the
     maximum.
     """
-    return reply(
-        num(1, available) if available else b"", msg(2, num(1, maximum) if maximum else b"")
-    )
+    first = num(1, available) if available else b""
+    return reply(first, msg(2, num(1, maximum) if maximum else b""))
 
 
 def fault(text):
@@ -288,7 +284,9 @@ DONE = reply()
 WRITER = reply(entry(1, "readonly", "false"))
 READER = reply(entry(1, "readonly", "true"))
 NOT_CONFIRMED = reply(txt(2, "capabilities or parameters are not supported"))
-ALL_FREE = free(14 * MIB, 8 * MIB)
+ALL_FREE, P2_FREE, NONE_FREE = free(14 * MIB, 8 * MIB), free(4 * MIB, 4 * MIB), free(0, 0)
+LISTED_1 = listed(1, MIB, P1)
+BLOCK_CONFIRMED, K_V_CONFIRMED = confirmed([block(1)]), confirmed([block(1)], {"k": "v"})
 
 UNKNOWN = refusal(12, "unknown method")
 NAME_MISSING = refusal(3, "name is missing")

@@ -7,7 +7,7 @@ from tests.vectors.messages import (
     mutable, num, parameter, sets, unhex, validate, vol,
 )
 from tests.vectors.steps import (
-    CREATE_A, CREATE_B, DELETE_1, LIST_1_AT_N1, PUBLISH_1, VALIDATE_BLOCK,
+    CREATE_A, CREATE_B, DELETE_1, LIST_1_AT_N1, PUBLISH_1, VALIDATE_BLOCK, each,
 )
 
 GROUPS = {}
@@ -19,9 +19,7 @@ CREATE_WITH_IOPS_900 = (create(A, BLOCK, mutable("iops", "900")), CREATED)
 MODIFY_IOPS = (modify(VOL_1, IOPS_900), DONE)
 GROUPS["Mutable parameters: CreateVolume and ControllerModifyVolume"] = {
     "mutable-created-and-asked-again": [
-        CREATE_WITH_IOPS,
-        CREATE_WITH_IOPS,
-        CREATE_A,
+        CREATE_WITH_IOPS, CREATE_WITH_IOPS, CREATE_A,
         (create(A, BLOCK, mutable("iops", "501")), NOT_COMPATIBLE),
         (create(A, BLOCK, IOPS_500, mutable("k", "")), NOT_COMPATIBLE),
         (create(A, BLOCK, mutable("IOPS", "500")), NOT_COMPATIBLE),
@@ -32,59 +30,41 @@ GROUPS["Mutable parameters: CreateVolume and ControllerModifyVolume"] = {
         (create(A, BLOCK, mutable("k", "")), NOT_COMPATIBLE),
     ],
     "mutable-are-not-the-parameters": [
-        CREATE_WITH_IOPS,
-        (create(A, BLOCK, parameter("iops", "500"), IOPS_500), NOT_COMPATIBLE),
+        CREATE_WITH_IOPS, (create(A, BLOCK, parameter("iops", "500"), IOPS_500), NOT_COMPATIBLE),
         (create(B, BLOCK, parameter("iops", "500")), CREATED_2),
         (create(B, BLOCK, IOPS_500, parameter("iops", "500")), NOT_COMPATIBLE),
     ],
     "mutable-are-not-validated": [
-        CREATE_WITH_IOPS,
-        VALIDATE_BLOCK,
+        CREATE_WITH_IOPS, VALIDATE_BLOCK,
         (validate(VOL_1, BLOCK, parameter("iops", "500")), NOT_CONFIRMED),
     ],
     "modify-a-key-that-stands": [
-        CREATE_WITH_IOPS,
-        MODIFY_IOPS,
-        (create(A, BLOCK, IOPS_500), NOT_COMPATIBLE),
+        CREATE_WITH_IOPS, MODIFY_IOPS, (create(A, BLOCK, IOPS_500), NOT_COMPATIBLE),
         CREATE_WITH_IOPS_900,
     ],
     "modify-to-an-empty-value": [
-        CREATE_WITH_IOPS,
-        (modify(VOL_1, sets("iops", "")), DONE),
+        CREATE_WITH_IOPS, (modify(VOL_1, sets("iops", "")), DONE),
         (create(A, BLOCK, mutable("iops", "")), CREATED),
         (create(A, BLOCK, IOPS_500), NOT_COMPATIBLE),
     ],
     "modify-back": [
-        CREATE_WITH_IOPS,
-        MODIFY_IOPS,
-        (modify(VOL_1, sets("iops", "500")), DONE),
-        CREATE_WITH_IOPS,
+        CREATE_WITH_IOPS, MODIFY_IOPS, (modify(VOL_1, sets("iops", "500")), DONE), CREATE_WITH_IOPS,
     ],
     "modify-while-published": [
-        CREATE_A,
-        PUBLISH_1,
-        MODIFY_IOPS,
-        PUBLISH_1,
-        LIST_1_AT_N1,
-        CREATE_WITH_IOPS_900,
+        CREATE_A, PUBLISH_1, MODIFY_IOPS, PUBLISH_1, LIST_1_AT_N1, CREATE_WITH_IOPS_900,
     ],
     "modify-one-of-two": [
-        CREATE_A,
-        CREATE_B,
-        (modify(VOL_2, IOPS_900), DONE),
+        CREATE_A, CREATE_B, (modify(VOL_2, IOPS_900), DONE),
         (create(A, BLOCK, mutable("iops", "900")), NOT_COMPATIBLE),
         (create(B, BLOCK, mutable("iops", "900")), CREATED_2),
     ],
     "modify-keeps-the-parameters": [
-        (create(A, BLOCK, parameter("tier", "gold")), CREATED),
-        MODIFY_IOPS,
+        (create(A, BLOCK, parameter("tier", "gold")), CREATED), MODIFY_IOPS,
         (create(A, BLOCK, parameter("tier", "gold")), CREATED),
         (create(A, BLOCK), NOT_COMPATIBLE),
     ],
     "modify-after-a-delete": [
-        CREATE_A,
-        DELETE_1,
-        (modify(VOL_1, IOPS_900), NO_VOLUME),
+        CREATE_A, DELETE_1, (modify(VOL_1, IOPS_900), NO_VOLUME),
         (create(A, BLOCK), CREATED_2),
         (modify(VOL_1, IOPS_900), NO_VOLUME),
     ],
@@ -108,8 +88,7 @@ GROUPS["Mutable parameters: CreateVolume and ControllerModifyVolume"] = {
         (modify(VOL_1, entry(2, "k", V4095), sets("k", V4095)), DONE),
     ],
     "modify-to-4096-bytes-and-not-beyond": [
-        CREATE_A,
-        (modify(VOL_1, sets("k", V3999)), DONE),
+        CREATE_A, (modify(VOL_1, sets("k", V3999)), DONE),
         (modify(VOL_1, sets("j", "v" * 95)), DONE),
         (modify(VOL_1, sets("i", "")), MUTABLE_LARGE),
         (modify(VOL_1, sets("j", "v" * 96)), MUTABLE_LARGE),
@@ -119,8 +98,7 @@ GROUPS["Mutable parameters: CreateVolume and ControllerModifyVolume"] = {
     ],
     "modify-too-large-changes-nothing": [
         (create(A, BLOCK, IOPS_500, mutable("j", "v")), CREATED),
-        (modify(VOL_1, IOPS_900, sets("k", "v" * 4088)), MUTABLE_LARGE),
-        CREATE_WITH_IOPS,
+        (modify(VOL_1, IOPS_900, sets("k", "v" * 4088)), MUTABLE_LARGE), CREATE_WITH_IOPS,
         (modify(VOL_1, IOPS_900, sets("k", "v" * 4087)), MUTABLE_LARGE),
         (modify(VOL_1, IOPS_900, sets("k", "v" * 4086)), DONE),
         (create(A, BLOCK, mutable("iops", "900"), mutable("j", "v")), CREATED),
@@ -136,13 +114,11 @@ GROUPS["Mutable parameters: CreateVolume and ControllerModifyVolume"] = {
         (create(A, BLOCK, mutable("iops", "900"), mutable("k", "v")), CREATED),
     ],
     "modify-fields-twice": [
-        CREATE_WITH_IOPS,
-        (modify(vol("x"), sets("iops", "1"), VOL_1, IOPS_900), DONE),
+        CREATE_WITH_IOPS, (modify(vol("x"), sets("iops", "1"), VOL_1, IOPS_900), DONE),
         CREATE_WITH_IOPS_900,
     ],
     "modify-an-entry-without-a-key": [
-        CREATE_A,
-        (modify(VOL_1, msg(3)), DONE),
+        CREATE_A, (modify(VOL_1, msg(3)), DONE),
         (create(A, BLOCK, mutable("", "")), CREATED),
         (create(A, BLOCK, mutable("", "v")), NOT_COMPATIBLE),
     ],
@@ -159,8 +135,8 @@ GROUPS["Mutable parameters: CreateVolume and ControllerModifyVolume"] = {
         (create(A, msg(8, unhex("12"))), malformed(3)),
         (modify(VOL_1, msg(3, unhex("12"))), malformed(7)),
     ],
-    "modify-of-the-identity-service": [
-        (identity("ControllerModifyVolume", VOL_1, IOPS_900), UNKNOWN),
-        (controller("ModifyVolume", VOL_1, IOPS_900), UNKNOWN),
-    ],
+    "modify-of-the-identity-service": each(
+        UNKNOWN, identity("ControllerModifyVolume", VOL_1, IOPS_900),
+        controller("ModifyVolume", VOL_1, IOPS_900),
+    ),
 }
