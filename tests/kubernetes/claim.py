@@ -8,9 +8,9 @@ from tests.kubernetes.manifest import ACCOUNT, DRIVER, TOP, ZONE, condition, mis
 
 # What docs/OPERATING.md has for the volumes that the orchestrator knows.
 LISTING = (
-    "kubectl get persistentvolumes -o jsonpath='{range"
-    ' .items[?(@.spec.csi.driver=="%s")]}{.spec.csi.volumeHandle}{"\\n"}{end}\'' % DRIVER
-)
+    "kubectl get persistentvolumes -o jsonpath="
+    """'{range .items[?(@.spec.csi.driver=="%s")]}{.spec.csi.volumeHandle}{"\\n"}{end}'"""
+) % DRIVER
 # A claim of the manifest's class, and a pod that has it mounted.
 CLAIM = """
 apiVersion: v1
@@ -42,37 +42,20 @@ CLAIM_PATH = "/api/v1/namespaces/default/persistentvolumeclaims/data"
 def capacity(cluster, zone, room):
     """What csi-provisioner keeps of a zone, as far as the server's version of it goes."""
     owner = cluster.get("/apis/apps/v1/namespaces/csid/statefulsets/csid")["metadata"]["uid"]
-    group = next(
-        g
-        for g in ["v1", "v1beta1", "v1alpha1"]
-        if cluster.get("/apis/storage.k8s.io/%s/csistoragecapacities" % g)
-    )
-    metadata = {
-        "generateName": "csisc-",
-        "ownerReferences": [
-            {
-                "apiVersion": "apps/v1",
-                "kind": "StatefulSet",
-                "name": "csid",
-                "uid": owner,
-                "controller": True,
-            }
-        ],
-    }
+    known = "/apis/storage.k8s.io/%s/csistoragecapacities"
+    group = next(it for it in ["v1", "v1beta1", "v1alpha1"] if cluster.get(known % it))
+    reference = {"apiVersion": "apps/v1", "kind": "StatefulSet", "name": "csid"}
+    owners = [{**reference, "uid": owner, "controller": True}]
     body = {
         "apiVersion": "storage.k8s.io/" + group,
         "kind": "CSIStorageCapacity",
-        "metadata": metadata,
+        "metadata": {"generateName": "csisc-", "ownerReferences": owners},
         "storageClassName": "pools",
         "capacity": room,
         "nodeTopology": {"matchLabels": {ZONE: zone}},
     }
-    return cluster.ask(
-        "POST",
-        "/apis/storage.k8s.io/%s/namespaces/csid/csistoragecapacities" % group,
-        body,
-        ACCOUNT,
-    )[0]
+    path = "/apis/storage.k8s.io/%s/namespaces/csid/csistoragecapacities" % group
+    return cluster.ask("POST", path, body, ACCOUNT)[0]
 
 
 def reference(claim):

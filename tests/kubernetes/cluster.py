@@ -17,10 +17,10 @@ SECONDS = 120
 # off.
 CAPACITY, ONE_PORT = (1, 21), (1, 23)
 # Without those that would judge a node by what a kubelet says.
-CONTROLLERS = (
-    "statefulset disruption serviceaccount serviceaccount-token root-ca-cert-publisher garbagecollector"
-    " persistentvolume-binder attachdetach pvc-protection pv-protection"
-).split()
+CONTROLLERS = """
+    statefulset disruption serviceaccount serviceaccount-token root-ca-cert-publisher garbagecollector
+    persistentvolume-binder attachdetach pvc-protection pv-protection
+""".split()
 
 
 class LeftOut(Exception):
@@ -129,16 +129,10 @@ class Cluster:
         return os.path.join(self.folder, name)
 
     def start(self, number, *words):
+        command = [self.programs[number], *words]
         with open(self.path("%d.log" % number), "w") as log:
-            self.processes.append(
-                subprocess.Popen(
-                    [self.programs[number], *words],
-                    cwd=self.folder,
-                    stdin=subprocess.DEVNULL,
-                    stdout=log,
-                    stderr=log,
-                )
-            )
+            streams = {"stdin": subprocess.DEVNULL, "stdout": log, "stderr": log}
+            self.processes.append(subprocess.Popen(command, cwd=self.folder, **streams))
 
     def end(self):
         for process in reversed(self.processes):
@@ -157,9 +151,7 @@ class Cluster:
         """Makes the certificates and keys, and the configurations of kubectl: that of the administrator, and
         one that says nothing of who asks.
         """
-        self.openssl(
-            "req -x509 -newkey rsa:2048 -nodes -days 2 -subj /CN=ca -keyout ca.key -out ca.crt"
-        )
+        self.openssl("req -x509 -newkey rsa:2048 -nodes -days 2 -subj /CN=ca -keyout ca.key -out ca.crt")
         self.sign("server", "/CN=kube-apiserver", "subjectAltName=IP:127.0.0.1")
         self.sign("admin", "/O=system:masters/CN=admin", "extendedKeyUsage=clientAuth")
         self.openssl("genrsa -out accounts.key 2048")
@@ -174,13 +166,10 @@ class Cluster:
         """Makes a key, and a certificate for it."""
         with open(self.path("extension"), "w") as file:
             file.write(extension)
-        words = {"name": name, "subject": subject}
-        request = (
-            "req -newkey rsa:2048 -nodes -subj %(subject)s -keyout %(name)s.key -out %(name)s.csr"
-        )
-        self.openssl(request % words)
-        certificate = "x509 -req -days 2 -in %(name)s.csr -CA ca.crt -CAkey ca.key -CAcreateserial"
-        self.openssl((certificate + " -extfile extension -out %(name)s.crt") % words)
+        files = "-keyout %s.key -out %s.csr" % (name, name)
+        self.openssl("req -newkey rsa:2048 -nodes -subj %s %s" % (subject, files))
+        files = "-in %s.csr -extfile extension -out %s.crt" % (name, name)
+        self.openssl("x509 -req -days 2 -CA ca.crt -CAkey ca.key -CAcreateserial " + files)
 
     def configure(self, name, user):
         """Writes a configuration of kubectl."""
@@ -198,15 +187,10 @@ class Cluster:
 
     def ask(self, method, path, body=None, user=None):
         """The status and the object that the server answers to the administrator, or to another user."""
-        connection = http.client.HTTPSConnection(
-            "127.0.0.1", self.port, context=self.tls, timeout=SECONDS
-        )
-        headers = {
-            "Content-Type": "application/merge-patch+json"
-            if method == "PATCH"
-            else "application/json",
-            "Accept": "application/json",
-        }
+        options = {"context": self.tls, "timeout": SECONDS}
+        connection = http.client.HTTPSConnection("127.0.0.1", self.port, **options)
+        kind = "application/merge-patch+json" if method == "PATCH" else "application/json"
+        headers = {"Content-Type": kind, "Accept": "application/json"}
         if user:
             headers["Impersonate-User"] = user
         connection.request(method, path, None if body is None else json.dumps(body), headers)
@@ -230,14 +214,8 @@ class Cluster:
         """Runs kubectl, which is given a text as its file, and gives its status, output and errors."""
         variables = {**os.environ, "KUBECONFIG": self.path(config), "HOME": self.folder}
         words += ("-f", "-") if text is not None else ()
-        done = subprocess.run(
-            [self.programs[2], *words],
-            input=text,
-            env=variables,
-            capture_output=True,
-            text=True,
-            timeout=SECONDS,
-        )
+        options = {"env": variables, "capture_output": True, "text": True, "timeout": SECONDS}
+        done = subprocess.run([self.programs[2], *words], input=text, **options)
         return done.returncode, done.stdout, done.stderr
 
     def read_back(self, text):

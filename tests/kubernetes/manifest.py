@@ -54,12 +54,8 @@ def pod_alone(whole):
     template["spec"]["volumes"] += [
         {"name": name, "persistentVolumeClaim": {"claimName": name}} for name in claims
     ]
-    return {
-        "apiVersion": "v1",
-        "kind": "PodTemplate",
-        "metadata": whole["metadata"],
-        "template": template,
-    }
+    kind = {"apiVersion": "v1", "kind": "PodTemplate"}
+    return {**kind, "metadata": whole["metadata"], "template": template}
 
 
 def place(document, path):
@@ -101,29 +97,18 @@ def leaves(meant):
 def missing(meant, found, path=""):
     """The paths at which something is not as it was meant. What an object has in addition is the server's."""
     if isinstance(meant, dict) and isinstance(found, dict):
-        return [
-            one
-            for key in meant
-            for one in (
-                missing(meant[key], found[key], path + "." + key)
-                if key in found
-                else [path + "." + key]
-            )
-        ]
-    if isinstance(meant, list) and isinstance(found, list) and len(meant) == len(found):
-        return [
-            one
-            for n, (m, g) in enumerate(zip(meant, found))
-            for one in missing(m, g, "%s.%d" % (path, n))
-        ]
-    return [] if meant == found else [path]
+        parts = [(key, meant[key], found.get(key, GONE)) for key in meant]
+    elif isinstance(meant, list) and isinstance(found, list) and len(meant) == len(found):
+        parts = [(str(at), *pair) for at, pair in enumerate(zip(meant, found))]
+    else:
+        return [] if meant == found else [path]
+    return [place for key, *pair in parts for place in missing(*pair, path + "." + key)]
 
 
 def bare(one):
     """An object without what the server writes down about it, and how often it was changed."""
-    return {key: value for key, value in one.items() if key not in ("metadata", "status")}, one[
-        "metadata"
-    ].get("generation")
+    own = {key: value for key, value in one.items() if key not in ("metadata", "status")}
+    return own, one["metadata"].get("generation")
 
 
 def said(lines):

@@ -6,6 +6,8 @@ import re
 from tests.kubernetes.claim import CLAIM
 from tests.kubernetes.manifest import GONE, by_kind, changed, misspelt, pod_alone, said
 
+# What the server says of a misspelt field.
+UNKNOWN = "unknown field"
 # A field of each kind, and a wrong last word of its path.
 MISSPELT = [
     ("Namespace", "metadata.name", "names"),
@@ -21,16 +23,10 @@ MISSPELT = [
     ("PodDisruptionBudget", "spec.maxUnavailable", "maxUnavailble"),
     ("StatefulSet", "spec.serviceName", "service"),
     ("StatefulSet", "spec.template.spec.securityContext.runAsNonRoot", "runAsNoRoot"),
-    (
-        "StatefulSet",
-        "spec.template.spec.containers.0.securityContext.readOnlyRootFilesystem",
-        "readOnlyRootFileSystem",
-    ),
-    (
-        "StatefulSet",
-        "spec.template.spec.initContainers.0.env.0.valueFrom.configMapKeyRef.optional",
-        "option",
-    ),
+    ("StatefulSet", "spec.template.spec.containers.0.securityContext.readOnlyRootFilesystem",
+     "readOnlyRootFileSystem"),
+    ("StatefulSet",
+     "spec.template.spec.initContainers.0.env.0.valueFrom.configMapKeyRef.optional", "option"),
     ("StatefulSet", "spec.volumeClaimTemplates.0.spec.accessModes", "accessMode"),
     ("PodTemplate", "template.spec.terminationGracePeriodSeconds", "terminationGraceSeconds"),
     ("PersistentVolumeClaim", "spec.storageClassName", "storageClass"),
@@ -57,44 +53,24 @@ WRONG = [
     ("StatefulSet", "spec.selector.matchLabels", {"app": "front"}, "does not match template"),
     ("StatefulSet", "spec.podManagementPolicy", "Serial", "Invalid value"),
     ("StatefulSet", "spec.template.spec.restartPolicy", "Never", "Unsupported value"),
-    (
-        "PodTemplate",
-        "template.spec.terminationGracePeriodSeconds",
-        "30s",
-        "terminationGracePeriodSeconds|TerminationGracePeriodSeconds",
-    ),
+    ("PodTemplate", "template.spec.terminationGracePeriodSeconds", "30s",
+     "terminationGracePeriodSeconds|TerminationGracePeriodSeconds"),
     ("PodTemplate", "template.spec.serviceAccountName", "csid_", "Invalid value"),
-    (
-        "PodTemplate",
-        "template.spec.securityContext.seccompProfile.type",
-        "Default",
-        "Unsupported value",
-    ),
-    (
-        "PodTemplate",
-        "template.spec.securityContext.fsGroupChangePolicy",
-        "Sometimes",
-        "Unsupported value",
-    ),
+    ("PodTemplate", "template.spec.securityContext.seccompProfile.type", "Default",
+     "Unsupported value"),
+    ("PodTemplate", "template.spec.securityContext.fsGroupChangePolicy", "Sometimes",
+     "Unsupported value"),
     ("PodTemplate", "template.spec.securityContext.runAsUser", -1, "Invalid value"),
     ("PodTemplate", "template.spec.containers.0.livenessProbe.httpGet.port", 0, "Invalid value"),
     ("PodTemplate", "template.spec.containers.0.livenessProbe.timeoutSeconds", -1, "Invalid value"),
-    (
-        "PodTemplate",
-        "template.spec.containers.0.resources.requests.memory",
-        "2Gi",
-        "less than or equal to memory limit",
-    ),
+    ("PodTemplate", "template.spec.containers.0.resources.requests.memory", "2Gi",
+     "less than or equal to memory limit"),
     ("PodTemplate", "template.spec.containers.0.resources.limits.cpu", "two", "quantit"),
     ("PodTemplate", "template.spec.containers.1.ports.0.containerPort", 70000, "Invalid value"),
     ("PodTemplate", "template.spec.containers.1.volumeMounts.0.name", "back", "Not found"),
     ("PodTemplate", "template.spec.containers.1.name", "csid", "Duplicate value"),
-    (
-        "PodTemplate",
-        "template.spec.containers.2.env.0.valueFrom.fieldRef.fieldPath",
-        "metadata.space",
-        "Invalid value",
-    ),
+    ("PodTemplate", "template.spec.containers.2.env.0.valueFrom.fieldRef.fieldPath",
+     "metadata.space", "Invalid value"),
     ("PersistentVolumeClaim", "spec.accessModes", ["ReadWriteTwice"], "Unsupported value"),
     ("PersistentVolumeClaim", "spec.resources", GONE, "Required value"),
     ("PersistentVolumeClaim", "spec.resources.requests.storage", "1 GiB", "quantit"),
@@ -104,13 +80,7 @@ WRONG = [
 def tries_of(kinds):
     """Each try: its kind, what it is, the object, whether the client looks at it, and what is said of it."""
     tries = [
-        (
-            kind,
-            "%s for %s" % (wrong, path),
-            misspelt(kinds[kind], path, wrong),
-            "true",
-            "unknown field",
-        )
+        (kind, "%s for %s" % (wrong, path), misspelt(kinds[kind], path, wrong), "true", UNKNOWN)
         for kind, path, wrong in MISSPELT
     ]
     # Without the client's own look at types, so that it is the server that refuses.
@@ -132,7 +102,5 @@ def refused_rows(cluster, text):
     for kind, what, document, validate, pattern in tries_of(kinds):
         status, lines, why = cluster.try_create(document, validate)
         is_refused = status != 0 and re.search(pattern, why)
-        yield "%s is refused with %s" % (
-            kind,
-            what,
-        ), "refused" if is_refused else lines + why, "refused"
+        found = "refused" if is_refused else lines + why
+        yield "%s is refused with %s" % (kind, what), found, "refused"
