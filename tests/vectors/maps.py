@@ -1,43 +1,34 @@
 """Maps in many forms."""
 
 from tests.vectors.messages import (
-    A, BLOCK, CREATED, K_V, K_V_CONFIRMED, NOT_COMPATIBLE, NOT_CONFIRMED, VOL_1, block, confirmed,
-    create, fixed32, fixed64, msg, num, parameter, txt, unhex, validate,
+    A, BLOCK, BLOCK_CONFIRMED, CREATED, K_V, K_V_CONFIRMED, NOT_COMPATIBLE, NOT_CONFIRMED, VOL_1,
+    block, confirmed, create, fixed32, fixed64, msg, num, parameter, txt, unhex, validate,
 )
-from tests.vectors.steps import CREATE_A, CREATE_K_V, VALIDATE_BLOCK, after
+from tests.vectors.steps import CREATE_A, CREATE_K_V, VALIDATE_BLOCK
 
 GROUPS = {}
 
+# The parameters that are validated, and the reply.
 FORMS = {
-    "map-entry": (validate(VOL_1, BLOCK, K_V), K_V_CONFIRMED),
-    "map-none-asked-is-confirmed": VALIDATE_BLOCK,
-    "map-value-before-key": (
-        validate(VOL_1, BLOCK, msg(4, txt(2, "v"), txt(1, "k"))), K_V_CONFIRMED,
-    ),
-    "map-entry-twice": (validate(VOL_1, BLOCK, K_V, K_V), K_V_CONFIRMED),
-    "map-last-entry-wins": (validate(VOL_1, BLOCK, parameter("k", "w"), K_V), K_V_CONFIRMED),
-    "map-last-entry-is-another": (validate(VOL_1, BLOCK, K_V, parameter("k", "w")), NOT_CONFIRMED),
-    "map-key-twice-in-an-entry": (
-        validate(VOL_1, BLOCK, msg(4, txt(1, "x"), txt(2, "v"), txt(1, "k"))), K_V_CONFIRMED,
-    ),
-    "map-value-twice-in-an-entry": (
-        validate(VOL_1, BLOCK, msg(4, txt(1, "k"), txt(2, "w"), txt(2, "v"))), K_V_CONFIRMED,
-    ),
+    "map-entry": (K_V, K_V_CONFIRMED),
+    "map-none-asked-is-confirmed": (b"", BLOCK_CONFIRMED),
+    "map-value-before-key": (msg(4, txt(2, "v"), txt(1, "k")), K_V_CONFIRMED),
+    "map-entry-twice": (K_V + K_V, K_V_CONFIRMED),
+    "map-last-entry-wins": (parameter("k", "w") + K_V, K_V_CONFIRMED),
+    "map-last-entry-is-another": (K_V + parameter("k", "w"), NOT_CONFIRMED),
+    "map-key-twice-in-an-entry": (msg(4, txt(1, "x"), txt(2, "v"), txt(1, "k")), K_V_CONFIRMED),
+    "map-value-twice-in-an-entry": (msg(4, txt(1, "k"), txt(2, "w"), txt(2, "v")), K_V_CONFIRMED),
     "map-entry-with-unknown-fields": (
-        validate(
-            VOL_1, BLOCK,
-            msg(
-                4, num(1, 5), txt(1, "k"), msg(3, unhex("ff")), txt(2, "v"), fixed64(2), fixed32(9),
-            ),
-        ),
+        msg(4, num(1, 5), txt(1, "k"), msg(3, unhex("ff")), txt(2, "v"), fixed64(2), fixed32(9)),
         K_V_CONFIRMED,
     ),
-    "map-as-a-number-is-not-read": (
-        validate(VOL_1, BLOCK, num(4, 1), K_V, fixed64(4), fixed32(4)), K_V_CONFIRMED,
-    ),
+    "map-as-a-number-is-not-read": (num(4, 1) + K_V + fixed64(4) + fixed32(4), K_V_CONFIRMED),
 }
 GROUPS["Maps in many forms, as parameters"] = {
-    **after(CREATE_K_V, FORMS),
+    **{
+        name: [CREATE_K_V, (validate(VOL_1, BLOCK, parameters), reply)]
+        for name, (parameters, reply) in FORMS.items()
+    },
     "map-entry-without-value": [
         (create(A, BLOCK, msg(4, txt(1, "k"))), CREATED),
         (validate(VOL_1, BLOCK, parameter("k", "")), confirmed([block(1)], {"k": ""})),
