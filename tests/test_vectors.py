@@ -3,6 +3,7 @@
 import ast
 import glob
 import os
+from unittest import mock
 
 from tests.support.processes import TOP
 from tests.support.rows import FilesTest
@@ -36,8 +37,14 @@ class VectorsTest(FilesTest):
     def test_unknown_word_is_refused(self):
         self.assertRegex(self.groups_of("= a title\nname | Probe WORD | ok\n"), "^rows.txt:2: ")
 
-    def test_each_name_is_there_once(self):
-        self.assertEqual(len(set(corpus.names())), len(corpus.names()))
+    def test_name_in_two_groups_is_refused(self):
+        groups = [{"a title": {"name": []}}, {"another": {"name": []}}]
+        with mock.patch.object(corpus, "GROUPS", groups):
+            self.assertRaisesRegex(ValueError, "not the only one: name", corpus.lines)
+
+    def test_name_with_a_space_is_refused(self):
+        with mock.patch.object(corpus, "GROUPS", [{"a title": {"a name": []}}]):
+            self.assertRaisesRegex(ValueError, "malformed.*: a name", corpus.lines)
 
     def test_no_module_has_a_name_twice(self):
         """A dictionary keeps the last one of two equal keys in silence."""

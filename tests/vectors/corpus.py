@@ -1,5 +1,6 @@
 """All vectors, in the order in which they are printed."""
 
+import collections
 import re
 
 from tests.vectors import (
@@ -41,11 +42,11 @@ def all_vectors():
 
 def names():
     """The name of each vector."""
-    found = [name for _, vectors in all_vectors() for name in vectors]
-    for name in found:
-        if not re.fullmatch("[a-z0-9]+(-[a-z0-9]+)*", name) or found.count(name) != 1:
+    counts = collections.Counter(name for _, vectors in all_vectors() for name in vectors)
+    for name, count in counts.items():
+        if not re.fullmatch("[a-z0-9]+(-[a-z0-9]+)*", name) or count != 1:
             raise ValueError("a name that is malformed, or not the only one: " + name)
-    return found
+    return list(counts)
 
 
 def line(name, steps):

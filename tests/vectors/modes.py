@@ -1,6 +1,4 @@
-"""The access modes of a volume, in plain bytes: each alone, each next to another, and which stands for
-another.
-"""
+"""Access modes, in plain bytes: each alone, each after another, and those that mode 1 includes."""
 
 from tests.vectors.messages import unhex
 from tests.vectors.rows import call, ok, refused
