@@ -62,12 +62,11 @@ def rules(cluster, user, namespace):
         "kind": "SelfSubjectRulesReview",
         "spec": {"namespace": namespace},
     }
-    got = cluster.ask("POST", "/apis/authorization.k8s.io/v1/selfsubjectrulesreviews", body, user)[
-        1
-    ]
+    path = "/apis/authorization.k8s.io/v1/selfsubjectrulesreviews"
+    review = cluster.ask("POST", path, body, user)[1]
     return {
         (group, resource, verb)
-        for rule in got["status"]["resourceRules"]
+        for rule in review["status"]["resourceRules"]
         for group in rule["apiGroups"]
         for resource in rule["resources"]
         for verb in rule["verbs"]
