@@ -20,7 +20,7 @@ HEAD = """\
 # (docs/OPERATING.md), no volumes, and memory enough. An empty line, and one that begins with '#', is skipped.
 # NAME says what the vector pins.
 #
-# The bytes are made by tests/vectors.py, which has the same rows in words: each call is put together by the
+# The bytes are made by tests/vectors, which has the same rows in words: each call is put together by the
 # Protocol Buffers encoding guide and the tables of docs/PROTOCOL.md, and after it comes the reply that was
 # worked out for it by hand from docs/PROTOCOL.md and docs/MACHINE.md. No output of a program was copied."""
 
