@@ -16,7 +16,7 @@ import threading
 import time
 from unittest import mock
 
-from tests import vectors as v
+from tests.vectors import messages as v
 from tests.support import change_stores
 from tests.support.change_stores import COMMIT, MAKE, OK, READ, SECONDS, KeptChangeStore, meta, page, wait
 from tests.support.configs import LARGE_POOL
@@ -27,8 +27,8 @@ from tests.support.rows import CsidTest
 MIB = 1 << 20
 # A reply that is not sent: the connection is closed instead.
 CLOSED = "closed"
-BLOCK = v.hexa("1a060a001a020801")
-MOUNT = v.hexa("1a0c12060a04657874341a020801")
+BLOCK = v.unhex("1a060a001a020801")
+MOUNT = v.unhex("1a0c12060a04657874341a020801")
 
 
 class PlayedStore(change_stores.ChangeStore):
@@ -140,12 +140,12 @@ def has(volumes, attachments, number):
 
 
 MODE = v.num(1, 1)
-CREATE = v.create(v.txt(1, "a"), v.hexa("1a060a001a020801"))
+CREATE = v.create(v.txt(1, "a"), v.unhex("1a060a001a020801"))
 MADE = v.reply(
-    v.hexa("0a24 08808040 1205 766f6c2d31 1a0a 0a04706f6f6c 12027031 2a0b 0a09 0a047a6f6e65 120161")
+    v.unhex("0a24 08808040 1205 766f6c2d31 1a0a 0a04706f6f6c 12027031 2a0b 0a09 0a047a6f6e65 120161")
 )
-PUBLISH = v.publish(v.txt(1, "vol-1"), v.txt(2, "n1"), v.hexa("1a060a001a020801"))
-PUBLISHED = v.reply(v.hexa("0a11 0a08 726561646f6e6c79 1205 66616c7365"))
+PUBLISH = v.publish(v.txt(1, "vol-1"), v.txt(2, "n1"), v.unhex("1a060a001a020801"))
+PUBLISHED = v.reply(v.unhex("0a11 0a08 726561646f6e6c79 1205 66616c7365"))
 NO_STORE, DOWN = v.refusal(13, "store refused"), v.refusal(13, "store is down")
 # A volume with parameters and mutable parameters, that was asked for by two capabilities.
 RICH = v.create(
@@ -162,7 +162,7 @@ RICH_ROW = [
     v.num(3, 3 * MIB),
     v.txt(4, "p1"),
     v.msg(5, BLOCK, MOUNT),
-    v.msg(6, v.hexa("22060a016b120176 42060a016d120177")),
+    v.msg(6, v.unhex("22060a016b120176 42060a016d120177")),
 ]
 # A create that is longer than what a socket takes while nobody reads. It is given up after a piece that went
 # out in part, and one that did not.
@@ -206,9 +206,9 @@ CHANGES = [
     ),
     (
         "a volume is attached for reading only",
-        [meta(2), volume(1, "a", caps=v.hexa("1a060a001a020803"))],
-        [v.publish(v.txt(1, "vol-1"), v.txt(2, "n2"), v.hexa("1a060a001a020803"), v.num(4, 1))],
-        [commit(v.msg(3, v.num(1, 1), v.txt(2, "n2"), v.msg(3, v.hexa("1a060a001a020803")), v.num(4, 1)))],
+        [meta(2), volume(1, "a", caps=v.unhex("1a060a001a020803"))],
+        [v.publish(v.txt(1, "vol-1"), v.txt(2, "n2"), v.unhex("1a060a001a020803"), v.num(4, 1))],
+        [commit(v.msg(3, v.num(1, 1), v.txt(2, "n2"), v.msg(3, v.unhex("1a060a001a020803")), v.num(4, 1)))],
     ),
     (
         "a volume is detached at a node",
@@ -224,9 +224,9 @@ CHANGES = [
     ),
     (
         "mutable parameters are set",
-        [meta(2), volume(1, "a", params=v.hexa("22060a016b120176 42060a016d120177"))],
+        [meta(2), volume(1, "a", params=v.unhex("22060a016b120176 42060a016d120177"))],
         [v.modify(v.txt(1, "vol-1"), v.entry(3, "n", "x"))],
-        [commit(v.msg(6, v.num(1, 1), v.msg(2, v.hexa("42060a016d120177 42060a016e120178"))))],
+        [commit(v.msg(6, v.num(1, 1), v.msg(2, v.unhex("42060a016d120177 42060a016e120178"))))],
     ),
 ]
 
@@ -348,27 +348,27 @@ class LogTest(CsidTest):
         listed = v.reply(
             v.msg(
                 1,
-                v.hexa(
+                v.unhex(
                     "0a24 08808040 1205 766f6c2d31 1a0a 0a04706f6f6c 12027031 2a0b 0a09 0a047a6f6e65 120161"
                 ),
-                v.hexa("1204 0a026e31"),
+                v.unhex("1204 0a026e31"),
             ),
             v.msg(
                 1,
-                v.hexa(
+                v.unhex(
                     "0a24 08808040 1205 766f6c2d33 1a0a 0a04706f6f6c 12027032 2a0b 0a09 0a047a6f6e65 120162"
                 ),
-                v.hexa("1204 0a026e31"),
+                v.unhex("1204 0a026e31"),
             ),
         )
         added = v.reply(
-            v.hexa("0a24 08808040 1205 766f6c2d39 1a0a 0a04706f6f6c 12027031 2a0b 0a09 0a047a6f6e65 120161")
+            v.unhex("0a24 08808040 1205 766f6c2d39 1a0a 0a04706f6f6c 12027031 2a0b 0a09 0a047a6f6e65 120161")
         )
         self.row("what three pages had is listed, and the next number given", came, listed + added)
         self.row(
             "rows are read once for all calls",
             ([it[0] for it in server.log.take()], server.ask(v.probe())),
-            ([COMMIT], v.reply(v.hexa("0a020801"))),
+            ([COMMIT], v.reply(v.unhex("0a020801"))),
         )
         server.end()
 
@@ -405,7 +405,7 @@ class LogTest(CsidTest):
             server = Server(self.csid, self.folder, *first, *[OK] * len(wanted))
             server.log.take()
             replies = server.ask(*calls)
-            came = server.log.take(), replies[:1], v.hexa("0d") in replies[:1]
+            came = server.log.take(), replies[:1], v.unhex("0d") in replies[:1]
             server.end()
             self.row("" + name, came, (wanted, b"\0", False))
 
@@ -429,7 +429,7 @@ class LogTest(CsidTest):
             "no reply, and then rows",
             (came, server.end()),
             (
-                (b"", v.reply(v.hexa("0a020801"))),
+                (b"", v.reply(v.unhex("0a020801"))),
                 first + "csid: LOG: closed without a reply\n" + has(0, 0, 1),
             ),
         )
@@ -451,14 +451,14 @@ class LogTest(CsidTest):
             "why is said again where it is another reason than the last one, or the log was there since",
             (came, server.end()),
             (
-                [b""] * 4 + [v.reply(v.hexa("0a020801")), b""],
+                [b""] * 4 + [v.reply(v.unhex("0a020801")), b""],
                 waits["n2"][1] + waits["n3"][1] + waits["n2"][1] + has(0, 0, 1) + waits["n2"][1],
             ),
         )
         for name, replies, line in [
-            ("a reply that is malformed", [v.hexa("01")], "bad status at byte 0"),
-            ("a body that is malformed", [v.reply(v.hexa("0b"))], "its rows are malformed"),
-            ("a row that is malformed", [v.reply(v.msg(2, v.hexa("08")))], "its rows are malformed"),
+            ("a reply that is malformed", [v.unhex("01")], "bad status at byte 0"),
+            ("a body that is malformed", [v.reply(v.unhex("0b"))], "its rows are malformed"),
+            ("a row that is malformed", [v.reply(v.msg(2, v.unhex("08")))], "its rows are malformed"),
             ("a number from 2^63 on", [page(meta(1), volume(1 << 63, "a"))], "its rows are malformed"),
             (
                 "a name that is a number",
@@ -535,7 +535,7 @@ class LogTest(CsidTest):
             ),
             (
                 "params that are none",
-                [page(meta(2), volume(1, "a", params=v.hexa("0a0161")))],
+                [page(meta(2), volume(1, "a", params=v.unhex("0a0161")))],
                 "volume 1: its params are not the bytes of parameters of at most 4096 bytes",
             ),
             (
@@ -591,8 +591,8 @@ class LogTest(CsidTest):
         for name, reply in [
             ("a refusal", v.refusal(8, "etcd has no room")),
             ("an end", CLOSED),
-            ("a malformed reply", v.hexa("01")),
-            ("a reply that says OK and has a text", v.hexa("000001 61 00 00000000")),
+            ("a malformed reply", v.unhex("01")),
+            ("a reply that says OK and has a text", v.unhex("000001 61 00 00000000")),
         ]:
             server = Server(self.csid, self.folder, page(meta(1)), reply)
             server.log.take()
@@ -602,7 +602,7 @@ class LogTest(CsidTest):
             rest, cut = (
                 (b"", "csid: the change store does not lead any more\n")
                 if reply == CLOSED
-                else (DOWN + v.reply(v.hexa("0a020801")) + DOWN, "")
+                else (DOWN + v.reply(v.unhex("0a020801")) + DOWN, "")
             )
             self.row("" + name, (came, asked), (NO_STORE + rest, [ADDED]))
             server.log.replies += [page(meta(2), volume(1, "a"))]
@@ -623,14 +623,14 @@ class LogTest(CsidTest):
             peer.sendall(v.listing())
             rest = received(peer)
         self.row(
-            "the call while another leads is not answered", (first, rest), (v.reply(v.hexa("0a020801")), b"")
+            "the call while another leads is not answered", (first, rest), (v.reply(v.unhex("0a020801")), b"")
         )
         server.log.leads = True
         self.row(
             "after that its rows are read anew",
             (server.ask(v.probe()), server.end()),
             (
-                v.reply(v.hexa("0a020801")),
+                v.reply(v.unhex("0a020801")),
                 has(1, 0, 2) + "csid: the change store does not lead any more\n" + has(1, 0, 3),
             ),
         )
@@ -649,7 +649,7 @@ class LogTest(CsidTest):
                 " is not"
             ),
             (first, made, rest),
-            (v.reply(v.hexa("0a020801")), MADE, b""),
+            (v.reply(v.unhex("0a020801")), MADE, b""),
         )
         server.end()
         # It is asked when a connection begins, and before each reply.
@@ -660,7 +660,7 @@ class LogTest(CsidTest):
             "a call that came in one piece with another that was answered",
             (came, server.log.turns, server.end()),
             (
-                v.reply(v.hexa("0a020801")),
+                v.reply(v.unhex("0a020801")),
                 [],
                 has(1, 0, 2) + "csid: the change store does not lead any more\n",
             ),
@@ -672,7 +672,7 @@ class LogTest(CsidTest):
             server.log.hang_up()
             peer.sendall(v.listing())
             rest = received(peer)
-        self.row("the call after the end is not answered", (first, rest), (v.reply(v.hexa("0a020801")), b""))
+        self.row("the call after the end is not answered", (first, rest), (v.reply(v.unhex("0a020801")), b""))
         came = server.ask(v.listing())
         self.row(
             "the next connection has what the log has then",
@@ -680,7 +680,7 @@ class LogTest(CsidTest):
             v.reply(
                 v.msg(
                     1,
-                    v.hexa(
+                    v.unhex(
                         "0a24 08808040 1205 766f6c2d32 1a0a 0a04706f6f6c 12027031 2a0b 0a09 0a047a6f6e65"
                         " 120161"
                     ),
@@ -752,7 +752,7 @@ class SlowReaderTest(CsidTest):
         self.assertEqual(self.server.lines(), has(100, 0, 101))
 
     def test_change_after_pages_that_are_read_late_is_made_and_answered(self):
-        wanted = self.pages + v.made(101, MIB, v.P1)
+        wanted = self.pages + v.created(101, MIB, v.P1)
         came = self.read_late(self.calls + CREATE, len(wanted))
         self.assertEqual(came == wanted, True)
         self.assertEqual(self.server.log.next, 102)

@@ -2,7 +2,7 @@
 
 import os
 
-from tests import vectors as v
+from tests.vectors import messages as v
 from tests.support.configs import LARGE_POOL
 from tests.support.frames import ANSWERED, ASKED, BLOCK, NO_MEMORY, PROBE, VOL_1, controller, frame, reply
 from tests.support.processes import (
@@ -144,7 +144,7 @@ class ReserveTest(CsidTest):
     """`csid serve --low-memory` reserves the memory of the next opening before it makes the tables larger."""
 
     # The longest name of a file system, and the longest ids of nodes.
-    CAP = v.cap(v.mount(3, v.fs("f" * 128)))
+    CAP = v.cap(v.mount(3, v.fs_type("f" * 128)))
     NODES = ["n%02d" % it + "n" * 253 for it in range(64)]
 
     def serve(self, volumes, caps, size=9 * MIB):
@@ -165,7 +165,7 @@ class ReserveTest(CsidTest):
         connection is answered.
         """
         came = server.answers(calls)
-        self.assertEqual(server.ask(v.listing(v.most(1)))[:1], b"\0")
+        self.assertEqual(server.ask(v.listing(v.max_entries(1)))[:1], b"\0")
         made = came.count(0)
         self.assertEqual(came, [0] * made + [13] * (len(calls) - made))
         self.assertTrue(least <= made < len(calls), made)
@@ -188,5 +188,5 @@ class ReserveTest(CsidTest):
     def test_rows_of_earlier_connections_have_memory_for_the_next_opening(self):
         server = self.serve(62_000, v.BLOCK, 16 * MIB)
         server.answers([v.create(v.name("w%d" % it), v.BLOCK) for it in range(6000)])
-        self.assertEqual(server.ask(v.listing(v.most(1)))[:1], b"\0")
+        self.assertEqual(server.ask(v.listing(v.max_entries(1)))[:1], b"\0")
         self.assertEqual(server.ask(v.delete(v.vol("vol-1"))), v.DONE)

@@ -6,7 +6,7 @@ import os
 import shutil
 import tempfile
 
-from tests import vectors as v
+from tests.vectors import messages as v
 from tests.support.callers import Plugin, histories
 from tests.support.histories import NEVER, Operation, linearization
 from tests.support.model import SINGLE, Model
@@ -40,7 +40,7 @@ def delete(it):
 
 
 def volume(number):
-    return v.made(number, 1 << 20, ZONE_A)
+    return v.created(number, 1 << 20, ZONE_A)
 
 
 FIRST = (create("a"), 0, 1, volume(1))

@@ -12,7 +12,7 @@ CLAUSE = re.compile(r"\s*(?:requires|ensures)\b")
 # Code whose lines have a length of their own: names that are used, attributes, and texts.
 OWN_LENGTH = re.compile(r"\s*(?:(?:ghost |pub )?use |#)|.*\"")
 SOURCES = ["crates/*/src/**/*.rt", "crates/*/specs/**/*.antt", "crates/*/proofs/**/*.antt"]
-SCRIPTS = ["build", "bench/**/*", "packaging/**/*", "scripts/*", "tests/*", "tests/support/*"]
+SCRIPTS = ["build", "bench/**/*", "packaging/**/*", "scripts/*", "tests/*", "tests/*/*.py"]
 
 
 def files_of(patterns):

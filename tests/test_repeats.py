@@ -5,7 +5,7 @@ line of the table has a history in which the other call does not, and the repeat
 
 import collections
 
-from tests import vectors as v
+from tests.vectors import messages as v
 from tests.support.processes import run
 from tests.support.rows import CsidTest
 
@@ -27,9 +27,9 @@ def listing(before, after):
 
 I_1, J_1 = v.mutable("i", "1"), v.mutable("j", "1")
 SHARED = v.cap(v.block(3))
-CREATE_A, CREATE_A_I_1 = (v.create(v.A, v.BLOCK), v.MADE), (v.create(v.A, v.BLOCK, I_1), v.MADE)
-CREATE_A_SHARED = v.create(v.A, SHARED), v.MADE
-CREATE_B = v.create(v.B, v.BLOCK), v.made(2, v.MIB, v.P1)
+CREATE_A, CREATE_A_I_1 = (v.create(v.A, v.BLOCK), v.CREATED), (v.create(v.A, v.BLOCK, I_1), v.CREATED)
+CREATE_A_SHARED = v.create(v.A, SHARED), v.CREATED
+CREATE_B = v.create(v.B, v.BLOCK), v.created(2, v.MIB, v.P1)
 DELETE_1, DELETE_2 = (v.delete(v.VOL_1), v.DONE), (v.delete(v.VOL_2), v.DONE)
 PUBLISH_1 = v.publish(v.VOL_1, v.N1, v.BLOCK), v.WRITER
 PUBLISH_2 = v.publish(v.VOL_2, v.N1, v.BLOCK), v.WRITER
@@ -39,7 +39,7 @@ UNPUBLISH_ALL, UNPUBLISH_2 = (v.unpublish(v.VOL_1), v.DONE), (v.unpublish(v.VOL_
 MODIFY_I_1, MODIFY_I_2, MODIFY_J_1 = [
     (v.modify(v.VOL_1, v.sets(*it)), v.DONE) for it in (("i", "1"), ("i", "2"), ("j", "1"))
 ]
-VALIDATE = v.validate(v.VOL_1, v.BLOCK), v.confirmed(v.can(v.block(1)))
+VALIDATE = v.validate(v.VOL_1, v.BLOCK), v.confirmed([v.block(1)])
 LIST_NONE, LIST_1, LIST_1_AT_N1 = [
     (v.listing(), v.page(*it)) for it in ([], [a_volume(1)], [a_volume(1, "n1")])
 ]
@@ -53,7 +53,7 @@ DIFFERS = [
         [],
         CREATE_A,
         DELETE_1,
-        v.made(2, v.MIB, v.P1),
+        v.created(2, v.MIB, v.P1),
         listing([], [a_volume(2)]),
     ),
     History(
@@ -119,7 +119,7 @@ DIFFERS = [
         MODIFY_I_2,
         v.DONE,
         # A create of a volume that exists asks whether it has the parameters.
-        (v.create(v.A, v.BLOCK, I_1), v.NOT_COMPATIBLE, v.MADE),
+        (v.create(v.A, v.BLOCK, I_1), v.NOT_COMPATIBLE, v.CREATED),
     ),
     History(
         "ValidateVolumeCapabilities, and DeleteVolume",
@@ -179,11 +179,11 @@ def alone(name, before, call, other, *volumes):
 
 
 # Whether the volume has both parameters.
-HAS_BOTH = v.create(v.A, v.BLOCK, I_1, J_1), v.MADE, v.MADE
+HAS_BOTH = v.create(v.A, v.BLOCK, I_1, J_1), v.CREATED, v.CREATED
 TWO = [CREATE_A, CREATE_B]
 # Volumes that leave 2 MiB of the first pool, and nothing of the second one.
 CREATE_8_MIB, CREATE_4_MIB = [
-    (v.create(v.name(name), v.size(v.required(bytes_)), v.BLOCK), v.made(number, bytes_, pool))
+    (v.create(v.name(name), v.size(v.required(bytes_)), v.BLOCK), v.created(number, bytes_, pool))
     for number, name, bytes_, pool in [(1, "c", 8 * v.MIB, v.P1), (2, "d", 4 * v.MIB, v.P2)]
 ]
 # The other call leaves the object alone.
@@ -200,7 +200,7 @@ ALONE = [
     alone(
         "ControllerGetCapabilities",
         [],
-        (v.controller("ControllerGetCapabilities"), v.CAN_DO),
+        (v.controller("ControllerGetCapabilities"), v.METHODS),
         CREATE_A,
         a_volume(1),
     ),
@@ -220,16 +220,16 @@ ALONE = [
         "DeleteVolume, and CreateVolume of the same name after it",
         [CREATE_A],
         DELETE_1,
-        (v.create(v.A, v.BLOCK), v.made(2, v.MIB, v.P1)),
+        (v.create(v.A, v.BLOCK), v.created(2, v.MIB, v.P1)),
         a_volume(2),
     ),
-    History("CreateVolume, and another parameter", [], CREATE_A_I_1, MODIFY_J_1, v.MADE, HAS_BOTH),
+    History("CreateVolume, and another parameter", [], CREATE_A_I_1, MODIFY_J_1, v.CREATED, HAS_BOTH),
     alone("CreateVolume, and the same value", [], CREATE_A_I_1, MODIFY_I_1, a_volume(1)),
     alone(
         "CreateVolume, and pools without room",
         [CREATE_8_MIB, CREATE_4_MIB],
-        (v.create(v.A, v.BLOCK), v.made(3, v.MIB, v.P1)),
-        (v.create(v.B, v.BLOCK), v.made(4, v.MIB, v.P1)),
+        (v.create(v.A, v.BLOCK), v.created(3, v.MIB, v.P1)),
+        (v.create(v.B, v.BLOCK), v.created(4, v.MIB, v.P1)),
         v.listed(1, 8 * v.MIB, v.P1),
         v.listed(2, 4 * v.MIB, v.P2),
         a_volume(3),

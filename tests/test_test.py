@@ -22,7 +22,7 @@ PLAYED = {
     "scripts/progress": "cat",
     "go/go": "exit 1",
     "tests/retries": "",
-    "tests/vectors.py": "",
+    "tests/vectors/__main__.py": "",
     "bin/rt": "",
     "bin/id": "echo 0",
 }

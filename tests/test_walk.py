@@ -18,7 +18,7 @@ import subprocess
 import tempfile
 import time
 
-from tests import vectors as v
+from tests.vectors import messages as v
 from tests.support import change_stores
 from tests.support.model import Model, Requests, capabilities, entries
 from tests.support.processes import program
@@ -171,7 +171,7 @@ def rows(model):
             it.bytes,
             it.pool.name,
             capabilities(it.keys),
-            entries(v.param, it.parameters) + entries(v.mutable, it.mutable),
+            entries(v.parameter, it.parameters) + entries(v.mutable, it.mutable),
         )
         for it in model.volumes
     ]
@@ -224,7 +224,8 @@ class Walk:
         while token != "":
             most = self.requests.one_of(1, 2, 3)
             reply, what, numbers, then = self.model.listing(most, token or "")
-            if not self.asks(v.listing(v.most(most), v.start(token) if token else b""), reply, what):
+            after = v.starting_token(token) if token else b""
+            if not self.asks(v.listing(v.max_entries(most), after), reply, what):
                 return False
             standing = {it.number for it in self.model.volumes}
             if what == "bad starting token" or not set(numbers) <= standing or set(numbers) & set(listed):
@@ -245,7 +246,7 @@ class Walk:
             for it in self.model.volumes:
                 connection.execute(
                     "UPDATE volumes SET params = ? WHERE number = ?",
-                    (entries(v.param, it.parameters), it.number),
+                    (entries(v.parameter, it.parameters), it.number),
                 )
             connection.execute("UPDATE meta SET format_no = 1")
         connection.close()

@@ -4,7 +4,7 @@
 import io
 
 from tests.support import change_stores
-from tests import vectors as v
+from tests.vectors import corpus, messages as v
 
 MIB = 1 << 20
 
@@ -96,9 +96,9 @@ class Breaker:
 
 
 def calls_of_vectors():
-    """The calls of tests/vectors.py."""
+    """The calls of tests/vectors."""
     calls = []
-    for line in v.LINES:
+    for line in corpus.lines():
         digits = line.split(" ")[1] if line and line[0] != "#" else "-"
         stream = io.BytesIO(b"" if digits == "-" else bytes.fromhex(digits))
         while frame := change_stores.next_frame(stream):

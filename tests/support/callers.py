@@ -13,7 +13,7 @@ import socket
 import subprocess
 import time
 
-from tests import vectors as v
+from tests.vectors import messages as v
 from tests.support.histories import Operation, linearization
 from tests.support.model import ONE_WRITER, SHARED, SINGLE, Model, capabilities, entries
 from tests.support.processes import SECONDS, wait

@@ -6,7 +6,7 @@ import socket
 import threading
 import time
 
-from tests import vectors as v
+from tests.vectors import messages as v
 
 READ, MAKE, COMMIT, LEAD = [b"/fomaheti.log.v1.Log/" + it for it in (b"Read", b"Make", b"Commit", b"Lead")]
 OK = v.reply()

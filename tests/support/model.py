@@ -1,13 +1,13 @@
 """The volume machine, as plain as it can be, and requests at random to it.
 
 It is docs/MACHINE.md with the sample configuration of docs/OPERATING.md, everything looked through again
-for each request; its bytes are those of tests/vectors.py.
+for each request; its bytes are those of tests/vectors.
 """
 
 import collections
 import random
 
-from tests import vectors as v
+from tests.vectors import messages as v
 
 
 MIB = 1 << 20
@@ -23,7 +23,7 @@ SINGLE, SHARED, ONE_WRITER, WRITERS, SINGLE_WRITER, MULTI_WRITER = 1, 3, 4, 5, 6
 def capability(key):
     """A capability of a key, as the parts of its message."""
     kind, fs, mode = key
-    return v.mount(mode, *[v.fs(fs)] * bool(fs)) if kind else v.block(mode)
+    return v.mount(mode, *[v.fs_type(fs)] * bool(fs)) if kind else v.block(mode)
 
 
 def capabilities(keys):
@@ -104,7 +104,8 @@ class Model:
                 and all(volume.mutable.get(key) == value for key, value in mutable.items())
             ):
                 return v.NOT_COMPATIBLE, "volume exists and is not compatible"
-            return v.made(volume.number, volume.bytes, (volume.pool.name, volume.pool.zone)), "created again"
+            pool = volume.pool
+            return v.created(volume.number, volume.bytes, (pool.name, pool.zone)), "created again"
         size = size_of(required, limit)
         if size is None:
             return v.OUT_OF_RANGE, "capacity is out of range"
@@ -115,7 +116,7 @@ class Model:
                         Volume(self.next, name, size, pool, sorted(set(keys)), given, mutable)
                     )
                     self.next += 1
-                    return v.made(self.next - 1, size, (pool.name, pool.zone)), "created"
+                    return v.created(self.next - 1, size, (pool.name, pool.zone)), "created"
         return v.NO_ROOM, "no room in the topology"
 
     def modify(self, text, mutable):
@@ -178,7 +179,7 @@ class Model:
             return v.NO_VOLUME, "volume not found"
         if not all(has(volume, key) for key in keys) or given not in ({}, volume.parameters):
             return v.NOT_CONFIRMED, "not confirmed"
-        return v.confirmed(*[v.can(capability(key)) for key in keys], entries(v.given, given)), "confirmed"
+        return v.confirmed(map(capability, keys), dict(sorted(given.items()))), "confirmed"
 
     def listing(self, most, token):
         """The page, what happened, the numbers that it lists and the token of the next."""
@@ -191,7 +192,8 @@ class Model:
             v.listed(it.number, it.bytes, (it.pool.name, it.pool.zone), *self.nodes(it.number))
             for it in there
         ]
-        return v.page(*listed, then=then), "page" if then else "last page", [it.number for it in there], then
+        what, numbers = "page" if then else "last page", [it.number for it in there]
+        return v.page(*listed, next_token=then), what, numbers, then
 
     def capacity(self, keys, term):
         if any(kind and mode in (ONE_WRITER, WRITERS) for kind, _, mode in keys):
@@ -298,15 +300,15 @@ class Requests:
             self.given(),
             self.topology(),
         )
-        terms = [v.requisite(entries(v.seg, term)) for term in requisite] + [
-            v.preferred(entries(v.seg, term)) for term in preferred
+        terms = [v.requisite(entries(v.segment, term)) for term in requisite] + [
+            v.preferred(entries(v.segment, term)) for term in preferred
         ]
         mutable = self.one_of({}, {}, self.mutable())
         call = v.create(
             v.name(name),
             v.size(v.required(required), v.limit(limit)) if required or limit else b"",
             capabilities(keys),
-            entries(v.param, given),
+            entries(v.parameter, given),
             v.topology(*terms) if terms else b"",
             entries(v.mutable, mutable),
         )
@@ -337,7 +339,7 @@ class Requests:
 
     def validate(self):
         text, keys, given = self.id(), self.keys(1), self.given()
-        return v.validate(v.vol(text), capabilities(keys), entries(v.param, given)), *self.model.validate(
+        return v.validate(v.vol(text), capabilities(keys), entries(v.parameter, given)), *self.model.validate(
             text, keys, given
         )
 
@@ -345,7 +347,7 @@ class Requests:
         most, number = self.one_of(0, 1, 2, 3, 5, 100), self.random.randrange(self.model.next + 2)
         token = self.one_of("", "", str(number), "0%d" % number)
         return (
-            v.listing(v.most(most) if most else b"", v.start(token) if token else b""),
+            v.listing(v.max_entries(most) if most else b"", v.starting_token(token) if token else b""),
             *self.model.listing(most, token)[:2],
         )
 
@@ -353,7 +355,7 @@ class Requests:
         keys, term = [
             self.key((SINGLE, SHARED, WRITERS, MULTI_WRITER)) for _ in range(self.random.randrange(3))
         ], self.one_of(None, self.term())
-        within = v.within(entries(v.seg, term)) if term is not None else b""
+        within = v.within(entries(v.segment, term)) if term is not None else b""
         return v.capacity(*[v.msg(1, capability(key)) for key in keys], within), *self.model.capacity(
             keys, term
         )

@@ -16,7 +16,7 @@ import sys
 import threading
 import time
 
-from tests import vectors as v
+from tests.vectors import messages as v
 from tests.support.broken import (
     DATA,
     END,
@@ -34,10 +34,15 @@ from tests.support.change_stores import SECONDS, wait
 
 TOP = os.path.dirname(os.path.dirname(os.path.dirname(os.path.abspath(__file__))))
 NAME = "pools.example.org"
-CONFIG = (
-    'name = "%s"\nvendor_version = "1.0.0"\ndefault_bytes = 1048576\ngreatest_bytes = 8388608\n[[pool]]\nname'
-    ' = "p1"\nbytes = %d\n' % (NAME, 1 << 40)
-)
+CONFIG = """\
+name = "%s"
+vendor_version = "1.0.0"
+default_bytes = 1048576
+greatest_bytes = 8388608
+[[pool]]
+name = "p1"
+bytes = %d
+""" % (NAME, 1 << 40)
 
 
 def program(name, place):
@@ -54,19 +59,10 @@ class Run:
     lock = threading.Lock()
 
     def __init__(self, part, asked, folder):
-        self.part, self.asked, self.folder, self.number, self.programs = (
-            part,
-            asked,
-            folder,
-            asked.first - 1,
-            [],
-        )
-        self.until, self.begun, self.seen = (
-            time.monotonic() + asked.seconds,
-            time.monotonic(),
-            collections.Counter(),
-        )
-        self.peaks = collections.Counter()
+        self.part, self.asked, self.folder = part, asked, folder
+        self.number, self.programs = asked.first - 1, []
+        self.until, self.begun = time.monotonic() + asked.seconds, time.monotonic()
+        self.seen, self.peaks = collections.Counter(), collections.Counter()
 
     def inputs(self):
         """The source of each input, until the time is over."""

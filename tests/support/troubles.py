@@ -11,11 +11,11 @@ import threading
 import time
 
 from tests.support import change_stores
-from tests import vectors as v
+from tests.vectors import messages as v
 from tests.support.programs import CONFIG, NAME, SECONDS, Etcd, Frames, Grpc, asked, program, wait
 
 LEASE, NOBODY = 3, 65534
-BLOCK = v.hexa("1a060a001a020801")
+BLOCK = v.unhex("1a060a001a020801")
 LIBC = ctypes.CDLL(None, use_errno=True)
 NEW_MOUNTS, NEW_TIME = 0x20000, 0x80
 
@@ -64,7 +64,7 @@ def listed(ask):
     """The ids that are listed in pages; None where a page is refused."""
     ids, token = [], b""
     while True:
-        body, _ = ask("ListVolumes", v.start(token) if token else b"")
+        body, _ = ask("ListVolumes", v.starting_token(token) if token else b"")
         if body is None:
             return None
         told = change_stores.fields(body)

@@ -12,7 +12,7 @@
 //!
 //! That a read or a write failed, or memory was refused, where an end says so: a run that gives up
 //! at once meets its contract, and so does one that does not flush. Rows of
-//! `tests/test_csictl_*.py` and the vectors of `tests/vectors.py` show that lines are run to their
+//! `tests/test_csictl_*.py` and the vectors of `tests/vectors` show that lines are run to their
 //! end.
 #![tactic(auto)]
 

@@ -1,0 +1,132 @@
+"""What the account of the pod may do."""
+
+from tests.kubernetes.manifest import ACCOUNT, OTHER
+
+# What the sidecars ask for in their own deployments: group, resource and verbs. Those of Role are for the
+# namespace of the pod alone.
+MAY = {
+    "ClusterRole": [
+        ("", "persistentvolumes", "get list watch create patch delete"),
+        ("", "persistentvolumeclaims", "get list watch update"),
+        ("", "events", "list watch create update patch"),
+        ("", "nodes", "get list watch"),
+        ("storage.k8s.io", "storageclasses", "get list watch"),
+        ("storage.k8s.io", "csinodes", "get list watch"),
+        ("storage.k8s.io", "volumeattachments", "get list watch patch"),
+        ("storage.k8s.io", "volumeattachments/status", "patch"),
+    ],
+    "Role": [
+        ("storage.k8s.io", "csistoragecapacities", "get list watch create update patch delete"),
+        ("", "pods", "get"),
+        ("apps", "statefulsets", "get"),
+    ],
+}
+# Some of what they must not, in the namespace of the pod.
+MUST_NOT = [
+    ("", "secrets", "get list create"),
+    ("", "configmaps", "get update"),
+    ("", "pods", "list create delete patch"),
+    ("", "pods/exec", "create"),
+    ("", "serviceaccounts/token", "create"),
+    ("", "nodes", "update patch delete"),
+    ("", "nodes/proxy", "get"),
+    ("", "persistentvolumes", "update deletecollection"),
+    ("", "persistentvolumeclaims", "create patch delete"),
+    ("", "events", "delete"),
+    ("", "namespaces", "get delete"),
+    ("", "users", "impersonate"),
+    ("apps", "statefulsets", "update patch delete"),
+    ("apps", "deployments", "get create"),
+    ("coordination.k8s.io", "leases", "get create update"),
+    ("policy", "poddisruptionbudgets", "get update"),
+    ("rbac.authorization.k8s.io", "clusterroles", "get bind escalate"),
+    ("rbac.authorization.k8s.io", "rolebindings", "create"),
+    ("storage.k8s.io", "storageclasses", "create update delete"),
+    ("storage.k8s.io", "csidrivers", "create update delete"),
+    ("storage.k8s.io", "csinodes", "create update"),
+    ("storage.k8s.io", "volumeattachments", "create update delete"),
+]
+# What the token of the account may get.
+GETS = [
+    ("persistentvolumes", True),
+    ("csistoragecapacities -n csid", True),
+    ("secrets -n csid", False),
+    ("csistoragecapacities -n default", False),
+]
+
+
+def rules(cluster, user, namespace):
+    """All that a user may do in a namespace, as group, resource and verb."""
+    body = {
+        "apiVersion": "authorization.k8s.io/v1",
+        "kind": "SelfSubjectRulesReview",
+        "spec": {"namespace": namespace},
+    }
+    path = "/apis/authorization.k8s.io/v1/selfsubjectrulesreviews"
+    review = cluster.ask("POST", path, body, user)[1]
+    return {
+        (group, resource, verb)
+        for rule in review["status"]["resourceRules"]
+        for group in rule["apiGroups"]
+        for resource in rule["resources"]
+        for verb in rule["verbs"]
+    }
+
+
+def can(cluster, group, resource, verb, namespace):
+    """What kubectl says: yes or no."""
+    name, _, part = resource.partition("/")
+    kind = name + ("." + group if group else "")
+    subresource = ["--subresource=" + part] if part else []
+    words = [verb, kind, "--as=" + ACCOUNT, "--namespace=" + namespace, *subresource]
+    return cluster.kubectl("auth", "can-i", *words)[1].strip()
+
+
+def said_rows(cluster, may):
+    """What kubectl says of each right, alone."""
+    for role, namespace in [("ClusterRole", "default"), ("Role", "csid")]:
+        for group, resource, verb in sorted(may[role]):
+            found = can(cluster, group, resource, verb, namespace)
+            yield "may %s %s in %s" % (verb, resource, namespace), found, "yes"
+    for group, resource, verb in sorted(may["Role"]):
+        found = can(cluster, group, resource, verb, "default")
+        yield "may not %s %s in default" % (verb, resource), found, "no"
+    for group, resource, verbs in MUST_NOT:
+        for verb in verbs.split():
+            found = can(cluster, group, resource, verb, "csid")
+            yield "may not %s %s" % (verb, resource), found, "no"
+
+
+def rights_rows(cluster):
+    may = {
+        role: {
+            (group, resource, verb) for group, resource, verbs in lines for verb in verbs.split()
+        }
+        for role, lines in MAY.items()
+    }
+    yield from said_rows(cluster, may)
+    for namespace, rights in [
+        ("csid", may["ClusterRole"] | may["Role"]),
+        ("default", may["ClusterRole"]),
+    ]:
+        # What each account may do is not the manifest's.
+        has = rules(cluster, ACCOUNT, namespace) - rules(cluster, OTHER, namespace)
+        differences = sorted(has - rights), sorted(rights - has)
+        yield "has in %s no further right, and lacks none" % namespace, differences, ([], [])
+    yield from token_rows(cluster)
+
+
+def token_rows(cluster):
+    body = {
+        "apiVersion": "authentication.k8s.io/v1",
+        "kind": "TokenRequest",
+        "spec": {"expirationSeconds": 600},
+    }
+    path = "/api/v1/namespaces/csid/serviceaccounts/csid/token"
+    status, answer = cluster.ask("POST", path, body)
+    yield "the account has a token", status, 201
+    for words, may in GETS:
+        token = "--token=" + answer["status"]["token"]
+        status, _, why = cluster.kubectl(token, "get", *words.split(), config="nobody")
+        found = status == 0, "Forbidden" in why
+        yield "with it %s get %s" % ("may" if may else "may not", words), found, (may, not may)

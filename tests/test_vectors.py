@@ -1,0 +1,56 @@
+"""The vectors of tests/vectors: their names, and the files of rows."""
+
+import ast
+import glob
+import os
+from unittest import mock
+
+from tests.support.processes import TOP
+from tests.support.rows import FilesTest
+from tests.vectors import corpus
+from tests.vectors.rows import Reader
+
+
+class VectorsTest(FilesTest):
+    def groups_of(self, text):
+        """The groups of a file with this text, or what is wrong with it."""
+        self.write("rows.txt", text)
+        try:
+            return Reader(os.path.join(self.folder, "rows.txt")).groups
+        except ValueError as error:
+            return os.path.basename(str(error))
+
+    def test_row_is_a_frame_and_its_reply(self):
+        probe = b"\0\x16/csi.v1.Identity/Probe\0\0\0\0\2ab", b"\0\0\0\0\0\0\0\1c"
+        text = "= a title\nWORD = 61\nname | Probe WORD 62 | ok 63*1\n"
+        self.assertEqual(self.groups_of(text), {"a title": {"name": [probe]}})
+
+    def test_refusal_has_the_digits_and_the_text(self):
+        refusal = b"\3\0\2no\0\0\0\0\0"
+        text = "= a title\nname\n  bytes 00 | 030002 no\n"
+        self.assertEqual(self.groups_of(text), {"a title": {"name": [(b"\0", refusal)]}})
+
+    def test_name_twice_is_refused(self):
+        text = "= a title\nname | Probe | ok\nname | Probe | ok\n"
+        self.assertRegex(self.groups_of(text), "^rows.txt:3: .*second time")
+
+    def test_unknown_word_is_refused(self):
+        self.assertRegex(self.groups_of("= a title\nname | Probe WORD | ok\n"), "^rows.txt:2: ")
+
+    def test_name_in_two_groups_is_refused(self):
+        groups = [{"a title": {"name": []}}, {"another": {"name": []}}]
+        with mock.patch.object(corpus, "GROUPS", groups):
+            self.assertRaisesRegex(ValueError, "not the only one: name", corpus.lines)
+
+    def test_name_with_a_space_is_refused(self):
+        with mock.patch.object(corpus, "GROUPS", [{"a title": {"a name": []}}]):
+            self.assertRaisesRegex(ValueError, "malformed.*: a name", corpus.lines)
+
+    def test_no_module_has_a_name_twice(self):
+        """A dictionary keeps the last one of two equal keys in silence."""
+        for path in glob.glob(os.path.join(TOP, "tests", "vectors", "*.py")):
+            with open(path, encoding="utf-8") as file:
+                tree = ast.parse(file.read())
+            for node in ast.walk(tree):
+                keys = [it.value for it in getattr(node, "keys", []) if isinstance(it, ast.Constant)]
+                self.assertEqual(len(set(keys)), len(keys), path)

@@ -1,0 +1,65 @@
+"""All vectors, in the order in which they are printed."""
+
+import collections
+import re
+
+from tests.vectors import (
+    capabilities, checks, create_fields, create_volume, delete_volume, fields, frames, get_capacity,
+    identity, limits, list_volumes, malformed, maps, modes, modify_volume, publish_volume, streams,
+    validate_volume,
+)
+from tests.vectors.rows import Reader
+from tests.vectors.steps import as_list
+
+HEAD = """\
+# Test vectors of the server: what it writes for a stream of calls, byte for byte.
+#
+# A line is NAME INPUT OUTPUT, with one space between. INPUT is all that a new server reads until its end: the
+# frames of calls, one after the other. OUTPUT is all that it writes: the frames of replies. Both are lower
+# case hexadecimal, two digits a byte, and '-' is no bytes. The server has the sample configuration
+# (docs/OPERATING.md), no volumes, and memory enough. An empty line, and one that begins with '#', is skipped.
+# NAME says what the vector pins.
+#
+# The bytes are made by tests/vectors, which has the same rows in words: each call is put together by the
+# Protocol Buffers encoding guide and the tables of docs/PROTOCOL.md, and after it comes the reply that was
+# worked out for it by hand from docs/PROTOCOL.md and docs/MACHINE.md. No output of a program was copied."""
+
+# Groups: the steps of each name, under a title.
+GROUPS = [
+    Reader("calls.txt").groups, frames.CUT, Reader("arguments.txt").groups, modes.GROUPS,
+    Reader("modify.txt").groups, modes.PAIRS, identity.GROUPS, frames.GROUPS,
+    Reader("wire.txt").groups, create_fields.GROUPS, capabilities.GROUPS, maps.GROUPS,
+    malformed.GROUPS, fields.GROUPS, checks.GROUPS, limits.GROUPS, create_volume.GROUPS,
+    modify_volume.GROUPS, delete_volume.GROUPS, publish_volume.GROUPS, validate_volume.GROUPS,
+    list_volumes.GROUPS, get_capacity.GROUPS, streams.GROUPS,
+]
+
+
+def all_vectors():
+    """All that the groups have, as pairs of a title and its vectors."""
+    return [(title, vectors) for groups in GROUPS for title, vectors in groups.items()]
+
+
+def names():
+    """The name of each vector."""
+    counts = collections.Counter(name for _, vectors in all_vectors() for name in vectors)
+    for name, count in counts.items():
+        if not re.fullmatch("[a-z0-9]+(-[a-z0-9]+)*", name) or count != 1:
+            raise ValueError("a name that is malformed, or not the only one: " + name)
+    return list(counts)
+
+
+def line(name, steps):
+    """A vector as `csictl vectors` reads it: NAME INPUT OUTPUT."""
+    steps = as_list(steps)
+    sides = [b"".join(step[side] for step in steps).hex() or "-" for side in (0, 1)]
+    return " ".join([name, *sides])
+
+
+def lines():
+    """The text of all vectors but for its head, in lines."""
+    names()
+    out = []
+    for title, vectors in all_vectors():
+        out += ["", "# " + title, *(line(name, steps) for name, steps in vectors.items())]
+    return out
