@@ -11,7 +11,8 @@ import time
 from tests.support.processes import SECONDS, TOP
 
 
-VERSION = open(os.path.join(TOP, "VERSION")).read().strip()
+with open(os.path.join(TOP, "VERSION"), encoding="utf-8") as version:
+    VERSION = version.read().strip()
 
 
 class Line:
