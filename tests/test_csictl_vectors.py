@@ -41,17 +41,17 @@ class VectorsTest(CsictlTest):
         ]:
             with open(path, "w") as file:
                 file.write(lines)
-            self.row("" + name, text(run([self.csictl, "vectors", path], input=b"")), (out, err, status))
+            self.check("" + name, text(run([self.csictl, "vectors", path], input=b"")), (out, err, status))
         with open(path, "wb") as file:
             file.write(b"none - -\n\xff - -\n")
-        self.row(
+        self.check(
             "a line that is no text",
             text(run([self.csictl, "vectors", path], input=b"")),
             ("ok none\n", "csictl: %s: line 2 is no vector\n" % path, 2),
         )
         with open(path, "wb") as file:
             file.write(b"# \xff\nnone - -\n")
-        self.row(
+        self.check(
             "a comment that is no text",
             text(run([self.csictl, "vectors", path], input=b"")),
             ("ok none\n", "", 0),
@@ -59,18 +59,18 @@ class VectorsTest(CsictlTest):
         with open(path, "w") as file:
             file.write("none - -\n")
         with open("/dev/full", "wb") as full:
-            self.row(
+            self.check(
                 "an output that takes nothing",
                 run([self.csictl, "vectors", path], input=b"", stdout=full),
                 (None, "csictl: a write to standard output failed\n", 5),
             )
         missing = os.path.join(self.folder, "missing")
-        self.row(
+        self.check(
             "no file",
             text(run([self.csictl, "vectors", missing], input=b"")),
             ("", Line("csictl: " + missing), 5),
         )
-        self.row(
+        self.check(
             "a read that fails, of a folder",
             text(run([self.csictl, "vectors", self.folder], input=b"")),
             ("", "csictl: %s: a read failed\n" % self.folder, 5),

@@ -102,33 +102,33 @@ class ConfigTest(CsidTest):
         command = [self.csid, "pipe", "--config"]
         for name, text, given, out in CONFIGURED:
             write(path, text)
-            self.row(name, run(command + [path], input=given), (out, "", 0))
-        self.row(
+            self.check(name, run(command + [path], input=given), (out, "", 0))
+        self.check(
             "another spelling of the option",
             run([self.csid, "pipe", "--config=" + path], input=b""),
             (b"", "", 0),
         )
         for name, text, line in REFUSED:
             write(path, text)
-            self.row(
+            self.check(
                 "refused: " + name,
                 run(command + [path], input=frame(PROBE)),
                 (b"", "csid: %s: %s\n" % (path, line), 3),
             )
         # It can be read, and not be taken apart.
         write(path, SAMPLE + nodes(40_000))
-        self.row(
+        self.check(
             "refused: no memory for a configuration",
             run(command + [path], input=frame(PROBE), preexec_fn=little_memory),
             (b"", NO_MEMORY, 6),
         )
         absent = os.path.join(self.folder, "absent.toml")
-        self.row(
+        self.check(
             "a file that is not there",
             run(command + [absent], input=frame(PROBE)),
             (b"", "csid: %s: %s\n" % (absent, NOT_THERE), 3),
         )
-        self.row(
+        self.check(
             "a folder for a file",
             run(command + [self.folder], input=frame(PROBE)),
             (b"", "csid: %s: Is a directory (os error 21)\n" % self.folder, 3),
@@ -154,17 +154,17 @@ class ConfigTest(CsidTest):
             ]
         )
         server = Server(self.csid, self.folder, "--config", config)
-        self.row("serve", server.end()[0], said + server.line(NEW) + server.has(0, 0, 1))
+        self.check("serve", server.end()[0], said + server.line(NEW) + server.has(0, 0, 1))
         tables = Tables(self.csid, self.folder)
         has = b"volumes 0, attachments 0, next number 1, format 2\n"
-        self.row("--check-tables", tables.check(config), (has, said, 0))
-        self.row("pipe", tables.run(frame(PROBE), config), (READY, "", 0))
+        self.check("--check-tables", tables.check(config), (has, said, 0))
+        self.check("pipe", tables.run(frame(PROBE), config), (READY, "", 0))
         write(config, SAMPLE)
         server = Server(self.csid, self.folder, "--config", config)
-        self.row("none", server.end()[0], server.has(0, 0, 1))
+        self.check("none", server.end()[0], server.has(0, 0, 1))
         write(config, text + b"[[pool]]\n")
         server = Server(self.csid, self.folder, "--config", config)
-        self.row(
+        self.check(
             "of a configuration that is refused",
             server.end(),
             ("csid: %s: pool 3: the key 'name' is missing\n" % config, 3, False),

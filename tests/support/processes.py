@@ -178,6 +178,11 @@ def write(path, text):
         file.write(text)
 
 
+def read(path):
+    with open(path, "rb") as file:
+        return file.read()
+
+
 @contextlib.contextmanager
 def small_disk(folder):
     """A file system of 1 MiB in memory, in a new folder. Where none can be mounted, the test is skipped."""
