@@ -123,7 +123,7 @@ TRIED = [
     ("another flag", [], [bytes.fromhex("000000 01 00")], "", [], "bad flag at byte 3", 3),
     ("a reply in time", ["--timeout", "10"], [READY], SHOWN, [], "", 0),
     ("silent", ["--timeout", "1"], [SILENT], "", [], ": no reply within the time of --timeout", 5),
-    ("silent, then not", ["--tries", "2", "--timeout", "1"], [SILENT, READY], SHOWN, [LATE], "", 0),
+    ("silent, then not", ["--tries", "2", "--timeout", "3"], [SILENT, READY], SHOWN, [LATE], "", 0),
 ]
 
 

@@ -684,7 +684,7 @@ class SlowPages(Pages):
             self.calls.append([])
             for answer in part:
                 self.calls[-1].append(next_call(calls))
-                time.sleep(0.6)
+                time.sleep(1.6)
                 peer.sendall(answer)
             calls.read()
 
@@ -726,7 +726,7 @@ class PeopleTest(AskTest):
     def test_time_of_pages(self):
         """Each page has the time of --timeout, also over a connection that is kept."""
         pages = SlowPages(self.folder, [[ok(THREE[0] + NEXT), ok(THREE[1] + THREE[2])]])
-        self.check("two slow pages", self.ask(pages.path, "volumes", "--timeout", "1"), (VOLUMES, "", 0))
+        self.check("two slow pages", self.ask(pages.path, "volumes", "--timeout", "3"), (VOLUMES, "", 0))
         self.check("what was asked", len(pages.end()[0]), 2)
 
     def test_changes(self):

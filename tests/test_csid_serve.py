@@ -220,26 +220,26 @@ class IdleTest(ServeTest):
 
     def setUp(self):
         super().setUp()
-        self.server = self.serve("--idle", "1")
+        self.server = self.serve("--idle", "3")
         self.begun = self.server.lines()
 
-    def test_silent_peer_is_closed_after_a_second(self):
+    def test_silent_peer_is_closed_after_the_seconds(self):
         """One that comes later is answered before that."""
         peer = self.connect(self.server)
         self.assertEqual(self.server.ask(frame(PROBE)), READY)
         self.assertEqual(self.server.lines(), self.begun)
-        self.assertTrue(has_ended(peer, (0.3, 10)))
+        self.assertTrue(has_ended(peer, (1, 12)))
         self.assertTrue(wait(lambda: self.server.lines() == self.begun + IDLE))
 
     def test_peer_with_a_part_of_a_call_is_closed(self):
         peer = self.connect(self.server, frame(PROBE)[:5])
-        self.assertTrue(has_ended(peer, (0.5, 10)))
+        self.assertTrue(has_ended(peer, (1, 12)))
         self.assertTrue(wait(lambda: self.server.lines() == self.begun + IDLE))
 
     def test_slow_peer_that_sends_in_time_is_answered(self):
         peer, create = self.connect(self.server), controller("CreateVolume", CREATE_A)
         for piece in [bytes([byte]) for byte in create[:3]] + [create[3:]] + [frame(PROBE)]:
-            time.sleep(0.6)
+            time.sleep(1)
             peer.sendall(piece)
         wanted, came = reply(VOLUME_1) + READY, b""
         while len(came) < len(wanted):
@@ -251,7 +251,7 @@ class IdleTest(ServeTest):
 
     def test_peer_that_takes_no_reply_is_closed(self):
         peer = self.connect(self.server)
-        peer.settimeout(5)
+        peer.settimeout(SECONDS)
         with contextlib.suppress(TimeoutError, BrokenPipeError, ConnectionResetError):
             while peer.send(frame(PROBE) * 1000):
                 pass
