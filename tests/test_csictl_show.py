@@ -16,10 +16,10 @@ from tests.support.csictl import (
     ok,
     refusal,
     run,
-    small_memory,
     text,
 )
 from tests.support.processes import TOP
+from tests.support.processes import small_memory
 from tests.support.rows import CsictlTest
 
 

@@ -18,9 +18,9 @@ from unittest import mock
 
 from tests import vectors as v
 from tests.support import change_stores
-from tests.support.change_stores import COMMIT, MAKE, OK, READ, SECONDS, KeptChangeStore, meta, page, wait
+from tests.support.change_stores import COMMIT, MAKE, OK, READ, KeptChangeStore, meta, page
 from tests.support.configs import LARGE_POOL
-from tests.support.processes import write
+from tests.support.processes import SECONDS, wait, write
 from tests.support.rows import CsidTest
 
 
@@ -146,7 +146,6 @@ MADE = v.reply(
     v.hexa("0a24 08808040 1205 766f6c2d31 1a0a 0a04706f6f6c 12027031 2a0b 0a09 0a047a6f6e65 120161")
 )
 PUBLISH = v.publish(v.txt(1, "vol-1"), v.txt(2, "n1"), v.hexa("1a060a001a020801"))
-PUBLISHED = v.reply(v.hexa("0a11 0a08 726561646f6e6c79 1205 66616c7365"))
 NO_STORE, DOWN = v.refusal(13, "store refused"), v.refusal(13, "store is down")
 # A volume with parameters and mutable parameters, that was asked for by two capabilities.
 RICH = v.create(

@@ -24,10 +24,9 @@ from tests.support.csictl import (
     ok,
     refusal,
     run,
-    small_memory,
     text,
 )
-from tests.support.processes import read, write
+from tests.support.processes import read, small_memory, write
 from tests.support.rows import CsictlTest
 
 

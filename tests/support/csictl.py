@@ -2,7 +2,6 @@
 
 import os
 import re
-import resource
 import socket
 import subprocess
 import tempfile
@@ -78,10 +77,6 @@ def run(words, stdout=subprocess.PIPE, **how):
 def text(came):
     """The same with standard output as a text."""
     return came[0].decode(), came[1], came[2]
-
-
-def small_memory():
-    resource.setrlimit(resource.RLIMIT_DATA, (700_000, 700_000))
 
 
 class Server:

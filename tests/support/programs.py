@@ -30,7 +30,7 @@ from tests.support.broken import (
     message_frames,
     replies_in,
 )
-from tests.support.change_stores import SECONDS, wait
+from tests.support.processes import SECONDS, wait
 
 TOP = os.path.dirname(os.path.dirname(os.path.dirname(os.path.abspath(__file__))))
 NAME = "pools.example.org"

@@ -20,7 +20,7 @@ import time
 sys.dont_write_bytecode = True
 sys.path.insert(0, os.path.dirname(os.path.dirname(os.path.dirname(os.path.realpath(__file__)))))
 
-from tests.support.processes import TOP, place, program
+from tests.support.processes import TOP, free_ports, place, program
 from tests.support.rows import RowTest
 
 # Under the names of other programs this script is run instead of them.
@@ -503,14 +503,6 @@ class Etcd:
         self.process.kill()
         self.process.wait()
         shutil.rmtree(self.folder)
-
-
-def free_ports(count):
-    with contextlib.ExitStack() as stack:
-        sockets = [stack.enter_context(socket.socket()) for _ in range(count)]
-        for it in sockets:
-            it.bind(("127.0.0.1", 0))
-        return [it.getsockname()[1] for it in sockets]
 
 
 PLUGIN, NODE = "pools.example.org", "n'2/é \U0001d11e"

@@ -10,19 +10,11 @@ import subprocess
 import time
 
 from tests.support.callers import Fronts
-from tests.support.processes import SECONDS, wait
+from tests.support.processes import SECONDS, free_ports, wait
 
 NAME, LEASE = "pools.example.org", 2
 # What ends csid, or csid-etcd by a signal. SIGTERM releases the lock at once, the others keep it for a lease.
 FAULTS = ["csid", signal.SIGTERM, signal.SIGKILL, signal.SIGTERM, signal.SIGSTOP]
-
-
-def free_ports(count):
-    sockets = [socket.create_server(("127.0.0.1", 0)) for _ in range(count)]
-    ports = [it.getsockname()[1] for it in sockets]
-    for it in sockets:
-        it.close()
-    return ports
 
 
 def wait_for(happens, what):
