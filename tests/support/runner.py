@@ -13,7 +13,7 @@ import unittest
 import warnings
 
 # The modules that take the longest: they start first, so that none runs alone at the end.
-LONGEST = []
+LONGEST = ["test_csid_peers", "test_histories", "test_recipes", "test_recipes_etcd", "test_csid_change_store"]
 
 
 @dataclasses.dataclass
