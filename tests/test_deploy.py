@@ -340,6 +340,46 @@ class EtcdManifestTest(RowTest):
                 self.assertEqual(sidecar, self.other.containers[name])
 
 
+class NamesTest(RowTest):
+    """The name of the plugin, the image and what begins a container are the same everywhere."""
+
+    def setUp(self):
+        super().setUp()
+        self.manifest, self.etcd, self.nomad = *manifests(), Nomad()
+        self.dockerfile = read("Dockerfile")
+
+    def test_name_of_the_plugin(self):
+        name, objects = toml(self.manifest.config())["name"], self.manifest.objects
+        self.assertEqual(objects["CSIDriver"]["metadata"]["name"], name)
+        self.assertEqual(objects["StorageClass"]["provisioner"], name)
+        self.assertEqual(toml(self.nomad.config())["name"], name)
+
+    def test_image(self):
+        image = re.search(r"docker build -t (\S+)", self.dockerfile).group(1)
+        ours = [self.manifest.containers[it]["image"] for it in PROGRAMS]
+        ours += [self.etcd.containers[it]["image"] for it in ETCD_PROGRAMS]
+        ours += [self.manifest.first["new"]["image"], *re.findall(r'image\s*= "(.*?)"', self.nomad.text)]
+        self.assertEqual(set(ours), {image})
+
+    def test_first_process_of_containers(self):
+        entry = re.findall(r'"(.*?)"', re.search(r"ENTRYPOINT \[(.*?)\]", self.dockerfile).group(1))
+        commands = [self.manifest.containers[it]["command"] for it in ("csid", "front")]
+        commands += [self.nomad.command(it) for it in ("csid", "front")]
+        commands += [self.etcd.containers[it]["command"] for it in ETCD_PROGRAMS]
+        commands.append(self.manifest.first["new"]["command"])
+        self.assertEqual([it[:2] for it in commands], [entry] * len(commands))
+
+    def test_programs_over_etcd_are_in_the_image(self):
+        copied = re.search(r"^COPY (.*) \S+$", self.dockerfile, re.M).group(1).split()
+        self.assertEqual(set(ETCD_PROGRAMS) - set(copied), set())
+
+    def test_user_of_the_image(self):
+        user = list(map(int, re.search(r"USER (\d+):(\d+)", self.dockerfile).groups()))
+        for manifest in self.manifest, self.etcd:
+            context = manifest.pod["securityContext"]
+            self.assertEqual([context["runAsUser"], context["runAsGroup"]], user)
+
+
 class DeployTest(RowTest):
     """The files of deploy/: they can be read, say the same of names, sockets, ports and images, confine what
     they run, and end it.
@@ -355,42 +395,6 @@ class DeployTest(RowTest):
                 "its time is above that of Probe",
                 probe["timeoutSeconds"] > seconds(words["probe-timeout"]),
                 True,
-            )
-
-    def test_names(self):
-        """The name of the plugin, the image and what begins a container are the same everywhere."""
-        manifest, nomad = Kubernetes(), Nomad()
-        name = toml(manifest.config())["name"]
-        objects = manifest.objects
-        self.check("the plugin of the CSIDriver", objects["CSIDriver"]["metadata"]["name"], name)
-        self.check("of the StorageClass", objects["StorageClass"]["provisioner"], name)
-        self.check("of the Nomad job", toml(nomad.config())["name"], name)
-        image = re.search(r"docker build -t (\S+)", read("Dockerfile")).group(1)
-        etcd = Kubernetes(ETCD_MANIFEST).containers
-        ours = (
-            [manifest.containers[c]["image"] for c in PROGRAMS]
-            + [manifest.first["new"]["image"]]
-            + [etcd[c]["image"] for c in ETCD_PROGRAMS]
-        )
-        self.check("the image", set(ours + re.findall(r'image\s*= "(.*?)"', nomad.text)), {image})
-        entry = re.findall(r'"(.*?)"', re.search(r"ENTRYPOINT \[(.*?)\]", read("Dockerfile")).group(1))
-        for task in ["csid", "front"]:
-            self.check("what begins the container " + task, manifest.containers[task]["command"][:2], entry)
-            self.check("and the task", nomad.command(task)[:2], entry)
-        for name in ETCD_PROGRAMS:
-            self.check("what begins the container %s over etcd" % name, etcd[name]["command"][:2], entry)
-            self.check(
-                name + " is in the image",
-                name in re.search(r"^COPY (.*) \S+$", read("Dockerfile"), re.M).group(1).split(),
-                True,
-            )
-        self.check("what begins the first step", manifest.first["new"]["command"][:2], entry)
-        user = re.search(r"USER (\d+):(\d+)", read("Dockerfile")).groups()
-        for each in [manifest, Kubernetes(ETCD_MANIFEST)]:
-            self.check(
-                "the user of the image",
-                [str(each.pod["securityContext"][k]) for k in ["runAsUser", "runAsGroup"]],
-                list(user),
             )
 
     def test_nodes(self):

@@ -4,6 +4,7 @@ import functools
 import glob
 import importlib.util
 import os
+import re
 import shutil
 import subprocess
 import tempfile
@@ -85,47 +86,6 @@ class RecipesTest(RecipeTest):
             )
             self.check("file and log", sorted(os.listdir(place.copies())), ["volumes.db", "volumes.db-wal"])
             self.check("what both have", place.rows(place.copies() + "/volumes.db"), ({1: "a"}, 2))
-
-    def test_restore(self):
-        """Of three volumes of the orchestrator the copy has one, and it has one that was deleted since."""
-        restore, low = "### A restore", "volume 40: its number is not from 1 to below the next number"
-        with Place(self.csictl, self.csid) as place:
-            for name in ["a", "b"]:
-                place.call(*create(name))
-            place.recipe("### A copy of a file that is served")
-            place.must("systemctl stop csid-front")
-            copies = place.copies()
-            place.call("DeleteVolume", "--volume", "vol-1")
-            place.front_calls(create("c"))
-            place.must("systemctl start csid-front")
-            self.check("a restore", place.recipe(restore, 0, copies=copies), (has(2, 0, 3), "", 0))
-            self.check("who may read it", (place.owners(), place.modes()), ({OWNER}, {"0o600"}))
-            self.check("what is restored", place.rows(), ({1: "a", 2: "b"}, 3))
-            self.check("what stood there", place.rows(copies + "/old/volumes.db"), ({2: "b", 3: "c"}, 4))
-            place.orchestrator("vol-40\nvol-2\nvol-3\n", "vol-40 rw n1\n")
-            self.check(
-                "what is missing and what is left",
-                place.recipe(restore, 1, copies=copies),
-                ("vol-3\nvol-40\nvol-1\nvol-40 rw n1\n", "", 0),
-            )
-            self.shows(
-                "it is made again",
-                place.recipe("### A volume that the copy does not have"),
-                ["volume vol-40 1048576"],
-            )
-            attached = place.recipe(ATTACHMENTS, 1, copies=copies)
-            self.shows("and attached", attached, ["context readonly=false"])
-            place.must("sqlite3 /var/lib/csid/volumes.db 'UPDATE meta SET next_number = 40'")
-            more = "volume 40: it is vol-40 (pvc-40), 1 MiB in pool p1"
-            said = "csid: volumes.db: %s\n"
-            self.check(
-                "a number that is too low", place.check(), ("", said % more + said % stands(low), 4)
-            )
-            self.check("a further next number", place.recipe(restore, 2), ("41\n" + has(3, 1, 41), "", 0))
-            place.front_calls(["Probe"])
-            self.check("a start", place.recipe(restore, 3), ("", "", 0))
-            place.must("systemctl stop csid-front")
-            self.check("the next volume", place.call(*create("d")), "0 OK\nvolume vol-41 1048576\n")
 
     def test_restore_of_attachments(self):
         """After the copy vol-1 went from n1 to n2, vol-2 was detached and deleted, vol-3 attached at n1, and
@@ -340,6 +300,63 @@ class RecipesTest(RecipeTest):
             )
 
 
+LOW = "volume 40: its number is not from 1 to below the next number"
+
+
+class RestoreTest(RecipeTest):
+    """Of three volumes of the orchestrator the copy has one, and it has one that was deleted since."""
+
+    def setUp(self):
+        super().setUp()
+        self.place = self.enterContext(Place(self.csictl, self.csid))
+        for name in ["a", "b"]:
+            self.place.call(*create(name))
+        self.place.recipe("### A copy of a file that is served")
+        self.place.must("systemctl stop csid-front")
+        self.copies = self.place.copies()
+        self.place.call("DeleteVolume", "--volume", "vol-1")
+        self.place.front_calls(create("c"))
+        self.place.must("systemctl start csid-front")
+        restored = self.place.recipe("### A restore", 0, copies=self.copies)
+        self.assertEqual(restored, (has(2, 0, 3), "", 0))
+        self.place.orchestrator("vol-40\nvol-2\nvol-3\n", "vol-40 rw n1\n")
+
+    def test_rows_of_the_copy_are_back(self):
+        """What was there is put aside."""
+        self.assertEqual((self.place.owners(), self.place.modes()), ({OWNER}, {"0o600"}))
+        self.assertEqual(self.place.rows(), ({1: "a", 2: "b"}, 3))
+        self.assertEqual(self.place.rows(self.copies + "/old/volumes.db"), ({2: "b", 3: "c"}, 4))
+
+    def test_volumes_that_are_missing_and_left_are_named(self):
+        came = self.place.recipe("### A restore", 1, copies=self.copies)
+        self.assertEqual(came, ("vol-3\nvol-40\nvol-1\nvol-40 rw n1\n", "", 0))
+
+    def make_again(self):
+        """Makes the missing volume again, and attaches it. Returns what csictl shows, but for the replies."""
+        self.place.recipe("### A restore", 1, copies=self.copies)
+        came = [
+            self.place.recipe("### A volume that the copy does not have"),
+            self.place.recipe(ATTACHMENTS, 1, copies=self.copies),
+        ]
+        return [(re.sub("(?m)^0 OK.*\n", "", out), error, status) for out, error, status in came]
+
+    def test_missing_volume_is_made_again_and_attached(self):
+        wanted = [("volume vol-40 1048576\n", "", 0), ("context readonly=false\n", "", 0)]
+        self.assertEqual(self.make_again(), wanted)
+
+    def test_next_number_is_raised_above_the_volumes(self):
+        self.make_again()
+        self.place.must("sqlite3 /var/lib/csid/volumes.db 'UPDATE meta SET next_number = 40'")
+        lines = "volume 40: it is vol-40 (pvc-40), 1 MiB in pool p1", stands(LOW)
+        error = "".join("csid: volumes.db: %s\n" % line for line in lines)
+        self.assertEqual(self.place.check(), ("", error, 4))
+        self.assertEqual(self.place.recipe("### A restore", 2), ("41\n" + has(3, 1, 41), "", 0))
+        self.place.front_calls(["Probe"])
+        self.assertEqual(self.place.recipe("### A restore", 3), ("", "", 0))
+        self.place.must("systemctl stop csid-front")
+        self.assertEqual(self.place.call(*create("d")), "0 OK\nvolume vol-41 1048576\n")
+
+
 POOL_OF_NONE = "volume 1: its pool is not one of the configuration"
 NODE_OF_NONE = "volume 1 at node n1: its node is not one of the configuration"
 VOL_1 = "volume 1: it is vol-1 (a), 1 MiB in pool p1"
@@ -465,40 +482,50 @@ class KubernetesTest(RecipeTest):
         super().setUp()
         if importlib.util.find_spec("yaml") is None:
             self.skipTest("python's yaml is not installed")
-
-    def test_copy_and_restore(self):
-        """A pod makes one more volume while it ends, which is in the log alone. After the restore the volume
-        that was made since the copy is not there, and its number is not given again.
-        """
+        self.place = self.enterContext(Place(self.csictl, self.csid, is_new=False, kubectl=ME))
+        place, volume = self.place, functools.partial(create, key="topology.pools.example.org/zone")
+        os.mkdir(place.top + "/root/deploy")
+        for name in ["kubernetes.yaml", "kubernetes-tables.yaml"]:
+            shutil.copy(os.path.join(TOP, "deploy", name), place.top + "/root/deploy")
+        place.front_calls(volume("a"), volume("b"))
+        place.front_calls(volume("late"), name="last-frames")
+        place.must("kubectl apply --filename /root/deploy/kubernetes.yaml")
+        place.front_calls(["Probe"])
         first, out, again = blocks("### A copy of the file in Kubernetes", "DEPLOY.md")
+        # A pod makes one more volume while it ends, which is in the log alone.
+        whole = "volumes.db: OK\nvolumes.db-wal: OK\n" + has(3, 0, 4)
+        self.assertEqual(place.shell(first + out + again), (whole, "", 0))
+        self.volume = volume
+
+    def test_csid_serves_after_a_copy(self):
+        self.assertIsNotNone(self.place.control.runs("csid"))
+        self.place.must("systemctl stop csid-front")
+        since = self.place.call(*self.volume("since"))
+        self.assertEqual(since, "0 OK\nvolume vol-4 1073741824\n")
+
+    def restore(self):
+        """Restores the copy, after a further volume was made. Returns what the steps say."""
+        place = self.place
         begin, end, start = blocks("### A restore of the file in Kubernetes", "DEPLOY.md")
         into = blocks("### In Kubernetes, from etcd to a file", "ETCD.md")[2]
         raised = blocks("### A restore")[2]
-        volume = functools.partial(create, key="topology.pools.example.org/zone")
-        with Place(self.csictl, self.csid, is_new=False, kubectl=ME) as place:
-            os.mkdir(place.top + "/root/deploy")
-            for name in ["kubernetes.yaml", "kubernetes-tables.yaml"]:
-                shutil.copy(os.path.join(TOP, "deploy", name), place.top + "/root/deploy")
-            place.front_calls(volume("a"), volume("b"))
-            place.front_calls(volume("late"), name="last-frames")
-            place.must("kubectl apply --filename /root/deploy/kubernetes.yaml")
-            place.front_calls(["Probe"])
-            said = place.shell(first + out + again)
-            whole = "volumes.db: OK\nvolumes.db-wal: OK\n" + has(3, 0, 4)
-            self.check("a copy", said, (whole, "", 0))
-            self.check("csid serves again", place.control.runs("csid") is not None, True)
-            (copies,) = glob.glob(place.top + "/root/kubernetes-*")
-            place.must("systemctl stop csid-front")
-            since = place.call(*volume("since"))
-            self.check("a volume since the copy", since, "0 OK\nvolume vol-4 1073741824\n")
-            place.front_calls(["Probe"], name="last-frames")
-            place.must("systemctl start csid-front")
-            said = place.shell(begin + end + raised + into + start, copies=copies)
-            served = "csid: /var/lib/csid/volumes.db: " + has(3, 0, 41)
-            self.check("a restore", said, ("41\n" + has(3, 0, 41) + "volumes.db: OK\n" + served, "", 0))
-            place.must("systemctl stop csid-front")
-            self.check("the next volume", place.call(*volume("d")), "0 OK\nvolume vol-41 1073741824\n")
-            place.must("systemctl stop csid")
-            self.check("what is restored", place.rows(), ({1: "a", 2: "b", 3: "late", 41: "d"}, 42))
-            (aside,) = glob.glob(place.folder + "restored-*/volumes.db")
-            self.check("what stood there", place.rows(aside), ({1: "a", 2: "b", 3: "late", 4: "since"}, 5))
+        (copies,) = glob.glob(place.top + "/root/kubernetes-*")
+        place.must("systemctl stop csid-front")
+        place.call(*self.volume("since"))
+        place.front_calls(["Probe"], name="last-frames")
+        place.must("systemctl start csid-front")
+        return place.shell(begin + end + raised + into + start, copies=copies)
+
+    def test_volumes_of_the_copy_are_restored(self):
+        """The one that was made since is not there, and its number is not given again."""
+        served = "csid: /var/lib/csid/volumes.db: " + has(3, 0, 41)
+        self.assertEqual(self.restore(), ("41\n" + has(3, 0, 41) + "volumes.db: OK\n" + served, "", 0))
+        self.place.must("systemctl stop csid-front")
+        self.assertEqual(self.place.call(*self.volume("d")), "0 OK\nvolume vol-41 1073741824\n")
+        self.place.must("systemctl stop csid")
+        self.assertEqual(self.place.rows(), ({1: "a", 2: "b", 3: "late", 41: "d"}, 42))
+
+    def test_file_before_the_restore_is_put_aside(self):
+        self.restore()
+        (aside,) = glob.glob(self.place.folder + "restored-*/volumes.db")
+        self.assertEqual(self.place.rows(aside), ({1: "a", 2: "b", 3: "late", 4: "since"}, 5))
