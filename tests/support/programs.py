@@ -17,6 +17,7 @@ import threading
 import time
 
 from tests import vectors as v
+from tests.support import etcd
 from tests.support.broken import (
     DATA,
     END,
@@ -181,41 +182,15 @@ class Program:
             self.start()
 
 
-class Etcd:
+class Etcd(etcd.Etcd):
     """One member of etcd, and its rows over its gateway."""
 
     def __init__(self, run):
-        ports = [socket.create_server(("127.0.0.1", 0)) for _ in range(2)]
-        client, peer = ["127.0.0.1:%d" % it.getsockname()[1] for it in ports]
-        for it in ports:
-            it.close()
-        self.endpoint, run.programs, self.port = client, run.programs + [self], int(client.split(":")[1])
-        self.words = [
-            "etcd",
-            "--data-dir",
-            run.path("etcd"),
-            "--listen-client-urls",
-            "http://" + client,
-            "--advertise-client-urls",
-            "http://" + client,
-            "--listen-peer-urls",
-            "http://" + peer,
-            "--initial-advertise-peer-urls",
-            "http://" + peer,
-            "--initial-cluster",
-            "default=http://" + peer,
-            "--log-level",
-            "error",
-            "--auto-compaction-retention",
-            "1m",
-        ]
-        self.start()
+        run.programs.append(self)
+        super().__init__(run.folder, "etcd", "--auto-compaction-retention", "1m")
 
     def start(self):
-        self.process = subprocess.Popen(
-            self.words, stdin=subprocess.DEVNULL, stdout=subprocess.DEVNULL, stderr=subprocess.DEVNULL
-        )
-        assert wait(lambda: socket.socket().connect_ex(("127.0.0.1", self.port)) == 0), "etcd does not listen"
+        super().start()
         self.begun = time.monotonic()
 
     def has_ended(self):
@@ -269,10 +244,6 @@ class Etcd:
     def remove(self, *names):
         for name in names:
             self.ask("deleterange", ("%s/%s" % (NAME, name)).encode())
-
-    def end(self):
-        self.process.kill()
-        self.process.wait()
 
 
 def connected(path, seconds=SECONDS):
