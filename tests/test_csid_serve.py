@@ -284,6 +284,7 @@ class StayingPeersTest(ServeTest):
             with self.subTest(number=number):
                 held[number].sendall(call[len(self.PARTS[number % len(self.PARTS)]) :])
                 self.assertEqual(held[number].recv(4096), READY)
+                held[number].close()
         self.assertEqual(server.lines(), begun)
 
     def test_oldest_peer_beyond_256_is_closed(self):
