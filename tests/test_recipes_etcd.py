@@ -272,7 +272,9 @@ class KubernetesEtcdTest(EtcdRecipeTest):
     def go_over(self):
         no_new_rows, aside, to_deployment = blocks("### In Kubernetes, from a file to etcd", "ETCD.md")
         _, out, _ = blocks("### A copy of the file in Kubernetes", "DEPLOY.md")
-        return self.walk(no_new_rows, out, blocks(OVER, "ETCD.md")[1], aside, to_deployment)
+        came = self.walk(no_new_rows, out, blocks(OVER, "ETCD.md")[1], aside, to_deployment)
+        (self.aside,) = glob.glob(self.place.folder + "kubernetes-*/volumes.db")
+        return came
 
     def go_back(self):
         back = blocks("### In Kubernetes, from etcd to a file", "ETCD.md")
@@ -288,10 +290,6 @@ class KubernetesEtcdTest(EtcdRecipeTest):
         self.place.must("systemctl start csid-front")
         return re.findall("^volume (\\S+)", listed, re.M)
 
-    def file_aside(self):
-        (path,) = glob.glob(self.place.folder + "kubernetes-*/volumes.db")
-        return path
-
     def test_volumes_go_from_a_claim_to_etcd(self):
         counts = has(3, 1, 5)
         served = "csid: /run/csid-etcd/log.sock: " + counts
@@ -302,7 +300,7 @@ class KubernetesEtcdTest(EtcdRecipeTest):
     def test_file_of_the_claim_is_put_aside(self):
         """csid serves no file in its place."""
         self.go_over()
-        self.assertEqual(self.place.rows(self.file_aside()), ({1: "a", 3: "c", 4: "late"}, 5))
+        self.assertEqual(self.place.rows(self.aside), ({1: "a", 3: "c", 4: "late"}, 5))
         came = self.place.shell(
             "csid serve --socket unused --tables /var/lib/csid/volumes.db --existing --config"
             " /etc/csid/config.toml"
@@ -321,7 +319,7 @@ class KubernetesEtcdTest(EtcdRecipeTest):
         self.place.must("systemctl stop csid-front csid")
         self.assertEqual(self.place.rows(), ({1: "a", 3: "c", 4: "late", 5: "later"}, 6))
         path = self.place.folder + "volumes.db"
-        self.assertEqual(all_rows(path)["attachments"], all_rows(self.file_aside())["attachments"])
+        self.assertEqual(all_rows(path)["attachments"], all_rows(self.aside)["attachments"])
         self.assertEqual(oct(os.stat(path).st_mode & 0o777), "0o600")
 
     def test_new_claim_gets_no_file_any_more(self):
