@@ -1,6 +1,7 @@
-"""Runs the tests as `python3 -m unittest` does. A test that fails is run once more alone: a busy machine can
-hold a process up for longer than a test waits. At the end it says which ones passed then (`second try:
-NAME`), and what was skipped and why: a line for each reason, `left out: REASON (N tests)`.
+"""Runs the tests as `python3 -m unittest` does, but each class of tests in a process of its own, and as many
+of these at a time as there are processors. A test that fails is run once more alone: a busy machine can delay
+a process for longer than a test waits. The last lines name the tests that passed then (`second try: NAME`)
+and give the reasons for skipped tests (`left out: REASON (N tests)`).
 
 usage: python3 -m tests [what python3 -m unittest takes]
 """
@@ -9,13 +10,18 @@ import collections
 import sys
 import unittest
 
+from tests.support.runner import Runner
+
+
+def name_of(test):
+    """The name of a test that failed, or None for something else, as what a class sets up."""
+    return test.id() if isinstance(test, unittest.TestCase) else test.name
+
 
 def failed(result):
     """The names of the tests that failed; none where something else did, as what a class sets up."""
-    tests = [getattr(test, "test_case", test) for test, _ in result.failures + result.errors]
-    if all(isinstance(test, unittest.TestCase) for test in tests):
-        return sorted({test.id() for test in tests})
-    return []
+    names = {name_of(test) for test, _ in result.failures + result.errors}
+    return [] if None in names else sorted(names)
 
 
 def passes_again(names):
@@ -27,7 +33,8 @@ def passes_again(names):
 
 
 def main():
-    done = unittest.main(module=None, argv=["python3 -m tests", *sys.argv[1:]], exit=False).result
+    argv = ["python3 -m tests", *sys.argv[1:]]
+    done = unittest.main(module=None, argv=argv, testRunner=Runner, exit=False).result
     names = failed(done)
     passed = done.wasSuccessful() or passes_again(names)
     sys.stderr.flush()

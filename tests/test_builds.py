@@ -160,57 +160,61 @@ class BuildsTest(RowTest):
         super().setUp()
         self.place = Place(self.folder)
 
-    def test_build(self):
-        low, left, right = (
-            "low|lib |low||lib.rt||",
-            "left|lib |left low|low|lib.rt||",
-            "right|lib |low right|low|lib.rt||",
-        )
-        upper = "upper|lib |left low right upper|left low right|lib.rt||"
-        csid = "csid|run |csid left low right upper|left low right upper|main.rt||a call"
-        made = ["crates/%s/out/rlib/%s" % (name, name) for name in ("csid", "left", "low", "right", "upper")]
-        status, out, _, calls = self.place.run("./build", "csid")
-        self.row("a build", (status, out), (0, "crates/csid/out/csid\n"))
-        self.row("what rt is called for", sorted(calls), sorted([low, left, right, upper, csid]))
-        self.row("each after what it stands on", (calls[0], calls[3:]), (low, [upper, csid]))
-        self.row("what it leaves", self.place.left(), made)
-        calls = self.place.run("./build", "right")[3]
-        self.row(
-            "what is kept is there when it is built again",
-            calls,
-            ["low|lib |low|low|lib.rt|rlib|", "right|lib |low right|low right|lib.rt|rlib|"],
-        )
-        self.row("a library is no program", self.place.run("./build", "alone")[:2], (0, ""))
+    # Calls of rt: a crate, its kind, the crates that crates.txt has there, those below it, its files, those
+    # of them that were built, and what it is given.
+    LOW = "low|lib |low||lib.rt||"
+    UPPER = "upper|lib |left low right upper|left low right|lib.rt||"
+    CSID = "csid|run |csid left low right upper|left low right upper|main.rt||a call"
+    SIDES = ["left|lib |left low|low|lib.rt||", "right|lib |low right|low|lib.rt||"]
+    MADE = ["crates/%s/out/rlib/%s" % (name, name) for name in ("csid", "left", "low", "right", "upper")]
 
+    def test_crates_below_are_built_first(self):
+        status, out, _, calls = self.place.run("./build", "csid")
+        self.assertEqual((status, out), (0, "crates/csid/out/csid\n"))
+        self.assertEqual((calls[0], sorted(calls[1:3])), (self.LOW, self.SIDES))
+        self.assertEqual(calls[3:], [self.UPPER, self.CSID])
+        self.assertEqual(self.place.left(), self.MADE)
+
+    def test_kept_libraries_are_there_for_the_next_build(self):
+        self.place.run("./build", "csid")
+        calls = self.place.run("./build", "right")[3]
+        kept = ["low|lib |low|low|lib.rt|rlib|", "right|lib |low right|low right|lib.rt|rlib|"]
+        self.assertEqual(calls, kept)
+
+    def test_library_is_no_program(self):
+        self.assertEqual(self.place.run("./build", "alone")[:2], (0, ""))
+
+    def test_no_crate_above_one_that_fails_is_built(self):
+        """What was built stays."""
+        self.place.run("./build", "csid")
         status, out, error, calls = self.place.run("./build", "csid", faulty="left")
-        self.row("a crate that cannot be built", (status, out), (1, ""))
-        self.row(
-            "what is said of it",
-            [it for it in ("no proof of left\n", "build: left could not be built\n") if it not in error],
-            [],
-        )
-        self.row("nothing above it is built", [it for it in calls if it.startswith(("upper", "csid"))], [])
-        self.row("what was built stays", [it for it in made if it not in self.place.left()], [])
-        status, out, error, calls = self.place.run("./build", "low", "none")
-        self.row(
-            "a crate that is not there",
-            (status, out, error, calls),
-            (2, "", "build: crates.txt has no crate none\n", []),
-        )
+        self.assertEqual((status, out), (1, ""))
+        for line in "no proof of left\n", "build: left could not be built\n":
+            self.assertIn(line, error)
+        self.assertEqual([it for it in calls if it.startswith(("upper", "csid"))], [])
+        self.assertEqual(set(self.MADE) - set(self.place.left()), set())
+
+    def test_unknown_crate_is_refused(self):
+        came = self.place.run("./build", "low", "none")
+        self.assertEqual(came, (2, "", "build: crates.txt has no crate none\n", []))
+
+    def test_options_are_none_but_help(self):
         status, out, error, calls = self.place.run("./build", "--help")
-        self.row("its usage", (status, out.split()[:2], error, calls), (0, ["usage:", "./build"], "", []))
+        self.assertEqual((status, out.split()[:2], error, calls), (0, ["usage:", "./build"], "", []))
         status, out, error, calls = self.place.run("./build", "--quick")
-        self.row("an option", (status, out, error.split()[:2], calls), (2, "", ["usage:", "./build"], []))
+        self.assertEqual((status, out, error.split()[:2], calls), (2, "", ["usage:", "./build"], []))
+
+    def test_gate_proves_all_without_a_crate(self):
+        """Its progress is shown."""
         status, out, error, calls = self.place.run("./build")
-        self.row(
-            "without a crate the gate proves all, and its progress is shown",
-            (status, out, error.splitlines()[:1], calls),
-            (0, "crates/csid/out/csid\ncrates/csictl/out/csictl\n", ["4 passed, 0 failed"], ["ci"]),
-        )
-        self.row("a gate that fails", self.place.run("./build", faulty="csid")[::3], (1, ["ci"]))
+        self.assertEqual((status, out), (0, "crates/csid/out/csid\ncrates/csictl/out/csictl\n"))
+        self.assertEqual((error.splitlines()[:1], calls), (["4 passed, 0 failed"], ["ci"]))
+
+    def test_gate_that_fails_is_reported(self):
+        self.assertEqual(self.place.run("./build", faulty="csid")[::3], (1, ["ci"]))
         no_kit = "'rt' is not on the PATH: the Rattle toolchain is needed (README.md, 'Build, run, test')\n"
         for script in ["build", "run"]:
-            self.row(
+            self.check(
                 "./%s without the kit" % script,
                 self.place.run("./" + script, rt="none"),
                 (1, "", "%s: %s" % (script, no_kit), []),
@@ -232,15 +236,15 @@ class BuildsTest(RowTest):
                     os.utime(other, (date - 20, date - 20))
                 os.utime(self.place.path(path), (date, date))
                 _, out, error, calls = self.place.run("./run", "serve", "x")
-                self.row(
+                self.check(
                     "%s %+d s" % (path, seconds),
                     (out, len(calls)),
                     ("csid serve x\n", 0) if is_built else ("", 1),
                 )
                 if not is_built:
-                    self.row("it is said", "not proved" in error, True)
+                    self.check("it is said", "not proved" in error, True)
                     words = "try --seconds 1000000000 -- serve x"
-                    self.row("how it is tried", calls[0].split("|")[:2], ["csid", words])
+                    self.check("how it is tried", calls[0].split("|")[:2], ["csid", words])
 
     def test_probe(self):
         """Without words ./run shows the call and the reply."""
@@ -257,7 +261,7 @@ class BuildsTest(RowTest):
                 text=True,
                 timeout=SECONDS,
             )
-            self.row("the reply %r" % reply, (done.stdout, done.returncode), (SENT + wanted, 0))
+            self.check("the reply %r" % reply, (done.stdout, done.returncode), (SENT + wanted, 0))
 
     def test_serve(self):
         """./run serve says when csid serves, and ends it and removes its socket by SIGINT to all processes,
@@ -296,15 +300,15 @@ class BuildsTest(RowTest):
 
             socket = self.place.path("a.sock")
             serves = "run: csid serves on %s; Ctrl-C ends it" % socket
-            self.row("it says that it serves: " + what, wait(lambda: serves in lines()), True)
-            self.row("what is not proved is said: " + what, "not proved" in lines()[0], not is_built)
+            self.check("it says that it serves: " + what, wait(lambda: serves in lines()), True)
+            self.check("what is not proved is said: " + what, "not proved" in lines()[0], not is_built)
             (os.killpg if number == signal.SIGINT else os.kill)(run.pid, number)
-            self.row("its status: " + what, run.wait(SECONDS), 0)
-            self.row("its last line: " + what, lines()[-1], "run: ended; %s is removed" % socket)
+            self.check("its status: " + what, run.wait(SECONDS), 0)
+            self.check("its last line: " + what, lines()[-1], "run: ended; %s is removed" % socket)
         with open(self.place.calls) as calls:
             call, _, pid = calls.read().rstrip("\n").rpartition(" ")
-        self.row("how it was called: " + what, call, asked)
-        self.row("nothing is left: " + what, (os.path.exists(socket), runs(int(pid))), (False, False))
+        self.check("how it was called: " + what, call, asked)
+        self.check("nothing is left: " + what, (os.path.exists(socket), runs(int(pid))), (False, False))
 
     def test_serve_over_a_file(self):
         """Where something stands at the socket's path nothing is begun."""
@@ -312,5 +316,5 @@ class BuildsTest(RowTest):
         status, out, error, calls = self.place.run("./run", "serve", "--tables", "v.db", "--socket=a.sock")
         line = "run: %s: a file exists there already; remove it if no csid serves on it\n"
         wanted = (7, "", line % self.place.path("a.sock"), [])
-        self.row("a file", (status, out, error, calls), wanted)
-        self.row("it stays", os.path.exists(self.place.path("a.sock")), True)
+        self.check("a file", (status, out, error, calls), wanted)
+        self.check("it stays", os.path.exists(self.place.path("a.sock")), True)

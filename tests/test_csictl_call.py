@@ -1,5 +1,6 @@
 """`csictl call` over csid, and over peers that are played."""
 
+import contextlib
 import os
 import select
 import shutil
@@ -122,7 +123,7 @@ TRIED = [
     ("another flag", [], [bytes.fromhex("000000 01 00")], "", [], "bad flag at byte 3", 3),
     ("a reply in time", ["--timeout", "10"], [READY], SHOWN, [], "", 0),
     ("silent", ["--timeout", "1"], [SILENT], "", [], ": no reply within the time of --timeout", 5),
-    ("silent, then not", ["--tries", "2", "--timeout", "1"], [SILENT, READY], SHOWN, [LATE], "", 0),
+    ("silent, then not", ["--tries", "2", "--timeout", "3"], [SILENT, READY], SHOWN, [LATE], "", 0),
 ]
 
 
@@ -134,366 +135,344 @@ def waits(path):
     )
 
 
+PROBE = call(IDENTITY + "Probe", "")
+
+
 class CallTest(CsictlTest):
-    """`csictl call` over csid, and over peers that are played."""
+    """`csictl call`."""
 
-    def test_calls_of_csid(self):
-        """csictl against csid: the volumes stay from one connection to the next."""
-        server = Server(self.csid, os.path.join(self.folder, "a.sock"), "--connections", "10")
+    def call(self, path, *words, **how):
+        """What csictl shows of a call to a socket."""
+        return text(run([self.csictl, "call", "--socket", path, "--method", *words], input=b"", **how))
 
-        def ask(*words):
-            return text(
-                run([self.csictl, "call", "--socket", server.path, "--method"] + list(words), input=b"")
-            )
+    def serve(self, *words):
+        server = Server(self.csid, os.path.join(self.folder, "a.sock"), *words)
+        self.addCleanup(server.process.wait)
+        self.addCleanup(server.process.kill)
+        return server
 
-        self.row("call: a probe", ask("Probe"), ("0 OK 0a020801\nready true\n", "", 0))
-        self.row(
-            "call: a volume",
-            ask(CREATE, "--name", "a", "--mode", "1"),
-            ("0 OK %s\nvolume vol-1 1048576\n" % VOL_1, "", 0),
-        )
-        self.row(
-            "call: the same again",
-            ask(CREATE, "--name", "a", "--mode", "1"),
-            ("0 OK %s\nvolume vol-1 1048576\n" % VOL_1, "", 0),
-        )
-        self.row(
-            "call: another with that name",
-            ask(CREATE, "--name", "a", "--mode", "1", "--parameters", "k=v"),
-            ("6 ALREADY_EXISTS %s\n" % EXISTS, "", 1),
-        )
-        self.row(
-            "call: a publish",
-            ask("ControllerPublishVolume", "--volume", "vol-1", "--node", "n1", "--mode", "1"),
-            ("0 OK 0a110a08726561646f6e6c79120566616c7365\ncontext readonly=false\n", "", 0),
-        )
-        self.row(
-            "call: a page",
-            ask("ListVolumes"),
-            ("0 OK 0a2c%s12040a026e31\nvolume vol-1 1048576 n1\n" % VOL_1, "", 0),
-        )
-        self.row(
-            "call: a malformed message",
-            ask("Probe", "--message", "00"),
-            ("3 INVALID_ARGUMENT malformed message in the field at byte 0\n", "", 1),
-        )
-        with open("/dev/full", "wb") as full:
-            self.row(
-                "call: an output that takes nothing",
-                run(
-                    [self.csictl, "call", "--socket", server.path, "--method", "Probe"],
-                    input=b"",
-                    stdout=full,
-                ),
-                (None, Line("csictl: standard output: "), 5),
-            )
-        self.row(
-            "call: an unpublish", ask("ControllerUnpublishVolume", "--volume", "vol-1"), ("0 OK -\n", "", 0)
-        )
-        self.row("call: a delete", ask("DeleteVolume", "--volume", "vol-1"), ("0 OK -\n", "", 0))
-        path = server.path
-        self.row("serve: done after so many connections", server.end(), ("", 0))
-        self.row("call: nobody listens", ask("Probe"), ("", Line("csictl: " + path), 5))
-
-    def test_spoiled_connections(self):
-        """Clients that break their streams end nothing but their connection."""
-        server = Server(self.csid, os.path.join(self.folder, "b.sock"), "--connections", "10")
-        ask, probe = server.ask, call(IDENTITY + "Probe", "")
-        self.row(
-            "serve: garbage is refused",
-            ask(b"GET / HTTP/1.1\r\n\r\n"),
-            refusal(3, "bad path length at byte 0"),
-        )
-        self.row("serve: a call in part is refused", ask(probe[:10]), refusal(3, "end of input at byte 10"))
-        self.row("serve: no call is answered by nothing", ask(b""), b"")
-        # A byte at a time, and each reply before the next call.
-        with server.connect() as peer:
-            replies = b""
-            for _ in range(2):
-                for byte in probe:
-                    peer.sendall(bytes([byte]))
-                replies += peer.recv(4096)
-            self.row("serve: a byte at a time", replies, READY * 2)
-        # It goes away with a reply that came and was not read.
-        with server.connect() as peer:
-            peer.sendall(probe)
-            peer.recv(1, socket.MSG_PEEK)
-        # It writes calls and reads no reply until the server can write no more; the next waits until it goes
-        # away.
-        peer = server.connect()
-        peer.settimeout(0.5)
-        try:
-            for _ in range(1000):
-                peer.sendall(probe * 1000)
-        except socket.timeout:
-            pass
-        waiting = server.connect()
-        waiting.sendall(probe)
-        waiting.settimeout(0.3)
-        try:
-            came = waiting.recv(4096)
-        except socket.timeout:
-            came = None
-        self.row("serve: who comes after one that reads no reply waits", came, None)
-        peer.close()
-        waiting.settimeout(SECONDS)
-        self.row("serve: and is answered when it is gone", waiting.recv(4096), READY)
-        waiting.close()
-        # One that is killed in the middle of a call: nobody is there to be answered.
-        holder = subprocess.Popen([sys.executable, "-c", HOLDER, server.path], stdout=subprocess.PIPE)
-        holder.stdout.readline()
-        holder.kill()
-        holder.communicate()
-        for name in ["the next is answered", "and the next"]:
-            self.row(
-                "serve: " + name,
-                text(run([self.csictl, "call", "--socket", server.path, "--method", "Probe"], input=b"")),
-                ("0 OK 0a020801\nready true\n", "", 0),
-            )
-        self.row(
-            "serve: a line for each spoiled connection",
-            server.end(),
-            (
-                (
-                    "csid: bad path length at byte 0\ncsid: end of input at byte 10\ncsid: a read of a"
-                    " connection failed\ncsid: a write to a connection failed\ncsid: a connection whose peer"
-                    " had gone was closed\n"
-                ),
-                0,
-            ),
-        )
-
-    def test_faults_of_peers(self):
-        """What csictl makes of servers that answer otherwise."""
+    def listen(self, backlog):
+        """A socket that takes no connection by itself, and its path."""
         path = os.path.join(self.folder, "peer.sock")
-        listener = socket.socket(socket.AF_UNIX)
+        listener = self.enterContext(socket.socket(socket.AF_UNIX))
         listener.bind(path)
-        listener.listen(1)
+        listener.listen(backlog)
+        return listener, path
 
-        def ask_of(serve):
-            thread = threading.Thread(target=serve)
-            thread.start()
-            came = text(run([self.csictl, "call", "--socket", path, "--method", "Probe"], input=b""))
-            thread.join()
-            return came
 
-        def ask(pieces):
-            def answer():
-                peer, _ = listener.accept()
-                while peer.recv(4096):
-                    pass
-                for piece in pieces:
-                    peer.sendall(piece)
-                    time.sleep(0.01)
-                peer.close()
+class CsidCallsTest(CallTest):
+    """Calls to csid."""
 
-            return ask_of(answer)
+    def setUp(self):
+        super().setUp()
+        self.server = self.serve()
 
-        shown = "0 OK 0a020801\nready true\n"
-        self.row("call: a reply in pieces", ask([READY[:3], READY[3:9], READY[9:]]), (shown, "", 0))
-        self.row("call: a reply byte by byte", ask([bytes([byte]) for byte in READY]), (shown, "", 0))
-        self.row("call: more after the reply", ask([READY + b"\x01\x02\x03"]), (shown, "", 0))
-        self.row(
-            "call: closed without a reply", ask([]), ("", "csictl: %s: closed without a reply\n" % path, 5)
-        )
-        self.row("call: a reply cut short", ask([READY[:5]]), ("", "csictl: end of input at byte 5\n", 3))
-        self.row(
-            "call: a malformed reply",
-            ask([b"HTTP/1.1 400 Bad Request\r\n"]),
-            ("", "csictl: bad status at byte 0\n", 3),
-        )
-        self.row("call: a body that is no response", ask([ok("0a")]), ("0 OK 0a\n", Line("csictl: "), 3))
+    def ask(self, *words):
+        return self.call(self.server.path, *words)
 
-        def leave():
-            # A call that is not taken resets the connection when the server closes it.
-            peer, _ = listener.accept()
+    def create(self, *words):
+        return self.ask(CREATE, "--name", "a", "--mode", "1", *words)
+
+    def test_probe_is_answered(self):
+        self.assertEqual(self.ask("Probe"), (SHOWN, "", 0))
+
+    def test_volume_stays_from_one_connection_to_the_next(self):
+        created = ("0 OK %s\nvolume vol-1 1048576\n" % VOL_1, "", 0)
+        self.assertEqual([self.create(), self.create()], [created, created])
+        other = ("6 ALREADY_EXISTS %s\n" % EXISTS, "", 1)
+        self.assertEqual(self.create("--parameters", "k=v"), other)
+
+    def test_volume_is_published_listed_unpublished_and_deleted(self):
+        self.create()
+        publish = ["ControllerPublishVolume", "--volume", "vol-1", "--node", "n1", "--mode", "1"]
+        context = "0 OK 0a110a08726561646f6e6c79120566616c7365\ncontext readonly=false\n"
+        self.assertEqual(self.ask(*publish), (context, "", 0))
+        page = "0 OK 0a2c%s12040a026e31\nvolume vol-1 1048576 n1\n" % VOL_1
+        self.assertEqual(self.ask("ListVolumes"), (page, "", 0))
+        for method in "ControllerUnpublishVolume", "DeleteVolume":
+            self.assertEqual(self.ask(method, "--volume", "vol-1"), ("0 OK -\n", "", 0))
+
+    def test_malformed_message_is_refused(self):
+        line = "3 INVALID_ARGUMENT malformed message in the field at byte 0\n"
+        self.assertEqual(self.ask("Probe", "--message", "00"), (line, "", 1))
+
+    def test_full_output_is_reported(self):
+        words = [self.csictl, "call", "--socket", self.server.path, "--method", "Probe"]
+        with open("/dev/full", "wb") as full:
+            came = run(words, input=b"", stdout=full)
+        self.assertEqual(came, (None, Line("csictl: standard output: "), 5))
+
+    def test_server_ends_after_its_connections(self):
+        """Then nobody listens."""
+        self.server.kill()
+        self.server = self.serve("--connections", "2")
+        for _ in range(2):
+            self.ask("Probe")
+        self.assertEqual(self.server.end(), ("", 0))
+        self.assertEqual(self.ask("Probe"), ("", Line("csictl: " + self.server.path), 5))
+
+
+class SpoiledConnectionTest(CallTest):
+    """Clients that break their streams end nothing but their connection."""
+
+    def setUp(self):
+        super().setUp()
+        self.server = self.serve()
+
+    def check_served(self, *lines):
+        """Two more calls are answered. csid has said these lines."""
+        for _ in range(2):
+            self.assertEqual(self.call(self.server.path, "Probe"), (SHOWN, "", 0))
+        self.assertEqual(self.server.kill()[0], "".join("csid: %s\n" % line for line in lines))
+
+    def test_malformed_stream_is_refused(self):
+        for given, line in [
+            (b"GET / HTTP/1.1\r\n\r\n", "bad path length at byte 0"),
+            (PROBE[:10], "end of input at byte 10"),
+        ]:
+            self.assertEqual(self.server.ask(given), refusal(3, line))
+        self.assertEqual(self.server.ask(b""), b"")
+        self.check_served("bad path length at byte 0", "end of input at byte 10")
+
+    def test_calls_that_come_byte_by_byte_are_answered(self):
+        """Each reply comes before the next call."""
+        with self.server.connect() as peer:
+            for _ in range(2):
+                for byte in PROBE:
+                    peer.sendall(bytes([byte]))
+                self.assertEqual(peer.recv(4096), READY)
+        self.check_served()
+
+    def test_peer_that_leaves_its_reply_unread_is_reported(self):
+        with self.server.connect() as peer:
+            peer.sendall(PROBE)
+            peer.recv(1, socket.MSG_PEEK)
+        self.check_served("a read of a connection failed")
+
+    def test_next_peer_waits_while_one_reads_no_reply(self):
+        """It sends calls until csid can write no more. The next one is answered when it has gone."""
+        with self.server.connect() as peer:
+            peer.settimeout(0.5)
+            with contextlib.suppress(TimeoutError):
+                for _ in range(1000):
+                    peer.sendall(PROBE * 1000)
+            waiting = self.enterContext(self.server.connect())
+            waiting.sendall(PROBE)
+            self.assertEqual(select.select([waiting], [], [], 0.3)[0], [])
+        self.assertEqual(waiting.recv(4096), READY)
+        waiting.close()
+        self.check_served("a write to a connection failed")
+
+    def test_peer_that_is_killed_within_a_call_is_reported(self):
+        words = [sys.executable, "-c", HOLDER, self.server.path]
+        with subprocess.Popen(words, stdout=subprocess.PIPE) as holder:
+            holder.stdout.readline()
+            holder.kill()
+        self.check_served("a connection whose peer had gone was closed")
+
+
+class PeerTest(CallTest):
+    """What csictl makes of servers that answer otherwise."""
+
+    def ask(self, serve):
+        """What csictl shows of a reply by a function, which is given the connection. PATH is the socket."""
+        listener, path = self.listen(1)
+
+        def answer():
+            with listener.accept()[0] as peer:
+                serve(peer)
+
+        thread = threading.Thread(target=answer)
+        thread.start()
+        out, error, status = self.call(path, "Probe")
+        thread.join()
+        listener.close()
+        os.unlink(path)
+        return out, error.replace(path, "PATH"), status
+
+    def ask_pieces(self, *pieces):
+        def answer(peer):
+            while peer.recv(4096):
+                pass
+            for piece in pieces:
+                peer.sendall(piece)
+                time.sleep(0.01)
+
+        return self.ask(answer)
+
+    def test_reply_in_pieces_is_shown(self):
+        self.assertEqual(self.ask_pieces(READY[:3], READY[3:9], READY[9:]), (SHOWN, "", 0))
+        self.assertEqual(self.ask_pieces(*[bytes([byte]) for byte in READY]), (SHOWN, "", 0))
+
+    def test_bytes_after_the_reply_are_ignored(self):
+        self.assertEqual(self.ask_pieces(READY + b"\x01\x02\x03"), (SHOWN, "", 0))
+
+    def test_fault_of_the_reply_is_reported(self):
+        for name, pieces, out, error, status in [
+            ("closed without a reply", [], "", "csictl: PATH: closed without a reply\n", 5),
+            ("cut short", [READY[:5]], "", "csictl: end of input at byte 5\n", 3),
+            ("malformed", [GARBAGE], "", "csictl: bad status at byte 0\n", 3),
+            ("a body that is no response", [ok("0a")], "0 OK 0a\n", Line("csictl: "), 3),
+        ]:
+            with self.subTest(name=name):
+                self.assertEqual(self.ask_pieces(*pieces), (out, error, status))
+
+    def test_connection_that_is_closed_before_the_call_is_read_is_reported(self):
+        """The close resets the connection."""
+
+        def leave(peer):
             ended = select.poll()
             ended.register(peer, select.POLLRDHUP)
             ended.poll(SECONDS * 1000)
-            peer.close()
 
-        self.row(
-            "call: closed with the call not taken",
-            ask_of(leave),
-            ("", "csictl: %s: a read failed\n" % path, 5),
-        )
-        listener.close()
-        os.unlink(path)
+        self.assertEqual(self.ask(leave), ("", "csictl: PATH: a read failed\n", 5))
 
-    def test_long_waits(self):
-        """A try without a reply after 3 seconds is a line, once."""
-        path = os.path.join(self.folder, "slow.sock")
-        listener = socket.socket(socket.AF_UNIX)
-        listener.bind(path)
-        listener.listen(0)
+
+class LongWaitTest(CallTest):
+    """A try without a reply after 3 seconds is reported, once."""
+
+    def test_reply_after_4_seconds_is_shown(self):
+        listener, path = self.listen(0)
 
         def answer_late():
-            peer, _ = listener.accept()
-            while peer.recv(4096):
-                pass
-            time.sleep(4)
-            peer.sendall(READY)
-            peer.close()
-
-        def ask(*words):
-            return text(
-                run([self.csictl, "call", "--socket", path, "--method", "Probe"] + list(words), input=b"")
-            )
+            with listener.accept()[0] as peer:
+                while peer.recv(4096):
+                    pass
+                time.sleep(4)
+                peer.sendall(READY)
 
         thread = threading.Thread(target=answer_late)
         thread.start()
-        came = ask()
+        self.assertEqual(self.call(path, "Probe"), (SHOWN, waits(path), 0))
         thread.join()
-        self.row("answered after 4 s", came, (SHOWN, waits(path), 0))
+
+    def test_wait_ends_with_the_time_of_the_option(self):
+        """Nobody takes the first connection from the backlog. For the later ones it has no room."""
+        _, path = self.listen(0)
         late = "csictl: %s: %s\n" % (path, LATE)
-        # Nobody takes it from the backlog: it is connected, and not answered.
-        self.row("7 s without an answer", ask("--timeout", "7"), ("", waits(path) + late, 5))
-        self.row("no longer than 3 s", ask("--timeout", "3"), ("", late, 5))
-        self.row("no room for one more", ask("--timeout", "4"), ("", waits(path) + late, 5))
-        listener.close()
+        for seconds, error in ("7", waits(path) + late), ("3", late), ("4", waits(path) + late):
+            with self.subTest(seconds=seconds):
+                self.assertEqual(self.call(path, "Probe", "--timeout", seconds), ("", error, 5))
 
-    def test_socket_that_is_not_given(self):
-        """Without --socket the environment names it, and without that it is where the units have it."""
-        server = Server(self.csid, os.path.join(self.folder, "c.sock"), "--connections", "4")
-        probe = [self.csictl, "call", "--method", "Probe"]
-        shown = (SHOWN, "", 0)
 
-        def ask(words, **variables):
-            rest = {name: value for name, value in os.environ.items() if name != "CSID_SOCKET"}
-            return text(run(words, input=b"", env={**rest, **variables}))
+# Runs a command in a mount namespace where /run is empty, but for what is made there.
+IN_RUN = 'mount -t tmpfs none /run && mkdir /run/csid && %s && exec %s "$@"'
 
-        self.row("by the environment", ask(probe, CSID_SOCKET=server.path), shown)
-        self.row("--socket first", ask(probe + ["--socket", server.path], CSID_SOCKET="no.sock"), shown)
-        self.row(
-            "an environment that is no text",
-            ask(probe, CSID_SOCKET=b"\xff"),
-            ("", "csictl: CSID_SOCKET: no text\n", 2),
-        )
+
+class PlaceTest(CallTest):
+    """Without --socket the environment names it, and without that it is where the units have it."""
+
+    def probe(self, *before, program=None, **variables):
+        """What csictl shows of a Probe, where another command may start it."""
+        rest = {name: value for name, value in os.environ.items() if name != "CSID_SOCKET"}
+        words = [*before, program or self.csictl, "call", "--method", "Probe"]
+        return text(run(words, input=b"", env={**rest, **variables}))
+
+    def in_run(self, made, start=""):
+        words = ["unshare", "--mount", "sh", "-c", IN_RUN % (made, start), "sh"]
+        if run(words + ["true"])[2] != 0:
+            self.skipTest("no other /run can be put in the place of this one here")
+        return words
+
+    def test_environment_names_the_socket(self):
+        self.assertEqual(self.probe(CSID_SOCKET=self.serve().path), (SHOWN, "", 0))
+
+    def test_option_is_taken_before_the_environment(self):
+        came = self.call(self.serve().path, "Probe", env={**os.environ, "CSID_SOCKET": "no.sock"})
+        self.assertEqual(came, (SHOWN, "", 0))
+
+    def test_environment_that_is_no_text_is_refused(self):
+        self.assertEqual(self.probe(CSID_SOCKET=b"\xff"), ("", "csictl: CSID_SOCKET: no text\n", 2))
+
+    def test_socket_is_sought_in_run(self):
+        path = self.serve().path
+        csid = "ln -s %s /run/csid/csid.sock" % path
+        control = "mkdir /run/csid-front && ln -s %s /run/csid-front/control.sock" % path
         neither = (
             "csictl: no socket: give --socket PATH, or CSID_SOCKET in the environment; neither"
             " /run/csid-front/control.sock nor /run/csid/csid.sock exists\n"
         )
-        # In a mount namespace of its own /run is empty, but for what a row puts there.
-        put = "mount -t tmpfs none /run && mkdir /run/csid /run/csid-front && %s && exec \"$@\""
-        places = ("csid-front/control.sock", "csid/csid.sock")
-        control, csid = ("ln -s %s /run/%s" % (server.path, place) for place in places)
-        if run(["unshare", "--mount", "sh", "-c", put % "true", "sh", "true"])[2] == 0:
-            for name, made, variable, wanted in [
-                ("none", "true", "", ("", neither, 2)),
-                ("the control socket first", control + " && touch /run/csid/csid.sock", "", shown),
-                ("the socket of csid", csid, "", shown),
-                (
-                    "the environment first",
-                    control,
-                    "no.sock",
-                    ("", "csictl: no.sock: No such file or directory (os error 2)\n", 5),
-                ),
-            ]:
-                came = ask(["unshare", "--mount", "sh", "-c", put % made, "sh", *probe], CSID_SOCKET=variable)
-                self.row("in /run: " + name, came, wanted)
-        server.kill()
+        absent = "csictl: no.sock: No such file or directory (os error 2)\n"
+        for name, made, variable, wanted in [
+            ("none", "true", "", ("", neither, 2)),
+            ("the control socket first", control + " && touch /run/csid/csid.sock", "", (SHOWN, "", 0)),
+            ("the socket of csid", csid, "", (SHOWN, "", 0)),
+            ("the environment first", control, "no.sock", ("", absent, 5)),
+        ]:
+            with self.subTest(name=name):
+                self.assertEqual(self.probe(*self.in_run(made), CSID_SOCKET=variable), wanted)
 
-    def test_place_that_may_not_be_looked_into(self):
-        """The first place is taken where this user may not see whether it exists, and connecting says why."""
+    def test_place_that_may_not_be_looked_into_is_taken(self):
+        """This user may not see whether it exists, and connecting says why."""
         if os.geteuid() != 0 or not shutil.which("setpriv"):
             self.skipTest("the user nobody cannot be taken here")
         program, _ = copy_for_nobody(self.csictl, self.folder)
-        put = (
-            "mount -t tmpfs none /run && mkdir /run/csid && touch /run/csid/csid.sock"
-            " && mkdir -m 700 /run/csid-front"
-            ' && exec setpriv --reuid 65534 --regid 65534 --clear-groups "$@"'
-        )
-        words = ["unshare", "--mount", "sh", "-c", put, "sh", program]
-        if run(words + ["--version"])[2] != 0:
-            self.skipTest("no other /run can be put in the place of this one here")
-        rest = {name: value for name, value in os.environ.items() if name != "CSID_SOCKET"}
-        self.row(
-            "a folder of another user",
-            text(run(words + ["call", "--method", "Probe"], input=b"", env=rest)),
-            ("", "csictl: /run/csid-front/control.sock: Permission denied (os error 13)\n", 5),
-        )
+        made = "touch /run/csid/csid.sock && mkdir -m 700 /run/csid-front"
+        before = self.in_run(made, "setpriv --reuid 65534 --regid 65534 --clear-groups")
+        line = "csictl: /run/csid-front/control.sock: Permission denied (os error 13)\n"
+        self.assertEqual(self.probe(*before, program=program), ("", line, 5))
 
-    def test_tries(self):
-        """A call that is tried again: what is sent, what is said, and that there is a pause before each
-        further try.
-        """
+
+# More than a socket holds: the rest waits until it is read, or the time is over.
+LARGE = [
+    *(CREATE, "--name", "a" * 100_000),
+    *("--parameters", "k=" + "v" * 100_000, "--topology", "zone=" + "z" * 100_000),
+]
+
+
+class TriesTest(CallTest):
+    """A call that is tried again, or whose time is over."""
+
+    def test_call_is_tried_as_often_as_asked(self):
         for name, words, deeds, out, reasons, last, status in TRIED:
-            peer = Peer(self.folder, deeds)
-            came = text(
-                run([self.csictl, "call", "--socket", peer.path, "--method", "Probe"] + words, input=b"")
-            )
-            said = "".join(
-                "csictl: %s: %s: try %d of %s\n" % (peer.path, why, turn, words[1])
-                for turn, why in enumerate(reasons, 2)
-            )
-            if last:
-                said += "csictl: %s%s\n" % (peer.path if last.startswith(":") else "", last)
-            self.row("" + name, came, (out, said, status))
-            calls, pauses = peer.end(), peer.pauses()
-            self.row("the same call each time: " + name, calls, [call(IDENTITY + "Probe", "")] * len(deeds))
-            # Half of each pause is fixed: 50 ms, and twice as much after each try.
-            self.row(
-                "paused: " + name,
-                [pause >= 0.05 * (1 << turn) for turn, pause in enumerate(pauses)],
-                [True] * len(pauses),
-            )
+            with self.subTest(name=name):
+                peer = Peer(self.folder, deeds)
+                came = self.call(peer.path, "Probe", *words)
+                error = "".join(
+                    "csictl: %s: %s: try %d of %s\n" % (peer.path, why, turn, words[1])
+                    for turn, why in enumerate(reasons, 2)
+                )
+                if last:
+                    error += "csictl: %s%s\n" % (peer.path if last.startswith(":") else "", last)
+                self.assertEqual(came, (out, error, status))
+                self.assertEqual(peer.end(), [PROBE] * len(deeds))
+                # Half of each pause is fixed: 50 ms, and twice as much after each try.
+                for turn, pause in enumerate(peer.pauses()):
+                    self.assertGreaterEqual(pause, 0.05 * (1 << turn))
+
+    def test_missing_socket_is_tried_again(self):
         path = os.path.join(self.folder, "nobody.sock")
-        nobody = "csictl: %s: No such file or directory (os error 2)" % path
-        came = text(
-            run([self.csictl, "call", "--socket", path, "--method", "Probe", "--tries", "3"], input=b"")
-        )
-        self.row(
-            "nobody listens",
-            came,
-            ("", nobody + ": try 2 of 3\n" + nobody + ": try 3 of 3\n" + nobody + "\n", 5),
-        )
-        listener = socket.socket(socket.AF_UNIX)
-        listener.bind(path)
-        listener.listen(0)
-        first = socket.socket(socket.AF_UNIX)
+        line = "csictl: %s: No such file or directory (os error 2)" % path
+        error = line + ": try 2 of 3\n" + line + ": try 3 of 3\n" + line + "\n"
+        self.assertEqual(self.call(path, "Probe", "--tries", "3"), ("", error, 5))
+
+    def test_connection_without_room_ends_with_the_time(self):
+        _, path = self.listen(0)
+        first = self.enterContext(socket.socket(socket.AF_UNIX))
         first.connect(path)
         late = ("", "csictl: %s: %s\n" % (path, LATE), 5)
-        self.row(
-            "no room for one more connection",
-            text(
-                run([self.csictl, "call", "--socket", path, "--method", "Probe", "--timeout", "1"], input=b"")
-            ),
-            late,
-        )
-        first.close()
-        listener.accept()[0].close()
-        # More than a socket holds: the rest waits until it is read, or the time is over.
-        large = [
-            "--method",
-            CREATE,
-            "--name",
-            "a" * 100_000,
-            "--parameters",
-            "k=" + "v" * 100_000,
-            "--topology",
-            "zone=" + "z" * 100_000,
-        ]
-        self.row(
-            "a call that nobody reads",
-            text(run([self.csictl, "call", "--socket", path, "--timeout", "1"] + large, input=b"")),
-            late,
-        )
-        listener.accept()[0].close()
+        self.assertEqual(self.call(path, "Probe", "--timeout", "1"), late)
+
+    def test_call_that_nobody_reads_ends_with_the_time(self):
+        _, path = self.listen(0)
+        late = ("", "csictl: %s: %s\n" % (path, LATE), 5)
+        self.assertEqual(self.call(path, *LARGE, "--timeout", "1"), late)
+
+    def test_call_that_is_read_late_is_sent_whole(self):
+        listener, path = self.listen(0)
         sent = []
 
         def read_late():
-            peer, _ = listener.accept()
-            time.sleep(0.3)
-            while piece := peer.recv(1 << 16):
-                sent.append(piece)
-            peer.sendall(refusal(3, "name is too long"))
-            peer.close()
+            with listener.accept()[0] as peer:
+                time.sleep(0.3)
+                while piece := peer.recv(1 << 16):
+                    sent.append(piece)
+                peer.sendall(refusal(3, "name is too long"))
 
         thread = threading.Thread(target=read_late)
         thread.start()
-        came = text(run([self.csictl, "call", "--socket", path, "--timeout", "20"] + large, input=b""))
+        came = self.call(path, *LARGE, "--timeout", "20")
         thread.join()
-        self.row("a call that is read late", came, ("3 INVALID_ARGUMENT name is too long\n", "", 1))
-        self.row("all of it was read", b"".join(sent), run([self.csictl, "frame"] + large, input=b"")[0])
-        listener.close()
-        os.unlink(path)
+        self.assertEqual(came, ("3 INVALID_ARGUMENT name is too long\n", "", 1))
+        whole = run([self.csictl, "frame", "--method", *LARGE], input=b"")[0]
+        self.assertTrue(b"".join(sent) == whole)

@@ -302,124 +302,75 @@ def asked_of(connections):
 
 
 class JsonTest(CsictlTest):
-    """Replies as JSON, and walks over all pages."""
+    """`csictl call --json`: replies as JSON."""
 
-    def test_json(self):
-        """Replies as JSON, and walks over pages."""
-        for name, method, reply, line in JSON:
-            peer = Peer(self.folder, [reply])
-            came = text(
-                run([self.csictl, "call", "--json", "--socket", peer.path, "--method", method], input=b"")
-            )
-            self.row("" + name, came, (line + "\n", "", 0))
-            peer.end()
-        for name, reply, line, said, status in [
-            ("a refusal", refusal(5, "volume not found"), '{"code":5,"message":"volume not found"}\n', "", 1),
-            (
-                "a body that is no response",
-                ok("0a"),
-                "",
-                "csictl: the body is no response of the method\n",
-                3,
-            ),
-        ]:
-            peer = Peer(self.folder, [reply])
-            self.row(
-                "" + name,
-                text(
-                    run(
-                        [self.csictl, "call", "--json", "--socket", peer.path, "--method", "Probe"], input=b""
-                    )
-                ),
-                (line, said, status),
-            )
-            peer.end()
-        peer = Peer(self.folder, [READY])
-        with open("/dev/full", "wb") as full:
-            self.row(
-                "an output that takes nothing",
-                run(
-                    [self.csictl, "call", "--json", "--socket", peer.path, "--method", "Probe"],
-                    input=b"",
-                    stdout=full,
-                ),
-                (None, Line("csictl: standard output: "), 5),
-            )
+    def call_json(self, method, reply, **streams):
+        """What csictl shows of the reply of a server."""
+        peer = Peer(self.folder, [reply])
+        words = ["call", "--json", "--socket", peer.path, "--method", method]
+        came = run([self.csictl, *words], input=b"", **streams)
         peer.end()
+        return came
+
+    def test_reply_is_one_line(self):
+        for name, method, reply, line in JSON:
+            with self.subTest(name=name):
+                self.assertEqual(text(self.call_json(method, reply)), (line + "\n", "", 0))
+
+    def test_refusal_is_an_object(self):
+        came = self.call_json("Probe", refusal(5, "volume not found"))
+        self.assertEqual(text(came), ('{"code":5,"message":"volume not found"}\n', "", 1))
+
+    def test_body_that_is_no_response_is_reported(self):
+        line = "csictl: the body is no response of the method\n"
+        self.assertEqual(text(self.call_json("Probe", ok("0a"))), ("", line, 3))
+
+    def test_full_output_is_reported(self):
+        with open("/dev/full", "wb") as full:
+            came = self.call_json("Probe", READY, stdout=full)
+        self.assertEqual(came, (None, Line("csictl: standard output: "), 5))
+
+
+class WalkTest(CsictlTest):
+    """`csictl call --all`: a walk over all pages of ListVolumes."""
+
+    def walk(self, connections, *words):
+        """What csictl shows, with PATH for the socket, and the calls of each connection."""
+        pages = Pages(self.folder, connections)
+        words = ["call", "--all", "--socket", pages.path, "--method", "ListVolumes", *words]
+        out, error, status = text(run([self.csictl, *words], input=b""))
+        return (out, error.replace(pages.path, "PATH"), status), pages.end()
+
+    def test_each_page_is_asked_for_and_shown(self):
         for name, words, connections, out, reasons, last, status in WALKS:
-            pages = Pages(self.folder, connections)
-            asked = ["--socket", pages.path, "--method", "ListVolumes", "--max", "1", *words]
-            came = text(run([self.csictl, "call", "--all", *asked], input=b""))
-            said = "".join("csictl: PATH: %s: try 2 of 2\n" % why for why in reasons) + last
-            self.row("" + name, came, (out, said.replace("PATH", pages.path), status))
-            self.row("what was asked: " + name, pages.end(), asked_of(connections))
-        # With the six bytes before it the first token makes a message of 1,048,576 bytes, the most that a
-        # frame holds.
-        for name, token, rest, came in [
-            (
-                "that a message has room for",
-                "12faff3f" + "61" * 1048570,
-                [ok("")],
-                ('{"entries":[],"nextToken":""}\n', "", 0),
-            ),
-            (
-                "that is a byte longer",
-                "12fbff3f" + "61" * 1048571,
-                [],
-                ("", "csictl: the message has more than 1048576 bytes\n", 2),
-            ),
-        ]:
-            pages = Pages(self.folder, [[ok(token)] + rest])
-            asked = [
-                self.csictl,
-                "call",
-                "--all",
-                "--json",
-                "--timeout",
-                "10",
-                "--socket",
-                pages.path,
-                "--method",
-                "ListVolumes",
-                "--max",
-                "1",
-            ]
-            self.row("a token " + name, text(run(asked, input=b"")), came)
-            self.row(
-                "what was asked: a token " + name,
-                pages.end()
-                == [[call(CONTROLLER + "ListVolumes", "0801" + it) for it in ["", token][: 1 + len(rest)]]],
-                True,
-            )
+            with self.subTest(name=name):
+                error = "".join("csictl: PATH: %s: try 2 of 2\n" % why for why in reasons) + last
+                came, asked = self.walk(connections, "--max", "1", *words)
+                self.assertEqual(came, (out, error, status))
+                self.assertEqual(asked, asked_of(connections))
+
+    # With the six bytes before it the first token makes a message of 1,048,576 bytes, the most that a frame
+    # holds. The second one is a byte longer.
+
+    def test_longest_token_is_sent(self):
+        token = "12faff3f" + "61" * 1048570
+        came, asked = self.walk([[ok(token), ok("")]], "--json", "--timeout", "10", "--max", "1")
+        self.assertEqual(came, ('{"entries":[],"nextToken":""}\n', "", 0))
+        calls = [call(CONTROLLER + "ListVolumes", "0801" + it) for it in ("", token)]
+        self.assertTrue(asked == [calls])
+
+    def test_longer_token_is_refused(self):
+        token = "12fbff3f" + "61" * 1048571
+        came, asked = self.walk([[ok(token)]], "--json", "--timeout", "10", "--max", "1")
+        self.assertEqual(came, ("", "csictl: the message has more than 1048576 bytes\n", 2))
+        self.assertEqual(asked, [[call(CONTROLLER + "ListVolumes", "0801")]])
+
+    def test_102_pages_are_walked(self):
         tokens = ["12%02x%s" % (len(str(number)), str(number).encode().hex()) for number in range(1, 102)]
-        pages = Pages(self.folder, [[ok(token) for token in tokens] + [ok("")]])
-        self.row(
-            "102 pages",
-            text(
-                run(
-                    [
-                        self.csictl,
-                        "call",
-                        "--all",
-                        "--json",
-                        "--socket",
-                        pages.path,
-                        "--method",
-                        "ListVolumes",
-                    ],
-                    input=b"",
-                )
-            ),
-            ('{"entries":[],"nextToken":""}\n', "", 0),
-        )
-        self.row(
-            "what was asked: 102 pages",
-            pages.end(),
-            [[call(CONTROLLER + "ListVolumes", token) for token in ["", *tokens]]],
-        )
-        pages = Pages(self.folder, [[ok(entry(3))]])
-        run(
-            [self.csictl, "call", "--all", "--socket", pages.path, "--method", "ListVolumes", "--token", "2"],
-            input=b"",
-        )
-        self.row("from a token on", pages.end(), [[call(CONTROLLER + "ListVolumes", "120132")]])
+        came, asked = self.walk([[ok(token) for token in tokens] + [ok("")]], "--json")
+        self.assertEqual(came, ('{"entries":[],"nextToken":""}\n', "", 0))
+        self.assertEqual(asked, [[call(CONTROLLER + "ListVolumes", token) for token in ["", *tokens]]])
+
+    def test_walk_begins_at_the_given_token(self):
+        asked = self.walk([[ok(entry(3))]], "--token", "2")[1]
+        self.assertEqual(asked, [[call(CONTROLLER + "ListVolumes", "120132")]])

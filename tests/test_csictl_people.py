@@ -684,7 +684,7 @@ class SlowPages(Pages):
             self.calls.append([])
             for answer in part:
                 self.calls[-1].append(next_call(calls))
-                time.sleep(0.6)
+                time.sleep(1.6)
                 peer.sendall(answer)
             calls.read()
 
@@ -703,17 +703,17 @@ class PeopleTest(AskTest):
         """Compares what comes of the pages of a server, and what it was asked."""
         pages = Pages(self.folder, connections)
         out, said, status = wanted
-        self.row(name, self.ask(pages.path, *words), (out, said.replace("PATH", pages.path), status))
+        self.check(name, self.ask(pages.path, *words), (out, said.replace("PATH", pages.path), status))
         asked = [[call(CONTROLLER + "ListVolumes", token) for token in of] for of in tokens]
-        self.row("what was asked: " + name, pages.end(), asked)
+        self.check("what was asked: " + name, pages.end(), asked)
 
     def change(self, name, words, method, message, reply, wanted):
         """Compares what comes of a change, and what the server was asked."""
         peer = Peer(self.folder, [reply])
         out, said, status = wanted
-        self.row(name, self.ask(peer.path, *words), (out, said.replace("PATH", peer.path), status))
+        self.check(name, self.ask(peer.path, *words), (out, said.replace("PATH", peer.path), status))
         calls = peer.end()
-        self.row("what was asked: " + name, calls, [call(CONTROLLER + method, message.replace(" ", ""))])
+        self.check("what was asked: " + name, calls, [call(CONTROLLER + method, message.replace(" ", ""))])
 
     def test_listings(self):
         """What entries of listings say."""
@@ -726,8 +726,8 @@ class PeopleTest(AskTest):
     def test_time_of_pages(self):
         """Each page has the time of --timeout, also over a connection that is kept."""
         pages = SlowPages(self.folder, [[ok(THREE[0] + NEXT), ok(THREE[1] + THREE[2])]])
-        self.row("two slow pages", self.ask(pages.path, "volumes", "--timeout", "1"), (VOLUMES, "", 0))
-        self.row("what was asked", len(pages.end()[0]), 2)
+        self.check("two slow pages", self.ask(pages.path, "volumes", "--timeout", "3"), (VOLUMES, "", 0))
+        self.check("what was asked", len(pages.end()[0]), 2)
 
     def test_changes(self):
         """The calls of changes, and what is said of their replies."""
@@ -757,10 +757,10 @@ class PeopleTest(AskTest):
     def test_words_that_are_refused(self):
         """Nothing is sent where the words are not understood."""
         for words, said in REFUSED:
-            self.row("refused: " + " ".join(words), self.ask("s", *words), ("", Line("csictl: ", said), 2))
+            self.check("refused: " + " ".join(words), self.ask("s", *words), ("", Line("csictl: ", said), 2))
         for size in NO_SIZES:
             words = ["create", "a", "--size=" + size]
-            self.row("refused: " + words[2], self.ask("s", *words), ("", Line("csictl: ", "--size"), 2))
+            self.check("refused: " + words[2], self.ask("s", *words), ("", Line("csictl: ", "--size"), 2))
 
     def test_over_csid(self):
         """The commands over csid, in order."""
@@ -779,7 +779,7 @@ class PeopleTest(AskTest):
             (["delete", "vol-1"], "deleted vol-1\n", 0),
             (["volumes"], HEADINGS, 0),
         ]:
-            self.row("over csid: " + " ".join(words), self.ask(server.path, *words), (out, "", status))
+            self.check("over csid: " + " ".join(words), self.ask(server.path, *words), (out, "", status))
         server.kill()
 
 
@@ -792,9 +792,9 @@ class RemovalTest(AskTest):
         """
         pages = Pages(self.folder, [[answer for _, answer in part] for part in connections])
         out, said, status = wanted
-        self.row(name, self.ask(pages.path, *words), (out, said.replace("PATH", pages.path), status))
+        self.check(name, self.ask(pages.path, *words), (out, said.replace("PATH", pages.path), status))
         asked = [[question for question, _ in part] for part in connections]
-        self.row("what was asked: " + name, pages.end(), asked)
+        self.check("what was asked: " + name, pages.end(), asked)
 
     def test_what_is_there_is_removed_over_the_same_connection(self):
         for words, token, page, removal, reply, *wanted in REMOVALS:
@@ -821,7 +821,7 @@ class RemovalTest(AskTest):
         self.ask(server.path, "publish", "vol-1", "n1")
         self.ask(server.path, "delete", "vol-3")
         for words, *wanted in rows:
-            self.row("over csid: " + " ".join(words), self.ask(server.path, *words), tuple(wanted))
+            self.check("over csid: " + " ".join(words), self.ask(server.path, *words), tuple(wanted))
         server.kill()
 
     def test_csid_has_nothing_to_remove(self):

@@ -16,10 +16,10 @@ from tests.support.csictl import (
     ok,
     refusal,
     run,
-    small_memory,
     text,
 )
 from tests.support.processes import TOP
+from tests.support.processes import small_memory
 from tests.support.rows import CsictlTest
 
 
@@ -287,90 +287,72 @@ def left_open(words, given):
 class ShowTest(CsictlTest):
     """csictl alone: `show`, `frame` and its words."""
 
-    def test_alone(self):
-        """Rows of csictl alone."""
+    def show(self, *words, **how):
+        return text(run([self.csictl, *words], **how))
+
+    def test_replies_are_shown(self):
         for name, words, given, out, err, status in SHOW:
-            self.row(name, text(run([self.csictl] + words, input=given)), (out, err, status))
+            with self.subTest(name=name):
+                self.assertEqual(self.show(*words, input=given), (out, err, status))
+
+    def test_frames_are_written(self):
         for name, words, path, message in FRAMES:
-            self.row(
-                "a frame: " + name,
-                run([self.csictl, "frame", "--method"] + words, input=b""),
-                (call(path, message.replace(" ", "")), "", 0),
-            )
+            with self.subTest(name=name):
+                came = run([self.csictl, "frame", "--method", *words], input=b"")
+                self.assertEqual(came, (call(path, message.replace(" ", "")), "", 0))
+
+    def test_words_are_refused(self):
         for words, part in REFUSED:
-            self.row(
-                "refused: " + " ".join(words),
-                text(run([self.csictl] + words, input=READY)),
-                ("", Line("csictl: ", part), 2),
-            )
+            with self.subTest(words=words):
+                self.assertEqual(self.show(*words, input=READY), ("", Line("csictl: ", part), 2))
+
+    def test_word_that_is_no_text_is_refused(self):
+        came = self.show("show", b"\xff", input=READY)
+        self.assertEqual(came, ("", "csictl: a word is no text\n", 2))
+
+    def test_help_names_words(self):
         for words, parts in [
             (["--help"], ["show", "frame", "call", "vectors"]),
             (["frame", "--help"], ["--required", "bytes", "--parameters", "--mutable", "KEY=VALUE"]),
             (["--version"], ["csictl " + VERSION]),
         ]:
-            self.row(
-                "help: " + " ".join(words),
-                text(run([self.csictl] + words, input=b"")),
-                (Shown(*parts), "", 0),
-            )
-        with open("/dev/full", "wb") as full:
-            self.row(
-                "an output that takes nothing",
-                run([self.csictl], input=READY, stdout=full),
-                (None, "csictl: a write to standard output failed\n", 5),
-            )
-            self.row(
-                "a frame that cannot be written",
-                run([self.csictl, "frame", "--method", "Probe"], input=b"", stdout=full),
-                (None, Line("csictl: standard output: "), 5),
-            )
-            self.row(
-                "help that cannot be written",
-                run([self.csictl, "--help"], input=b"", stdout=full),
-                (None, "csictl: a write to standard output failed\n", 5),
-            )
-        self.row(
-            "a word that is no text",
-            text(run([self.csictl, "show", b"\xff"], input=READY)),
-            ("", "csictl: a word is no text\n", 2),
-        )
-        self.folder = os.open(TOP, os.O_RDONLY)
-        self.row(
-            "an input that cannot be read",
-            text(run([self.csictl], stdin=self.folder)),
-            ("", "csictl: a read of standard input failed\n", 5),
-        )
-        os.close(self.folder)
-        self.row(
-            "an input that stays open after a fault",
-            left_open([self.csictl], bytes.fromhex("01")),
-            ("", "csictl: bad status at byte 0\n", 3),
-        )
-        self.row(
-            "and after a body that is no response",
-            left_open([self.csictl, "show", "--method", "Probe"], ok("0a")),
-            ("0 OK 0a\n", Line("csictl: "), 3),
-        )
-        self.row(
-            "no memory",
-            text(run([self.csictl], input=READY, preexec_fn=small_memory)),
-            ("", "csictl: out of memory\n", 6),
-        )
-        self.row(
-            "no memory for its words",
-            text(run([self.csictl] + ["x" * 100_000] * 8, input=READY, preexec_fn=small_memory)),
-            ("", "csictl: out of memory\n", 6),
-        )
+            with self.subTest(words=words):
+                self.assertEqual(self.show(*words, input=b""), (Shown(*parts), "", 0))
 
-    def test_cut_replies(self):
-        """A reply cut at every byte: all that was whole is shown, and the end is said."""
+    def test_full_output_is_reported(self):
+        line = "csictl: a write to standard output failed\n"
+        for words, error in [
+            ([], line),
+            (["frame", "--method", "Probe"], Line("csictl: standard output: ")),
+            (["--help"], line),
+        ]:
+            with self.subTest(words=words), open("/dev/full", "wb") as full:
+                came = run([self.csictl, *words], input=READY if not words else b"", stdout=full)
+                self.assertEqual(came, (None, error, 5))
+
+    def test_input_that_cannot_be_read_is_reported(self):
+        folder = os.open(TOP, os.O_RDONLY)
+        self.addCleanup(os.close, folder)
+        line = "csictl: a read of standard input failed\n"
+        self.assertEqual(self.show(stdin=folder), ("", line, 5))
+
+    def test_input_that_stays_open_is_not_waited_for_after_a_fault(self):
+        bad = left_open([self.csictl], bytes.fromhex("01"))
+        self.assertEqual(bad, ("", "csictl: bad status at byte 0\n", 3))
+        no_response = left_open([self.csictl, "show", "--method", "Probe"], ok("0a"))
+        self.assertEqual(no_response, ("0 OK 0a\n", Line("csictl: "), 3))
+
+    def test_want_of_memory_is_reported(self):
+        for name, words in ("for a reply", []), ("for words", ["x" * 100_000] * 8):
+            with self.subTest(name=name):
+                came = self.show(*words, input=READY, preexec_fn=small_memory)
+                self.assertEqual(came, ("", "csictl: out of memory\n", 6))
+
+    def test_whole_replies_before_a_cut_are_shown(self):
+        """A stream of two replies is cut at every byte."""
         replies = READY + refusal(6, EXISTS)
-        for at in range(1, len(replies)):
-            if at == len(READY):
-                continue
-            shown = "0 OK 0a020801\n" if at > len(READY) else ""
-            self.row(
-                "cut at %d" % at,
-                text(run([self.csictl], input=replies[:at])),
-                (shown, "csictl: end of input at byte %d\n" % at, 3),
-            )
+        for at in [*range(1, len(READY)), *range(len(READY) + 1, len(replies))]:
+            with self.subTest(at=at):
+                out = "0 OK 0a020801\n" if at > len(READY) else ""
+                error = "csictl: end of input at byte %d\n" % at
+                self.assertEqual(self.show(input=replies[:at]), (out, error, 3))

@@ -3,75 +3,54 @@
 import os
 
 from tests.support.csictl import IDENTITY, Line, READY, call, run, text
+from tests.support.processes import write
 from tests.support.rows import CsictlTest
+
+PROBE, ANSWER = call(IDENTITY + "Probe", "").hex(), READY.hex()
+# Each row: what it shows, the file, standard output, the line that is no vector, the status.
+ROWS = [
+    ("one", "probe %s %s\n" % (PROBE, ANSWER), "ok probe\n", None, 0),
+    ("no last end of line, upper case", "probe %s %s" % (PROBE.upper(), ANSWER), "ok probe\n", None, 0),
+    ("nothing of all", "none - -\n", "ok none\n", None, 0),
+    ("comments and empty lines", "# probe\n\nnone - -\n", "ok none\n", None, 0),
+    ("an output that differs", "probe %s 00\nnone - -\n" % PROBE, "FAIL probe\nok none\n", None, 1),
+    ("an output that is longer", "probe %s %s00\n" % (PROBE, ANSWER), "FAIL probe\n", None, 1),
+    ("an output that is shorter", "probe %s %s\n" % (PROBE, ANSWER[:-2]), "FAIL probe\n", None, 1),
+    ("two words", "none - -\nprobe -\nnone - -\n", "ok none\n", 2, 2),
+    ("four words", "none - - -\n", "", 1, 2),
+    ("two spaces", "none  -\n", "", 1, 2),
+    ("half a byte", "none 0 -\n", "", 1, 2),
+    ("no digits", "none 0g -\n", "", 1, 2),
+    ("a line that is no text", b"none - -\n\xff - -\n", "ok none\n", 2, 2),
+    ("a comment that is no text", b"# \xff\nnone - -\n", "ok none\n", None, 0),
+]
 
 
 class VectorsTest(CsictlTest):
     """`csictl vectors`."""
 
-    def test_files(self):
-        """Files of vectors."""
-        probe = call(IDENTITY + "Probe", "").hex()
-        path = os.path.join(self.folder, "vectors")
-        for name, lines, out, err, status in [
-            ("one", "probe %s %s\n" % (probe, READY.hex()), "ok probe\n", "", 0),
-            (
-                "no last end of line, upper case",
-                "probe %s %s" % (probe.upper(), READY.hex()),
-                "ok probe\n",
-                "",
-                0,
-            ),
-            ("nothing of all", "none - -\n", "ok none\n", "", 0),
-            ("comments and empty lines", "# probe\n\nnone - -\n", "ok none\n", "", 0),
-            ("an output that differs", "probe %s 00\nnone - -\n" % probe, "FAIL probe\nok none\n", "", 1),
-            ("an output that is longer", "probe %s %s00\n" % (probe, READY.hex()), "FAIL probe\n", "", 1),
-            ("an output that is shorter", "probe %s %s\n" % (probe, READY.hex()[:-2]), "FAIL probe\n", "", 1),
-            (
-                "two words",
-                "none - -\nprobe -\nnone - -\n",
-                "ok none\n",
-                "csictl: %s: line 2 is no vector\n" % path,
-                2,
-            ),
-            ("four words", "none - - -\n", "", "csictl: %s: line 1 is no vector\n" % path, 2),
-            ("two spaces", "none  -\n", "", "csictl: %s: line 1 is no vector\n" % path, 2),
-            ("half a byte", "none 0 -\n", "", "csictl: %s: line 1 is no vector\n" % path, 2),
-            ("no digits", "none 0g -\n", "", "csictl: %s: line 1 is no vector\n" % path, 2),
-        ]:
-            with open(path, "w") as file:
-                file.write(lines)
-            self.row("" + name, text(run([self.csictl, "vectors", path], input=b"")), (out, err, status))
-        with open(path, "wb") as file:
-            file.write(b"none - -\n\xff - -\n")
-        self.row(
-            "a line that is no text",
-            text(run([self.csictl, "vectors", path], input=b"")),
-            ("ok none\n", "csictl: %s: line 2 is no vector\n" % path, 2),
-        )
-        with open(path, "wb") as file:
-            file.write(b"# \xff\nnone - -\n")
-        self.row(
-            "a comment that is no text",
-            text(run([self.csictl, "vectors", path], input=b"")),
-            ("ok none\n", "", 0),
-        )
-        with open(path, "w") as file:
-            file.write("none - -\n")
+    def setUp(self):
+        super().setUp()
+        self.path = os.path.join(self.folder, "vectors")
+
+    def test_each_vector_has_a_line(self):
+        for name, content, out, number, status in ROWS:
+            with self.subTest(name=name):
+                write(self.path, content if isinstance(content, bytes) else content.encode())
+                error = "csictl: %s: line %d is no vector\n" % (self.path, number) if number else ""
+                came = run([self.csictl, "vectors", self.path], input=b"")
+                self.assertEqual(text(came), (out, error, status))
+
+    def test_full_output_is_reported(self):
+        write(self.path, b"none - -\n")
         with open("/dev/full", "wb") as full:
-            self.row(
-                "an output that takes nothing",
-                run([self.csictl, "vectors", path], input=b"", stdout=full),
-                (None, "csictl: a write to standard output failed\n", 5),
-            )
-        missing = os.path.join(self.folder, "missing")
-        self.row(
-            "no file",
-            text(run([self.csictl, "vectors", missing], input=b"")),
-            ("", Line("csictl: " + missing), 5),
-        )
-        self.row(
-            "a read that fails, of a folder",
-            text(run([self.csictl, "vectors", self.folder], input=b"")),
-            ("", "csictl: %s: a read failed\n" % self.folder, 5),
-        )
+            came = run([self.csictl, "vectors", self.path], input=b"", stdout=full)
+        self.assertEqual(came, (None, "csictl: a write to standard output failed\n", 5))
+
+    def test_missing_file_is_reported(self):
+        came = run([self.csictl, "vectors", self.path], input=b"")
+        self.assertEqual(text(came), ("", Line("csictl: " + self.path), 5))
+
+    def test_folder_is_reported(self):
+        came = run([self.csictl, "vectors", self.folder], input=b"")
+        self.assertEqual(text(came), ("", "csictl: %s: a read failed\n" % self.folder, 5))

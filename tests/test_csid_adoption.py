@@ -462,234 +462,232 @@ def explained(name, line):
 
 
 class AdoptionTest(CsidTest):
-    """Tables that are adopted or refused: rows by hand, and files of earlier releases."""
+    """Rows by hand, which are adopted or refused."""
 
-    def refused(self, name, tables, line, config=None):
-        """The check of tables says more about a row, and then the line by which they are refused."""
-        out, said, status = tables.says(line)
+    def setUp(self):
+        super().setUp()
+        self.tables = Tables(self.csid, self.folder)
+        self.config = os.path.join(self.folder, "config.toml")
+
+    def check_refused(self, name, line, config=None):
+        """`csid --check-tables` explains a refused row, then says the line by which it is refused."""
+        out, said, status = self.tables.says(line)
         more = explained(name, line)
         if more is not None:
-            said = "csid: %s: %s\n" % (tables.path, more) + said
-        self.row("checked: " + name, tables.check(config), (out, said, status))
+            said = "csid: %s: %s\n" % (self.tables.path, more) + said
+        self.assertEqual(self.tables.check(config), (out, said, status))
 
-    def test_constraints(self):
-        """Rows that represent no State are reported by the first rule that they break."""
-        tables = Tables(self.csid, self.folder)
+    def test_rows_that_are_no_state_are_refused_and_kept(self):
         for name, text, line in SPOILED:
-            before = tables.new().script(text).rows()
-            if line is not None:
-                kept = tables.files()
-                self.refused(name, tables, line)
-                self.row("checked: to the byte as it was: " + name, tables.files(), kept)
-            self.row("adopted: " + name, tables.run(frame(PROBE)), tables.says(line))
-            self.row("adopted: as it was: " + name, tables.rows(), before)
-            if line in (OTHER_TABLES, NO_DATABASE):
-                continue
-            self.row("adopted: again: " + name, tables.run(frame(PROBE)), tables.says(line))
-        tables.new().script(GOOD + next_is(50) + "".join(spoil for spoil, _, _ in TURNS))
-        before = tables.ask("SELECT * FROM volumes"), tables.ask("SELECT rowid, * FROM attachments")
-        for _, mend, line in TURNS:
-            self.row("in turn: " + line, tables.run(frame(PROBE)), tables.says(line))
-            if mend is TURNS[0][1]:
-                self.row(
-                    "in turn: the rows are as they were",
-                    (tables.ask("SELECT * FROM volumes"), tables.ask("SELECT rowid, * FROM attachments")),
-                    before,
-                )
-            tables.script(mend)
-        self.row("in turn: all is mended", tables.run(frame(PROBE)), tables.says(None))
-        config = os.path.join(self.folder, "config.toml")
+            with self.subTest(name=name):
+                before = self.tables.new().script(text).rows()
+                if line is not None:
+                    kept = self.tables.files()
+                    self.check_refused(name, line)
+                    self.assertEqual(self.tables.files(), kept)
+                self.assertEqual(self.tables.run(frame(PROBE)), self.tables.says(line))
+                self.assertEqual(self.tables.rows(), before)
+                if line not in (OTHER_TABLES, NO_DATABASE):
+                    self.assertEqual(self.tables.run(frame(PROBE)), self.tables.says(line))
+
+    def test_first_rule_that_is_broken_is_reported(self):
+        """The rows break all rules. One after the other is fixed."""
+        rows = "SELECT * FROM volumes", "SELECT rowid, * FROM attachments"
+        self.tables.new().script(GOOD + next_is(50) + "".join(spoil for spoil, _, _ in TURNS))
+        before = list(map(self.tables.ask, rows))
+        for number, (_, fix, line) in enumerate(TURNS):
+            with self.subTest(line=line):
+                self.assertEqual(self.tables.run(frame(PROBE)), self.tables.says(line))
+                if number == 0:
+                    self.assertEqual(list(map(self.tables.ask, rows)), before)
+                self.tables.script(fix)
+        self.assertEqual(self.tables.run(frame(PROBE)), self.tables.says(None))
+
+    def test_rows_are_judged_by_the_configuration(self):
         for name, text, configuration, line in RECONFIGURED:
-            write(config, configuration)
-            tables.new().script(text)
-            if line is not None:
-                self.refused(name, tables, line, config)
-            self.row("reconfigured: " + name, tables.run(frame(PROBE), config), tables.says(line))
-        write(config, sample((b"10485760", b"%d" % (200000 * MIB))))
-        tables.new().script(MANY % (100000, BLOCK_CAPS) + next_is(200000))
-        # The limit of volumes: a new name is refused, one that exists is answered, and after a delete there
-        # is room for one.
-        other = controller("CreateVolume", CREATE_A.replace(b"\x0a\x01a", b"\x0a\x01z"))
-        first = controller("CreateVolume", CREATE_A.replace(b"\x0a\x01a", b"\x0a\x02v1"))
-        gone = controller("DeleteVolume", bytes.fromhex("0a0a") + b"vol-100000")
+            with self.subTest(name=name):
+                write(self.config, configuration)
+                self.tables.new().script(text)
+                if line is not None:
+                    self.check_refused(name, line, self.config)
+                self.assertEqual(self.tables.run(frame(PROBE), self.config), self.tables.says(line))
+
+    def fill(self, count):
+        """Tables with this many volumes, whose next number is 200000."""
+        write(self.config, sample((b"10485760", b"%d" % (200000 * MIB))))
+        self.tables.new().script(MANY % (count, BLOCK_CAPS) + next_is(200000))
+
+    def test_limit_of_volumes_is_100000(self):
+        """A new name is refused, one that exists is answered, and after a delete there is room for one."""
+        self.fill(100000)
+        names = b"\x0a\x01z", b"\x0a\x02v1", b"\x0a\x01a"
+        new, first, another = [controller("CreateVolume", CREATE_A.replace(names[2], it)) for it in names]
+        delete = controller("DeleteVolume", bytes.fromhex("0a0a") + b"vol-100000")
         # 'vol-200000' is five bytes longer than 'vol-1'.
-        made = VOLUME_1.replace(bytes.fromhex("0a24"), bytes.fromhex("0a29")).replace(
-            b"\x05vol-1", b"\x0avol-200000"
+        made = VOLUME_1.replace(bytes.fromhex("0a24"), bytes.fromhex("0a29"))
+        made = made.replace(b"\x05vol-1", b"\x0avol-200000")
+        full = refusal(8, "too many volumes")
+        wanted = full + reply(VOLUME_1) + reply(b"") + reply(made) + full
+        came = self.tables.run(new + first + delete + new + another, self.config)
+        self.assertEqual(came, (wanted, "", 0))
+        self.assertEqual(self.tables.ask("SELECT count(*), max(number) FROM volumes"), [(100000, 200000)])
+
+    def test_more_than_100000_volumes_are_refused(self):
+        self.fill(100001)
+        refused = self.tables.says("there are more than 100000 volumes")
+        self.assertEqual(self.tables.run(frame(PROBE), self.config), refused)
+
+
+BLOCK_MODE, EXT4_MODE = "1a060a001a0208%02x", "1a0c12060a04657874341a0208%02x"
+NOT_OF_VOLUME = refusal(3, "volume does not have this capability")
+ELSEWHERE = refusal(9, "volume is published elsewhere")
+OTHERWISE = refusal(6, "volume is published otherwise")
+
+
+def publish(number, node, cap):
+    volume_id = bytes.fromhex("0a05") + b"vol-%d" % number
+    return controller(
+        "ControllerPublishVolume", volume_id + bytes.fromhex("1202") + node + bytes.fromhex(cap)
+    )
+
+
+def unpublish(number):
+    return controller("ControllerUnpublishVolume", bytes.fromhex("0a05") + b"vol-%d" % number)
+
+
+# Calls over tests/stored/modes-1-to-5.db, and their replies.
+MODES_6_AND_7 = [
+    (publish(1, b"n2", BLOCK_MODE % 6), reply(WRITER)),
+    (unpublish(1), reply(b"")),
+    (publish(1, b"n2", BLOCK_MODE % 7), reply(WRITER)),
+    (publish(1, b"n1", BLOCK_MODE % 7), ELSEWHERE),
+    (unpublish(1), reply(b"")),
+    (publish(2, b"n2", EXT4_MODE % 7), reply(WRITER)),
+    (unpublish(2), reply(b"")),
+    (publish(2, b"n2", EXT4_MODE % 6), reply(WRITER)),
+    (publish(2, b"n1", BLOCK_MODE % 6), NOT_OF_VOLUME),
+    (publish(3, b"n1", BLOCK_MODE % 7), NOT_OF_VOLUME),
+    (publish(4, b"n1", BLOCK_MODE % 7), NOT_OF_VOLUME),
+    (publish(6, b"n1", BLOCK_MODE % 6), NOT_OF_VOLUME),
+    (publish(7, b"n1", BLOCK_MODE % 7), NOT_OF_VOLUME),
+    (publish(5, b"n1", BLOCK_MODE % 7), OTHERWISE),
+    (unpublish(5), reply(b"")),
+    (publish(5, b"n1", BLOCK_MODE % 7), reply(WRITER)),
+    (publish(5, b"n2", BLOCK_MODE % 7), ELSEWHERE),
+    (
+        controller("CreateVolume", b"\x0a\x05block" + bytes.fromhex(BLOCK_MODE % 7 + BLOCK_MODE % 6)),
+        reply(VOLUME_1),
+    ),
+    (
+        controller("ValidateVolumeCapabilities", VOL_1 + bytes.fromhex(BLOCK_MODE % 6)),
+        reply(bytes.fromhex("0a08 12060a001a020806")),
+    ),
+]
+
+
+class StoredTest(CsidTest):
+    """Files of earlier releases are adopted: they have format 2 then, and no row of a volume changes."""
+
+    def open_stored(self, name):
+        self.tables = Tables(self.csid, self.folder, name)
+        shutil.copy(os.path.join(TOP, "tests", "stored", name), self.tables.path)
+
+    def rows(self):
+        return (
+            self.tables.ask("SELECT * FROM volumes ORDER BY 1"),
+            self.tables.ask("SELECT * FROM attachments ORDER BY 1, 2"),
+            self.tables.ask("SELECT * FROM meta"),
         )
-        self.row(
-            "reconfigured: 100,000 volumes",
-            tables.run(other + first + gone + other + controller("CreateVolume", CREATE_A), config),
-            (
-                refusal(8, "too many volumes")
-                + reply(VOLUME_1)
-                + reply(b"")
-                + reply(made)
-                + refusal(8, "too many volumes"),
-                "",
-                0,
-            ),
-        )
-        self.row(
-            "reconfigured: their number",
-            tables.ask("SELECT count(*), max(number) FROM volumes"),
-            [(100000, 200000)],
-        )
-        tables.script(volume(100000))
-        self.row(
-            "reconfigured: 100,001 volumes",
-            tables.run(frame(PROBE), config),
-            tables.says("there are more than 100000 volumes"),
-        )
 
-    def test_modes_1_to_5(self):
-        """A file that csid wrote before it knew the modes 6 and 7 is adopted, and its volumes of mode 1 are
-        published with them; no row of a volume changes, until one is modified.
 
-        tests/stored/modes-1-to-5.db has volumes of 1 MiB in p1, and two that are attached: 'readers' with
-        mode 3 and 'attached' with mode 1.
-        """
-        block, ext4 = "1a060a001a0208%02x", "1a0c12060a04657874341a0208%02x"
-        tables = Tables(self.csid, self.folder)
-        shutil.copy(os.path.join(TOP, "tests", "stored", "modes-1-to-5.db"), tables.path)
-        caps = [
-            ("block", block % 1),
-            ("mount", ext4 % 1),
-            ("readers", block % 3),
-            ("writers", block % 5),
-            ("attached", block % 1),
-            ("reader", block % 2),
-            ("one-writer", block % 4),
-        ]
-        rows = [(at + 1, name, MIB, "p1", bytes.fromhex(cap), b"") for at, (name, cap) in enumerate(caps)]
-        attached = [(3, "n2", bytes.fromhex(block % 3), 0), (5, "n1", bytes.fromhex(block % 1), 0)]
+class ModesTest(StoredTest):
+    """A file that csid wrote before it knew the modes 6 and 7: its volumes of mode 1 are published with them.
 
-        def kept():
-            return (
-                tables.ask("SELECT * FROM volumes ORDER BY 1"),
-                tables.ask("SELECT * FROM attachments ORDER BY 1, 2"),
-                tables.ask("SELECT * FROM meta"),
-            )
+    tests/stored/modes-1-to-5.db has volumes of 1 MiB in p1, and two that are attached: 'readers' with mode 3
+    and 'attached' with mode 1.
+    """
 
-        def publish(number, node, cap):
-            return controller(
-                "ControllerPublishVolume",
-                bytes.fromhex("0a05")
-                + b"vol-%d" % number
-                + bytes.fromhex("1202")
-                + node
-                + bytes.fromhex(cap),
-            )
+    CAPS = [
+        ("block", BLOCK_MODE % 1),
+        ("mount", EXT4_MODE % 1),
+        ("readers", BLOCK_MODE % 3),
+        ("writers", BLOCK_MODE % 5),
+        ("attached", BLOCK_MODE % 1),
+        ("reader", BLOCK_MODE % 2),
+        ("one-writer", BLOCK_MODE % 4),
+    ]
+    VOLUMES = [
+        (number, name, MIB, "p1", bytes.fromhex(cap), b"") for number, (name, cap) in enumerate(CAPS, 1)
+    ]
+    ATTACHED = [(3, "n2", bytes.fromhex(BLOCK_MODE % 3), 0), (5, "n1", bytes.fromhex(BLOCK_MODE % 1), 0)]
 
-        def unpublish(number):
-            return controller("ControllerUnpublishVolume", bytes.fromhex("0a05") + b"vol-%d" % number)
+    def setUp(self):
+        super().setUp()
+        self.open_stored("modes-1-to-5.db")
 
-        def page(nodes):
-            return reply(b"".join(listed(number, *nodes.get(number, [])) for number in range(1, 8)))
+    def check_listed(self, nodes):
+        """The volumes are listed with these nodes."""
+        page = reply(b"".join(listed(number, *nodes.get(number, [])) for number in range(1, 8)))
+        self.assertEqual(self.tables.run(controller("ListVolumes")), (page, "", 0))
 
-        self.row("the rows of the file", kept(), (rows, attached, [(1, 1, 8)]))
-        self.row("is adopted", tables.run(controller("ListVolumes")), (page({3: [b"n2"], 5: [b"n1"]}), "", 0))
-        self.row("is as it was, and of format 2", kept(), (rows, attached, [(1, 2, 8)]))
-        not_of_volume, elsewhere, otherwise = [
-            refusal(*why)
-            for why in [
-                (3, "volume does not have this capability"),
-                (9, "volume is published elsewhere"),
-                (6, "volume is published otherwise"),
-            ]
-        ]
-        calls = [
-            (publish(1, b"n2", block % 6), reply(WRITER)),
-            (unpublish(1), reply(b"")),
-            (publish(1, b"n2", block % 7), reply(WRITER)),
-            (publish(1, b"n1", block % 7), elsewhere),
-            (unpublish(1), reply(b"")),
-            (publish(2, b"n2", ext4 % 7), reply(WRITER)),
-            (unpublish(2), reply(b"")),
-            (publish(2, b"n2", ext4 % 6), reply(WRITER)),
-            (publish(2, b"n1", block % 6), not_of_volume),
-            (publish(3, b"n1", block % 7), not_of_volume),
-            (publish(4, b"n1", block % 7), not_of_volume),
-            (publish(6, b"n1", block % 6), not_of_volume),
-            (publish(7, b"n1", block % 7), not_of_volume),
-            (publish(5, b"n1", block % 7), otherwise),
-            (unpublish(5), reply(b"")),
-            (publish(5, b"n1", block % 7), reply(WRITER)),
-            (publish(5, b"n2", block % 7), elsewhere),
-            (
-                controller(
-                    "CreateVolume", b"\x0a\x05block" + bytes.fromhex(block % 7) + bytes.fromhex(block % 6)
-                ),
-                reply(VOLUME_1),
-            ),
-            (
-                controller("ValidateVolumeCapabilities", VOL_1 + bytes.fromhex(block % 6)),
-                reply(bytes.fromhex("0a08 12060a001a020806")),
-            ),
-        ]
-        self.row(
-            "is published with 6 and 7",
-            tables.run(b"".join(call for call, _ in calls)),
-            (b"".join(answer for _, answer in calls), "", 0),
-        )
-        attached = [
-            (2, "n2", bytes.fromhex(ext4 % 6), 0),
-            (3, "n2", bytes.fromhex(block % 3), 0),
-            (5, "n1", bytes.fromhex(block % 7), 0),
-        ]
-        self.row("the rows then", kept(), (rows, attached, [(1, 2, 8)]))
+    def test_file_is_adopted(self):
+        self.assertEqual(self.rows(), (self.VOLUMES, self.ATTACHED, [(1, 1, 8)]))
+        self.check_listed({3: [b"n2"], 5: [b"n1"]})
+        self.assertEqual(self.rows(), (self.VOLUMES, self.ATTACHED, [(1, 2, 8)]))
+
+    def test_volumes_of_mode_1_are_published_with_modes_6_and_7(self):
+        came = self.tables.run(b"".join(call for call, _ in MODES_6_AND_7))
+        self.assertEqual(came, (b"".join(answer for _, answer in MODES_6_AND_7), "", 0))
+        attached = [(2, EXT4_MODE % 6, "n2"), (3, BLOCK_MODE % 3, "n2"), (5, BLOCK_MODE % 7, "n1")]
+        attached = [(number, node, bytes.fromhex(cap), 0) for number, cap, node in attached]
+        self.assertEqual(self.rows(), (self.VOLUMES, attached, [(1, 2, 8)]))
+        self.check_listed({2: [b"n2"], 3: [b"n2"], 5: [b"n1"]})
+
+    def test_volume_is_modified(self):
         modify = controller("ControllerModifyVolume", VOL_1 + bytes.fromhex("1a060a016b120176"))
-        self.row("is modified", tables.run(modify), (reply(b""), "", 0))
-        rows[0] = rows[0][:5] + (bytes.fromhex("42060a016b120176"),)
-        self.row("the rows after it", kept(), (rows, attached, [(1, 2, 8)]))
-        self.row(
-            "is adopted again",
-            tables.run(controller("ListVolumes")),
-            (page({2: [b"n2"], 3: [b"n2"], 5: [b"n1"]}), "", 0),
-        )
+        self.assertEqual(self.tables.run(modify), (reply(b""), "", 0))
+        first = self.VOLUMES[0][:5] + (bytes.fromhex("42060a016b120176"),)
+        self.assertEqual(self.rows(), ([first, *self.VOLUMES[1:]], self.ATTACHED, [(1, 2, 8)]))
 
-    def test_format_1(self):
-        """Files that csid wrote before it knew mutable parameters are adopted as what they have, and are of
-        format 2 then; no row of a volume changes.
 
-        tests/stored/format-1-0.db has no volume, format-1-1.db one with a parameter, and format-1-1000.db a
-        thousand: all of 1 MiB in p1, as block with mode 1.
-        """
+def part(number, content):
+    """A field of less than 128 bytes."""
+    return bytes([number * 8 + 2, len(content)]) + content
+
+
+def entry(number):
+    """A volume of 1 MiB in p1 that is attached nowhere, as ListVolumes has it."""
+    pool = bytes.fromhex("1a0a 0a04706f6f6c 12027031 2a0b 0a09 0a047a6f6e65 120161")
+    volume = bytes.fromhex("08808040") + part(2, b"vol-%d" % number) + pool
+    return part(1, part(1, volume) + part(2, b""))
+
+
+class FormatTest(StoredTest):
+    """Files that csid wrote before it knew mutable parameters.
+
+    tests/stored/format-1-0.db has no volume, format-1-1.db one with a parameter, and format-1-1000.db a
+    thousand: all of 1 MiB in p1, as block with mode 1.
+    """
+
+    def pages(self, count):
+        """The calls that list the volumes, and the replies."""
+        calls, replies = b"", b""
+        for first in range(0, max(count, 1), 100):
+            last = min(first + 100, count)
+            token = part(2, b"%d" % last) if last < count else b""
+            calls += controller("ListVolumes", part(2, b"%d" % first) if first else b"")
+            replies += reply(b"".join(map(entry, range(first + 1, last + 1))) + token)
+        return calls, replies
+
+    def test_file_of_format_1_is_adopted_once(self):
         config = os.path.join(self.folder, "config.toml")
         write(config, LARGE_POOL)
-
-        def part(number, content):
-            """A field of less than 128 bytes."""
-            return bytes([number * 8 + 2, len(content)]) + content
-
-        def entry(number):
-            rest = bytes.fromhex("1a0a 0a04706f6f6c 12027031 2a0b 0a09 0a047a6f6e65 120161")
-            return part(
-                1, part(1, bytes.fromhex("08808040") + part(2, b"vol-%d" % number) + rest) + part(2, b"")
-            )
-
         for count in 0, 1, 1000:
-            tables = Tables(self.csid, self.folder, "format-1-%d.db" % count)
-            shutil.copy(os.path.join(TOP, "tests", "stored", "format-1-%d.db" % count), tables.path)
-            volumes = tables.ask("SELECT * FROM volumes ORDER BY 1")
-            self.row(
-                "%d volumes" % count,
-                (len(volumes), tables.ask("SELECT * FROM meta")),
-                (count, [(1, 1, count + 1)]),
-            )
-            calls, pages = b"", b""
-            for first in range(0, max(count, 1), 100):
-                last = min(first + 100, count)
-                calls += controller("ListVolumes", part(2, b"%d" % first) if first else b"")
-                pages += reply(
-                    b"".join(map(entry, range(first + 1, last + 1)))
-                    + (part(2, b"%d" % last) if last < count else b"")
-                )
-            for time in "at first", "again":
-                self.row(
-                    "%d volumes are listed, %s" % (count, time), tables.run(calls, config), (pages, "", 0)
-                )
-                self.row(
-                    "the rows of %d volumes then, %s" % (count, time),
-                    (tables.ask("SELECT * FROM volumes ORDER BY 1"), tables.ask("SELECT * FROM meta")),
-                    (volumes, [(1, 2, count + 1)]),
-                )
+            with self.subTest(volumes=count):
+                self.open_stored("format-1-%d.db" % count)
+                volumes, attachments, meta = self.rows()
+                self.assertEqual((len(volumes), meta), (count, [(1, 1, count + 1)]))
+                calls, replies = self.pages(count)
+                for _ in range(2):
+                    self.assertEqual(self.tables.run(calls, config), (replies, "", 0))
+                    self.assertEqual(self.rows(), (volumes, attachments, [(1, 2, count + 1)]))

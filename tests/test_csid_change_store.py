@@ -16,12 +16,12 @@ import threading
 import time
 from unittest import mock
 
-from tests.vectors import messages as v
 from tests.support import change_stores
-from tests.support.change_stores import COMMIT, MAKE, OK, READ, SECONDS, KeptChangeStore, meta, page, wait
+from tests.support.change_stores import COMMIT, MAKE, OK, READ, KeptChangeStore, meta, page
 from tests.support.configs import LARGE_POOL
-from tests.support.processes import write
+from tests.support.processes import SECONDS, wait, write
 from tests.support.rows import CsidTest
+from tests.vectors import messages as v
 
 
 MIB = 1 << 20
@@ -113,11 +113,12 @@ class Server:
         return os.pread(self.said.fileno(), 1 << 20, 0).decode().replace(self.log_path, "LOG")
 
     def end(self):
-        if self.process.poll() is None:
+        """Ends csid and the change store. Returns what csid wrote."""
+        if os.path.exists(self.log_path):
             self.process.kill()
-        self.process.wait()
-        self.log.end()
-        os.unlink(self.path)
+            self.process.wait()
+            self.log.end()
+            os.unlink(self.path)
         return self.lines()
 
 
@@ -145,7 +146,6 @@ MADE = v.reply(
     v.unhex("0a24 08808040 1205 766f6c2d31 1a0a 0a04706f6f6c 12027031 2a0b 0a09 0a047a6f6e65 120161")
 )
 PUBLISH = v.publish(v.txt(1, "vol-1"), v.txt(2, "n1"), v.unhex("1a060a001a020801"))
-PUBLISHED = v.reply(v.unhex("0a11 0a08 726561646f6e6c79 1205 66616c7365"))
 NO_STORE, DOWN = v.refusal(13, "store refused"), v.refusal(13, "store is down")
 # A volume with parameters and mutable parameters, that was asked for by two capabilities.
 RICH = v.create(
@@ -295,407 +295,237 @@ def nobody(csid, folder):
     return came, status
 
 
-class LogTest(CsidTest):
-    """`csid serve --log` over a log that is played."""
-
-    def test_start(self):
-        """What is read at the start, in pages; and what is said of it."""
-        server = Server(self.csid, self.folder, page(), OK)
-        self.row(
-            "an empty log is given its first row",
-            (server.log.take(), server.end()),
-            ([read(), (MAKE, b"")], has(0, 0, 1)),
-        )
-        server = Server(self.csid, self.folder, page(meta(7)))
-        self.row("a log without volumes", (server.log.take(), server.end()), ([read()], has(0, 0, 7)))
-        server = Server(
-            self.csid,
-            self.folder,
+# Each row: what is wrong, the pages of the change store, the line.
+MALFORMED = "its rows are malformed"
+KIND = "volume 1: a value is not of the kind of its column"
+REFUSED = [
+    ("a malformed reply", [v.unhex("01")], "bad status at byte 0"),
+    ("a malformed body", [v.reply(v.unhex("0b"))], MALFORMED),
+    ("a malformed row", [v.reply(v.msg(2, v.unhex("08")))], MALFORMED),
+    ("a number from 2^63 on", [page(meta(1), volume(1 << 63, "a"))], MALFORMED),
+    ("a name that is a number", [page(meta(1), v.msg(2, v.num(1, 1), v.num(2, 7)))], MALFORMED),
+    ("a number twice", [page(meta(3), volume(1, "a"), volume(1, "b"))], "volume 1: UNIQUE constraint failed"),
+    ("a name twice", [page(meta(3), volume(1, "a"), volume(2, "a"))], "volume 2: UNIQUE constraint failed"),
+    (
+        "an attachment twice",
+        [page(meta(3), volume(1, "a"), attachment(1, "n1"), attachment(1, "n1"))],
+        "volume 1: UNIQUE constraint failed",
+    ),
+    ("no row of meta", [page(volume(1, "a"))], "meta has no row with the number of a format"),
+    (
+        "the first format",
+        [page(meta(2, 1), volume(1, "a"))],
+        "its rows have format 1, and a change store has those of format 2",
+    ),
+    ("a later format", [page(meta(2, 3))], "the tables have format 3, and the latest known is 2"),
+    ("a name that is no text", [page(meta(2), volume(1, b"\xff"))], KIND),
+    ("a pool that is no text", [page(meta(2), volume(1, "a", pool=b"\xff"))], KIND),
+    ("a node that is no text", [page(meta(2), volume(1, "a"), attachment(1, b"\xff"))], KIND),
+    ("a row of meta that is no message", [page(v.num(1, 1))], MALFORMED),
+    ("a token that no message holds", [page(meta(1), token=b"t" * MIB)], "the database refused a read"),
+    ("a next number of 0", [page(meta(0))], "the next number is not 1 to 2^62"),
+    (
+        "a number that was not given yet",
+        [page(meta(2), volume(2, "a"))],
+        "volume 2: its number is not from 1 to below the next number",
+    ),
+    (
+        "an unknown pool",
+        [page(meta(2), volume(1, "a", pool="p3"))],
+        "volume 1: its pool is not one of the configuration",
+    ),
+    (
+        "a pool that is overcommitted",
+        [page(meta(4), volume(1, "a", 8 * MIB), volume(2, "b", 8 * MIB))],
+        "pool p1: its volumes have more bytes than it has",
+    ),
+    (
+        "no capabilities",
+        [page(meta(2), volume(1, "a", caps=b""))],
+        "volume 1: its caps are not the bytes of supported capabilities in order",
+    ),
+    (
+        "malformed parameters",
+        [page(meta(2), volume(1, "a", params=v.unhex("0a0161")))],
+        "volume 1: its params are not the bytes of parameters of at most 4096 bytes",
+    ),
+    (
+        "an attachment without a capability",
+        [page(meta(2), volume(1, "a"), attachment(1, "n1", b""))],
+        "volume 1 at node n1: its cap is not the bytes of one supported capability",
+    ),
+    (
+        "a readonly of 2",
+        [page(meta(2), volume(1, "a"), attachment(1, "n1", readonly=2))],
+        "volume 1 at node n1: its readonly is not 0 or 1",
+    ),
+    (
+        "an unknown node",
+        [page(meta(2), volume(1, "a"), attachment(1, "n9"))],
+        "volume 1 at node n9: its node is not one of the configuration",
+    ),
+    (
+        "an attachment of no volume",
+        [page(meta(2), attachment(1, "n1"))],
+        "volume 1 at node n1: no volume of its number has its capability",
+    ),
+    (
+        "two writers",
+        [page(meta(2), volume(1, "a"), attachment(1, "n1"), attachment(1, "n2"))],
+        "volume 1 at node n2: the volume is attached at another node too, and the two cannot have it"
+        " together",
+    ),
+    (
+        "a node that is full",
+        [
             page(
-                v.num(9, 7),
-                meta(2),
-                v.msg(
-                    2,
-                    v.num(1, 1),
-                    v.txt(2, "z"),
-                    v.txt(2, "a"),
-                    v.num(3, MIB),
-                    v.txt(4, "p1"),
-                    v.msg(5, BLOCK),
-                    v.num(7, 1),
-                ),
-            ),
-        )
-        self.row(
-            "fields of no meaning are skipped, the last of a column counts, and one that is missing is empty",
-            (server.log.take(), server.end()),
-            ([read()], has(1, 0, 2)),
-        )
-        server = Server(
-            self.csid,
-            self.folder,
+                meta(4),
+                *[volume(it, str(it)) for it in (1, 2, 3)],
+                *[attachment(it, "n1") for it in (1, 2, 3)],
+            )
+        ],
+        "node n1: more volumes are attached there than it can have",
+    ),
+]
+NO_LEAD = "csid: the change store does not lead any more\n"
+
+
+class PlayedTest(CsidTest):
+    """`csid serve --log` over a change store that is played."""
+
+    def serve(self, *replies, **how):
+        server = Server(self.csid, self.folder, *replies, **how)
+        self.addCleanup(server.end)
+        return server
+
+
+class StartTest(PlayedTest):
+    """What csid reads at its start, in pages, and what it says of it."""
+
+    def serve_three_pages(self):
+        return self.serve(
             page(meta(9), volume(1, "a"), token=b"one"),
             page(volume(3, "c", pool="p2"), token=b"\xff\0"),
             page(attachment(1, "n1"), attachment(3, "n1")),
         )
-        self.row(
-            "three pages",
-            (server.log.take(), server.lines()),
-            ([read(), read(b"one"), read(b"\xff\0")], has(2, 2, 9)),
-        )
-        server.log.replies += [OK]
-        came = server.ask(v.listing(), v.create(v.txt(1, "b"), BLOCK))
-        listed = v.reply(
-            v.msg(
-                1,
-                v.unhex(
-                    "0a24 08808040 1205 766f6c2d31 1a0a 0a04706f6f6c 12027031 2a0b 0a09 0a047a6f6e65 120161"
-                ),
-                v.unhex("1204 0a026e31"),
-            ),
-            v.msg(
-                1,
-                v.unhex(
-                    "0a24 08808040 1205 766f6c2d33 1a0a 0a04706f6f6c 12027032 2a0b 0a09 0a047a6f6e65 120162"
-                ),
-                v.unhex("1204 0a026e31"),
-            ),
-        )
-        added = v.reply(
-            v.unhex("0a24 08808040 1205 766f6c2d39 1a0a 0a04706f6f6c 12027031 2a0b 0a09 0a047a6f6e65 120161")
-        )
-        self.row("what three pages had is listed, and the next number given", came, listed + added)
-        self.row(
-            "rows are read once for all calls",
-            ([it[0] for it in server.log.take()], server.ask(v.probe())),
-            ([COMMIT], v.reply(v.unhex("0a020801"))),
-        )
-        server.end()
 
-    def test_many_pages(self):
-        """A log of 19 pages, of one row each: all are read."""
+    def test_empty_log_is_given_its_first_row(self):
+        server = self.serve(page(), OK)
+        self.assertEqual((server.log.take(), server.end()), ([read(), (MAKE, b"")], has(0, 0, 1)))
+
+    def test_log_without_volumes_is_read_once(self):
+        server = self.serve(page(meta(7)))
+        self.assertEqual((server.log.take(), server.end()), ([read()], has(0, 0, 7)))
+
+    def test_unknown_fields_are_skipped_and_the_last_of_a_column_counts(self):
+        """A column without a field is empty."""
+        columns = [v.txt(2, "z"), v.txt(2, "a"), v.num(3, MIB), v.txt(4, "p1"), v.msg(5, BLOCK), v.num(7, 1)]
+        server = self.serve(page(v.num(9, 7), meta(2), v.msg(2, v.num(1, 1), *columns)))
+        self.assertEqual((server.log.take(), server.end()), ([read()], has(1, 0, 2)))
+
+    def test_token_of_a_page_asks_for_the_next_one(self):
+        server = self.serve_three_pages()
+        self.assertEqual(server.log.take(), [read(), read(b"one"), read(b"\xff\0")])
+        self.assertEqual(server.lines(), has(2, 2, 9))
+
+    def test_rows_of_all_pages_are_listed_and_the_next_number_is_given(self):
+        server = self.serve_three_pages()
+        server.log.replies += [OK]
+        wanted = v.page(v.listed(1, MIB, v.P1, "n1"), v.listed(3, MIB, v.P2, "n1")) + v.created(9, MIB, v.P1)
+        self.assertEqual(server.ask(v.listing(), v.create(v.txt(1, "b"), BLOCK)), wanted)
+
+    def test_rows_are_read_once_for_all_calls(self):
+        server = self.serve_three_pages()
+        server.log.take()
+        server.log.replies += [OK]
+        server.ask(v.listing(), v.create(v.txt(1, "b"), BLOCK))
+        self.assertEqual([path for path, _ in server.log.take()], [COMMIT])
+        self.assertEqual(server.ask(v.probe()), v.READY)
+
+    def test_all_of_19_pages_are_read(self):
+        """Each page has one row."""
         rows = [meta(15)] + [volume(it, "v%d" % it, pool="p1" if it <= 10 else "p2") for it in range(1, 15)]
         rows += [attachment(1, "n1"), attachment(2, "n1"), attachment(3, "n2"), attachment(14, "n2")]
         tokens = [b"%d" % it for it in range(1, len(rows))]
-        server = Server(
-            self.csid, self.folder, *[page(row, token=token) for row, token in zip(rows, tokens + [b""])]
-        )
-        self.row(
-            "19 pages",
-            (server.log.take(), server.lines()),
-            ([read()] + [read(token) for token in tokens], has(14, 4, 15)),
-        )
+        server = self.serve(*[page(row, token=token) for row, token in zip(rows, tokens + [b""])])
+        self.assertEqual(server.log.take(), [read()] + [read(token) for token in tokens])
+        self.assertEqual(server.lines(), has(14, 4, 15))
         listed = server.ask(v.listing())
-        self.row(
-            "what each of them had is listed",
-            [listed.count(v.msg(1, v.txt(2, "vol-%d" % it))[2:]) for it in (2, 14)],
-            [1, 1],
-        )
-        self.row(
-            "and nodes with it",
-            (listed.count(v.msg(2, v.txt(1, "n1"))), listed.count(v.msg(2, v.txt(1, "n2")))),
-            (2, 2),
-        )
-        server.end()
+        self.assertEqual([listed.count(v.txt(2, "vol-%d" % it)) for it in (2, 14)], [1, 1])
+        self.assertEqual([listed.count(v.msg(2, v.txt(1, node))) for node in ("n1", "n2")], [2, 2])
 
-    def test_changes(self):
-        """Each change is asked for by its own message, once, and is answered OK once the log has answered."""
-        for name, rows, calls, wanted in CHANGES:
-            first = [page(*rows)] if rows else [page(), OK]
-            server = Server(self.csid, self.folder, *first, *[OK] * len(wanted))
-            server.log.take()
-            replies = server.ask(*calls)
-            came = server.log.take(), replies[:1], v.unhex("0d") in replies[:1]
-            server.end()
-            self.row("" + name, came, (wanted, b"\0", False))
 
-    def test_refused_starts(self):
-        """Where the log is not there, or refuses to tell its rows, csid answers nobody, and tries again for
-        the next connection.
-        """
-        server = Server(
-            self.csid,
-            self.folder,
-            v.refusal(9, "waiting for the lock, which n2 holds"),
-            CLOSED,
-            page(meta(1)),
-        )
-        first = server.lines()
-        came = server.ask(v.probe()), server.ask(v.probe())
-        self.row(
-            "the log does not lead, and says so", first, "csid: LOG: waiting for the lock, which n2 holds\n"
-        )
-        self.row(
-            "no reply, and then rows",
-            (came, server.end()),
-            (
-                (b"", v.reply(v.unhex("0a020801"))),
-                first + "csid: LOG: closed without a reply\n" + has(0, 0, 1),
-            ),
-        )
-        waits = {
-            who: (
-                v.refusal(9, "waiting for the lock, which %s holds" % who),
-                "csid: LOG: waiting for the lock, which %s holds\n" % who,
-            )
-            for who in ("n2", "n3")
-        }
-        server = Server(
-            self.csid, self.folder, *[waits[who][0] for who in ("n2", "n2", "n2", "n3", "n2")], page(meta(1))
-        )
-        came = [server.ask(v.probe()) for _ in range(5)]
-        server.log.replies.append(waits["n2"][0])
+class RefusedStartTest(PlayedTest):
+    """A change store that is missing or refuses its rows: csid closes the connection without a reply, and
+    tries again for the next one.
+    """
+
+    def waiting(self, holder):
+        text = "waiting for the lock, which %s holds" % holder
+        return v.refusal(9, text), "csid: LOG: %s\n" % text
+
+    def test_next_connection_is_served_once_the_store_has_rows(self):
+        refusal, line = self.waiting("n2")
+        server = self.serve(refusal, CLOSED, page(meta(1)))
+        self.assertEqual(server.lines(), line)
+        self.assertEqual([server.ask(v.probe()), server.ask(v.probe())], [b"", v.READY])
+        self.assertEqual(server.end(), line + "csid: LOG: closed without a reply\n" + has(0, 0, 1))
+
+    def test_reason_is_repeated_only_after_another_reason_or_a_success(self):
+        (n2, of_n2), (n3, of_n3) = map(self.waiting, ("n2", "n3"))
+        server = self.serve(n2, n2, n2, n3, n2, page(meta(1)))
+        self.assertEqual([server.ask(v.probe()) for _ in range(5)], [b""] * 4 + [v.READY])
+        server.log.replies.append(n2)
         server.log.hang_up()
-        came.append(server.ask(v.probe()))
-        self.row(
-            "why is said again where it is another reason than the last one, or the log was there since",
-            (came, server.end()),
-            (
-                [b""] * 4 + [v.reply(v.unhex("0a020801")), b""],
-                waits["n2"][1] + waits["n3"][1] + waits["n2"][1] + has(0, 0, 1) + waits["n2"][1],
-            ),
-        )
-        for name, replies, line in [
-            ("a reply that is malformed", [v.unhex("01")], "bad status at byte 0"),
-            ("a body that is malformed", [v.reply(v.unhex("0b"))], "its rows are malformed"),
-            ("a row that is malformed", [v.reply(v.msg(2, v.unhex("08")))], "its rows are malformed"),
-            ("a number from 2^63 on", [page(meta(1), volume(1 << 63, "a"))], "its rows are malformed"),
-            (
-                "a name that is a number",
-                [page(meta(1), v.msg(2, v.num(1, 1), v.num(2, 7)))],
-                "its rows are malformed",
-            ),
-            (
-                "a number twice",
-                [page(meta(3), volume(1, "a"), volume(1, "b"))],
-                "volume 1: UNIQUE constraint failed",
-            ),
-            (
-                "a name twice",
-                [page(meta(3), volume(1, "a"), volume(2, "a"))],
-                "volume 2: UNIQUE constraint failed",
-            ),
-            (
-                "an attachment twice",
-                [page(meta(3), volume(1, "a"), attachment(1, "n1"), attachment(1, "n1"))],
-                "volume 1: UNIQUE constraint failed",
-            ),
-            (
-                "volumes without a row of meta",
-                [page(volume(1, "a"))],
-                "meta has no row with the number of a format",
-            ),
-            (
-                "the first format",
-                [page(meta(2, 1), volume(1, "a"))],
-                "its rows have format 1, and a change store has those of format 2",
-            ),
-            ("a format to come", [page(meta(2, 3))], "the tables have format 3, and the latest known is 2"),
-            (
-                "a name that is no text",
-                [page(meta(2), volume(1, b"\xff"))],
-                "volume 1: a value is not of the kind of its column",
-            ),
-            (
-                "a pool that is no text",
-                [page(meta(2), volume(1, "a", pool=b"\xff"))],
-                "volume 1: a value is not of the kind of its column",
-            ),
-            (
-                "a node that is no text",
-                [page(meta(2), volume(1, "a"), attachment(1, b"\xff"))],
-                "volume 1: a value is not of the kind of its column",
-            ),
-            ("a row of meta that is no message", [page(v.num(1, 1))], "its rows are malformed"),
-            (
-                "a token that no message holds",
-                [page(meta(1), token=b"t" * MIB)],
-                "the database refused a read",
-            ),
-            ("a next number of 0", [page(meta(0))], "the next number is not 1 to 2^62"),
-            (
-                "a number that was not given yet",
-                [page(meta(2), volume(2, "a"))],
-                "volume 2: its number is not from 1 to below the next number",
-            ),
-            (
-                "a pool that is none",
-                [page(meta(2), volume(1, "a", pool="p3"))],
-                "volume 1: its pool is not one of the configuration",
-            ),
-            (
-                "a pool that is overcommitted",
-                [page(meta(4), volume(1, "a", 8 * MIB), volume(2, "b", 8 * MIB))],
-                "pool p1: its volumes have more bytes than it has",
-            ),
-            (
-                "caps that are none",
-                [page(meta(2), volume(1, "a", caps=b""))],
-                "volume 1: its caps are not the bytes of supported capabilities in order",
-            ),
-            (
-                "params that are none",
-                [page(meta(2), volume(1, "a", params=v.unhex("0a0161")))],
-                "volume 1: its params are not the bytes of parameters of at most 4096 bytes",
-            ),
-            (
-                "a cap that is none",
-                [page(meta(2), volume(1, "a"), attachment(1, "n1", b""))],
-                "volume 1 at node n1: its cap is not the bytes of one supported capability",
-            ),
-            (
-                "a readonly of 2",
-                [page(meta(2), volume(1, "a"), attachment(1, "n1", readonly=2))],
-                "volume 1 at node n1: its readonly is not 0 or 1",
-            ),
-            (
-                "a node that is none",
-                [page(meta(2), volume(1, "a"), attachment(1, "n9"))],
-                "volume 1 at node n9: its node is not one of the configuration",
-            ),
-            (
-                "an attachment of no volume",
-                [page(meta(2), attachment(1, "n1"))],
-                "volume 1 at node n1: no volume of its number has its capability",
-            ),
-            (
-                "two writers",
-                [page(meta(2), volume(1, "a"), attachment(1, "n1"), attachment(1, "n2"))],
-                (
-                    "volume 1 at node n2: the volume is attached at another node too, and the two cannot have"
-                    " it together"
-                ),
-            ),
-            (
-                "a node that is full",
-                [
-                    page(
-                        meta(4),
-                        *[volume(it, str(it)) for it in (1, 2, 3)],
-                        *[attachment(it, "n1") for it in (1, 2, 3)],
-                    )
-                ],
-                "node n1: more volumes are attached there than it can have",
-            ),
+        self.assertEqual(server.ask(v.probe()), b"")
+        self.assertEqual(server.end(), of_n2 + of_n3 + of_n2 + has(0, 0, 1) + of_n2)
+
+    def test_rows_that_are_no_volumes_are_refused(self):
+        for name, replies, line in REFUSED:
+            with self.subTest(name=name):
+                server = self.serve(*replies)
+                came = server.ask(v.probe())
+                self.assertEqual((came, server.end().split("\n")[0]), (b"", "csid: LOG: " + line))
+
+    def test_missing_socket_of_the_store_is_no_reason_to_end(self):
+        self.assertEqual(nobody(self.csid, self.folder), (b"", 0))
+
+
+class ChangeTest(PlayedTest):
+    """How csid sends a change to the change store, and what it replies if that fails."""
+
+    def test_change_is_sent_once_and_answered_after_the_reply_of_the_store(self):
+        for name, rows, calls, wanted in CHANGES:
+            with self.subTest(name=name):
+                first = [page(*rows)] if rows else [page(), OK]
+                server = self.serve(*first, *[OK] * len(wanted))
+                server.log.take()
+                replies = server.ask(*calls)
+                self.assertEqual(server.log.take(), wanted)
+                self.assertEqual(replies[:1], b"\0")
+                server.end()
+
+    def test_change_that_fails_is_refused_with_all_later_ones(self):
+        """The next connection reads the rows again."""
+        stays = DOWN + v.READY + DOWN
+        for name, reply, rest, line in [
+            ("a refusal", v.refusal(8, "etcd has no room"), stays, ""),
+            # A store whose connection has ended does not lead, and no further call is answered.
+            ("an end", CLOSED, b"", NO_LEAD),
+            ("a malformed reply", v.unhex("01"), stays, ""),
+            ("a reply that says OK and has a text", v.unhex("000001 61 00 00000000"), stays, ""),
         ]:
-            server = Server(self.csid, self.folder, *replies)
-            came = server.ask(v.probe())
-            said = server.end().split("\n")[0]
-            self.row("" + name, (came, said), (b"", "csid: LOG: " + line))
-        self.row("nobody is there", nobody(self.csid, self.folder), (b"", 0))
+            with self.subTest(name=name):
+                server = self.serve(page(meta(1)), reply)
+                server.log.take()
+                self.assertEqual(server.ask(CREATE, CREATE, v.probe(), v.listing()), NO_STORE + rest)
+                self.assertEqual(server.log.take(), [ADDED])
+                server.log.replies += [page(meta(2), volume(1, "a"))]
+                self.assertEqual((server.ask(CREATE), server.log.take()), (MADE, [read()]))
+                self.assertEqual(server.end(), has(0, 0, 1) + line + UNKNOWN + has(1, 0, 2))
 
-    def test_failed_changes(self):
-        """A change that the log refuses, or of which nobody knows: the call is refused, nothing more is
-        changed over the connection, and the next reads again.
-        """
-        for name, reply in [
-            ("a refusal", v.refusal(8, "etcd has no room")),
-            ("an end", CLOSED),
-            ("a malformed reply", v.unhex("01")),
-            ("a reply that says OK and has a text", v.unhex("000001 61 00 00000000")),
-        ]:
-            server = Server(self.csid, self.folder, page(meta(1)), reply)
-            server.log.take()
-            came = server.ask(CREATE, CREATE, v.probe(), v.listing())
-            asked = server.log.take()
-            # A log whose connection has ended does not lead, and nothing more is answered over it.
-            rest, cut = (
-                (b"", "csid: the change store does not lead any more\n")
-                if reply == CLOSED
-                else (DOWN + v.reply(v.unhex("0a020801")) + DOWN, "")
-            )
-            self.row("" + name, (came, asked), (NO_STORE + rest, [ADDED]))
-            server.log.replies += [page(meta(2), volume(1, "a"))]
-            came = server.ask(CREATE)
-            self.row("%s, and then the log had made it" % name, (came, server.log.take()), (MADE, [read()]))
-            said = server.end()
-            self.row("what is said of " + name, said, (has(0, 0, 1) + cut + UNKNOWN + has(1, 0, 2)))
-
-    def test_another_leads(self):
-        """Where the change store does not lead any more, or ends its connection, no call that comes after
-        that is answered from memory.
-        """
-        server = Server(self.csid, self.folder, page(meta(2), volume(1, "a")), page(meta(3), volume(2, "b")))
-        with server.connect() as peer:
-            peer.sendall(v.probe())
-            first = peer.recv(1 << 16)
-            server.log.leads = False
-            peer.sendall(v.listing())
-            rest = received(peer)
-        self.row(
-            "the call while another leads is not answered", (first, rest), (v.reply(v.unhex("0a020801")), b"")
-        )
-        server.log.leads = True
-        self.row(
-            "after that its rows are read anew",
-            (server.ask(v.probe()), server.end()),
-            (
-                v.reply(v.unhex("0a020801")),
-                has(1, 0, 2) + "csid: the change store does not lead any more\n" + has(1, 0, 3),
-            ),
-        )
-        server = Server(self.csid, self.folder, page(meta(1)), OK)
-        with server.connect() as peer:
-            peer.sendall(v.probe())
-            first = peer.recv(1 << 16)
-            server.log.leads = False
-            peer.sendall(CREATE)
-            made = peer.recv(1 << 16)
-            peer.sendall(v.listing())
-            rest = received(peer)
-        self.row(
-            (
-                "a change that the log made is answered without asking whether it leads, and the next call"
-                " is not"
-            ),
-            (first, made, rest),
-            (v.reply(v.unhex("0a020801")), MADE, b""),
-        )
-        server.end()
-        # It is asked when a connection begins, and before each reply.
-        server = Server(self.csid, self.folder, page(meta(2), volume(1, "a")))
-        server.log.turns, server.log.leads = [True, True, False], True
-        came = server.ask(v.probe(), v.listing(), v.probe())
-        self.row(
-            "a call that came in one piece with another that was answered",
-            (came, server.log.turns, server.end()),
-            (
-                v.reply(v.unhex("0a020801")),
-                [],
-                has(1, 0, 2) + "csid: the change store does not lead any more\n",
-            ),
-        )
-        server = Server(self.csid, self.folder, page(meta(2), volume(1, "a")), page(meta(3), volume(2, "b")))
-        with server.connect() as peer:
-            peer.sendall(v.probe())
-            first = peer.recv(1 << 16)
-            server.log.hang_up()
-            peer.sendall(v.listing())
-            rest = received(peer)
-        self.row("the call after the end is not answered", (first, rest), (v.reply(v.unhex("0a020801")), b""))
-        came = server.ask(v.listing())
-        self.row(
-            "the next connection has what the log has then",
-            came,
-            v.reply(
-                v.msg(
-                    1,
-                    v.unhex(
-                        "0a24 08808040 1205 766f6c2d32 1a0a 0a04706f6f6c 12027031 2a0b 0a09 0a047a6f6e65"
-                        " 120161"
-                    ),
-                    v.msg(2),
-                )
-            ),
-        )
-        self.row(
-            "what is said",
-            server.end(),
-            has(1, 0, 2) + "csid: the change store does not lead any more\n" + has(1, 0, 3),
-        )
-
-    def test_log_that_stalls(self):
-        """A log that takes a change and answers nothing, or a byte each half second, has 30 seconds."""
+    def test_store_that_stalls_has_30_seconds(self):
+        """It takes a change and answers nothing, or a byte each half second."""
         changes = [
             ("a short change", DeafStore, CREATE),
             ("a long change", DeafStore, LARGE),
@@ -707,7 +537,60 @@ class LogTest(CsidTest):
                 for name, store, call in changes
             ]
             for name, came in late:
-                self.row(name, came.result(), (NO_STORE, True, has(0, 0, 1) + UNKNOWN))
+                with self.subTest(name=name):
+                    self.assertEqual(came.result(), (NO_STORE, True, has(0, 0, 1) + UNKNOWN))
+
+
+class LeadTest(PlayedTest):
+    """A change store that does not lead any more, or ends its connection: csid answers no later call from
+    memory.
+    """
+
+    def serve_two(self):
+        """csid over a store whose volume is another one when it is read again."""
+        return self.serve(page(meta(2), volume(1, "a")), page(meta(3), volume(2, "b")))
+
+    def ask_after(self, server, event, *calls):
+        """The reply to a Probe, and what comes for each call after an event."""
+        with server.connect() as peer:
+            peer.sendall(v.probe())
+            self.assertEqual(peer.recv(1 << 16), v.READY)
+            event()
+            for call in calls[:-1]:
+                peer.sendall(call)
+                yield peer.recv(1 << 16)
+            peer.sendall(calls[-1])
+            yield received(peer)
+
+    def lose_lead(self, server):
+        server.log.leads = False
+
+    def test_call_while_another_leads_is_not_answered(self):
+        server = self.serve_two()
+        self.assertEqual([*self.ask_after(server, lambda: self.lose_lead(server), v.listing())], [b""])
+        server.log.leads = True
+        self.assertEqual(server.ask(v.probe()), v.READY)
+        self.assertEqual(server.end(), has(1, 0, 2) + NO_LEAD + has(1, 0, 3))
+
+    def test_change_that_the_store_made_is_answered_and_the_next_call_is_not(self):
+        server = self.serve(page(meta(1)), OK)
+        came = self.ask_after(server, lambda: self.lose_lead(server), CREATE, v.listing())
+        self.assertEqual([*came], [MADE, b""])
+
+    def test_store_is_asked_before_each_reply(self):
+        """It is asked once more when a connection begins."""
+        server = self.serve(page(meta(2), volume(1, "a")))
+        server.log.turns, server.log.leads = [True, True, False], True
+        self.assertEqual(server.ask(v.probe(), v.listing(), v.probe()), v.READY)
+        self.assertEqual(server.log.turns, [])
+        self.assertEqual(server.end(), has(1, 0, 2) + NO_LEAD)
+
+    def test_call_after_the_end_of_the_connection_is_not_answered(self):
+        """The next connection has the rows of the store at its time."""
+        server = self.serve_two()
+        self.assertEqual([*self.ask_after(server, server.log.hang_up, v.listing())], [b""])
+        self.assertEqual(server.ask(v.listing()), v.page(v.listed(2, MIB, v.P1)))
+        self.assertEqual(server.end(), has(1, 0, 2) + NO_LEAD + has(1, 0, 3))
 
 
 class SlowReaderTest(CsidTest):

@@ -97,75 +97,91 @@ CONFIGURED = [
 class ConfigTest(CsidTest):
     """Configurations of csid."""
 
-    def test_configurations(self):
-        path = os.path.join(self.folder, "config.toml")
-        command = [self.csid, "pipe", "--config"]
-        for name, text, given, out in CONFIGURED:
-            write(path, text)
-            self.row(name, run(command + [path], input=given), (out, "", 0))
-        self.row(
-            "another spelling of the option",
-            run([self.csid, "pipe", "--config=" + path], input=b""),
-            (b"", "", 0),
-        )
-        for name, text, line in REFUSED:
-            write(path, text)
-            self.row(
-                "refused: " + name,
-                run(command + [path], input=frame(PROBE)),
-                (b"", "csid: %s: %s\n" % (path, line), 3),
-            )
-        # It can be read, and not be taken apart.
-        write(path, SAMPLE + nodes(40_000))
-        self.row(
-            "refused: no memory for a configuration",
-            run(command + [path], input=frame(PROBE), preexec_fn=little_memory),
-            (b"", NO_MEMORY, 6),
-        )
-        absent = os.path.join(self.folder, "absent.toml")
-        self.row(
-            "a file that is not there",
-            run(command + [absent], input=frame(PROBE)),
-            (b"", "csid: %s: %s\n" % (absent, NOT_THERE), 3),
-        )
-        self.row(
-            "a folder for a file",
-            run(command + [self.folder], input=frame(PROBE)),
-            (b"", "csid: %s: Is a directory (os error 21)\n" % self.folder, 3),
-        )
+    def setUp(self):
+        super().setUp()
+        self.path = os.path.join(self.folder, "config.toml")
 
-    def test_unknown_keys(self):
-        """serve names each key of a configuration that is not known, and pipe does not."""
-        config = os.path.join(self.folder, "config.toml")
-        text = sample(
-            (b"[[pool]]", b'segment = 1\n\n[[nodes]]\nid = "n3"\n\n[[pool]]'),
-            (b"bytes = 4194304", b'bytes = 4194304\nsegment = 3\n"a\\nb" = 1'),
-            (b"max_volumes = 2", b'max_volumes = 2\nidd = "n"'),
-        )
-        write(config, text)
-        said = "".join(
-            "csid: %s: %sthe key '%s' is not known\n" % (config, where, key)
-            for where, key in [
-                ("", "nodes"),
-                ("", "segment"),
-                ("pool 2: ", "a\\nb"),
-                ("pool 2: ", "segment"),
-                ("node 1: ", "idd"),
-            ]
-        )
-        server = Server(self.csid, self.folder, "--config", config)
-        self.row("serve", server.end()[0], said + server.line(NEW) + server.has(0, 0, 1))
-        tables = Tables(self.csid, self.folder)
+    def run_pipe(self, content, given=frame(PROBE), **how):
+        write(self.path, content)
+        return run([self.csid, "pipe", "--config", self.path], input=given, **how)
+
+    def line(self, why):
+        return "csid: %s: %s\n" % (self.path, why)
+
+    def test_configuration_is_used(self):
+        for name, content, given, out in CONFIGURED:
+            with self.subTest(name=name):
+                self.assertEqual(self.run_pipe(content, given), (out, "", 0))
+
+    def test_option_has_another_spelling(self):
+        write(self.path, SAMPLE)
+        self.assertEqual(run([self.csid, "pipe", "--config=" + self.path], input=b""), (b"", "", 0))
+
+    def test_configuration_is_refused(self):
+        for name, content, line in REFUSED:
+            with self.subTest(name=name):
+                self.assertEqual(self.run_pipe(content), (b"", self.line(line), 3))
+
+    def test_want_of_memory_is_reported(self):
+        """The file can be read, and there is no memory for its values."""
+        came = self.run_pipe(SAMPLE + nodes(40_000), preexec_fn=little_memory)
+        self.assertEqual(came, (b"", NO_MEMORY, 6))
+
+    def test_path_that_is_no_file_is_refused(self):
+        for path, why in (self.path, NOT_THERE), (self.folder, "Is a directory (os error 21)"):
+            with self.subTest(why=why):
+                came = run([self.csid, "pipe", "--config", path], input=frame(PROBE))
+                self.assertEqual(came, (b"", "csid: %s: %s\n" % (path, why), 3))
+
+
+class UnknownKeysTest(CsidTest):
+    """Keys of a configuration that are not known."""
+
+    CONTENT = sample(
+        (b"[[pool]]", b'segment = 1\n\n[[nodes]]\nid = "n3"\n\n[[pool]]'),
+        (b"bytes = 4194304", b'bytes = 4194304\nsegment = 3\n"a\\nb" = 1'),
+        (b"max_volumes = 2", b'max_volumes = 2\nidd = "n"'),
+    )
+    KEYS = [
+        ("", "nodes"),
+        ("", "segment"),
+        ("pool 2: ", "a\\nb"),
+        ("pool 2: ", "segment"),
+        ("node 1: ", "idd"),
+    ]
+
+    def setUp(self):
+        super().setUp()
+        self.config = os.path.join(self.folder, "config.toml")
+        write(self.config, self.CONTENT)
+        line = "csid: %s: %%sthe key '%%s' is not known\n" % self.config
+        self.lines = "".join(line % it for it in self.KEYS)
+
+    def serve(self):
+        server = Server(self.csid, self.folder, "--config", self.config)
+        self.addCleanup(server.end)
+        return server
+
+    def test_serve_names_them(self):
+        server = self.serve()
+        self.assertEqual(server.end()[0], self.lines + server.line(NEW) + server.has(0, 0, 1))
+
+    def test_check_tables_names_them(self):
+        tables = Tables(self.csid, self.folder).new()
         has = b"volumes 0, attachments 0, next number 1, format 2\n"
-        self.row("--check-tables", tables.check(config), (has, said, 0))
-        self.row("pipe", tables.run(frame(PROBE), config), (READY, "", 0))
-        write(config, SAMPLE)
-        server = Server(self.csid, self.folder, "--config", config)
-        self.row("none", server.end()[0], server.has(0, 0, 1))
-        write(config, text + b"[[pool]]\n")
-        server = Server(self.csid, self.folder, "--config", config)
-        self.row(
-            "of a configuration that is refused",
-            server.end(),
-            ("csid: %s: pool 3: the key 'name' is missing\n" % config, 3, False),
-        )
+        self.assertEqual(tables.check(self.config), (has, self.lines, 0))
+
+    def test_pipe_does_not_name_them(self):
+        tables = Tables(self.csid, self.folder)
+        self.assertEqual(tables.run(frame(PROBE), self.config), (READY, "", 0))
+
+    def test_known_keys_are_not_named(self):
+        write(self.config, SAMPLE)
+        Tables(self.csid, self.folder).new()
+        server = self.serve()
+        self.assertEqual(server.end()[0], server.has(0, 0, 1))
+
+    def test_configuration_that_is_refused_has_no_such_lines(self):
+        write(self.config, self.CONTENT + b"[[pool]]\n")
+        line = "csid: %s: pool 3: the key 'name' is missing\n" % self.config
+        self.assertEqual(self.serve().end(), (line, 3, False))

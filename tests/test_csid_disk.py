@@ -1,5 +1,6 @@
 """Files that are locked, replaced or killed over, and disks that are full."""
 
+import contextlib
 import os
 import re
 import shutil
@@ -23,7 +24,17 @@ from tests.support.frames import (
     refusal,
     reply,
 )
-from tests.support.processes import SECONDS, fill, little_room, no_byte, no_room, run, small_disk, write
+from tests.support.processes import (
+    SECONDS,
+    fill,
+    little_room,
+    no_byte,
+    no_room,
+    read,
+    run,
+    small_disk,
+    write,
+)
 from tests.support.rows import CsidTest
 from tests.support.server import DOWN, NEW, Server
 from tests.support.tables import (
@@ -50,429 +61,383 @@ def mounts(count):
     )
 
 
-class DiskTest(CsidTest):
-    """Files that are locked, replaced or killed over, and disks that are full."""
+CREATE, MORE = controller("CreateVolume", CREATE_A), controller("CreateVolume", CREATE_B)
+LISTING = controller("ListVolumes")
+REFUSED, IS_DOWN = refusal(13, "store refused"), refusal(13, "store is down")
 
-    def test_lock(self):
-        """One csid has the file, or one sqlite3."""
-        tables = Tables(self.csid, self.folder)
-        first = subprocess.Popen(
-            tables.command, stdin=subprocess.PIPE, stdout=subprocess.PIPE, stderr=subprocess.PIPE, bufsize=0
-        )
-        first.stdin.write(controller("CreateVolume", CREATE_A))
-        self.row("the first", first.stdout.read(len(reply(VOLUME_1))), reply(VOLUME_1))
-        self.row("the second", tables.run(frame(PROBE)), tables.says(LOCKED))
-        try:
-            connection = sqlite3.connect(tables.path, timeout=0)
-            said = str(connection.execute("SELECT * FROM volumes").fetchall())
-        except sqlite3.OperationalError as error:
-            said = str(error)
-        connection.close()
-        self.row("sqlite3", said, LOCKED)
-        self.row(
-            "the first goes on",
-            first.communicate(controller("ListVolumes"), timeout=SECONDS)[0].count(b"vol-1"),
-            1,
-        )
-        self.row("no more", tables.run(frame(PROBE)), tables.says(None))
-        connection = sqlite3.connect(tables.path, isolation_level=None)
-        connection.execute("BEGIN")
-        connection.execute("SELECT * FROM volumes").fetchall()
-        self.row("by sqlite3", tables.run(frame(PROBE)), tables.says(LOCKED))
-        connection.close()
-        self.row("by nobody", tables.run(controller("ListVolumes"))[0].count(b"vol-1"), 1)
+
+class DiskTest(CsidTest):
+    """csid over tables in the folder of the test."""
+
+    def setUp(self):
+        super().setUp()
+        self.tables = Tables(self.csid, self.folder)
+
+    def begin(self, tables, call, answer):
+        """csid that has answered a call, and waits for another one."""
+        streams = dict.fromkeys(("stdin", "stdout", "stderr"), subprocess.PIPE)
+        process = subprocess.Popen(tables.command, bufsize=0, **streams)
+        process.stdin.write(call)
+        self.assertEqual(process.stdout.read(len(answer)), answer)
+        return process
+
+    def finish(self, process, calls):
+        """What csid makes of further calls."""
+        out, error = process.communicate(calls, timeout=SECONDS)
+        return out, error.decode(), process.returncode
+
+    def configure(self):
+        """A configuration with a large pool."""
+        config = os.path.join(self.folder, "config.toml")
+        write(config, sample((b"10485760", b"%d" % (20000 * MIB))))
+        return config
+
+
+class LockTest(DiskTest):
+    """One csid has the file, or one sqlite3."""
+
+    def test_file_of_csid_is_locked(self):
+        """For another csid, and for sqlite3."""
+        first = self.begin(self.tables, CREATE, reply(VOLUME_1))
+        self.assertEqual(self.tables.run(frame(PROBE)), self.tables.says(LOCKED))
+        with contextlib.closing(sqlite3.connect(self.tables.path, timeout=0)) as connection:
+            with self.assertRaisesRegex(sqlite3.OperationalError, "^%s$" % LOCKED):
+                connection.execute("SELECT * FROM volumes")
+        self.assertEqual(self.finish(first, LISTING), (ONE, "", 0))
+        self.assertEqual(self.tables.run(frame(PROBE)), (READY, "", 0))
+
+    def test_file_of_sqlite_is_locked(self):
+        self.tables.run(CREATE)
+        with contextlib.closing(sqlite3.connect(self.tables.path, isolation_level=None)) as connection:
+            connection.execute("BEGIN")
+            connection.execute("SELECT * FROM volumes").fetchall()
+            self.assertEqual(self.tables.run(frame(PROBE)), self.tables.says(LOCKED))
+        self.assertEqual(self.tables.run(LISTING), (ONE, "", 0))
+
+
+class KillTest(DiskTest):
+    """csid is killed after it has answered a create, so that the log has it."""
 
     def kill_after_create(self, tables):
-        """Kills csid after it has answered a create, so that the log has it."""
-        process = subprocess.Popen(
-            tables.command, stdin=subprocess.PIPE, stdout=subprocess.PIPE, stderr=subprocess.PIPE, bufsize=0
-        )
-        process.stdin.write(controller("CreateVolume", CREATE_A))
-        process.stdout.read(len(reply(VOLUME_1)))
+        process = self.begin(tables, CREATE, reply(VOLUME_1))
         process.kill()
         process.communicate()
 
-    def test_kill(self):
-        """What was answered stands after SIGKILL, in the log, and the log is of the file."""
-        tables = Tables(self.csid, self.folder)
-        self.kill_after_create(tables)
+    def test_answered_change_is_in_the_log(self):
+        """The log is of the file: a copy of the file alone is older."""
+        self.kill_after_create(self.tables)
         both, alone = Tables(self.csid, self.folder, "both.db"), Tables(self.csid, self.folder, "alone.db")
         for copy in both, alone:
-            shutil.copy(tables.path, copy.path)
-        shutil.copy(tables.path + "-wal", both.path + "-wal")
-        listing = controller("ListVolumes")
-        self.row("a copy of both files", both.run(listing)[0].count(b"vol-1"), 1)
-        self.row("a copy of the file alone is older", alone.run(listing)[0].count(b"vol-1"), 0)
-        self.row("the file", tables.run(listing)[0].count(b"vol-1"), 1)
-        self.row("integrity_check", tables.ask("PRAGMA integrity_check"), [("ok",)])
+            shutil.copy(self.tables.path, copy.path)
+        shutil.copy(self.tables.path + "-wal", both.path + "-wal")
+        self.assertEqual(both.run(LISTING), (ONE, "", 0))
+        self.assertEqual(alone.run(LISTING), (reply(b""), "", 0))
+        self.assertEqual(self.tables.run(LISTING), (ONE, "", 0))
+        self.assertEqual(self.tables.ask("PRAGMA integrity_check"), [("ok",)])
 
-    def test_salts(self):
-        """The salts of a WAL ("Database File Format" of SQLite, 4.1) are drawn at random, so that frames of
-        an older WAL are never taken for those of a newer one.
+    def test_salts_of_a_log_are_drawn_at_random(self):
+        """So frames of an older WAL are never taken for those of a newer one ("Database File Format" of
+        SQLite, 4.1).
         """
         salts = []
         for name in "one.db", "two.db":
             tables = Tables(self.csid, self.folder, name)
             self.kill_after_create(tables)
-            with open(tables.path + "-wal", "rb") as file:
-                salts.append(file.read(24)[16:])
-        self.row("bytes of salts", [len(salt) for salt in salts], [8, 8])
-        self.row("salts are the same", salts[0] == salts[1], False)
+            salts.append(read(tables.path + "-wal")[16:24])
+        self.assertEqual([len(salt) for salt in salts], [8, 8])
+        self.assertNotEqual(*salts)
 
-    def test_replacement(self):
-        """The file is deleted, or another one is put instead, while csid has it open: it goes on over
-        the old one.
-        """
-        create, listing = controller("CreateVolume", CREATE_A), controller("ListVolumes")
+
+class ReplacementTest(DiskTest):
+    """The file is deleted, or another one is put in its place, while csid has it open: it goes on over the
+    old one.
+    """
+
+    def setUp(self):
+        super().setUp()
+        self.process = self.begin(self.tables, CREATE, reply(VOLUME_1))
+
+    def check_goes_on(self):
         second = VOLUME_1.replace(b"vol-1", b"vol-2")
-        two = reply(
-            bytes.fromhex("0a28")
-            + VOLUME_1
-            + bytes.fromhex("1200")
-            + bytes.fromhex("0a28")
-            + second
-            + bytes.fromhex("1200")
-        )
+        entries = [bytes.fromhex("0a28") + it + bytes.fromhex("1200") for it in (VOLUME_1, second)]
+        another = controller("CreateVolume", CREATE_A.replace(b"\x0a\x01a", b"\x0a\x01b"))
+        came = self.finish(self.process, another + LISTING)
+        self.assertEqual(came, (reply(second) + reply(b"".join(entries)), "", 0))
+
+    def put(self, content):
+        write(self.tables.path + ".new", content)
+        os.rename(self.tables.path + ".new", self.tables.path)
+
+    def test_deleted_file_stays_deleted(self):
+        os.unlink(self.tables.path)
+        self.check_goes_on()
+        self.assertFalse(os.path.exists(self.tables.path))
+        self.assertEqual(self.tables.run(LISTING), (reply(b""), "", 0))
+
+    def test_deleted_file_and_log_are_made_again_by_the_next_run(self):
+        os.unlink(self.tables.path)
+        os.unlink(self.tables.path + "-wal")
+        self.check_goes_on()
+        self.assertEqual(self.tables.run(LISTING), (reply(b""), "", 0))
+
+    def test_other_tables_are_kept(self):
         other = Tables(self.csid, self.folder, "other.db").new()
-        other.run(controller("CreateVolume", CREATE_B))
-        kept = open(other.path, "rb").read()
-        tables = Tables(self.csid, self.folder)
+        other.run(MORE)
+        kept = read(other.path)
+        self.put(kept)
+        self.check_goes_on()
+        self.assertEqual(read(self.tables.path), kept)
+        self.assertEqual(self.tables.run(LISTING), other.run(LISTING))
 
-        def begun():
-            process = subprocess.Popen(
-                tables.clear().command,
-                stdin=subprocess.PIPE,
-                stdout=subprocess.PIPE,
-                stderr=subprocess.PIPE,
-                bufsize=0,
-            )
-            process.stdin.write(create)
-            process.stdout.read(len(reply(VOLUME_1)))
-            return process
+    def test_file_that_is_no_database_is_kept(self):
+        self.put(b"x" * 5000)
+        self.check_goes_on()
+        self.assertEqual(self.tables.run(LISTING), self.tables.says(NO_DATABASE))
+        self.assertEqual(read(self.tables.path), b"x" * 5000)
 
-        def goes_on(process):
-            out, error = process.communicate(
-                controller("CreateVolume", CREATE_A.replace(b"\x0a\x01a", b"\x0a\x01b")) + listing,
-                timeout=SECONDS,
-            )
-            return (out, error.decode(), process.returncode), (reply(second) + two, "", 0)
 
-        process = begun()
-        os.unlink(tables.path)
-        self.row("a deleted file", *goes_on(process))
-        self.row("it stays deleted", os.path.exists(tables.path), False)
-        self.row("the next has new tables", tables.run(listing), (reply(b""), "", 0))
-        process = begun()
-        os.unlink(tables.path)
-        os.unlink(tables.path + "-wal")
-        self.row("a deleted file and log", *goes_on(process))
-        self.row("the next has new tables too", tables.run(listing), (reply(b""), "", 0))
-        process = begun()
-        write(tables.path + ".new", kept)
-        os.rename(tables.path + ".new", tables.path)
-        self.row("another's tables", *goes_on(process))
-        self.row("the other is as it was", open(tables.path, "rb").read(), kept)
-        self.row("the next has the other's", tables.run(listing), other.run(listing))
-        process = begun()
-        write(tables.path + ".new", b"x" * 5000)
-        os.rename(tables.path + ".new", tables.path)
-        self.row("no database", *goes_on(process))
-        self.row("the next is refused", tables.run(listing), tables.says(NO_DATABASE))
-        self.row("what is no database is as it was", open(tables.path, "rb").read(), b"x" * 5000)
+class FullDiskTest(DiskTest):
+    """A disk without a free byte."""
 
-    def test_full_disk(self):
-        """A disk without a free byte, while a file is opened, and while a call is answered."""
-        disk = self.enterContext(small_disk(self.folder))
-        tables = Tables(self.csid, disk)
-        create, listing = controller("CreateVolume", CREATE_A), controller("ListVolumes")
-        one = reply(bytes.fromhex("0a28") + VOLUME_1 + bytes.fromhex("1200"))
-        # Without a file, without its log, and with both.
-        filler = fill(disk)
-        self.row("a new file", tables.run(frame(PROBE)), tables.says(FULL))
-        self.row("again", tables.run(frame(PROBE)), tables.says(FULL))
+    def setUp(self):
+        super().setUp()
+        self.disk = self.enterContext(small_disk(self.folder))
+        self.tables = Tables(self.csid, self.disk)
+
+    def test_new_file_is_refused_until_there_is_room(self):
+        filler = fill(self.disk)
+        for _ in range(2):
+            self.assertEqual(self.tables.run(frame(PROBE)), self.tables.says(FULL))
         os.unlink(filler)
-        self.row("there is room", tables.run(create), (reply(VOLUME_1), "", 0))
-        content = open(tables.path, "rb").read()
-        os.unlink(tables.path + "-wal")
-        fill(disk)
-        self.row("a file without its log", tables.run(frame(PROBE)), tables.says(FULL))
-        os.unlink(filler)
-        self.row("as it was", open(tables.path, "rb").read(), content)
-        self.row("its log", tables.run(listing), (one, "", 0))
-        fill(disk)
-        self.row("a file with its log", tables.run(listing), (one, "", 0))
-        more = controller("CreateVolume", CREATE_B)
-        self.row(
-            "a create",
-            tables.run(create + more + listing + more),
-            (reply(VOLUME_1) + refusal(13, "store refused") + refusal(13, "store is down") * 2, "", 0),
-        )
-        os.unlink(filler)
-        self.row("nothing was made", tables.run(listing), (one, "", 0))
-        # The disk is filled while csid has the file open, and room is made again.
-        process = subprocess.Popen(
-            tables.command, stdin=subprocess.PIPE, stdout=subprocess.PIPE, stderr=subprocess.PIPE, bufsize=0
-        )
-        process.stdin.write(listing)
-        self.row("a call before", process.stdout.read(len(one)), one)
-        fill(disk)
-        process.stdin.write(more)
-        refused = refusal(13, "store refused")
-        self.row("a call on the full disk", process.stdout.read(len(refused)), refused)
-        os.unlink(filler)
-        out, error = process.communicate(listing, timeout=SECONDS)
-        self.row(
-            "it is down until the next opening",
-            (out, error.decode(), process.returncode),
-            (refusal(13, "store is down"), "", 0),
-        )
-        self.row("the next opening", tables.run(listing + more), (one + reply(VOLUME_2), "", 0))
-        self.row("integrity_check", tables.ask("PRAGMA integrity_check"), [("ok",)])
+        self.assertEqual(self.tables.run(CREATE), (reply(VOLUME_1), "", 0))
 
-    def refused_on_full_disk(self, tables, first):
+    def test_file_without_its_log_is_refused_and_kept(self):
+        self.tables.run(CREATE)
+        content = read(self.tables.path)
+        os.unlink(self.tables.path + "-wal")
+        filler = fill(self.disk)
+        self.assertEqual(self.tables.run(frame(PROBE)), self.tables.says(FULL))
+        os.unlink(filler)
+        self.assertEqual(read(self.tables.path), content)
+        self.assertEqual(self.tables.run(LISTING), (ONE, "", 0))
+
+    def test_file_with_its_log_is_read_and_takes_no_change(self):
+        self.tables.run(CREATE)
+        filler = fill(self.disk)
+        self.assertEqual(self.tables.run(LISTING), (ONE, "", 0))
+        came = self.tables.run(CREATE + MORE + LISTING + MORE)
+        self.assertEqual(came, (reply(VOLUME_1) + REFUSED + IS_DOWN * 2, "", 0))
+        os.unlink(filler)
+        self.assertEqual(self.tables.run(LISTING), (ONE, "", 0))
+
+    def test_csid_is_down_until_the_next_opening(self):
+        """The disk is filled while csid has the file open, and room is made again."""
+        self.tables.run(CREATE)
+        process = self.begin(self.tables, LISTING, ONE)
+        filler = fill(self.disk)
+        process.stdin.write(MORE)
+        self.assertEqual(process.stdout.read(len(REFUSED)), REFUSED)
+        os.unlink(filler)
+        self.assertEqual(self.finish(process, LISTING), (IS_DOWN, "", 0))
+        self.assertEqual(self.tables.run(LISTING + MORE), (ONE + reply(VOLUME_2), "", 0))
+        self.assertEqual(self.tables.ask("PRAGMA integrity_check"), [("ok",)])
+
+    def refuse_on_full_disk(self, tables, first):
         """The calls of one run: a create, after which the disk is full, and a create that is refused."""
-        process = subprocess.Popen(
-            tables.command, stdin=subprocess.PIPE, stdout=subprocess.PIPE, stderr=subprocess.PIPE, bufsize=0
-        )
-        process.stdin.write(controller("CreateVolume", first))
-        self.row("a create", process.stdout.read(len(reply(VOLUME_1))), reply(VOLUME_1))
-        filler = fill(os.path.dirname(tables.path))
+        process = self.begin(tables, controller("CreateVolume", first), reply(VOLUME_1))
+        filler = fill(self.disk)
         # The log has 256 KiB of zeros ahead, into which 3,000 file systems do not fit.
         more = controller("CreateVolume", CREATE_B + mounts(3000))
-        out, error = process.communicate(more, timeout=SECONDS)
-        came = out, error.decode(), process.returncode
-        self.row("one on the full disk", came, (refusal(13, "store refused"), "", 0))
+        self.assertEqual(self.finish(process, more), (REFUSED, "", 0))
         os.unlink(filler)
-
-    def test_file_alone_after_a_refusal(self):
-        """After a refused change both files have what was committed. The file alone has it unless the disk
-        has no room for the pages that it lacks; then it may have some of them, and is refused.
-        """
-        disk = self.enterContext(small_disk(self.folder))
-        for name, first, alone in [("small", CREATE_A, ["vol-1"]), ("large", CREATE_A + mounts(100), [])]:
-            tables = Tables(self.csid, disk, name + ".db").new()
-            self.refused_on_full_disk(tables, first)
-            for kind, ends, wanted in [("both", ["", "-wal"], ["vol-1"]), ("alone", [""], alone)]:
-                copy = Tables(self.csid, self.folder, "%s-%s.db" % (name, kind))
-                for end in ends:
-                    shutil.copy(tables.path + end, copy.path + end)
-                self.row("%s create, %s" % (name, kind), self.listed(copy), wanted)
 
     def listed(self, tables):
         """The ids that a listing of tables has; none, where the tables are refused."""
-        done = subprocess.run(
-            [self.csid, "--list-tables", tables.path], capture_output=True, text=True, timeout=SECONDS
-        )
-        return re.findall(r"^vol-\d+", done.stdout, re.M)
+        out = run([self.csid, "--list-tables", tables.path])[0]
+        return re.findall(rb"^vol-\d+", out, re.M)
 
-    def test_refused_commit(self):
-        """A disk that takes no commit: the change is refused, and nothing is answered until the file is
-        opened again.
+    def test_both_files_have_what_was_committed_after_a_refusal(self):
+        """The file alone has it unless the disk has no room for the pages that it lacks; then it may have
+        some of them, and is refused.
         """
-        tables = Tables(self.csid, self.folder).new()
-        create, listing = controller("CreateVolume", CREATE_A), controller("ListVolumes")
-        # python ignores the signal that a write beyond the limit sends, and its child does too.
-        how = {"preexec_fn": no_room, "restore_signals": False}
-        came = tables.run(frame(PROBE) + create + listing + create, **how)
-        self.row(
-            "refused: a create",
-            came,
-            (READY + refusal(13, "store refused") + refusal(13, "store is down") * 2, "", 0),
-        )
-        self.row(
-            "refused: nothing was made",
-            tables.run(listing + create + listing),
-            (
-                reply(b"")
-                + reply(VOLUME_1)
-                + reply(bytes.fromhex("0a28") + VOLUME_1 + bytes.fromhex("1200")),
-                "",
-                0,
-            ),
-        )
-        # A limit on the length of files is no want of room.
-        self.row(
-            "refused: a new file that may have no byte",
-            tables.clear().run(frame(PROBE), preexec_fn=no_byte, restore_signals=False),
-            tables.says(IO_FAILED),
-        )
-        self.row("refused: it holds nothing yet", tables.run(listing), (reply(b""), "", 0))
-        # A file of more bytes than there is room for: the commit is in the log, which cannot be copied.
-        config = os.path.join(self.folder, "config.toml")
-        write(config, sample((b"10485760", b"%d" % (20000 * MIB))))
-        tables.new().script(MANY % (10000, BLOCK_CAPS) + next_is(10001))
-        create = controller("CreateVolume", CREATE_B)
-        came = tables.run(create, config, preexec_fn=little_room, restore_signals=False)
-        self.row(
-            "refused: the copy of the log",
-            (came[0].count(b"vol-10001"), came[1], came[2]),
-            (1, "csid: %s: %s\n" % (tables.path, IO_FAILED), 4),
-        )
-        self.row("refused: what was answered stands", tables.run(create, config), (came[0], "", 0))
-        self.row(
-            "refused: once",
-            tables.ask("SELECT count(*), max(number) FROM volumes WHERE name = 'b'"),
-            [(1, 10001)],
-        )
+        for name, first, alone in [("small", CREATE_A, [b"vol-1"]), ("large", CREATE_A + mounts(100), [])]:
+            tables = Tables(self.csid, self.disk, name + ".db").new()
+            self.refuse_on_full_disk(tables, first)
+            for kind, ends, wanted in [("both", ["", "-wal"], [b"vol-1"]), ("alone", [""], alone)]:
+                with self.subTest(create=name, files=kind):
+                    copy = Tables(self.csid, self.folder, "%s-%s.db" % (name, kind))
+                    for end in ends:
+                        shutil.copy(tables.path + end, copy.path + end)
+                    self.assertEqual(self.listed(copy), wanted)
 
-    def test_refused_read(self):
-        """A file of which pages are overwritten while a connection has it open. Where reads go to the file,
-        they are refused and that is reported once; where volumes are in memory, nothing is noticed.
-        """
-        config = os.path.join(self.folder, "config.toml")
-        write(config, sample((b"10485760", b"%d" % (20000 * MIB))))
-        listing = controller("ListVolumes", bytes.fromhex("0801 1204") + b"2000")
-        refused = refusal(13, "store refused")
-        page = reply(
-            bytes.fromhex(
-                "0a2b 0a27 08808040 1208 766f6c2d32303031 1a0a 0a04706f6f6c 12027031"
-                "2a0b 0a09 0a047a6f6e65 120161 1200 1204 32303031"
-            )
-        )
-        lines = ["the database refused a call: " + DAMAGED, "the database refused a read"]
-        for words, came, said in [(["--low-memory"], refused, lines), ([], page, [])]:
-            tables = Tables(self.csid, self.folder).new()
-            params = "UPDATE volumes SET params = %s;" % cell(pairs(4, b"k", 4090))
-            tables.script(MANY % (4000, BLOCK_CAPS) + params + next_is(4001))
-            server = Server(self.csid, self.folder, "--config", config, *words)
-            begun = server.lines()
-            with server.connect() as peer:
-                peer.sendall(frame(PROBE))
-                self.row("it has the file", peer.recv(4096), READY)
-                with open(tables.path, "r+b") as file:
-                    rest = os.path.getsize(tables.path) - file.seek(20 * 1024)
-                    file.write(b"x" * rest)
-                for _ in range(2):
-                    peer.sendall(listing)
-                    self.row("a read, %s" % words, peer.recv(4096), came)
-                peer.sendall(frame(PROBE))
-                self.row("it goes on", peer.recv(4096), READY)
-                peer.shutdown(socket.SHUT_WR)
-                self.row("its end", peer.recv(4096), b"")
-            self.row("what was said, %s" % words, server.end()[0], begun + "".join(map(server.line, said)))
-
-    def test_order_of_syncs(self):
-        """The reply of a create is written after a sync that follows the writes of its commit."""
-        strace = shutil.which("strace")
-        trace = os.path.join(self.folder, "trace")
-        tables = Tables(self.csid, self.folder).new()
-        command = [
-            strace or "strace",
-            "-f",
-            "-y",
-            "-o",
-            trace,
-            "-e",
-            "trace=write,pwrite64,writev,pwritev,fsync,fdatasync,ftruncate",
-        ] + tables.command
-        if strace is None or run(command, input=b"")[2] != 0:
-            self.skipTest("strace cannot be run here")
-        creates = [
-            controller("CreateVolume", CREATE_A.replace(b"\x0a\x01a", b"\x0a\x01" + name))
-            for name in (b"a", b"b", b"c")
-        ]
-        answers = [reply(VOLUME_1.replace(b"vol-1", b"vol-%d" % number)) for number in (1, 2, 3)]
-        self.row("creates", run(command, input=b"".join(creates)), (b"".join(answers), "", 0))
-        with open(trace) as lines:
-            steps = re.findall(r"(\w+)\((\d+)<([^>]*)>", lines.read())
-        replies = [at for at, (_, file, _) in enumerate(steps) if file == "1"]
-        self.row("a write each reply", len(replies), 3)
-        # What is done to the log between two replies: its last step is a sync, and it is written before that.
-        for number, (begin, end) in enumerate(zip([0] + replies, replies)):
-            calls = [call for call, _, path in steps[begin:end] if path == tables.path + "-wal"]
-            self.row(
-                "before reply %d" % (number + 1),
-                (
-                    calls[-1] in ("fsync", "fdatasync"),
-                    calls[-2] in ("write", "pwrite64", "writev", "pwritev"),
-                ),
-                (True, True),
-            )
-            if number > 0:
-                self.row(
-                    "once before reply %d" % (number + 1),
-                    sum(call in ("fsync", "fdatasync") for call in calls),
-                    1,
-                )
-        tables.clear()
-        run(command, input=b"")
-        with open(trace) as lines:
-            steps = re.findall(r"(\w+)\((\d+)<([^>]*)>", lines.read())
-        first = min(
-            at for at, (call, _, path) in enumerate(steps) if path == tables.path and call == "pwrite64"
-        )
-        self.row(
-            "the first page of a new file, at once",
-            [(call in ("fsync", "fdatasync"), path) for call, _, path in steps[first : first + 2]],
-            [(False, tables.path), (True, tables.path)],
-        )
-
-    def test_closed_streams(self):
-        """Standard streams that are closed or full: nothing that is meant for them lands in the tables."""
-        tables = Tables(self.csid, self.folder)
-        create, listing = controller("CreateVolume", CREATE_A), controller("ListVolumes")
-        one = reply(bytes.fromhex("0a28") + VOLUME_1 + bytes.fromhex("1200"))
-        fault_text, line, _ = fault("bad path length at byte 49")
-        for redirection, came, then in [
-            ("2>&-", (reply(VOLUME_1) + fault_text, "", 1), one),
-            ("2>/dev/full", (reply(VOLUME_1) + fault_text, "", 1), one),
-            ("<&-", (b"", READ_FAILED, 5), reply(b"")),
-            ("<&- 2>&-", (b"", "", 5), reply(b"")),
-            (">&- 2>&-", (b"", "", 5), one),
-            ("<&- >&- 2>&-", (b"", "", 5), reply(b"")),
-        ]:
-            tables.clear()
-            self.row(
-                "" + redirection,
-                run(["sh", "-c", 'exec "$0" "$@" ' + redirection] + tables.command, input=create + b"\0\0"),
-                came,
-            )
-            self.row("then: " + redirection, tables.run(listing), (then, "", 0))
-        write(tables.path, b"x" * 5000)
-        for redirection in "2>&-", "2>/dev/full":
-            self.row(
-                "no database, " + redirection,
-                run(["sh", "-c", 'exec "$0" "$@" ' + redirection] + tables.command, input=create),
-                (b"", "", 4),
-            )
-            self.row("as it was, " + redirection, open(tables.path, "rb").read(), b"x" * 5000)
-
-    def test_room_again(self):
-        """A disk that is full for a while: the line, and service on the next connection. No restart."""
-        disk = self.enterContext(small_disk(self.folder))
-        create, more, listing = (
-            controller("CreateVolume", CREATE_A),
-            controller("CreateVolume", CREATE_B),
-            controller("ListVolumes"),
-        )
-        server = Server(self.csid, self.folder, tables=os.path.join(disk, "volumes.db"))
+    def test_server_goes_on_and_serves_changes_once_there_is_room(self):
+        """No restart, and a line for each connection that was refused."""
+        server = Server(self.csid, self.folder, tables=self.tables.path)
+        self.addCleanup(server.end)
         begun = server.line(NEW) + server.has(0, 0, 1)
         down = server.line("the database refused a call: " + FULL) + server.line(DOWN)
-        self.row("a create", server.ask(create), reply(VOLUME_1))
+        self.assertEqual(server.ask(CREATE), reply(VOLUME_1))
         with server.connect() as peer:
-            peer.sendall(listing)
-            self.row("a call before", peer.recv(4096), ONE)
-            filler = fill(disk)
-            peer.sendall(more)
-            refused = refusal(13, "store refused")
-            self.row("a call on the full disk", peer.recv(4096), refused)
-            peer.sendall(listing)
-            self.row("the connection is down", peer.recv(4096), refusal(13, "store is down"))
-        self.row("the next, on the full disk", server.ask(listing), ONE)
-        self.row("and a change", server.ask(more), refused)
+            peer.sendall(LISTING)
+            self.assertEqual(peer.recv(4096), ONE)
+            filler = fill(self.disk)
+            for call, answer in (MORE, REFUSED), (LISTING, IS_DOWN):
+                peer.sendall(call)
+                self.assertEqual(peer.recv(4096), answer)
+        self.assertEqual([server.ask(LISTING), server.ask(MORE)], [ONE, REFUSED])
         os.unlink(filler)
-        self.row("there is room, and no restart", server.ask(more + listing).count(b"vol-2"), 2)
-        self.row("a line for each connection that was refused", server.end()[0], begun + down * 2)
-        tables = Tables(self.csid, disk)
-        self.row("the rows", tables.ask("SELECT number, name FROM volumes"), [(1, "a"), (2, "b")])
-        self.row("integrity_check", tables.ask("PRAGMA integrity_check"), [("ok",)])
-        # A file that is new, where there is no room for it.
-        tables.clear()
-        filler = fill(disk)
-        server = Server(self.csid, self.folder, tables=tables.path)
+        self.assertEqual(server.ask(MORE + LISTING).count(b"vol-2"), 2)
+        self.assertEqual(server.end()[0], begun + down * 2)
+        self.assertEqual(self.tables.ask("SELECT number, name FROM volumes"), [(1, "a"), (2, "b")])
+        self.assertEqual(self.tables.ask("PRAGMA integrity_check"), [("ok",)])
+
+    def test_server_makes_new_tables_once_there_is_room(self):
+        filler = fill(self.disk)
+        server = Server(self.csid, self.folder, tables=self.tables.path)
+        self.addCleanup(server.end)
         full = server.line(FULL)
-        self.row("no room for new tables", server.lines(), full)
-        self.row("a connection", server.ask(listing), b"")
+        self.assertEqual(server.lines(), full)
+        self.assertEqual(server.ask(LISTING), b"")
         os.unlink(filler)
-        self.row("there is room for new tables", server.ask(listing), reply(b""))
-        self.row("they are told", server.end()[0], full * 2 + server.line(NEW))
+        self.assertEqual(server.ask(LISTING), reply(b""))
+        self.assertEqual(server.end()[0], full * 2 + server.line(NEW))
+
+
+class RefusedCommitTest(DiskTest):
+    """A limit on the length of files: the disk takes no commit."""
+
+    def run_limited(self, limit, calls, *words):
+        # Python ignores the signal that a write beyond the limit sends, and its child does too.
+        return self.tables.run(calls, *words, preexec_fn=limit, restore_signals=False)
+
+    def test_change_is_refused_and_nothing_is_answered_until_the_next_opening(self):
+        self.tables.new()
+        came = self.run_limited(no_room, frame(PROBE) + CREATE + LISTING + CREATE)
+        self.assertEqual(came, (READY + REFUSED + IS_DOWN * 2, "", 0))
+        came = self.tables.run(LISTING + CREATE + LISTING)
+        self.assertEqual(came, (reply(b"") + reply(VOLUME_1) + ONE, "", 0))
+
+    def test_new_file_that_may_have_no_byte_is_refused(self):
+        """The limit is no want of room."""
+        self.assertEqual(self.run_limited(no_byte, frame(PROBE)), self.tables.says(IO_FAILED))
+        self.assertEqual(self.tables.run(LISTING), (reply(b""), "", 0))
+
+    def test_change_is_kept_where_the_log_cannot_be_copied(self):
+        """The file has more bytes than there is room for. The commit is in the log."""
+        config = self.configure()
+        self.tables.new().script(MANY % (10000, BLOCK_CAPS) + next_is(10001))
+        out, error, status = self.run_limited(little_room, MORE, config)
+        line = "csid: %s: %s\n" % (self.tables.path, IO_FAILED)
+        self.assertEqual((out.count(b"vol-10001"), error, status), (1, line, 4))
+        self.assertEqual(self.tables.run(MORE, config), (out, "", 0))
+        rows = self.tables.ask("SELECT count(*), max(number) FROM volumes WHERE name = 'b'")
+        self.assertEqual(rows, [(1, 10001)])
+
+
+class RefusedReadTest(DiskTest):
+    """A file of which pages are overwritten while a connection has it open."""
+
+    def check_reads(self, wanted, said, *words):
+        """Reads of a volume beyond the page that are answered so, and what csid says then."""
+        config, listing = self.configure(), controller("ListVolumes", bytes.fromhex("0801 1204") + b"2000")
+        params = "UPDATE volumes SET params = %s;" % cell(pairs(4, b"k", 4090))
+        self.tables.new().script(MANY % (4000, BLOCK_CAPS) + params + next_is(4001))
+        server = Server(self.csid, self.folder, "--config", config, *words)
+        self.addCleanup(server.end)
+        begun = server.lines()
+        with server.connect() as peer:
+            peer.sendall(frame(PROBE))
+            self.assertEqual(peer.recv(4096), READY)
+            with open(self.tables.path, "r+b") as file:
+                file.write(b"x" * (os.path.getsize(self.tables.path) - file.seek(20 * 1024)))
+            for call, answer in [(listing, wanted)] * 2 + [(frame(PROBE), READY)]:
+                peer.sendall(call)
+                self.assertEqual(peer.recv(4096), answer)
+            peer.shutdown(socket.SHUT_WR)
+            self.assertEqual(peer.recv(4096), b"")
+        self.assertEqual(server.end()[0], begun + "".join(map(server.line, said)))
+
+    def test_reads_of_the_file_are_refused_and_that_is_reported_once(self):
+        lines = ["the database refused a call: " + DAMAGED, "the database refused a read"]
+        self.check_reads(REFUSED, lines, "--low-memory")
+
+    def test_reads_of_volumes_in_memory_are_answered(self):
+        volume = "0a2b 0a27 08808040 1208 766f6c2d32303031 1a0a 0a04706f6f6c 12027031"
+        page = reply(bytes.fromhex(volume + "2a0b 0a09 0a047a6f6e65 120161 1200 1204 32303031"))
+        self.check_reads(page, [])
+
+
+SYNCS, WRITES = ("fsync", "fdatasync"), ("write", "pwrite64", "writev", "pwritev")
+
+
+class SyncTest(DiskTest):
+    """The order of writes and syncs, as strace records it."""
+
+    def setUp(self):
+        super().setUp()
+        self.trace = os.path.join(self.folder, "trace")
+        traced = "trace=" + ",".join(WRITES + SYNCS + ("ftruncate",))
+        self.command = ["strace", "-f", "-y", "-o", self.trace, "-e", traced] + self.tables.command
+        if shutil.which("strace") is None or run(self.command, input=b"")[2] != 0:
+            self.skipTest("strace cannot be run here")
+        self.tables.new()
+
+    def steps(self):
+        """Triples of a call, the number of its file, and its path."""
+        return re.findall(r"(\w+)\((\d+)<([^>]*)>", read(self.trace).decode())
+
+    def test_reply_is_written_after_a_sync_of_its_commit(self):
+        """The last step of the log before a reply is a sync, after a write. From the second reply on it is
+        the only one.
+        """
+        creates = [CREATE_A.replace(b"\x0a\x01a", b"\x0a\x01" + name) for name in (b"a", b"b", b"c")]
+        answers = [reply(VOLUME_1.replace(b"vol-1", b"vol-%d" % number)) for number in (1, 2, 3)]
+        calls = b"".join(controller("CreateVolume", it) for it in creates)
+        self.assertEqual(run(self.command, input=calls), (b"".join(answers), "", 0))
+        steps = self.steps()
+        replies = [at for at, (_, file, _) in enumerate(steps) if file == "1"]
+        self.assertEqual(len(replies), 3)
+        for number, (begin, end) in enumerate(zip([0] + replies, replies)):
+            with self.subTest(reply=number + 1):
+                of_log = [call for call, _, path in steps[begin:end] if path == self.tables.path + "-wal"]
+                self.assertIn(of_log[-1], SYNCS)
+                self.assertIn(of_log[-2], WRITES)
+                if number > 0:
+                    self.assertEqual(sum(call in SYNCS for call in of_log), 1)
+
+    def test_first_page_of_a_new_file_is_synced_at_once(self):
+        self.tables.clear()
+        run(self.command, input=b"")
+        steps, path = self.steps(), self.tables.path
+        first = next(at for at, step in enumerate(steps) if (step[0], step[2]) == ("pwrite64", path))
+        after = [(call in SYNCS, place) for call, _, place in steps[first : first + 2]]
+        self.assertEqual(after, [(False, path), (True, path)])
+
+
+class ClosedStreamsTest(DiskTest):
+    """Standard streams that are closed or full: nothing that is meant for them goes into the tables."""
+
+    def run_redirected(self, redirection, calls):
+        return run(["sh", "-c", 'exec "$0" "$@" ' + redirection] + self.tables.command, input=calls)
+
+    def test_tables_have_the_rows_of_the_calls_alone(self):
+        out, _, _ = fault("bad path length at byte 49")
+        for redirection, came, then in [
+            ("2>&-", (reply(VOLUME_1) + out, "", 1), ONE),
+            ("2>/dev/full", (reply(VOLUME_1) + out, "", 1), ONE),
+            ("<&-", (b"", READ_FAILED, 5), reply(b"")),
+            ("<&- 2>&-", (b"", "", 5), reply(b"")),
+            (">&- 2>&-", (b"", "", 5), ONE),
+            ("<&- >&- 2>&-", (b"", "", 5), reply(b"")),
+        ]:
+            with self.subTest(redirection=redirection):
+                self.tables.clear()
+                self.assertEqual(self.run_redirected(redirection, CREATE + b"\0\0"), came)
+                self.assertEqual(self.tables.run(LISTING), (then, "", 0))
+
+    def test_file_that_is_no_database_is_kept(self):
+        write(self.tables.path, b"x" * 5000)
+        for redirection in "2>&-", "2>/dev/full":
+            with self.subTest(redirection=redirection):
+                self.assertEqual(self.run_redirected(redirection, CREATE), (b"", "", 4))
+                self.assertEqual(read(self.tables.path), b"x" * 5000)

@@ -1,5 +1,6 @@
 """`csid --list-tables`."""
 
+import itertools
 import json
 import os
 import shutil
@@ -10,6 +11,7 @@ from tests.support.configs import sample
 from tests.support.frames import BLOCK, MODE_NAMES, NO_MEMORY, WRITE_FAILED, controller
 from tests.support.processes import SECONDS, TOP, memory_of_20_mib, run, small_memory, write
 from tests.support.rows import CsidTest
+from tests.support.server import MISSING, WITHOUT
 from tests.support.tables import (
     A,
     BLOCK_CAPS,
@@ -149,7 +151,7 @@ NODE  VOLUMES  SIZE
 FIRST = "from the first volume on"
 
 
-class ListTest(CsidTest):
+class ListedTest(CsidTest):
     """`csid --list-tables`."""
 
     def listed(self, tables, *options, **how):
@@ -163,19 +165,23 @@ class ListTest(CsidTest):
     def ids(self, tables, *options):
         return [one["id"] for one in self.document(tables, *options)["volumes"]]
 
+
+class ListTest(ListedTest):
+    """What is listed, in columns and in JSON."""
+
     def test_table(self):
         """Each volume is a row, in the order of numbers, and each pool and node that has some another."""
         tables = Tables(self.csid, self.folder).new().script(ROWS)
         kept = tables.files()
-        self.row("all", self.listed(tables), (TABLE.encode(), "", 0))
-        self.row("none", self.listed(Tables(self.csid, self.folder, "new.db").new()), (EMPTY, "", 0))
-        self.row("none that is chosen", self.listed(tables, "--name", "pvc"), (EMPTY, "", 0))
-        self.row("to the byte as it was", tables.files(), kept)
+        self.check("all", self.listed(tables), (TABLE.encode(), "", 0))
+        self.check("none", self.listed(Tables(self.csid, self.folder, "new.db").new()), (EMPTY, "", 0))
+        self.check("none that is chosen", self.listed(tables, "--name", "pvc"), (EMPTY, "", 0))
+        self.check("to the byte as it was", tables.files(), kept)
 
     def test_escaped_words(self):
         """A space ends no word of a row, whichever column it is in."""
         tables = Tables(self.csid, self.folder).new().script(SPACES)
-        self.row("a space in each text", self.listed(tables), (ESCAPED, "", 0))
+        self.check("a space in each text", self.listed(tables), (ESCAPED, "", 0))
 
     def test_modes(self):
         """Each access mode by its name, for people and for programs."""
@@ -185,9 +191,9 @@ class ListTest(CsidTest):
         out, line, status = self.listed(tables)
         self.assertEqual((line, status), ("", 0))
         wanted = ",".join("block:" + mode for mode in MODE_NAMES)
-        self.row("in columns", out.decode().splitlines()[1].split()[5], wanted)
+        self.check("in columns", out.decode().splitlines()[1].split()[5], wanted)
         wanted = [{"access": "block", "mode": mode} for mode in MODE_NAMES]
-        self.row("in JSON", self.document(tables)["volumes"][0]["capabilities"], wanted)
+        self.check("in JSON", self.document(tables)["volumes"][0]["capabilities"], wanted)
 
     def test_greatest_numbers(self):
         """Numbers up to the greatest that a column has, and sums of bytes up to the greatest of 64 bits."""
@@ -196,16 +202,16 @@ class ListTest(CsidTest):
         tables.script(
             "".join(volume(number, "'v%d'" % number, 1 << 62) + attachment(number) for number in numbers)
         )
-        self.row("ids", self.ids(tables), ["vol-%d" % number for number in numbers])
+        self.check("ids", self.ids(tables), ["vol-%d" % number for number in numbers])
         most = (1 << 64) - 1
         found = self.document(tables)
-        self.row("of the pool", found["pools"], [{"name": "p1", "volumes": 4, "bytes": most}])
-        self.row("of the node", found["nodes"], [{"id": "n1", "volumes": 4, "bytes": most}])
-        self.row("in columns", self.listed(tables)[0].count(b"4        %d B\n" % most), 2)
+        self.check("of the pool", found["pools"], [{"name": "p1", "volumes": 4, "bytes": most}])
+        self.check("of the node", found["nodes"], [{"id": "n1", "volumes": 4, "bytes": most}])
+        self.check("in columns", self.listed(tables)[0].count(b"4        %d B\n" % most), 2)
         # More than a page of them.
         tables.new().script(MANY % (1001, BLOCK_CAPS) + "UPDATE volumes SET number = number + %d" % (1 << 62))
         wanted = ["vol-%d" % ((1 << 62) + number) for number in range(1, 1002)]
-        self.row("1,001 ids", self.ids(tables), wanted)
+        self.check("1,001 ids", self.ids(tables), wanted)
 
     def test_long_names(self):
         """A name of 80 bytes makes its column wider; a longer one moves the rest of its own row alone."""
@@ -215,17 +221,17 @@ class ListTest(CsidTest):
             out, line, status = self.listed(tables)
             self.assertEqual((line, status), ("", 0))
             short, long = out.decode().splitlines()[1:3]
-            self.row("next to %d bytes" % length, short[:width + 11], "vol-1  a".ljust(width + 9) + "p1")
-            self.row("%d bytes" % length, long[:length + 11], "vol-2  " + "x" * length + "  p1")
+            self.check("next to %d bytes" % length, short[:width + 11], "vol-1  a".ljust(width + 9) + "p1")
+            self.check("%d bytes" % length, long[:length + 11], "vol-2  " + "x" * length + "  p1")
 
     def test_json(self):
         """The document has the values of the rows, and a volume is a line of it."""
         tables = Tables(self.csid, self.folder).new().script(ROWS)
-        self.row("all", self.document(tables), DOCUMENT)
+        self.check("all", self.document(tables), DOCUMENT)
         out, _, _ = self.listed(tables, "--json")
-        self.row("its lines", len(out.splitlines()), 1 + 4 + 3)
+        self.check("its lines", len(out.splitlines()), 1 + 4 + 3)
         empty = {"volumes": [], "pools": [], "nodes": []}
-        self.row("none", self.document(Tables(self.csid, self.folder, "new.db").new()), empty)
+        self.check("none", self.document(Tables(self.csid, self.folder, "new.db").new()), empty)
 
     def test_chosen(self):
         """A name, a pool and a node choose; a volume fits each that is given. Sums are of what is listed."""
@@ -242,18 +248,18 @@ class ListTest(CsidTest):
             ("a pool and the name of another", ["--pool", "hdd", "--name", "pvc-1"], []),
             ("an empty name", ["--name", ""], []),
         ]:
-            self.row(name, self.ids(tables, *options), ids)
+            self.check(name, self.ids(tables, *options), ids)
         sums = self.document(tables, "--node", "n2")
-        self.row("the pools of a node", sums["pools"], [{"name": "hdd", "volumes": 1, "bytes": 1536 << 20}])
-        self.row("the nodes of its volumes", [one["id"] for one in sums["nodes"]], ["n1", "n2"])
+        self.check("the pools of a node", sums["pools"], [{"name": "hdd", "volumes": 1, "bytes": 1536 << 20}])
+        self.check("the nodes of its volumes", [one["id"] for one in sums["nodes"]], ["n1", "n2"])
 
     def test_many(self):
         """A listing goes on over pages: 1,000 volumes are one."""
         for count in 999, 1000, 1001, 2500:
             tables = Tables(self.csid, self.folder, "many-%d.db" % count).new()
             tables.script(MANY % (count, BLOCK_CAPS) + next_is(count + 1))
-            self.row("%d volumes" % count, self.ids(tables), ["vol-%d" % n for n in range(1, count + 1)])
-            self.row("the sum of %d" % count, self.document(tables)["pools"][0]["bytes"], count * MIB)
+            self.check("%d volumes" % count, self.ids(tables), ["vol-%d" % n for n in range(1, count + 1)])
+            self.check("the sum of %d" % count, self.document(tables)["pools"][0]["bytes"], count * MIB)
 
     def test_older_format(self):
         """Tables of format 1 are listed as they are."""
@@ -261,109 +267,131 @@ class ListTest(CsidTest):
             older = Tables(self.csid, self.folder, "format-1-%d.db" % count)
             shutil.copy(os.path.join(TOP, "tests", "stored", "format-1-%d.db" % count), older.path)
             kept = older.files()
-            self.row("%d volumes" % count, self.ids(older), ["vol-%d" % n for n in range(1, count + 1)])
-            self.row("%d volumes, to the byte as it was" % count, older.files(), kept)
+            self.check("%d volumes" % count, self.ids(older), ["vol-%d" % n for n in range(1, count + 1)])
+            self.check("%d volumes, to the byte as it was" % count, older.files(), kept)
 
-    def test_refusals(self):
-        """A file that is no file of tables, and a row that cannot be read, are refused in a line."""
-        tables = Tables(self.csid, self.folder)
-        self.row("no file", self.listed(tables), tables.says("there is no such file, and none is made"))
-        self.row("no file is made", tables.files(), {})
-        self.row(
-            "no path",
-            run([self.csid, "--list-tables", ""]),
-            (b"", "csid: the path of the tables is empty\n", 4),
-        )
-        write(tables.path, b"")
-        self.row("a file of nothing", self.listed(tables), tables.says("it has no tables, and none are made"))
-        write(tables.path, b"x" * 4096)
-        self.row("no database", self.listed(tables), tables.says(NO_DATABASE))
-        unread = "the tables cannot be read %s: --check-tables says why"
+
+UNREAD = "the tables cannot be read %s: --check-tables says why"
+
+
+class RefusedListTest(ListedTest):
+    """A file that is no file of tables, and a row that cannot be read, are refused in a line."""
+
+    def setUp(self):
+        super().setUp()
+        self.tables = Tables(self.csid, self.folder)
+
+    def check_refused(self, line):
+        self.assertEqual(self.listed(self.tables), self.tables.says(line))
+
+    def test_missing_file_is_refused_and_not_made(self):
+        self.check_refused(MISSING)
+        self.assertEqual(self.tables.files(), {})
+
+    def test_empty_path_is_refused(self):
+        came = run([self.csid, "--list-tables", ""])
+        self.assertEqual(came, (b"", "csid: the path of the tables is empty\n", 4))
+
+    def test_file_without_tables_is_refused(self):
+        for content, line in (b"", WITHOUT), (b"x" * 4096, NO_DATABASE):
+            write(self.tables.path, content)
+            self.check_refused(line)
+
+    def test_row_that_cannot_be_read_is_refused(self):
+        after_1000 = MANY % (1000, BLOCK_CAPS) + volume(1001, "'x'", params="x'22'") + next_is(1002)
         for name, where, rows in [
-            ("capabilities that are none", FIRST, volume(1, caps="x'1a'") + next_is(9)),
+            ("malformed capabilities", FIRST, volume(1, caps="x'1a'") + next_is(9)),
             ("a name that is a blob", FIRST, volume(1, "x'61'") + next_is(9)),
-            (
-                "parameters that are none",
-                "after volume 1000",
-                MANY % (1000, BLOCK_CAPS) + volume(1001, "'x'", params="x'22'") + next_is(1002),
-            ),
+            ("malformed parameters", "after volume 1000", after_1000),
         ]:
-            tables.new().script(rows)
-            out, line, status = self.listed(tables)
-            self.row(name, (line, status), ("csid: %s: %s\n" % (tables.path, unread % where), 4))
-        tables.new().script(A)
-        write(tables.path + "-journal", b"\x01")
-        self.row("next to a journal", self.listed(tables), tables.says(NO_FILE))
-        os.unlink(tables.path + "-journal")
-        # Both can be opened. The first has capabilities that take memory, and the second as many bytes that
-        # are none.
-        large = Tables(self.csid, self.folder, "large.db")
-        for name, caps, wanted in [
-            ("no memory for a volume", LARGE_CAPS, (b"", NO_MEMORY, 6)),
-            ("memory for one that is none", "zeroblob(%d)" % MIB, large.says(unread % FIRST)),
-        ]:
-            large.new().script(volume(1, caps=caps) + next_is(2))
-            self.row(name, self.listed(large, preexec_fn=memory_of_20_mib), wanted)
-        with open("/dev/full", "wb") as full:
-            self.row("a full output", self.listed(tables, stdout=full), (b"", WRITE_FAILED, 5))
-        self.row("no memory", self.listed(tables, preexec_fn=small_memory), (b"", NO_MEMORY, 6))
+            with self.subTest(name=name):
+                self.tables.new().script(rows)
+                out, line, status = self.listed(self.tables)
+                self.assertEqual((line, status), (self.tables.says(UNREAD % where)[1], 4))
 
-    def test_served(self):
-        """While csid serves the tables, what is listed is what was committed at one moment."""
-        tables = Tables(self.csid, self.folder).new()
+    def test_file_with_a_journal_is_refused(self):
+        self.tables.new().script(A)
+        write(self.tables.path + "-journal", b"\x01")
+        self.check_refused(NO_FILE)
+
+    def test_want_of_memory_for_a_volume_is_reported(self):
+        """Both files can be opened. The first has capabilities that take memory, and the second as many bytes
+        that are no capabilities.
+        """
+        for name, caps, wanted in [
+            ("capabilities", LARGE_CAPS, (b"", NO_MEMORY, 6)),
+            ("no capabilities", "zeroblob(%d)" % MIB, self.tables.says(UNREAD % FIRST)),
+        ]:
+            with self.subTest(name=name):
+                self.tables.new().script(volume(1, caps=caps) + next_is(2))
+                self.assertEqual(self.listed(self.tables, preexec_fn=memory_of_20_mib), wanted)
+
+    def test_want_of_memory_at_the_start_is_reported(self):
+        self.tables.new().script(A)
+        self.assertEqual(self.listed(self.tables, preexec_fn=small_memory), (b"", NO_MEMORY, 6))
+
+    def test_full_output_is_reported(self):
+        self.tables.new().script(A)
+        with open("/dev/full", "wb") as full:
+            self.assertEqual(self.listed(self.tables, stdout=full), (b"", WRITE_FAILED, 5))
+
+
+def text(field, value):
+    return bytes([field << 3 | 2, len(value)]) + value
+
+
+class ServedListTest(ListedTest):
+    """A listing while csid serves the tables."""
+
+    def setUp(self):
+        super().setUp()
+        self.tables = Tables(self.csid, self.folder).new()
         config = os.path.join(self.folder, "config.toml")
         write(config, sample((b"10485760", b"%d" % (1 << 40))))
-        server = subprocess.Popen(
-            tables.command + ["--config", config],
-            stdin=subprocess.PIPE,
-            stdout=subprocess.PIPE,
-            stderr=subprocess.PIPE,
-            bufsize=0,
-        )
-        ended = threading.Event()
-
-        def text(field, value):
-            return bytes([field << 3 | 2, len(value)]) + value
-
-        # One volume after the other is made, published at n1, unpublished and deleted, but for each tenth,
-        # which stays. So there is at most one volume that is not a tenth, and it is the last one.
-        def change():
-            number = 0
-            while not ended.is_set():
-                number += 1
-                volume_id = text(1, b"vol-%d" % number)
-                calls = [("CreateVolume", text(1, b"v%d" % number) + BLOCK)]
-                if number % 10:
-                    calls.append(("ControllerPublishVolume", volume_id + text(2, b"n1") + BLOCK))
-                    calls.append(("ControllerUnpublishVolume", volume_id))
-                    calls.append(("DeleteVolume", volume_id))
-                for method, message in calls:
-                    server.stdin.write(controller(method, message))
-                    head = server.stdout.read(8)
-                    server.stdout.read(int.from_bytes(head[4:8], "big"))
-
-        worker = threading.Thread(target=change, daemon=True)
+        streams = dict.fromkeys(("stdin", "stdout", "stderr"), subprocess.PIPE)
+        command = self.tables.command + ["--config", config]
+        self.server = subprocess.Popen(command, bufsize=0, **streams)
+        self.has_ended = threading.Event()
+        worker = threading.Thread(target=self.change, daemon=True)
         worker.start()
-        seen = []
-        try:
-            for _ in range(60):
-                found = self.document(tables)
-                numbers = [int(one["id"][4:]) for one in found["volumes"]]
-                last = max(numbers, default=0)
-                tenths = [n for n in range(10, last + 1, 10)]
-                others = [n for n in numbers if n % 10]
-                self.assertEqual(numbers, sorted(set(tenths + others)))
-                self.assertLessEqual(len(others), 1)
-                self.assertTrue(not others or others == [last])
-                self.assertEqual([one["name"] for one in found["volumes"]], ["v%d" % n for n in numbers])
-                at = [one["id"] for one in found["volumes"] if one["nodes"]]
-                self.assertIn(at, ([], ["vol-%d" % n for n in others]))
-                counts = [one["volumes"] for one in found["pools"]]
-                self.assertEqual(counts, [len(numbers)] if numbers else [])
-                seen.append((last, len(others), len(at)))
-        finally:
-            ended.set()
-            worker.join(SECONDS)
-            server.stdin.close()
-            server.wait(SECONDS)
-        self.row("states differ", len(set(seen)) > 20, True)
+        self.addCleanup(self.server.wait, SECONDS)
+        self.addCleanup(self.server.stdin.close)
+        self.addCleanup(worker.join, SECONDS)
+        self.addCleanup(self.has_ended.set)
+
+    def change(self):
+        """One volume after the other is made, published at n1, unpublished and deleted, but for each tenth,
+        which stays. So there is at most one volume that is not a tenth, and it is the last one.
+        """
+        for number in itertools.count(1):
+            volume_id = text(1, b"vol-%d" % number)
+            calls = [("CreateVolume", text(1, b"v%d" % number) + BLOCK)]
+            if number % 10:
+                calls.append(("ControllerPublishVolume", volume_id + text(2, b"n1") + BLOCK))
+                calls.append(("ControllerUnpublishVolume", volume_id))
+                calls.append(("DeleteVolume", volume_id))
+            for method, message in calls:
+                if self.has_ended.is_set():
+                    return
+                self.server.stdin.write(controller(method, message))
+                head = self.server.stdout.read(8)
+                self.server.stdout.read(int.from_bytes(head[4:8], "big"))
+
+    def check_moment(self, found):
+        """A listing is of one moment. Returns what it has of volumes that go."""
+        numbers = [int(one["id"][4:]) for one in found["volumes"]]
+        last = max(numbers, default=0)
+        others = [n for n in numbers if n % 10]
+        self.assertEqual(numbers, sorted({*range(10, last + 1, 10), *others}))
+        self.assertIn(others, ([], [last]))
+        self.assertEqual([one["name"] for one in found["volumes"]], ["v%d" % n for n in numbers])
+        at = [one["id"] for one in found["volumes"] if one["nodes"]]
+        self.assertIn(at, ([], ["vol-%d" % n for n in others]))
+        counts = [one["volumes"] for one in found["pools"]]
+        self.assertEqual(counts, [len(numbers)] if numbers else [])
+        return last, len(others), len(at)
+
+    def test_listing_is_of_one_moment(self):
+        """Many different moments are listed."""
+        moments = {self.check_moment(self.document(self.tables)) for _ in range(60)}
+        self.assertGreater(len(moments), 20)

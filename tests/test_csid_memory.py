@@ -30,114 +30,108 @@ from tests.support.tables import (
 )
 
 
+class LowMemoryTest(CsidTest):
+    """csid with --low-memory, and where there is no memory for a copy of the volumes."""
+
+    PROBE = controller("GetCapacity")
+    # 1,048 MiB, and 8 MiB for one volume.
+    ROOM = reply(bytes.fromhex("08 8080808c04 1205 0880808004"))
+
+    def setUp(self):
+        super().setUp()
+        self.tables = Tables(self.csid, self.folder)
+        self.low = self.tables.command + ["--low-memory"]
+
+    def fill(self):
+        """Tables with 1,000 volumes, and a configuration that has room for them."""
+        self.config = os.path.join(self.folder, "config.toml")
+        write(self.config, LARGE_POOL)
+        params = "UPDATE volumes SET params = x'%s';" % SHORT_ENTRIES.hex()
+        self.tables.new().script(MANY % (1000, BLOCK_CAPS) + params + next_is(1001))
+
+    def test_replies_and_rows_are_the_same(self):
+        self.assertEqual(run(self.low, input=ASKED), (ANSWERED, "", 0))
+        volumes = self.tables.ask("SELECT number, name, bytes, pool FROM volumes")
+        self.assertEqual(volumes, [(2, "b", 3 * MIB, "p2")])
+        self.assertEqual(self.tables.ask("SELECT * FROM meta"), [(1, 2, 3)])
+
+    def test_volumes_are_served_and_nothing_is_said_of_the_option(self):
+        self.tables.run(ASKED)
+        server = Server(self.csid, self.folder, "--low-memory", "--connections", "1")
+        listing = controller("ListVolumes")
+        self.assertEqual(server.ask(listing), run(self.tables.command, input=listing)[0])
+        server.process.wait(SECONDS)
+        self.assertEqual(server.end()[:2], (server.has(1, 0, 3), 0))
+
+    def test_volumes_take_no_memory(self):
+        """Without the option too the file is read where there is no memory for a copy."""
+        self.fill()
+        came = run(self.low + ["--config", self.config], input=self.PROBE, preexec_fn=some_memory)
+        self.assertEqual(came, (self.ROOM, "", 0))
+        for how in {"preexec_fn": some_memory}, {}:
+            self.assertEqual(self.tables.run(self.PROBE, self.config, **how), (self.ROOM, "", 0))
+
+    def test_server_without_memory_for_a_copy_says_so_and_deletes_volumes(self):
+        self.fill()
+        server = Server(self.csid, self.folder, "--config", self.config, preexec_fn=some_memory)
+        self.addCleanup(server.end)
+        self.assertEqual(server.ask(self.PROBE), self.ROOM)
+        self.assertEqual(server.ask(controller("DeleteVolume", VOL_1)), reply(b""))
+        self.assertEqual(server.end()[0], server.has(1000, 0, 1001) + server.line(NO_COPY) * 2)
+        self.assertEqual(self.tables.ask("SELECT count(*) FROM volumes"), [(999,)])
+
+    def test_row_that_there_is_no_memory_to_judge_is_reported(self):
+        """The file can be opened."""
+        self.tables.new().script(volume(1, caps=LARGE_CAPS) + NEXT_9)
+        came = self.tables.run(frame(PROBE), preexec_fn=little_memory)
+        self.assertEqual(came, (b"", NO_MEMORY, 6))
+
+
 class MemoryTest(CsidTest):
     """csid where memory is short."""
 
-    def test_low_memory(self):
-        """With --low-memory the replies and rows are the same, and volumes take no memory."""
-        tables = Tables(self.csid, self.folder)
-        low = tables.command + ["--low-memory"]
-        self.row("calls", run(low, input=ASKED), (ANSWERED, "", 0))
-        self.row(
-            "what they leave",
-            tables.ask("SELECT number, name, bytes, pool FROM volumes"),
-            [(2, "b", 3 * MIB, "p2")],
-        )
-        self.row("the next number", tables.ask("SELECT * FROM meta"), [(1, 2, 3)])
-        server = Server(self.csid, self.folder, "--low-memory", "--connections", "1")
-        listing = controller("ListVolumes")
-        self.row("served", server.ask(listing), run(tables.command, input=listing)[0])
-        server.process.wait(SECONDS)
-        self.row("nothing is said of it", server.end()[:2], (server.has(1, 0, 3), 0))
-        config = os.path.join(self.folder, "config.toml")
-        write(config, LARGE_POOL)
-        tables.new().script(
-            MANY % (1000, BLOCK_CAPS)
-            + "UPDATE volumes SET params = x'%s';" % SHORT_ENTRIES.hex()
-            + next_is(1001)
-        )
-        probe = controller("GetCapacity")
-        # 1,048 MiB, and 8 MiB for one volume.
-        room = reply(bytes.fromhex("08 8080808c04 1205 0880808004"))
-        # There is memory for the opening, and none for a copy: reads go to the file, and volumes can be
-        # deleted.
-        self.row("no memory for a copy", tables.run(probe, config, preexec_fn=some_memory), (room, "", 0))
-        server = Server(self.csid, self.folder, "--config", config, preexec_fn=some_memory)
-        begun = server.has(1000, 0, 1001)
-        self.row(
-            "serve without memory for a copy",
-            (server.ask(probe), server.ask(controller("DeleteVolume", VOL_1))),
-            (room, reply(b"")),
-        )
-        self.row("that is said", server.end()[0], begun + server.line(NO_COPY) * 2)
-        self.row("one was deleted", tables.ask("SELECT count(*) FROM volumes"), [(999,)])
-        tables.new().script(
-            MANY % (1000, BLOCK_CAPS)
-            + "UPDATE volumes SET params = x'%s';" % SHORT_ENTRIES.hex()
-            + next_is(1001)
-        )
-        self.row(
-            "none of it", run(low + ["--config", config], input=probe, preexec_fn=some_memory), (room, "", 0)
-        )
-        self.row("in more memory", tables.run(probe, config), (room, "", 0))
-        # It can be opened, and its one row cannot be judged.
-        tables.new().script(volume(1, caps=LARGE_CAPS) + NEXT_9)
-        self.row(
-            "no memory to judge a row",
-            tables.run(frame(PROBE), preexec_fn=little_memory),
-            (b"", NO_MEMORY, 6),
-        )
-
-    def test_copies(self):
-        """Where memory has no room for a copy of tables, no failed disk is named, whatever the copy lacks."""
+    def test_want_of_memory_for_a_copy_is_no_failed_disk(self):
+        """Whatever the copy of the tables lacks."""
         tables = Tables(self.csid, self.folder).new()
         tables.script(volume(1, "printf('%.*c', 200000, 'x')") + next_is(2))
         for option in "--check-tables", "--list-tables":
-            lines = [
-                run([self.csid, option, tables.path], preexec_fn=memory_of(quarters << 18))[1]
-                for quarters in range(4, 20)
-            ]
-            self.row(option + ": a failed disk", [line for line in lines if IO_FAILED in line], [])
-            self.row(option + ": want of memory", NO_MEMORY in lines, True)
+            with self.subTest(option=option):
+                lines = [
+                    run([self.csid, option, tables.path], preexec_fn=memory_of(quarters << 18))[1]
+                    for quarters in range(4, 20)
+                ]
+                self.assertEqual([line for line in lines if IO_FAILED in line], [])
+                self.assertIn(NO_MEMORY, lines)
 
-    def test_reserve(self):
-        """Volumes do not outgrow the memory of the next opening: creates are refused first, and deletes are
-        not.
-        """
-        config = os.path.join(self.folder, "config.toml")
+    # A volume of 4,095 bytes of parameters, by a name of six bytes.
+    PARAMETERS = bytes.fromhex("22 8420 0a01 6b 12fe1f") + b"v" * 4094
+
+    def creates(self, first, count):
+        names = [b"\x0a\x06%06d" % number for number in range(first, first + count)]
+        return [controller("CreateVolume", name + BLOCK + self.PARAMETERS) for name in names]
+
+    def deletes(self, first, end):
+        names = [b"vol-%d" % number for number in range(first, end)]
+        return [controller("DeleteVolume", b"\x0a" + bytes([len(name)]) + name) for name in names]
+
+    def test_creates_are_refused_before_the_next_opening_has_no_memory(self):
+        """Deletes are not. The pages that they leave are free: the next connection has room for creates."""
+        config, most = os.path.join(self.folder, "config.toml"), 6000
         write(config, LARGE_POOL.replace(b"2147483648", b"%d" % (20_000 * MIB)))
-        # A volume of 4,095 bytes of parameters, by a name of six bytes.
-        parameters = bytes.fromhex("22 8420 0a01 6b 12fe1f") + b"v" * 4094
-        most = 6000
-
-        def create(number):
-            return controller("CreateVolume", b"\x0a\x06" + b"%06d" % number + BLOCK + parameters)
-
-        def delete(number):
-            name = b"vol-%d" % number
-            return controller("DeleteVolume", b"\x0a" + bytes([len(name)]) + name)
-
-        creates = [create(number) for number in range(1, most + 1)]
-        listing = controller("ListVolumes", bytes.fromhex("0801"))
         for name, words in ("of the file", ["--low-memory"]), ("of memory", []):
-            Tables(self.csid, self.folder).clear()
-            server = Server(self.csid, self.folder, "--config", config, *words, preexec_fn=memory_of_24_mib)
-            came = server.answers(creates)
-            made = came.index(13) if 13 in came else most
-            self.row(
-                "some creates are made, then they are refused, by reads %s" % name,
-                (1000 < made < most, set(came[:made]), set(came[made:])),
-                (True, {0}, {13}),
-            )
-            self.row("the next connection is served, by reads %s" % name, server.ask(listing)[:1], b"\0")
-            came = server.answers([delete(number) for number in range(1, 501)])
-            self.row("deletes are made, by reads %s" % name, came, [0] * 500)
-            # The pages that deletes leave are free: the next connection has room for creates.
-            came = server.answers([delete(number) for number in range(501, made - 99)])
-            self.row("and more of them, by reads %s" % name, set(came), {0})
-            came = server.answers([create(number) for number in range(most + 1, most + 101)])
-            self.row("then there is room, by reads %s" % name, came, [0] * 100)
-            server.end()
+            with self.subTest(reads=name):
+                Tables(self.csid, self.folder).clear()
+                words = ["--config", config, *words]
+                server = Server(self.csid, self.folder, *words, preexec_fn=memory_of_24_mib)
+                self.addCleanup(server.end)
+                came = server.answers(self.creates(1, most))
+                made = came.count(0)
+                self.assertEqual((1000 < made < most, came), (True, [0] * made + [13] * (most - made)))
+                self.assertEqual(server.ask(controller("ListVolumes", bytes.fromhex("0801")))[:1], b"\0")
+                for first, end in (1, 501), (501, made - 99):
+                    self.assertEqual(set(server.answers(self.deletes(first, end))), {0})
+                self.assertEqual(server.answers(self.creates(most + 1, 100)), [0] * 100)
+                server.end()
 
 
 class ReserveTest(CsidTest):

@@ -130,7 +130,7 @@ class PeersTest(CsidTest):
         peer.sendall(PART[100:])
         threading.Thread(target=drip, args=(peer, 20), daemon=True).start()
         self.assertTrue(has_ended(peer, (0, 20)))
-        self.assertTrue(9 < time.monotonic() - begin < 14)
+        self.assertTrue(9 < time.monotonic() - begin < 16)
         self.assertTrue(wait(lambda: SLOW in self.server.lines()))
 
     def test_peer_that_waits_alone_may_send_a_call_slowly(self):
@@ -255,26 +255,26 @@ class SlowPeerTest(CsidTest):
 
     def test_each_silent_peer_has_its_own_time(self):
         """The second one comes when half of the first one's time is over."""
-        server = Server(self.csid, self.folder, "--idle", "4")
+        server = Server(self.csid, self.folder, "--idle", "6")
         self.addCleanup(server.end)
         with server.connect() as first:
             begin = time.monotonic()
-            time.sleep(2)
+            time.sleep(3)
             with server.connect() as second:
                 self.assertTrue(has_ended(first, (0, 10)))
-                self.assertTrue(3 < time.monotonic() - begin < 5.5)
+                self.assertTrue(5 < time.monotonic() - begin < 8.5)
                 self.assertTrue(has_ended(second, (0, 10)))
-                self.assertTrue(5 < time.monotonic() - begin < 9)
+                self.assertTrue(8.5 < time.monotonic() - begin < 14)
 
     def test_idle_seconds_count_from_the_last_call(self):
-        server = Server(self.csid, self.folder, "--idle", "2")
+        server = Server(self.csid, self.folder, "--idle", "4")
         self.addCleanup(server.end)
         with server.connect() as peer:
-            for pause in 1.4, 1.4, 1.4, 0:
+            for pause in 2.2, 2.2, 2.2, 0:
                 peer.sendall(frame(PROBE))
                 self.assertEqual(peer.recv(4096), READY)
                 time.sleep(pause)
-            self.assertTrue(has_ended(peer, (1, 8)))
+            self.assertTrue(has_ended(peer, (2, 12)))
 
     def test_waiting_takes_no_time_of_a_processor(self):
         """Each peer sends this much, and then neither sends nor reads any more."""

@@ -318,31 +318,31 @@ class PipeTest(CsidTest):
 
     def test_streams(self):
         for name, given, out, error, status in STREAMS:
-            self.row(name, run([self.csid], input=given), (out, error, status))
+            self.check(name, run([self.csid], input=given), (out, error, status))
 
     def test_words(self):
         for name, words, line in WORDS:
-            self.row(name, run([self.csid] + words, input=frame(PROBE)), (b"", "csid: %s\n" % line, 2))
+            self.check(name, run([self.csid] + words, input=frame(PROBE)), (b"", "csid: %s\n" % line, 2))
         for name, words, parts in ASKS:
-            self.row(name, run([self.csid] + words, input=frame(PROBE)), (Shown(*parts), "", 0))
+            self.check(name, run([self.csid] + words, input=frame(PROBE)), (Shown(*parts), "", 0))
 
     def test_calls_of_volumes(self):
-        self.row("pipe", run([self.csid, "pipe"], input=ASKED), (ANSWERED, "", 0))
+        self.check("pipe", run([self.csid, "pipe"], input=ASKED), (ANSWERED, "", 0))
         for size in 1, 2, 3, 4096:
             pieces = [ASKED[at : at + size] for at in range(0, len(ASKED), size)]
-            self.row(
+            self.check(
                 "calls of volumes in pieces of %d" % size, by_turns(self.csid, pieces, 0), (ANSWERED, "", 0)
             )
 
     def test_pieces(self):
         calls = frame(PROBE) + frame(INFO) + frame(b"/ a")
         last, error, status = fault("bad path at byte 69")
-        self.row(
+        self.check(
             "a stream in pieces of one byte",
             by_turns(self.csid, [bytes([byte]) for byte in calls], 0),
             (READY + NAMED + last, error, status),
         )
-        self.row(
+        self.check(
             "each reply before the next call",
             by_turns(self.csid, [frame(PROBE)] * 3, len(READY)),
             (READY * 3, "", 0),
@@ -350,31 +350,31 @@ class PipeTest(CsidTest):
 
     def test_outputs(self):
         with open("/dev/full", "wb") as full:
-            self.row(
+            self.check(
                 "a full output", run([self.csid], input=frame(PROBE), stdout=full), (b"", WRITE_FAILED, 5)
             )
-            self.row(
+            self.check(
                 "a full output, and nothing to write", run([self.csid], input=b"", stdout=full), (b"", "", 0)
             )
         pipe = closed_pipe()
-        self.row(
+        self.check(
             "an output that nobody reads",
             run([self.csid], input=frame(PROBE), stdout=pipe),
             (b"", WRITE_FAILED, 5),
         )
         os.close(pipe)
-        self.row("a closed output", with_shell(self.csid, ">&-", frame(PROBE)), (b"", WRITE_FAILED, 5))
+        self.check("a closed output", with_shell(self.csid, ">&-", frame(PROBE)), (b"", WRITE_FAILED, 5))
 
     def test_inputs(self):
-        self.row("a closed input", with_shell(self.csid, "<&-", b""), (b"", READ_FAILED, 5))
+        self.check("a closed input", with_shell(self.csid, "<&-", b""), (b"", READ_FAILED, 5))
         directory = os.open("/", os.O_RDONLY)
-        self.row("an input that is a directory", run([self.csid], stdin=directory), (b"", READ_FAILED, 5))
+        self.check("an input that is a directory", run([self.csid], stdin=directory), (b"", READ_FAILED, 5))
         os.close(directory)
 
     def test_output_of_words(self):
         for words in [b"--help"], [b"--version"]:
             with open("/dev/full", "wb") as full:
-                self.row(
+                self.check(
                     "a full output, and " + words[0].decode(),
                     run([self.csid] + words, stdout=full),
                     (b"", WRITE_FAILED, 5),
@@ -386,32 +386,32 @@ class PipeTest(CsidTest):
             ("a call", frame(PROBE), READY),
             ("a part of a call", frame(PROBE)[:10], b""),
         ]:
-            self.row(
+            self.check(
                 "an input that does not wait, with " + name,
                 without_waiting(self.csid, given),
                 (out, READ_FAILED, 5),
             )
 
     def test_standard_error(self):
-        self.row(
+        self.check(
             "a closed standard error, and a fault",
             with_shell(self.csid, "2>&-", b"\0\0"),
             (fault("bad path length at byte 0")[0], "", 1),
         )
-        self.row(
+        self.check(
             "a full standard error, and a fault",
             with_shell(self.csid, "2>/dev/full", b"\0\0"),
             (fault("bad path length at byte 0")[0], "", 1),
         )
-        self.row(
+        self.check(
             "a full standard error, and a word", with_shell(self.csid, "x 2>/dev/full", b""), (b"", "", 2)
         )
 
     def test_memory(self):
-        self.row(
+        self.check(
             "no memory", run([self.csid], input=frame(PROBE), preexec_fn=small_memory), (b"", NO_MEMORY, 6)
         )
-        self.row(
+        self.check(
             "no memory for its words",
             run([self.csid] + ["x" * 100_000] * 8, input=frame(PROBE), preexec_fn=small_memory),
             (b"", NO_MEMORY, 6),

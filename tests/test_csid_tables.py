@@ -25,7 +25,16 @@ from tests.support.frames import (
     refusal,
     reply,
 )
-from tests.support.processes import DENIED, NOT_THERE, SECONDS, copy_for_nobody, run, small_memory, write
+from tests.support.processes import (
+    DENIED,
+    NOT_THERE,
+    SECONDS,
+    copy_for_nobody,
+    read,
+    run,
+    small_memory,
+    write,
+)
 from tests.support.rows import CsidTest
 from tests.support.server import EMPTIED, KILLED, MISSING, Server, WITHOUT
 from tests.support.tables import A, DAMAGED, LOCKED, MIB, NO_DATABASE, NO_FILE, OTHER_TABLES, Tables
@@ -51,103 +60,109 @@ def first_page():
     return bytes(page)
 
 
-class TablesTest(CsidTest):
-    """Volumes in a file: what outlives a process, and files that are no tables of csid."""
+CREATE, LISTING = controller("CreateVolume", CREATE_A), controller("ListVolumes")
+DELETE = controller("DeleteVolume", VOL_1)
+VOLUME_2 = VOLUME_1.replace(b"vol-1", b"vol-2")
 
-    def test_durability(self):
-        """Volumes outlive the process."""
-        tables = Tables(self.csid, self.folder)
-        self.row("a new file", tables.run(), (b"", "", 0))
-        self.row(
-            "a new file has no rows",
-            tables.ask(
-                "SELECT (SELECT count(*) FROM volumes), (SELECT count(*) FROM attachments), * FROM meta"
-            ),
-            [(0, 0, 1, 2, 1)],
-        )
-        self.row("calls", tables.clear().run(ASKED), (ANSWERED, "", 0))
-        self.row(
-            "what they leave",
-            tables.ask("SELECT * FROM volumes"),
-            [(2, "b", 3 * MIB, "p2", bytes.fromhex("1a060a001a020801"), b"")],
-        )
-        self.row("and the next number", tables.ask("SELECT * FROM meta"), [(1, 2, 3)])
-        create, listing = controller("CreateVolume", CREATE_A), controller("ListVolumes")
-        one = reply(bytes.fromhex("0a28") + VOLUME_1 + bytes.fromhex("1200"))
-        self.row("a create", tables.new().run(create), (reply(VOLUME_1), "", 0))
-        self.row(
-            "the same create in the next run", tables.run(create + listing), (reply(VOLUME_1) + one, "", 0)
-        )
+
+def page_of(volume):
+    """The reply to ListVolumes of one volume without attachments."""
+    return reply(bytes.fromhex("0a28") + volume + bytes.fromhex("1200"))
+
+
+class DurabilityTest(CsidTest):
+    """Volumes outlive the process."""
+
+    def setUp(self):
+        super().setUp()
+        self.tables = Tables(self.csid, self.folder)
+
+    def test_new_file_has_no_rows(self):
+        self.assertEqual(self.tables.run(), (b"", "", 0))
+        counts = "SELECT (SELECT count(*) FROM volumes), (SELECT count(*) FROM attachments), * FROM meta"
+        self.assertEqual(self.tables.ask(counts), [(0, 0, 1, 2, 1)])
+
+    def test_rows_are_those_of_the_calls(self):
+        self.assertEqual(self.tables.run(ASKED), (ANSWERED, "", 0))
+        row = (2, "b", 3 * MIB, "p2", bytes.fromhex("1a060a001a020801"), b"")
+        self.assertEqual(self.tables.ask("SELECT * FROM volumes"), [row])
+        self.assertEqual(self.tables.ask("SELECT * FROM meta"), [(1, 2, 3)])
+
+    def test_same_create_in_the_next_run_returns_the_volume(self):
+        self.assertEqual(self.tables.run(CREATE), (reply(VOLUME_1), "", 0))
+        self.assertEqual(self.tables.run(CREATE + LISTING), (reply(VOLUME_1) + page_of(VOLUME_1), "", 0))
+
+    def test_attachment_outlives_the_process(self):
         publish = controller("ControllerPublishVolume", VOL_1 + bytes.fromhex("12026e31") + BLOCK)
-        self.row("a publish", tables.run(publish), (reply(WRITER), "", 0))
-        self.row(
-            "its row",
-            tables.ask("SELECT * FROM attachments"),
-            [(1, "n1", bytes.fromhex("1a060a001a020801"), 0)],
-        )
-        self.row(
-            "a delete of what is in use",
-            tables.run(controller("DeleteVolume", VOL_1)),
-            (refusal(9, "volume is in use"), "", 0),
-        )
-        self.row(
-            "an unpublish and a delete",
-            tables.run(controller("ControllerUnpublishVolume", VOL_1) + controller("DeleteVolume", VOL_1)),
-            (reply(b"") * 2, "", 0),
-        )
-        again = VOLUME_1.replace(b"vol-1", b"vol-2")
-        self.row(
-            "no number is given twice",
-            tables.run(create + listing),
-            (reply(again) + reply(bytes.fromhex("0a28") + again + bytes.fromhex("1200")), "", 0),
-        )
-        self.row("two files", sorted(os.listdir(self.folder)), ["volumes.db", "volumes.db-wal"])
-        self.row("pages of 1,024 bytes", tables.ask("PRAGMA page_size"), [(1024,)])
-        self.row(
-            "no commit is in the WAL alone after an end", os.path.getsize(tables.path + "-wal") < 100, True
-        )
-        copy = Tables(self.csid, self.folder, "copy.db")
-        shutil.copy(tables.path, copy.path)
-        self.row("the file alone has all after an end", copy.run(listing)[0].count(b"vol-2"), 1)
-        self.row("integrity_check", tables.ask("PRAGMA integrity_check"), [("ok",)])
-        self.row("journal_mode", tables.ask("PRAGMA journal_mode"), [("wal",)])
-        self.row("after python looked", tables.run(create), (reply(again), "", 0))
-        self.row(
-            "a fault of the stream",
-            tables.run(create + b"\0\0"),
-            (reply(again) + fault("bad path length at byte 49")[0], *fault("bad path length at byte 49")[1:]),
-        )
-        self.row("are as before it", tables.run(listing)[0].count(b"vol-2"), 1)
-        with open("/dev/full", "wb") as full:
-            self.row(
-                "a full output",
-                tables.run(controller("CreateVolume", CREATE_B), stdout=full),
-                (b"", WRITE_FAILED, 5),
-            )
-        self.row(
-            "what could not be answered stands",
-            tables.ask("SELECT number, name FROM volumes"),
-            [(2, "a"), (3, "b")],
-        )
-        self.row("no memory", tables.run(frame(PROBE), preexec_fn=small_memory), (b"", NO_MEMORY, 6))
+        self.tables.run(CREATE)
+        self.assertEqual(self.tables.run(publish), (reply(WRITER), "", 0))
+        row = (1, "n1", bytes.fromhex("1a060a001a020801"), 0)
+        self.assertEqual(self.tables.ask("SELECT * FROM attachments"), [row])
+        self.assertEqual(self.tables.run(DELETE), (refusal(9, "volume is in use"), "", 0))
+        unpublish = controller("ControllerUnpublishVolume", VOL_1)
+        self.assertEqual(self.tables.run(unpublish + DELETE), (reply(b"") * 2, "", 0))
 
-    def test_first_page(self):
-        """A file that has nothing gets small pages, whoever made it; in one that has anything no byte is
-        written before it is opened.
-        """
-        tables = Tables(self.csid, self.folder)
-        answered, size = (READY, "", 0), "PRAGMA page_size"
+    def test_number_of_a_deleted_volume_is_not_given_again(self):
+        self.tables.run(CREATE + DELETE)
+        self.assertEqual(self.tables.run(CREATE + LISTING), (reply(VOLUME_2) + page_of(VOLUME_2), "", 0))
+
+    def test_file_has_all_changes_after_an_end(self):
+        """The WAL has no frame then, and the file is a database for SQLite."""
+        self.tables.run(CREATE)
+        self.assertEqual(sorted(os.listdir(self.folder)), ["volumes.db", "volumes.db-wal"])
+        self.assertLess(os.path.getsize(self.tables.path + "-wal"), 100)
+        copy = Tables(self.csid, self.folder, "copy.db")
+        shutil.copy(self.tables.path, copy.path)
+        self.assertEqual(copy.run(LISTING), (page_of(VOLUME_1), "", 0))
+        for pragma, value in ("page_size", 1024), ("integrity_check", "ok"), ("journal_mode", "wal"):
+            self.assertEqual(self.tables.ask("PRAGMA " + pragma), [(value,)])
+        self.assertEqual(self.tables.run(CREATE), (reply(VOLUME_1), "", 0))
+
+    def test_change_before_a_malformed_frame_is_kept(self):
+        out, error, status = fault("bad path length at byte 49")
+        self.assertEqual(self.tables.run(CREATE + b"\0\0"), (reply(VOLUME_1) + out, error, status))
+        self.assertEqual(self.tables.run(LISTING), (page_of(VOLUME_1), "", 0))
+
+    def test_change_whose_reply_cannot_be_written_is_kept(self):
+        with open("/dev/full", "wb") as full:
+            came = self.tables.run(controller("CreateVolume", CREATE_B), stdout=full)
+        self.assertEqual(came, (b"", WRITE_FAILED, 5))
+        self.assertEqual(self.tables.ask("SELECT number, name FROM volumes"), [(1, "b")])
+
+    def test_want_of_memory_is_reported(self):
+        self.tables.run(CREATE)
+        came = self.tables.run(frame(PROBE), preexec_fn=small_memory)
+        self.assertEqual(came, (b"", NO_MEMORY, 6))
+
+
+class FirstPageTest(CsidTest):
+    """A file that has nothing gets pages of 1,024 bytes. In one that has anything no byte is written before
+    it is opened.
+    """
+
+    def setUp(self):
+        super().setUp()
+        self.tables = Tables(self.csid, self.folder)
+
+    def check_made(self):
+        self.assertEqual(self.tables.run(frame(PROBE)), (READY, "", 0))
+        self.assertEqual(self.tables.ask("PRAGMA page_size"), [(1024,)])
+
+    def test_file_without_content_gets_small_pages(self):
+        for name, content in ("an empty file", b""), ("a byte of 0", b"\0"), ("a page of them", bytes(1024)):
+            with self.subTest(name=name):
+                write(self.tables.clear().path, content)
+                self.check_made()
+
+    def test_file_with_a_part_of_the_first_page_gets_small_pages(self):
+        """csid was killed while it wrote the page."""
+        for size in (1, 15, 16, 17, 99, 100, 101, 107, 108, 109, 511, 512, 513, 1023, 1024):
+            with self.subTest(size=size):
+                write(self.tables.clear().path, first_page()[:size])
+                self.check_made()
+
+    def test_file_with_other_content_is_refused_and_kept(self):
         page = first_page()
-        for name, content in [
-            ("an empty file", b""),
-            ("a byte of 0", b"\0"),
-            ("a page of them", bytes(1024)),
-        ] + [
-            ("%d bytes of its first page" % size, page[:size])
-            for size in (1, 15, 16, 17, 99, 100, 101, 107, 108, 109, 511, 512, 513, 1023, 1024)
-        ]:
-            write(tables.clear().path, content)
-            self.row("" + name, (tables.run(frame(PROBE)), tables.ask(size)), (answered, [(1024,)]))
         for name, content in [
             ("more than a page", bytes(1025)),
             ("another byte after them", bytes(1023) + b"\1"),
@@ -155,108 +170,109 @@ class TablesTest(CsidTest):
             ("a header of other pages", b"SQLite format 3\0\2\0"),
             ("bytes of 0, and then a part of its first page", bytes(16) + page[16:512]),
         ]:
-            write(tables.clear().path, content)
-            self.row(
-                "" + name,
-                (tables.run(frame(PROBE)), tables.files()[os.path.basename(tables.path)]),
-                (tables.says(NO_DATABASE), content),
-            )
-        write(tables.clear().path + "-wal", bytes(32))
-        self.row(
-            "a log beside a missing file", (tables.run(frame(PROBE)), tables.ask(size)), (answered, [(1024,)])
-        )
-        for _ in range(5):
-            tables.clear()
-            many = [
-                subprocess.Popen(
-                    tables.command, stdin=subprocess.PIPE, stdout=subprocess.PIPE, stderr=subprocess.PIPE
-                )
-                for _ in range(12)
-            ]
-            came = {
-                (out, errors.decode(), one.returncode)
-                for one in many
-                for out, errors in [one.communicate(frame(PROBE), timeout=SECONDS)]
-            }
-            self.row("by many at once, one answers", answered in came, True)
-            self.row(
-                "and the others are told that it is in use", came - {answered, tables.says(LOCKED)}, set()
-            )
-            self.row("two files", sorted(os.listdir(self.folder)), ["volumes.db", "volumes.db-wal"])
-            self.row("integrity_check", tables.ask("PRAGMA integrity_check"), [("ok",)])
-            self.row("its pages", tables.ask(size), [(1024,)])
+            with self.subTest(name=name):
+                write(self.tables.clear().path, content)
+                self.assertEqual(self.tables.run(frame(PROBE)), self.tables.says(NO_DATABASE))
+                self.assertEqual(read(self.tables.path), content)
 
-    def test_other_files(self):
-        """Files that are no tables of csid, or that cannot be opened."""
-        tables = Tables(self.csid, self.folder)
-        for name, content, line in [
-            ("an empty file", b"", None),
-            ("a file of one byte", b"x", None),
-            ("a file of two bytes", b"xy", NO_DATABASE),
-            ("no database", b"x" * 5000, NO_DATABASE),
-            ("text that begins as a database", b"SQLite format 3 is what this is about\n" * 200, NO_DATABASE),
-            ("zeros", bytes(8192), NO_DATABASE),
+    def test_empty_wal_of_a_missing_file_is_no_hindrance(self):
+        write(self.tables.path + "-wal", bytes(32))
+        self.check_made()
+
+    def test_one_of_many_that_start_at_once_makes_the_file(self):
+        """The others report that it is in use."""
+        streams = dict.fromkeys(("stdin", "stdout", "stderr"), subprocess.PIPE)
+        made = READY, "", 0
+        for _ in range(5):
+            self.tables.clear()
+            many = [subprocess.Popen(self.tables.command, **streams) for _ in range(12)]
+            outs = [one.communicate(frame(PROBE), timeout=SECONDS) for one in many]
+            came = {(out, error.decode(), one.returncode) for one, (out, error) in zip(many, outs)}
+            self.assertIn(made, came)
+            self.assertEqual(came - {made, self.tables.says(LOCKED)}, set())
+            self.assertEqual(sorted(os.listdir(self.folder)), ["volumes.db", "volumes.db-wal"])
+            self.assertEqual(self.tables.ask("PRAGMA integrity_check"), [("ok",)])
+            self.assertEqual(self.tables.ask("PRAGMA page_size"), [(1024,)])
+
+
+class OtherFilesTest(CsidTest):
+    """Files that are no tables of csid, or that cannot be opened."""
+
+    def setUp(self):
+        super().setUp()
+        self.tables = Tables(self.csid, self.folder)
+
+    def probe(self, path, *words):
+        """What `csid pipe` says over the file of a path."""
+        command = [self.csid, "pipe", "--tables", path, *words]
+        return run(command, input=frame(PROBE), cwd=self.folder)
+
+    def test_file_of_at_most_one_byte_gets_tables(self):
+        for content in b"", b"x":
+            with self.subTest(content=content):
+                write(self.tables.clear().path, content)
+                self.assertEqual(self.tables.run(frame(PROBE)), (READY, "", 0))
+
+    def test_file_that_is_no_database_is_refused_and_kept(self):
+        for name, content in [
+            ("two bytes", b"xy"),
+            ("many bytes", b"x" * 5000),
+            ("text that begins as a database", b"SQLite format 3 is what this is about\n" * 200),
+            ("zeros", bytes(8192)),
         ]:
-            write(tables.clear().path, content)
-            self.row("" + name, tables.run(frame(PROBE)), tables.says(line))
-            if line:
-                self.row("as it was: " + name, open(tables.path, "rb").read(), content)
-        tables.clear().script("CREATE TABLE notes (a); INSERT INTO notes VALUES ('mine')")
-        self.row("another program's", tables.run(frame(PROBE)), tables.says(OTHER_TABLES))
-        self.row("it has its rows", tables.ask("SELECT * FROM notes"), [("mine",)])
-        tables.clear().script("PRAGMA user_version = 7; VACUUM")
-        self.row("another program's without tables", tables.run(frame(PROBE)), tables.says(None))
-        tables.new().script(A)
-        whole = open(tables.path, "rb").read()
+            with self.subTest(name=name):
+                write(self.tables.clear().path, content)
+                self.assertEqual(self.tables.run(frame(PROBE)), self.tables.says(NO_DATABASE))
+                self.assertEqual(read(self.tables.path), content)
+
+    def test_tables_of_another_program_are_refused_and_kept(self):
+        self.tables.script("CREATE TABLE notes (a); INSERT INTO notes VALUES ('mine')")
+        self.assertEqual(self.tables.run(frame(PROBE)), self.tables.says(OTHER_TABLES))
+        self.assertEqual(self.tables.ask("SELECT * FROM notes"), [("mine",)])
+
+    def test_database_without_tables_gets_them(self):
+        self.tables.script("PRAGMA user_version = 7; VACUUM")
+        self.assertEqual(self.tables.run(frame(PROBE)), (READY, "", 0))
+
+    def test_file_that_is_cut_is_refused(self):
+        whole = read(self.tables.new().script(A).path)
+        says = [self.tables.says(why)[1] for why in (NO_DATABASE, DAMAGED)]
         for size in len(whole) // 2, len(whole) - 1, 4096, 100:
-            write(tables.new().path, whole[:size])
-            came = tables.run(frame(PROBE))
-            self.row(
-                "cut at %d of %d" % (size, len(whole)),
-                (came[0], came[1] in (tables.says(NO_DATABASE)[1], tables.says(DAMAGED)[1]), came[2]),
-                (b"", True, 4),
-            )
-        missing = os.path.join(self.folder, "no", "such.db")
-        serve = [self.csid, "serve", "--socket", os.path.join(self.folder, "no", "such.sock"), "--tables", ""]
-        self.row(
-            "serve over an empty path",
-            run(serve, input=b""),
-            (b"", "csid: the path of the tables is empty\n", 4),
-        )
-        self.row(
-            "serve over an empty path, the configuration first",
-            run(serve + ["--config", missing], input=b""),
-            (b"", "csid: %s: %s\n" % (missing, NOT_THERE), 3),
-        )
-        odd = "a\nb\tc\x7f\u0085é.db"
-        self.row(
-            "a path with controls",
-            run([self.csid, "pipe", "--tables", os.path.join(self.folder, "no", odd)], input=frame(PROBE)),
-            (b"", "csid: %s/no/a\\nb\\tc\\u{7f}\\u{85}é.db: %s\n" % (self.folder, NO_FILE), 4),
-        )
-        self.row(
-            "an empty path",
-            run([self.csid, "pipe", "--tables", ""], input=frame(PROBE)),
-            (b"", "csid: the path of the tables is empty\n", 4),
-        )
-        for name, path in [
-            ("a folder", self.folder),
-            ("a missing folder", missing),
+            with self.subTest(size=size, whole=len(whole)):
+                write(self.tables.new().path, whole[:size])
+                out, error, status = self.tables.run(frame(PROBE))
+                self.assertEqual((out, status), (b"", 4))
+                self.assertIn(error, says)
+
+    def test_empty_path_is_refused(self):
+        line = "csid: the path of the tables is empty\n"
+        serve = [self.csid, "serve", "--socket", os.path.join(self.folder, "no", "a.sock"), "--tables", ""]
+        self.assertEqual(self.probe(""), (b"", line, 4))
+        self.assertEqual(run(serve, input=b""), (b"", line, 4))
+        absent = os.path.join(self.folder, "absent")
+        of_config = (b"", "csid: %s: %s\n" % (absent, NOT_THERE), 3)
+        self.assertEqual(run(serve + ["--config", absent], input=b""), of_config)
+
+    def test_controls_in_a_path_are_escaped_in_the_line(self):
+        line = "csid: no/a\\nb\\tc\\u{7f}\\u{85}é.db: %s\n" % NO_FILE
+        self.assertEqual(self.probe("no/a\nb\tc\x7f\u0085é.db"), (b"", line, 4))
+
+    def test_path_that_cannot_be_opened_is_refused(self):
+        os.symlink("nowhere", os.path.join(self.folder, "dangling.db"))
+        for name, path, why in [
+            ("a folder", self.folder, NO_FILE),
+            ("a missing folder", os.path.join(self.folder, "no", "such.db"), NO_FILE),
+            ("a device", "/dev/null", "it is no regular file"),
+            ("a link to nothing", os.path.join(self.folder, "dangling.db"), NO_FILE),
         ]:
-            self.row(
-                "" + name,
-                run([self.csid, "pipe", "--tables", path], input=frame(PROBE)),
-                (b"", "csid: %s: %s\n" % (path, NO_FILE), 4),
-            )
-        self.row(
-            "a device",
-            run([self.csid, "pipe", "--tables", "/dev/null"], input=frame(PROBE)),
-            (b"", "csid: /dev/null: it is no regular file\n", 4),
-        )
-        for name, path in [
-            ("a name of sqlite's for memory", ":memory:"),
-            ("a name of sqlite's for a file", "file:x.db"),
-        ]:
+            with self.subTest(name=name):
+                self.assertEqual(self.probe(path), (b"", "csid: %s: %s\n" % (path, why), 4))
+        self.assertEqual(os.listdir(self.folder), ["dangling.db"])
+
+    def test_path_that_sqlite_takes_for_no_file_is_refused(self):
+        """A name for a database in memory, and a URI. None of the files is made."""
+        for path in ":memory:", "file:x.db":
+            line = "csid: %s: csid needs the path of a file, and this is none for SQLite\n" % path
             for words in (
                 ["pipe", "--tables", path],
                 ["pipe", "--tables", path, "--existing"],
@@ -264,271 +280,292 @@ class TablesTest(CsidTest):
                 ["--check-tables", path],
                 ["--list-tables", path],
             ):
-                self.row(
-                    "%s: %s" % (name, words),
-                    run([self.csid] + words, input=frame(PROBE), cwd=self.folder),
-                    (b"", "csid: %s: csid needs the path of a file, and this is none for SQLite\n" % path, 4),
-                )
-        self.row("none of them is made", sorted(os.listdir(self.folder)), ["volumes.db", "volumes.db-wal"])
-        self.row(
-            "a path to a file of such a name",
-            run([self.csid, "pipe", "--tables", "./:memory:"], input=frame(PROBE), cwd=self.folder),
-            (READY, "", 0),
-        )
-        tables.new().script(A)
-        os.symlink("volumes.db", os.path.join(self.folder, "link.db"))
-        self.row(
-            "a link to it",
-            run(
-                [self.csid, "pipe", "--tables", os.path.join(self.folder, "link.db")],
-                input=controller("ListVolumes"),
-            )[0].count(b"vol-1"),
-            1,
-        )
-        dangling = os.path.join(self.folder, "dangling.db")
-        os.symlink("nowhere", dangling)
-        self.row(
-            "a link to nothing",
-            run([self.csid, "pipe", "--tables", dangling], input=frame(PROBE)),
-            (b"", "csid: %s: %s\n" % (dangling, NO_FILE), 4),
-        )
-        self.row(
-            "nothing is made where it leads", os.path.exists(os.path.join(self.folder, "nowhere")), False
-        )
-        os.link(tables.path, os.path.join(self.folder, "second.db"))
-        self.row("a file with two names", tables.run(frame(PROBE)), tables.says(NO_FILE))
-        os.unlink(os.path.join(self.folder, "second.db"))
-        write(tables.path + "-journal", b"\xd9\xd5\x05\xf9\x20\xa1\x63\xd7" + bytes(504))
-        self.row("a journal of sqlite3 beside it", tables.run(frame(PROBE)), tables.says(NO_FILE))
+                with self.subTest(words=words):
+                    came = run([self.csid] + words, input=frame(PROBE), cwd=self.folder)
+                    self.assertEqual(came, (b"", line, 4))
+        self.assertEqual(os.listdir(self.folder), [])
 
-    def test_permissions_of_files(self):
-        """Files that the user may not read or write."""
-        program, how = copy_for_nobody(self.csid, self.folder)
-        tables = Tables(program, self.folder)
-        for name, mode in [
-            ("may not be read", 0o222),
-            ("may not be written", 0o444),
-            ("may not be opened", 0),
-        ]:
+    def test_path_to_a_file_of_such_a_name_is_one(self):
+        self.assertEqual(self.probe("./:memory:"), (READY, "", 0))
+
+    def test_link_to_a_file_is_followed(self):
+        self.tables.new().script(A)
+        os.symlink("volumes.db", os.path.join(self.folder, "link.db"))
+        linked = Tables(self.csid, self.folder, "link.db")
+        self.assertEqual(linked.run(LISTING)[0].count(b"vol-1"), 1)
+
+    def test_file_with_two_names_is_refused(self):
+        os.link(self.tables.new().path, os.path.join(self.folder, "second.db"))
+        self.assertEqual(self.tables.run(frame(PROBE)), self.tables.says(NO_FILE))
+
+    def test_file_with_a_journal_is_refused(self):
+        write(self.tables.new().path + "-journal", b"\xd9\xd5\x05\xf9\x20\xa1\x63\xd7" + bytes(504))
+        self.assertEqual(self.tables.run(frame(PROBE)), self.tables.says(NO_FILE))
+
+
+class PermissionsTest(CsidTest):
+    """Files that the user may not read or write."""
+
+    def setUp(self):
+        super().setUp()
+        self.program, self.how = copy_for_nobody(self.csid, self.folder)
+        self.held = os.path.join(self.folder, "held")
+        os.mkdir(self.held)
+        os.chmod(self.held, 0o777)
+        self.addCleanup(os.chmod, self.held, 0o777)
+        self.tables = Tables(self.program, self.held)
+
+    def fill(self):
+        """Tables with a volume that anyone may read and write."""
+        self.tables.new().run(CREATE)
+        for ending in "", "-wal":
+            os.chmod(self.tables.path + ending, 0o666)
+
+    def test_file_or_log_without_permission_is_refused_and_kept(self):
+        for name, mode in ("not readable", 0o222), ("not writable", 0o444), ("neither", 0):
             for ending in "", "-wal":
-                tables.new().run(controller("CreateVolume", CREATE_A))
-                os.chmod(tables.path, 0o666)
-                os.chmod(tables.path + "-wal", 0o666)
-                content = open(tables.path, "rb").read()
-                os.chmod(tables.path + ending, mode)
-                subject = "a log that " if ending else "a file that "
-                self.row("" + subject + name, tables.run(frame(PROBE), **how), tables.says(NO_FILE))
-                self.row("as it was: " + subject + name, open(tables.path, "rb").read(), content)
-        # In a folder that may not be written nothing is made, and a file that has its log needs nothing to be
-        # made.
-        held = os.path.join(self.folder, "held")
-        os.mkdir(held)
-        tables, listing = Tables(program, held), controller("ListVolumes")
-        one = reply(bytes.fromhex("0a28") + VOLUME_1 + bytes.fromhex("1200"))
-        for name, mode, endings, came in [
-            ("may not be written", 0o555, ["", "-wal"], (one, "", 0)),
-            ("may not be written, without a log", 0o555, [""], tables.says(NO_FILE)),
-            ("may not be written, without a file", 0o555, [], tables.says(NO_FILE)),
-            ("may not be read", 0o311, ["", "-wal"], tables.says(NO_FILE)),
-            ("may not be entered", 0o666, ["", "-wal"], tables.says(NO_FILE)),
+                with self.subTest(name=name, ending=ending):
+                    self.fill()
+                    content = read(self.tables.path)
+                    os.chmod(self.tables.path + ending, mode)
+                    self.assertEqual(self.tables.run(frame(PROBE), **self.how), self.tables.says(NO_FILE))
+                    self.assertEqual(read(self.tables.path), content)
+
+    def test_folder_without_permission_needs_no_new_file(self):
+        """In a folder that is not writable a file that has its log is served, and nothing is made."""
+        for name, mode, endings, is_served in [
+            ("not writable", 0o555, ["", "-wal"], True),
+            ("not writable, without a log", 0o555, [""], False),
+            ("not writable, without a file", 0o555, [], False),
+            ("not readable", 0o311, ["", "-wal"], False),
+            ("not to be entered", 0o666, ["", "-wal"], False),
         ]:
-            os.chmod(held, 0o777)
-            tables.new().run(controller("CreateVolume", CREATE_A))
-            for ending in "", "-wal":
-                os.chmod(tables.path + ending, 0o666)
-                if ending not in endings:
-                    os.unlink(tables.path + ending)
-            os.chmod(held, mode)
-            self.row("a folder that " + name, tables.run(listing, **how), came)
-            os.chmod(held, 0o777)
-            self.row(
-                "its files: a folder that " + name,
-                sorted(os.listdir(held)),
-                ["volumes.db" + ending for ending in endings],
-            )
+            with self.subTest(name=name):
+                self.fill()
+                for ending in {"", "-wal"}.difference(endings):
+                    os.unlink(self.tables.path + ending)
+                os.chmod(self.held, mode)
+                came = self.tables.run(LISTING, **self.how)
+                os.chmod(self.held, 0o777)
+                wanted = (page_of(VOLUME_1), "", 0) if is_served else self.tables.says(NO_FILE)
+                self.assertEqual(came, wanted)
+                self.assertEqual(sorted(os.listdir(self.held)), ["volumes.db" + it for it in endings])
+
+    def test_configuration_that_is_not_readable_is_refused(self):
         config = os.path.join(self.folder, "config.toml")
         write(config, SAMPLE)
         os.chmod(config, 0)
-        self.row(
-            "refused: a configuration that may not be read",
-            run([program, "pipe", "--config", config], input=frame(PROBE), **how),
-            (b"", "csid: %s: %s\n" % (config, DENIED), 3),
-        )
-        path = os.path.join(held, "csid.sock")
-        os.chmod(held, 0o555)
-        self.row(
-            "refused: a socket in a folder that may not be written",
-            run([program, "serve", "--socket", path, "--tables", tables.path], input=b"", **how),
-            (b"", "csid: %s: %s\n" % (path, DENIED), 7),
-        )
-        os.chmod(held, 0o777)
+        came = run([self.program, "pipe", "--config", config], input=frame(PROBE), **self.how)
+        self.assertEqual(came, (b"", "csid: %s: %s\n" % (config, DENIED), 3))
 
-    def test_order_of_faults(self):
-        """Words are judged before the configuration, that before the tables."""
-        tables, absent = Tables(self.csid, self.folder), os.path.join(self.folder, "absent.toml")
-        write(tables.path, b"x" * 5000)
-        self.row(
-            "a word too many",
-            run(tables.command + ["--config", absent, "x"], input=frame(PROBE)),
-            (b"", "csid: unexpected argument 'x' found\n", 2),
-        )
-        self.row(
-            "a configuration",
-            tables.run(frame(PROBE), absent),
-            (b"", "csid: %s: %s\n" % (absent, NOT_THERE), 3),
-        )
-        self.row("none", tables.run(frame(PROBE)), tables.says(NO_DATABASE))
-        tables.clear().run(frame(PROBE), absent)
-        self.row("nothing is made without a configuration", os.path.exists(tables.path), False)
+    def test_socket_in_a_folder_that_is_not_writable_is_refused(self):
+        path = os.path.join(self.held, "csid.sock")
+        os.chmod(self.held, 0o555)
+        words = ["serve", "--socket", path, "--tables", self.tables.path]
+        came = run([self.program, *words], input=b"", **self.how)
+        self.assertEqual(came, (b"", "csid: %s: %s\n" % (path, DENIED), 7))
 
-    def test_option_existing(self):
-        """With --existing nothing is made where there is nothing, and what exists is served."""
-        held = os.path.join(self.folder, "held")
-        os.mkdir(held)
-        tables, listing = Tables(self.csid, held), controller("ListVolumes")
-        wanted = tables.command + ["--existing"]
 
-        def refused(what, name, left):
-            content = [open(os.path.join(held, file), "rb").read() for file in left]
-            for words in [], ["--low-memory"]:
-                self.row(
-                    "pipe%s over %s" % (" ".join([""] + words), name),
-                    run(wanted + words, input=frame(PROBE)),
-                    tables.says(what),
-                )
-            server = Server(self.csid, held, "--existing")
-            self.row("serve over " + name, server.end(), (server.line(what), 4, False))
-            self.row("nothing is made beside " + name, sorted(os.listdir(held)), left)
-            self.row(
-                "as it was: " + name, [open(os.path.join(held, file), "rb").read() for file in left], content
-            )
+class OrderOfFaultsTest(CsidTest):
+    """Words are judged before the configuration, that before the tables."""
 
-        refused(MISSING, "nothing", [])
+    def setUp(self):
+        super().setUp()
+        self.tables = Tables(self.csid, self.folder)
+        self.absent = os.path.join(self.folder, "absent.toml")
+        write(self.tables.path, b"x" * 5000)
+
+    def test_word_too_many_is_the_first_fault(self):
+        came = run(self.tables.command + ["--config", self.absent, "x"], input=frame(PROBE))
+        self.assertEqual(came, (b"", "csid: unexpected argument 'x' found\n", 2))
+
+    def test_configuration_is_judged_before_the_tables(self):
+        line = "csid: %s: %s\n" % (self.absent, NOT_THERE)
+        self.assertEqual(self.tables.run(frame(PROBE), self.absent), (b"", line, 3))
+        self.assertEqual(self.tables.run(frame(PROBE)), self.tables.says(NO_DATABASE))
+
+    def test_no_tables_are_made_without_a_configuration(self):
+        self.tables.clear().run(frame(PROBE), self.absent)
+        self.assertFalse(os.path.exists(self.tables.path))
+
+
+class ExistingTest(CsidTest):
+    """`csid --existing`: nothing is made where there is nothing, and what exists is served."""
+
+    def setUp(self):
+        super().setUp()
+        self.held = os.path.join(self.folder, "held")
+        os.mkdir(self.held)
+        self.tables = Tables(self.csid, self.held)
+        self.command = self.tables.command + ["--existing"]
+
+    def check_refused(self, why):
+        """csid refuses the tables, and leaves the folder as it is."""
+        kept = self.tables.files()
+        for words in [], ["--low-memory"]:
+            self.assertEqual(run(self.command + words, input=frame(PROBE)), self.tables.says(why))
+        server = Server(self.csid, self.held, "--existing")
+        self.assertEqual(server.end(), (server.line(why), 4, False))
+        self.assertEqual(self.tables.files(), kept)
+        self.assertEqual(sorted(os.listdir(self.held)), sorted(kept))
+
+    def test_missing_file_is_refused(self):
+        self.check_refused(MISSING)
+
+    def test_file_without_tables_is_refused(self):
         for name, content in [
             ("an empty file", b""),
             ("a file of one byte", b"x"),
             ("a file of 104 bytes", b"SQLite format 3\0" + b"\1" * 88),
         ]:
-            write(tables.clear().path, content)
-            refused(WITHOUT, name, ["volumes.db"])
-        tables.clear().script("PRAGMA user_version = 7; VACUUM")
-        refused(WITHOUT, "a database without tables", ["volumes.db"])
-        os.unlink(tables.path)
-        os.symlink("nowhere", tables.path)
-        self.row("a link to nothing", run(wanted, input=frame(PROBE)), tables.says(MISSING))
-        os.unlink(tables.path)
-        write(tables.path, b"x" * 5000)
-        self.row("no database", run(wanted, input=frame(PROBE)), tables.says(NO_DATABASE))
-        self.row(
-            "a folder",
-            run([self.csid, "pipe", "--existing", "--tables", held], input=frame(PROBE)),
-            (b"", "csid: %s: %s\n" % (held, NO_FILE), 4),
-        )
-        tables.new()
-        self.row("new tables", run(wanted, input=listing), (reply(b""), "", 0))
-        tables.script(A)
-        os.symlink("held/volumes.db", os.path.join(self.folder, "link.db"))
-        self.row(
-            "a link to a file",
-            run(
-                [self.csid, "pipe", "--existing", "--tables", os.path.join(self.folder, "link.db")],
-                input=listing,
-            ),
-            (ONE, "", 0),
-        )
-        # What a stop left is in the log alone.
-        server = Server(self.csid, held)
+            with self.subTest(name=name):
+                write(self.tables.path, content)
+                self.check_refused(WITHOUT)
+
+    def test_database_without_tables_is_refused(self):
+        self.tables.script("PRAGMA user_version = 7; VACUUM")
+        self.check_refused(WITHOUT)
+
+    def test_link_to_nothing_is_refused(self):
+        os.symlink("nowhere", self.tables.path)
+        self.assertEqual(run(self.command, input=frame(PROBE)), self.tables.says(MISSING))
+
+    def test_file_that_is_no_database_is_refused(self):
+        write(self.tables.path, b"x" * 5000)
+        self.assertEqual(run(self.command, input=frame(PROBE)), self.tables.says(NO_DATABASE))
+
+    def test_folder_is_refused(self):
+        came = run([self.csid, "pipe", "--existing", "--tables", self.held], input=frame(PROBE))
+        self.assertEqual(came, (b"", "csid: %s: %s\n" % (self.held, NO_FILE), 4))
+
+    def test_tables_are_served(self):
+        self.tables.new()
+        self.assertEqual(run(self.command, input=LISTING), (reply(b""), "", 0))
+
+    def test_link_to_tables_is_served(self):
+        self.tables.new().script(A)
+        linked = os.path.join(self.folder, "link.db")
+        os.symlink("held/volumes.db", linked)
+        came = run([self.csid, "pipe", "--existing", "--tables", linked], input=LISTING)
+        self.assertEqual(came, (ONE, "", 0))
+
+    def test_change_that_is_in_the_wal_alone_is_served(self):
+        """csid is killed before it copies the WAL into the file."""
+        server = Server(self.csid, self.held)
         with server.connect() as peer:
-            peer.sendall(controller("CreateVolume", CREATE_B))
+            peer.sendall(CREATE)
             peer.recv(1 << 16)
             server.end()
-        server = Server(self.csid, held, "--existing")
-        self.row("after a stop", server.lines(), server.has(2, 0, 10))
-        self.row("it is served", server.ask(listing).count(b"vol-"), 2)
-        # The file is away for a while, as a disk that is not mounted.
-        away = os.path.join(self.folder, "away")
-        os.rename(held, away)
-        os.mkdir(held)
-        os.rename(os.path.join(away, "csid.sock"), server.path)
-        self.row("a connection while the file is away", server.ask(listing), b"")
-        self.row("nothing is made", os.listdir(held), ["csid.sock"])
-        for name in "volumes.db", "volumes.db-wal":
-            os.rename(os.path.join(away, name), os.path.join(held, name))
-        self.row("it is back", server.ask(listing).count(b"vol-"), 2)
-        self.row("what was said", server.end(), (server.has(2, 0, 10) + server.line(MISSING), KILLED, True))
+        server = Server(self.csid, self.held, "--existing")
+        self.addCleanup(server.end)
+        self.assertEqual(server.lines(), server.has(1, 0, 2))
+        self.assertEqual(server.ask(LISTING), page_of(VOLUME_1))
 
-    def test_file_cut_to_nothing(self):
-        """Where a file has no byte and its log has changes, nothing is made and nothing is changed: the file
-        can be put back.
-        """
-        tables, listing = Tables(self.csid, self.folder), controller("ListVolumes")
+    def test_file_that_is_away_for_a_while_is_served_again(self):
+        """As on a disk that is not mounted. Nothing is made meanwhile."""
+        self.tables.new().script(A)
+        server = Server(self.csid, self.held, "--existing")
+        away = os.path.join(self.folder, "away")
+        os.rename(self.held, away)
+        os.mkdir(self.held)
+        os.rename(os.path.join(away, "csid.sock"), server.path)
+        self.assertEqual(server.ask(LISTING), b"")
+        self.assertEqual(os.listdir(self.held), ["csid.sock"])
+        for name in "volumes.db", "volumes.db-wal":
+            os.rename(os.path.join(away, name), os.path.join(self.held, name))
+        self.assertEqual(server.ask(LISTING), ONE)
+        self.assertEqual(server.end(), (server.has(1, 0, 9) + server.line(MISSING), KILLED, True))
+
+
+class EmptiedTest(CsidTest):
+    """A file without a byte whose log has changes: nothing is made and nothing is changed, so the file can be
+    put back.
+    """
+
+    def setUp(self):
+        super().setUp()
+        self.tables = Tables(self.csid, self.folder)
         server = Server(self.csid, self.folder)
         with server.connect() as peer:
             for name in b"abc":
                 peer.sendall(controller("CreateVolume", b"\x0a\x01" + bytes([name]) + BLOCK))
                 peer.recv(1 << 16)
             server.end()
-        file, log = [tables.files()["volumes.db" + ending] for ending in ("", "-wal")]
-        self.row("the log has changes", len(log) > 568, True)
+        self.file, self.log = [self.tables.files()["volumes.db" + ending] for ending in ("", "-wal")]
+        # The header of the log, and the first change.
+        self.assertGreater(len(self.log), 568)
 
-        def put(file, log):
-            tables.clear()
-            for ending, content in (("", file), ("-wal", log)):
-                if content is not None:
-                    write(tables.path + ending, content)
-            return tables.files()
+    def put(self, file, log):
+        """Writes the file and its log. None stands for no file."""
+        self.tables.clear()
+        for ending, content in ("", file), ("-wal", log):
+            if content is not None:
+                write(self.tables.path + ending, content)
+        return self.tables.files()
 
-        for name, *content in [
-            ("no byte", b"", log),
-            ("no file", None, log),
-            ("no byte, and the shortest log with a change", b"", log[:568]),
+    def check_each(self, check):
+        """Makes a check for each state of the file and its log, which must stay as they are."""
+        for name, file, log in [
+            ("no byte", b"", self.log),
+            ("no file", None, self.log),
+            ("no byte, and the shortest log with a change", b"", self.log[:568]),
         ]:
-            before = put(*content)
+            with self.subTest(name=name):
+                kept = self.put(file, log)
+                check()
+                self.assertEqual(self.tables.files(), kept)
+
+    def test_pipe_refuses_and_keeps_it(self):
+        def check():
             for words in [], ["--existing"], ["--low-memory"], ["--existing", "--low-memory"]:
-                self.row(
-                    "pipe%s over %s" % (" ".join([""] + words), name),
-                    run(tables.command + words, input=listing),
-                    tables.says(EMPTIED),
-                )
+                came = run(self.tables.command + words, input=LISTING)
+                self.assertEqual(came, self.tables.says(EMPTIED), words)
+
+        self.check_each(check)
+
+    def test_serve_refuses_and_keeps_it(self):
+        def check():
             for words in [], ["--existing"]:
                 server = Server(self.csid, self.folder, *words)
-                self.row(
-                    "serve%s over %s" % (" ".join([""] + words), name),
-                    server.end(),
-                    (server.line(EMPTIED), 4, False),
-                )
-            self.row("--check-tables over " + name, tables.check(), tables.says(EMPTIED))
-            self.row("as it was: " + name, tables.files(), before)
-        for name, *content in [
-            ("no log", b"", None),
-            ("an empty log", b"", b""),
-            ("the head of a log", b"", log[:32]),
-            ("no whole change", b"", log[:567]),
+                self.assertEqual(server.end(), (server.line(EMPTIED), 4, False), words)
+
+        self.check_each(check)
+
+    def test_check_tables_refuses_and_keeps_it(self):
+        self.check_each(lambda: self.assertEqual(self.tables.check(), self.tables.says(EMPTIED)))
+
+    def test_file_whose_log_has_no_whole_change_gets_tables(self):
+        for name, log in [
+            ("no log", None),
+            ("an empty log", b""),
+            ("the head of a log", self.log[:32]),
+            ("no whole change", self.log[:567]),
         ]:
-            put(*content)
-            self.row(
-                "--existing over no byte and " + name,
-                run(tables.command + ["--existing"], input=listing),
-                tables.says(WITHOUT),
-            )
-            self.row("new tables over no byte and " + name, tables.run(listing), (reply(b""), "", 0))
-        for size in 1, 16, 100, 108, 511, 512, 1023, 1024, len(file) - 1:
-            before = put(file[:size], log)
+            with self.subTest(name=name):
+                self.put(b"", log)
+                came = run(self.tables.command + ["--existing"], input=LISTING)
+                self.assertEqual(came, self.tables.says(WITHOUT))
+                self.assertEqual(self.tables.run(LISTING), (reply(b""), "", 0))
+
+    def test_part_of_the_file_is_refused_and_kept(self):
+        for size in 1, 16, 100, 108, 511, 512, 1023, 1024, len(self.file) - 1:
+            kept = self.put(self.file[:size], self.log)
             for words in [], ["--existing"]:
-                self.row(
-                    "%d bytes of the file%s" % (size, " ".join([""] + words)),
-                    (run(tables.command + words, input=listing)[2], tables.files() == before),
-                    (4, True),
-                )
-        put(file, log)
-        self.row("the file is put back", tables.run(listing)[0].count(b"vol-"), 3)
-        # While it is served, too.
+                with self.subTest(size=size, words=words):
+                    self.assertEqual(run(self.tables.command + words, input=LISTING)[2], 4)
+                    self.assertEqual(self.tables.files(), kept)
+
+    def test_file_that_is_put_back_is_served(self):
+        self.put(self.file, self.log)
+        self.assertEqual(self.tables.run(LISTING)[0].count(b"vol-"), 3)
+
+    def test_file_that_is_emptied_while_it_is_served_can_be_put_back(self):
+        self.put(self.file, self.log)
         server = Server(self.csid, self.folder)
-        held = tables.files()
-        if len(held["volumes.db-wal"]) < 568:
-            write(tables.path + "-wal", log)
-        write(tables.path, b"")
-        self.row("a connection", server.ask(listing), b"")
-        put(file, log)
-        self.row("a connection after it was put back", server.ask(listing).count(b"vol-"), 3)
-        self.row("what was said", server.end()[0], server.has(3, 0, 4) + server.line(EMPTIED))
+        if len(self.tables.files()["volumes.db-wal"]) < 568:
+            write(self.tables.path + "-wal", self.log)
+        write(self.tables.path, b"")
+        self.assertEqual(server.ask(LISTING), b"")
+        self.put(self.file, self.log)
+        self.assertEqual(server.ask(LISTING).count(b"vol-"), 3)
+        self.assertEqual(server.end()[0], server.has(3, 0, 4) + server.line(EMPTIED))

@@ -48,17 +48,18 @@ class DearestTest(FilesTest):
         first = declaration("other", 1_000_000, 0, 0)
         old, new = declaration("it", 5_000_000, 1_000_000, 0), declaration("it", 2_000_000, 1_000_000, 1)
         wanted = 0, ["4 in all: Proof 4", "    4.0  thing.make (Proof 4.0)"]
-        self.row("the later one last", self.told(first, old, new, names=["it", "other"]), wanted)
-        self.row("the later one first", self.told(first, new, old, names=["it", "other"]), wanted)
+        self.check("the later one last", self.told(first, old, new, names=["it", "other"]), wanted)
+        self.check("the later one first", self.told(first, new, old, names=["it", "other"]), wanted)
 
     def test_what_is_gone(self):
         """A declaration that the module does not have any more counts for nothing."""
         gone, now = declaration("gone", 5_000_000, 0, 0), declaration("it", 1_000_000, 2_000_000, 0)
         wanted = 0, ["3 in all: Proof 3", "    3.0  thing.make (Proof 3.0)"]
-        self.row("one is gone", self.told(gone, now, names=["it"]), wanted)
+        self.check("one is gone", self.told(gone, now, names=["it"]), wanted)
 
     def test_modules_without_steps(self):
         """A module `Lts` counts by the megabytes of its file."""
         self.put(KEPT + "Rattle-low-proofs.thing.make.Lts.oantt", b"x" * 2_000_000)
         lines = self.told(declaration("it", 1_000_000, 0, 0), names=["it"])
-        self.row("both", lines, (0, ["3 in all: Lts 2, Proof 1", "    3.0  thing.make (Lts 2.0, Proof 1.0)"]))
+        wanted = ["3 in all: Lts 2, Proof 1", "    3.0  thing.make (Lts 2.0, Proof 1.0)"]
+        self.assertEqual(lines, (0, wanted))

@@ -57,206 +57,344 @@ def said(script, **variables):
     return done.returncode, done.stderr
 
 
+def manifests():
+    return [Kubernetes(name) for name in (MANIFEST, ETCD_MANIFEST)]
+
+
+def mounts(container):
+    return {it["mountPath"]: it["name"] for it in container["volumeMounts"]}
+
+
+class ManifestTest(RowTest):
+    """Names within a manifest, and how its containers are confined."""
+
+    def test_selectors_are_the_labels_of_the_pod(self):
+        for manifest in manifests():
+            labels = manifest.set["template"]["metadata"]["labels"]
+            self.assertEqual(manifest.set["selector"]["matchLabels"], labels)
+            budget = manifest.objects["PodDisruptionBudget"]["spec"]
+            self.assertEqual(budget["selector"]["matchLabels"], labels)
+
+    def test_account_of_the_pod_is_bound_to_its_roles(self):
+        for manifest in manifests():
+            account = manifest.objects["ServiceAccount"]["metadata"]
+            self.assertEqual(manifest.pod["serviceAccountName"], account["name"])
+            for kind in ["ClusterRole", "Role"]:
+                with self.subTest(manifest=manifest.kind, kind=kind):
+                    binding = manifest.objects[kind + "Binding"]
+                    self.assertEqual(binding["subjects"], [{"kind": "ServiceAccount", **account}])
+                    role = (binding["roleRef"]["kind"], binding["roleRef"]["name"])
+                    self.assertEqual(role, (kind, manifest.objects[kind]["metadata"]["name"]))
+
+    def test_objects_have_one_namespace(self):
+        for manifest in manifests():
+            namespace = manifest.objects["Namespace"]["metadata"]["name"]
+            found = {it["metadata"].get("namespace", namespace) for it in manifest.objects.values()}
+            self.assertEqual(found, {namespace})
+
+    def test_volumes_that_are_mounted_are_those_of_the_pod(self):
+        for manifest in manifests():
+            volumes, claims = manifest.pod["volumes"], manifest.set.get("volumeClaimTemplates", [])
+            named = {it["name"] for it in volumes} | {it["metadata"]["name"] for it in claims}
+            all = {**manifest.first, **manifest.containers}.values()
+            self.assertEqual({name for it in all for name in mounts(it).values()}, named)
+            configured = [it["configMap"]["name"] for it in volumes if "configMap" in it]
+            self.assertEqual(configured, [manifest.objects["ConfigMap"]["metadata"]["name"]])
+
+    def test_pod_and_containers_are_confined(self):
+        of_pod = {"runAsNonRoot": True, "seccompProfile": {"type": "RuntimeDefault"}}
+        of_container = {
+            "allowPrivilegeEscalation": False,
+            "readOnlyRootFilesystem": True,
+            "capabilities": {"drop": ["ALL"]},
+        }
+        for manifest in manifests():
+            context = manifest.pod["securityContext"]
+            self.assertEqual({key: context.get(key) for key in of_pod}, of_pod)
+            for name, container in {**manifest.first, **manifest.containers}.items():
+                with self.subTest(manifest=manifest.kind, container=name):
+                    self.assertEqual(container["securityContext"], of_container)
+                    resources = {key: sorted(it) for key, it in container["resources"].items()}
+                    self.assertEqual(resources, dict.fromkeys(["requests", "limits"], ["cpu", "memory"]))
+
+
+class CapacityTest(RowTest):
+    """The provisioner publishes the capacity of pools, by which the scheduler chooses nodes."""
+
+    OWNERS = {"StatefulSet": ["statefulsets"], "Deployment": ["replicasets", "deployments"]}
+
+    def test_scheduler_asks_for_capacity(self):
+        for manifest in manifests():
+            self.assertIs(manifest.objects["CSIDriver"]["spec"]["storageCapacity"], True)
+
+    def test_provisioner_is_told_whose_the_objects_are(self):
+        for manifest in manifests():
+            provisioner, level = manifest.containers["provisioner"], len(self.OWNERS[manifest.kind])
+            words = [word for word in provisioner["args"] if "capacity" in word]
+            self.assertEqual(words, ["--enable-capacity", "--capacity-ownerref-level=%d" % level])
+            self.assertEqual([it["name"] for it in provisioner["env"]], ["NAMESPACE", "POD_NAME"])
+
+    def test_account_may_keep_the_objects_and_look_whose_they_are(self):
+        verbs = ["get", "list", "watch", "create", "update", "patch", "delete"]
+        for manifest in manifests():
+            wanted = {resource: ["get"] for resource in ["pods", *self.OWNERS[manifest.kind]]}
+            rules = manifest.objects["Role"]["rules"]
+            found = {resource: rule["verbs"] for rule in rules for resource in rule["resources"]}
+            self.assertEqual(found, {**wanted, "csistoragecapacities": verbs})
+
+
+class TablesPodTest(RowTest):
+    """The pod that holds the claim while csid does not run."""
+
+    def setUp(self):
+        super().setUp()
+        self.manifest = Kubernetes()
+        import yaml
+
+        self.pod = yaml.safe_load(read(TABLES_POD))
+        (self.container,), (self.volume,) = self.pod["spec"]["containers"], self.pod["spec"]["volumes"]
+
+    def test_claim_is_that_of_csid(self):
+        (template,), of_set = self.manifest.set["volumeClaimTemplates"], self.manifest.objects["StatefulSet"]
+        claim = "%s-%s-0" % (template["metadata"]["name"], of_set["metadata"]["name"])
+        self.assertEqual(self.volume["persistentVolumeClaim"], {"claimName": claim})
+        self.assertEqual(self.pod["metadata"]["namespace"], of_set["metadata"]["namespace"])
+
+    def test_claim_stays_where_the_stateful_set_goes(self):
+        policy = self.manifest.set.get("persistentVolumeClaimRetentionPolicy", {})
+        self.assertEqual(set(policy.values()) - {"Retain"}, set())
+
+    def test_claim_is_in_the_folder_of_the_file(self):
+        tables = value(plain(self.manifest.containers["csid"]["command"]), "--tables")
+        mount = {"name": self.volume["name"], "mountPath": os.path.dirname(tables)}
+        self.assertEqual(self.container["volumeMounts"], [mount])
+
+    def test_it_is_no_pod_of_csid(self):
+        labels = self.manifest.set["template"]["metadata"]["labels"]
+        self.assertNotEqual(self.pod["metadata"]["labels"], labels)
+
+    def test_it_is_confined_as_the_first_step_of_csid(self):
+        self.assertEqual(self.pod["spec"]["securityContext"], self.manifest.pod["securityContext"])
+        first = self.manifest.first["new"]
+        for key in "image", "securityContext", "resources":
+            self.assertEqual(self.container[key], first[key], key)
+        self.assertEqual(self.container["command"][:2], first["command"][:2])
+
+    def test_it_has_no_account(self):
+        self.assertIs(self.pod["spec"]["automountServiceAccountToken"], False)
+        self.assertNotIn("serviceAccountName", self.pod["spec"])
+
+
+class EtcdCommandsTest(RowTest):
+    """What runs over etcd differs from what runs over a file in that alone."""
+
+    def test_csid_and_the_front_differ_in_the_rows_and_the_standby(self):
+        for where, _, csid, front, (old_csid, old_front) in etcd_commands():
+            with self.subTest(where=where):
+                of_file = without(without(old_csid, "--tables"), "--existing", 1)
+                self.assertEqual(without(csid, "--log"), of_file)
+                self.assertEqual(without(front, "--standby"), old_front)
+
+    def test_standby_is_longer_than_a_lease(self):
+        for where, etcd, _, front, _ in etcd_commands():
+            with self.subTest(where=where):
+                self.assertGreater(seconds(value(front, "--standby")), int(value(etcd, "--lease")))
+
+    def test_csid_and_csid_etcd_meet_at_a_socket(self):
+        for where, etcd, csid, _, _ in etcd_commands():
+            with self.subTest(where=where):
+                self.assertEqual(value(csid, "--log"), value(etcd, "--listen"))
+
+    def test_files_of_tls_have_one_folder(self):
+        for where, etcd, _, _, _ in etcd_commands():
+            with self.subTest(where=where):
+                self.assertEqual({os.path.dirname(value(etcd, it)) for it in TLS}, {"/etc/csid-etcd"})
+
+    def test_csid_etcd_wants_rows_and_has_the_name_of_the_plugin(self):
+        """No csid-etcd makes the first row on its own."""
+        for where, etcd, _, _, _ in etcd_commands():
+            with self.subTest(where=where):
+                self.assertIn("--existing", etcd)
+                self.assertEqual(value(etcd, "--name"), toml(Kubernetes(ETCD_MANIFEST).config())["name"])
+
+
+class EtcdUnitTest(RowTest):
+    """The unit of csid-etcd."""
+
+    def setUp(self):
+        super().setUp()
+        self.unit = Unit(ETCD_UNIT)
+
+    def test_no_file_is_looked_for_before_a_start_of_csid(self):
+        self.assertEqual(over_etcd(UNITS[0]).all("ExecStartPre"), [])
+
+    def test_folders_are_those_of_its_socket_and_its_revision(self):
+        keys = ("/run/", "RuntimeDirectory"), ("/var/lib/", "StateDirectory")
+        made = [parent + self.unit.all(key)[0] for parent, key in keys]
+        used = [os.path.dirname(value(self.unit.words(), it)) for it in ["--listen", "--revision"]]
+        self.assertEqual(made, used)
+
+    def test_it_is_started_again(self):
+        started = self.unit.all("Restart"), self.unit.all("StartLimitIntervalSec")
+        self.assertEqual(started, (["always"], ["0"]))
+
+    def test_user_is_that_of_csid(self):
+        users = {tuple(it.all(key)) for it in [self.unit, Unit(UNITS[0])] for key in ["User", "Group"]}
+        self.assertEqual(users, {("csid",)})
+
+
+class EtcdManifestTest(RowTest):
+    """The manifest over etcd: two pods on two machines, of which one serves."""
+
+    def setUp(self):
+        super().setUp()
+        self.manifest, self.other = Kubernetes(ETCD_MANIFEST), Kubernetes()
+        self.etcd = self.manifest.containers["csid-etcd"]
+        self.variables = {it["name"]: it.get("valueFrom") for it in self.etcd["env"]}
+        self.config = self.manifest.objects["ConfigMap"]
+
+    def test_other_objects_are_those_of_the_other_manifest(self):
+        for kind in set(self.manifest.objects) & set(self.other.objects) - {"ConfigMap", "Role"}:
+            self.assertEqual(self.manifest.objects[kind], self.other.objects[kind])
+        self.assertEqual(self.manifest.config(), self.other.config())
+
+    def test_words_of_csid_etcd_have_variables(self):
+        used = set(re.findall(r"\$\((\w+)\)", " ".join(self.etcd["command"])))
+        self.assertEqual(used, {name for name, source in self.variables.items() if source})
+
+    def test_members_of_etcd_are_those_of_the_unit(self):
+        source = {"name": self.config["metadata"]["name"], "key": "endpoints"}
+        self.assertEqual(self.variables["ENDPOINTS"], {"configMapKeyRef": source})
+        self.assertEqual(self.config["data"]["endpoints"], value(Unit(ETCD_UNIT).words(), "--endpoints"))
+
+    def test_secret_has_the_files_of_tls(self):
+        name, files = re.search(r"create secret generic (\S+) (.*)", read(ETCD_MANIFEST)).groups()
+        secrets = [it for it in self.manifest.pod["volumes"] if "secret" in it]
+        volumes = {it["name"]: it["secret"]["secretName"] for it in secrets}
+        self.assertEqual(list(volumes.values()), [name])
+        paths = [value(self.etcd["command"], it) for it in TLS]
+        self.assertEqual(re.findall(r"--from-file=(\S+)", files), [os.path.basename(it) for it in paths])
+        folders = [folder for folder, volume in mounts(self.etcd).items() if volume in volumes]
+        self.assertEqual(folders, [os.path.dirname(paths[0])])
+
+    def test_folders_of_paths_are_mounted(self):
+        for name, options in [
+            ("csid-etcd", ["--listen", "--revision", "--cacert"]),
+            ("csid", ["--log", "--socket", "--config"]),
+            ("front", ["--csid", "--control"]),
+        ]:
+            with self.subTest(container=name):
+                container = self.manifest.containers[name]
+                found, words = mounts(container), plain(container["command"])
+                self.assertEqual([it for it in options if os.path.dirname(value(words, it)) not in found], [])
+                self.assertEqual(found.get("/run/csid-etcd"), "log" if name != "front" else None)
+
+    def test_first_row_is_made_where_the_configuration_says_so(self):
+        step = self.manifest.first["new"]
+        source = {"name": self.config["metadata"]["name"], "key": "new", "optional": True}
+        given = {it["name"]: it["valueFrom"] for it in step["env"]}
+        self.assertEqual(given["NEW"], {"configMapKeyRef": source})
+        self.assertEqual(self.config["data"]["new"], "yes")
+        self.assertEqual(shell(step["command"]).split(" || exec ")[0], 'test "$NEW" != yes')
+
+    def test_first_row_is_made_by_the_name_and_the_etcd_of_csid_etcd(self):
+        step = self.manifest.first["new"]
+        words = shlex.split(shell(step["command"]).split(" || exec ")[1])
+        self.assertEqual(words[:2], ["csid-etcd", "--new"])
+        for option in ["--name", *TLS]:
+            self.assertEqual(value(words, option), value(self.etcd["command"], option))
+        self.assertEqual(value(words, "--endpoints"), "$ENDPOINTS")
+        given = {it["name"]: it["valueFrom"] for it in step["env"]}
+        self.assertEqual(given["ENDPOINTS"], self.variables["ENDPOINTS"])
+        self.assertEqual(mounts(step).items() - mounts(self.etcd).items(), set())
+
+    def test_pods_are_replaced_one_after_the_other_on_two_machines(self):
+        self.assertEqual(self.manifest.set["replicas"], 2)
+        update = {"type": "RollingUpdate", "rollingUpdate": {"maxUnavailable": 1, "maxSurge": 0}}
+        self.assertEqual(self.manifest.set["strategy"], update)
+        labels = self.manifest.set["template"]["metadata"]["labels"]
+        apart = {"topologyKey": "kubernetes.io/hostname", "labelSelector": {"matchLabels": labels}}
+        affinity = self.manifest.pod["affinity"]["podAntiAffinity"]
+        self.assertEqual(affinity["requiredDuringSchedulingIgnoredDuringExecution"], [apart])
+
+    def test_pod_is_ready_without_an_answer(self):
+        for name, container in self.manifest.containers.items():
+            self.assertEqual({"readinessProbe", "startupProbe"} & set(container), set(), name)
+
+    def test_probes_wait_longer_than_the_front_does_for_csid(self):
+        """That is five seconds."""
+        port = int(value(self.manifest.containers["front"]["command"], "--metrics").lstrip(":"))
+        for name in ETCD_PROGRAMS:
+            probe = self.manifest.containers[name]["livenessProbe"]
+            self.assertEqual(probe["httpGet"], {"path": "/livez", "port": port}, name)
+            self.assertGreater(probe["timeoutSeconds"], 5, name)
+
+    def test_sidecars_are_those_of_the_other_manifest(self):
+        """They elect no leader."""
+        for name in ["provisioner", "attacher"]:
+            with self.subTest(container=name):
+                args = self.manifest.containers[name]["args"]
+                self.assertEqual([word for word in args if "election" in word], [])
+                args = [word.replace("ownerref-level=2", "ownerref-level=1") for word in args]
+                sidecar = {**self.manifest.containers[name], "args": args}
+                self.assertEqual(sidecar, self.other.containers[name])
+
+
+class NamesTest(RowTest):
+    """The name of the plugin, the image and what begins a container are the same everywhere."""
+
+    def setUp(self):
+        super().setUp()
+        self.manifest, self.etcd, self.nomad = *manifests(), Nomad()
+        self.dockerfile = read("Dockerfile")
+
+    def test_name_of_the_plugin(self):
+        name, objects = toml(self.manifest.config())["name"], self.manifest.objects
+        self.assertEqual(objects["CSIDriver"]["metadata"]["name"], name)
+        self.assertEqual(objects["StorageClass"]["provisioner"], name)
+        self.assertEqual(toml(self.nomad.config())["name"], name)
+
+    def test_image(self):
+        image = re.search(r"docker build -t (\S+)", self.dockerfile).group(1)
+        ours = [self.manifest.containers[it]["image"] for it in PROGRAMS]
+        ours += [self.etcd.containers[it]["image"] for it in ETCD_PROGRAMS]
+        ours += [self.manifest.first["new"]["image"], *re.findall(r'image\s*= "(.*?)"', self.nomad.text)]
+        self.assertEqual(set(ours), {image})
+
+    def test_first_process_of_containers(self):
+        entry = re.findall(r'"(.*?)"', re.search(r"ENTRYPOINT \[(.*?)\]", self.dockerfile).group(1))
+        commands = [self.manifest.containers[it]["command"] for it in ("csid", "front")]
+        commands += [self.nomad.command(it) for it in ("csid", "front")]
+        commands += [self.etcd.containers[it]["command"] for it in ETCD_PROGRAMS]
+        commands.append(self.manifest.first["new"]["command"])
+        self.assertEqual([it[:2] for it in commands], [entry] * len(commands))
+
+    def test_programs_over_etcd_are_in_the_image(self):
+        copied = re.search(r"^COPY (.*) \S+$", self.dockerfile, re.M).group(1).split()
+        self.assertEqual(set(ETCD_PROGRAMS) - set(copied), set())
+
+    def test_user_of_the_image(self):
+        user = list(map(int, re.search(r"USER (\d+):(\d+)", self.dockerfile).groups()))
+        for manifest in self.manifest, self.etcd:
+            context = manifest.pod["securityContext"]
+            self.assertEqual([context["runAsUser"], context["runAsGroup"]], user)
+
+
 class DeployTest(RowTest):
     """The files of deploy/: they can be read, say the same of names, sockets, ports and images, confine what
     they run, and end it.
     """
-
-    def test_manifest(self):
-        self.check_manifest(MANIFEST)
-
-    def test_manifest_over_etcd(self):
-        self.check_manifest(ETCD_MANIFEST)
-
-    def check_manifest(self, name):
-        """Names within a manifest, and how its containers are confined."""
-        manifest = Kubernetes(name)
-        objects, pod = manifest.objects, manifest.pod
-        labels = manifest.set["template"]["metadata"]["labels"]
-        self.row("the selector of the " + manifest.kind, manifest.set["selector"]["matchLabels"], labels)
-        self.row(
-            "the selector of the PodDisruptionBudget",
-            objects["PodDisruptionBudget"]["spec"]["selector"]["matchLabels"],
-            labels,
-        )
-        account = objects["ServiceAccount"]["metadata"]
-        self.row("the account of the pod", pod["serviceAccountName"], account["name"])
-        for kind in ["ClusterRole", "Role"]:
-            binding = objects[kind + "Binding"]
-            self.row("who has the " + kind, binding["subjects"], [{"kind": "ServiceAccount", **account}])
-            self.row(
-                "what is bound to it",
-                (binding["roleRef"]["kind"], binding["roleRef"]["name"]),
-                (kind, objects[kind]["metadata"]["name"]),
-            )
-        namespace = objects["Namespace"]["metadata"]["name"]
-        self.row(
-            "the namespace",
-            {o["metadata"].get("namespace", namespace) for o in objects.values()},
-            {namespace},
-        )
-        self.row(
-            "the ConfigMap of the pod",
-            [v["configMap"]["name"] for v in pod["volumes"] if "configMap" in v],
-            [objects["ConfigMap"]["metadata"]["name"]],
-        )
-        named = {v["name"] for v in pod["volumes"]} | {
-            c["metadata"]["name"] for c in manifest.set.get("volumeClaimTemplates", [])
-        }
-        all = {**manifest.first, **manifest.containers}
-        self.row(
-            "the volumes that are mounted",
-            {m["name"] for c in all.values() for m in c["volumeMounts"]},
-            named,
-        )
-        self.row(
-            "the pod is confined",
-            {k: pod["securityContext"].get(k) for k in ["runAsNonRoot", "seccompProfile"]},
-            {"runAsNonRoot": True, "seccompProfile": {"type": "RuntimeDefault"}},
-        )
-        for name, container in all.items():
-            self.row(
-                name + " is confined",
-                container["securityContext"],
-                {
-                    "allowPrivilegeEscalation": False,
-                    "readOnlyRootFilesystem": True,
-                    "capabilities": {"drop": ["ALL"]},
-                },
-            )
-            self.row(
-                name + " has requests and limits",
-                {k: sorted(v) for k, v in container["resources"].items()},
-                {k: ["cpu", "memory"] for k in ["requests", "limits"]},
-            )
-        self.check_capacity(manifest)
-
-    def check_capacity(self, manifest):
-        provisioner = manifest.containers["provisioner"]
-        self.row(
-            "the scheduler asks for capacity", manifest.objects["CSIDriver"]["spec"]["storageCapacity"], True
-        )
-        owners = {"StatefulSet": ["statefulsets"], "Deployment": ["replicasets", "deployments"]}[
-            manifest.kind
-        ]
-        self.row(
-            "and is told",
-            [word for word in provisioner["args"] if "capacity" in word],
-            ["--enable-capacity", "--capacity-ownerref-level=%d" % len(owners)],
-        )
-        self.row(
-            "of whom the objects are", [e["name"] for e in provisioner["env"]], ["NAMESPACE", "POD_NAME"]
-        )
-        rules = {
-            resource: r["verbs"] for r in manifest.objects["Role"]["rules"] for resource in r["resources"]
-        }
-        self.row(
-            "who may keep them",
-            rules.pop("csistoragecapacities"),
-            ["get", "list", "watch", "create", "update", "patch", "delete"],
-        )
-        self.row("and look whose they are", rules, {resource: ["get"] for resource in ["pods", *owners]})
-
-    def test_tables_pod(self):
-        """The pod that holds the claim is confined as those of csid, and has their user and image, but not
-        their label.
-        """
-        manifest = Kubernetes()
-        import yaml
-
-        pod = yaml.safe_load(read(TABLES_POD))
-        (container,), (volume,) = pod["spec"]["containers"], pod["spec"]["volumes"]
-        claim = "%s-%s-0" % (
-            manifest.set["volumeClaimTemplates"][0]["metadata"]["name"],
-            manifest.objects["StatefulSet"]["metadata"]["name"],
-        )
-        self.row("the claim", volume["persistentVolumeClaim"], {"claimName": claim})
-        self.row(
-            "it stays where the StatefulSet goes",
-            set(manifest.set.get("persistentVolumeClaimRetentionPolicy", {}).values()) - {"Retain"},
-            set(),
-        )
-        self.row(
-            "its folder",
-            container["volumeMounts"],
-            [
-                {
-                    "name": volume["name"],
-                    "mountPath": os.path.dirname(
-                        value(plain(manifest.containers["csid"]["command"]), "--tables")
-                    ),
-                }
-            ],
-        )
-        self.row(
-            "its namespace",
-            pod["metadata"]["namespace"],
-            manifest.objects["StatefulSet"]["metadata"]["namespace"],
-        )
-        self.row(
-            "it is none of the pods of csid",
-            pod["metadata"]["labels"] != manifest.set["template"]["metadata"]["labels"],
-            True,
-        )
-        self.row("it has their user", pod["spec"]["securityContext"], manifest.pod["securityContext"])
-        self.row(
-            "and is confined as the first step",
-            {key: container[key] for key in ["image", "securityContext", "resources"]},
-            {key: manifest.first["new"][key] for key in ["image", "securityContext", "resources"]},
-        )
-        self.row(
-            "it asks the server for nothing",
-            (pod["spec"]["automountServiceAccountToken"], "serviceAccountName" in pod["spec"]),
-            (False, False),
-        )
-        self.row("what begins it", container["command"][:2], manifest.first["new"]["command"][:2])
 
     def test_probes(self):
         manifest = Kubernetes()
         words = dict(word.lstrip("-").split("=", 1) for word in manifest.containers["probe"]["args"])
         for name in ["csid", "front"]:
             probe = manifest.containers[name]["livenessProbe"]
-            self.row("the probe of " + name, str(probe["httpGet"]["port"]), words["health-port"])
-            self.row(
+            self.check("the probe of " + name, str(probe["httpGet"]["port"]), words["health-port"])
+            self.check(
                 "its time is above that of Probe",
                 probe["timeoutSeconds"] > seconds(words["probe-timeout"]),
                 True,
-            )
-
-    def test_names(self):
-        """The name of the plugin, the image and what begins a container are the same everywhere."""
-        manifest, nomad = Kubernetes(), Nomad()
-        name = toml(manifest.config())["name"]
-        objects = manifest.objects
-        self.row("the plugin of the CSIDriver", objects["CSIDriver"]["metadata"]["name"], name)
-        self.row("of the StorageClass", objects["StorageClass"]["provisioner"], name)
-        self.row("of the Nomad job", toml(nomad.config())["name"], name)
-        image = re.search(r"docker build -t (\S+)", read("Dockerfile")).group(1)
-        etcd = Kubernetes(ETCD_MANIFEST).containers
-        ours = (
-            [manifest.containers[c]["image"] for c in PROGRAMS]
-            + [manifest.first["new"]["image"]]
-            + [etcd[c]["image"] for c in ETCD_PROGRAMS]
-        )
-        self.row("the image", set(ours + re.findall(r'image\s*= "(.*?)"', nomad.text)), {image})
-        entry = re.findall(r'"(.*?)"', re.search(r"ENTRYPOINT \[(.*?)\]", read("Dockerfile")).group(1))
-        for task in ["csid", "front"]:
-            self.row("what begins the container " + task, manifest.containers[task]["command"][:2], entry)
-            self.row("and the task", nomad.command(task)[:2], entry)
-        for name in ETCD_PROGRAMS:
-            self.row("what begins the container %s over etcd" % name, etcd[name]["command"][:2], entry)
-            self.row(
-                name + " is in the image",
-                name in re.search(r"^COPY (.*) \S+$", read("Dockerfile"), re.M).group(1).split(),
-                True,
-            )
-        self.row("what begins the first step", manifest.first["new"]["command"][:2], entry)
-        user = re.search(r"USER (\d+):(\d+)", read("Dockerfile")).groups()
-        for each in [manifest, Kubernetes(ETCD_MANIFEST)]:
-            self.row(
-                "the user of the image",
-                [str(each.pod["securityContext"][k]) for k in ["runAsUser", "runAsGroup"]],
-                list(user),
             )
 
     def test_nodes(self):
@@ -270,32 +408,32 @@ class DeployTest(RowTest):
             ("the Nomad job", nomad.config()),
         ]:
             config = toml(text)
-            self.row("pools of " + where, [bool(pool["name"]) for pool in config.get("pool", [])], [True])
-            self.row(
+            self.check("pools of " + where, [bool(pool["name"]) for pool in config.get("pool", [])], [True])
+            self.check(
                 "nodes of " + where,
                 [bool(node["id"]) and node["max_volumes"] > 0 for node in config.get("node", [])],
                 [True],
             )
         job = re.search(r'\njob "[\w-]+" \{\n(.*?)\n  group ', nomad.text, re.S).group(1)
         named = re.findall(r'^  datacenters = \["([\w*-]+)"\]$', job, re.M)
-        self.row("where the job may run", len(named), 1)
+        self.check("where the job may run", len(named), 1)
 
     def test_sockets(self):
         """Each front is given the socket of its csid, and each sidecar that of its front."""
         for where, self.csid, self.front in commands():
-            self.row(
+            self.check(
                 "the socket of csid in " + where, value(self.front, "--csid"), value(self.csid, "--socket")
             )
         units = [Unit(name) for name in UNITS]
         for unit, path in zip(
             units, [value(units[0].words(), "--socket"), units[1].all("Environment")[0].split("unix://")[1]]
         ):
-            self.row(
+            self.check(
                 "the folder of " + path, os.path.dirname(path), "/run/" + unit.all("RuntimeDirectory")[0]
             )
         self.check_controls()
         nomad = Nomad()
-        self.row(
+        self.check(
             "the endpoint of the Nomad job",
             os.path.dirname(nomad.one(r'CSI_ENDPOINT = "unix://(.*?)"')),
             nomad.one(r'mount_dir = "(.*?)"'),
@@ -303,12 +441,12 @@ class DeployTest(RowTest):
         manifest = Kubernetes()
         endpoint = manifest.containers["front"]["env"][0]["value"]
         for name in ["provisioner", "attacher", "probe"]:
-            self.row(
+            self.check(
                 "the socket of " + name,
                 [w for w in manifest.containers[name]["args"] if "address" in w],
                 ["--csi-address=" + endpoint[len("unix://") :]],
             )
-        self.row(
+        self.check(
             "the endpoint over etcd",
             Kubernetes(ETCD_MANIFEST).containers["front"]["env"][0]["value"],
             endpoint,
@@ -317,7 +455,7 @@ class DeployTest(RowTest):
     def check_controls(self):
         """Each front has a control socket in a folder that is there, and the image has csictl for it."""
         unit = Unit(UNITS[1])
-        self.row(
+        self.check(
             "the folder of the unit's control socket",
             os.path.dirname(value(unit.words(), "--control")),
             "/run/" + unit.all("RuntimeDirectory")[0],
@@ -325,30 +463,30 @@ class DeployTest(RowTest):
         for manifest in [Kubernetes(), Kubernetes(ETCD_MANIFEST)]:
             front = manifest.containers["front"]
             folder = os.path.dirname(value(front["command"], "--control"))
-            self.row(
+            self.check(
                 "the folder of the manifest's control socket",
                 {m["mountPath"]: m["name"] for m in front["volumeMounts"]}.get(folder),
                 "backend",
             )
-            self.row(
+            self.check(
                 "where the client finds it in the manifest",
                 {it["name"]: it.get("value") for it in front["env"]}.get("CSID_SOCKET"),
                 value(front["command"], "--control"),
             )
         nomad = Nomad()
         front = nomad.command("front")
-        self.row(
+        self.check(
             "the folder of the job's control socket",
             os.path.dirname(value(front, "--control")),
             os.path.dirname(value(front, "--csid")),
         )
-        self.row(
+        self.check(
             "where the client finds it in the job",
             nomad.one(r'CSID_SOCKET = "(.*?)"'),
             value(front, "--control"),
         )
         files = re.search(r"^COPY (.*) \S+$", read("Dockerfile"), re.M).group(1).split()
-        self.row("the client is in the image", "csictl" in files, True)
+        self.check("the client is in the image", "csictl" in files, True)
 
     def test_ends(self):
         """What ends the programs waits longer than the front; what starts them again never gives up."""
@@ -359,10 +497,10 @@ class DeployTest(RowTest):
             "the units": self.front.all("TimeoutStopSec")[0],
         }
         for where, _, words in commands():
-            self.row("the grace of " + where, seconds(value(words, "--grace")) < seconds(waits[where]), True)
+            self.assertLess(seconds(value(words, "--grace")), seconds(waits[where]), where)
         for name in UNITS:
             unit = Unit(name)
-            self.row(
+            self.check(
                 name + " is started again",
                 (unit.all("Restart"), unit.all("StartLimitIntervalSec")),
                 (["always"], ["0"]),
@@ -374,7 +512,7 @@ class DeployTest(RowTest):
         """
         for name, program, done, refused in STATUSES:
             unit = Unit(name)
-            self.row(
+            self.check(
                 "the statuses of " + name,
                 (unit.all("SuccessExitStatus"), unit.all("RestartPreventExitStatus")),
                 (done, refused),
@@ -387,7 +525,7 @@ class DeployTest(RowTest):
                 (None, None, ""),
             ]:
                 given = {"EXIT_CODE": code, "EXIT_STATUS": status} if code else {}
-                self.row(
+                self.check(
                     "what %s says of %s %s" % (name, code, status),
                     said(unit.script(command), **given),
                     (0, line),
@@ -400,7 +538,7 @@ class DeployTest(RowTest):
             (command,) = unit.all("ExecReload")
             status, line = said(unit.script(command))
             hint = ": systemctl restart %s\n" % program
-            self.row(
+            self.check(
                 "a reload of " + name,
                 (str(status) in done, status, line.startswith(program + ": "), line.endswith(hint)),
                 (False, 69, True, True),
@@ -412,45 +550,45 @@ class DeployTest(RowTest):
             made = set(re.findall(r'Page\(\s+"([\w-]+)",\s+(\d),', file.read()))
         for name in [*UNITS, FIRST, ETCD_UNIT]:
             named = re.findall(r"man:([\w-]+)\((\d)\)", " ".join(Unit(name).all("Documentation")))
-            self.row("the pages that %s names" % name, (bool(named), set(named) - made), (True, set()))
+            self.check("the pages that %s names" % name, (bool(named), set(named) - made), (True, set()))
 
     def test_defaults(self):
         """The file of options shows what the units have without it."""
         units = [Unit(name) for name in UNITS]
-        self.row(
+        self.check(
             "where it is", [it.all("EnvironmentFile") for it in units], [["-/etc/default/csid"]] * len(units)
         )
         shown = dict(re.findall(r'^#(\w+)="(.*)"$', read(DEFAULTS), re.M))
         given = {name: value for it in units for name, value in it.variables().items()}
         for own in ["CSI_ENDPOINT", "GOMEMLIMIT"]:
             del given[own]
-        self.row("what it shows", shown, given)
+        self.check("what it shows", shown, given)
 
     def test_metrics(self):
         """Each front serves metrics where they are looked for; the dashboard and the alerts can be read."""
         unit, nomad = Unit(UNITS[1]), Nomad()
         host, port = value(unit.words(), "--metrics").rsplit(":", 1)
-        self.row(
+        self.check(
             "the unit tells metrics to its own machine",
             (host, unit.all("IPAddressDeny"), unit.all("IPAddressAllow")),
             ("127.0.0.1", ["any"], ["localhost"]),
         )
-        self.row(
+        self.check(
             "the port of the Nomad job",
             value(nomad.command("front"), "--metrics"),
             ":" + nomad.one(r'port "metrics" \{\s*to = (\d+)'),
         )
-        self.row("the same as that of the unit", value(nomad.command("front"), "--metrics"), ":" + port)
+        self.check("the same as that of the unit", value(nomad.command("front"), "--metrics"), ":" + port)
         checks = [
             dict(re.findall(r'(\w+) += "?([^"\n]+)', text))
             for text in re.findall(r"\n      check \{\n(.*?)\n      \}", nomad.text, re.S)
         ]
-        self.row(
+        self.check(
             "which tasks are probed",
             [(check["task"], check["path"]) for check in checks],
             [("front", "/healthz"), ("csid", "/healthz")],
         )
-        self.row("the dashboard", "panels" in json.loads(read("dashboard.json")), True)
+        self.check("the dashboard", "panels" in json.loads(read("dashboard.json")), True)
         for name in [MANIFEST, ETCD_MANIFEST]:
             self.check_scrape(Kubernetes(name), port)
         self.check_alert()
@@ -458,229 +596,29 @@ class DeployTest(RowTest):
     def check_scrape(self, manifest, port):
         self.front = manifest.containers["front"]
         notes = manifest.set["template"]["metadata"]["annotations"]
-        self.row("the port of the manifest", value(self.front["command"], "--metrics"), ":" + port)
-        self.row("of its container", self.front["ports"], [{"name": "metrics", "containerPort": int(port)}])
-        self.row("of its pod", notes, {"prometheus.io/scrape": "true", "prometheus.io/port": port})
+        self.check("the port of the manifest", value(self.front["command"], "--metrics"), ":" + port)
+        self.check("of its container", self.front["ports"], [{"name": "metrics", "containerPort": int(port)}])
+        self.check("of its pod", notes, {"prometheus.io/scrape": "true", "prometheus.io/port": port})
         pools = [pool["segments"] for pool in toml(manifest.config())["pool"]]
         told = [
             dict(pair.split("=", 1) for pair in word.split(","))
             for before, word in zip(self.front["command"], self.front["command"][1:])
             if before == "--metrics-topology"
         ]
-        self.row("the topologies of the manifest", told, pools)
+        self.check("the topologies of the manifest", told, pools)
 
     def check_alert(self):
         import yaml
 
         rules = [rule for group in yaml.safe_load(read("alerts.yaml"))["groups"] for rule in group["rules"]]
-        self.row("alerts have names of their own", len({rule["alert"] for rule in rules}), len(rules))
+        self.check("alerts have names of their own", len({rule["alert"] for rule in rules}), len(rules))
         for rule in rules:
-            self.row(
+            self.check(
                 rule["alert"] + " has all parts",
                 (set(rule) - {"for"}, set(rule["annotations"])),
                 ({"alert", "expr", "labels", "annotations"}, {"summary", "description"}),
             )
-            self.row("its severity", rule["labels"]["severity"] in ("critical", "warning"), True)
-
-    def test_etcd(self):
-        """What runs over etcd differs from what runs over a file in that alone, and its three programs
-        meet at their sockets.
-        """
-        for where, etcd, self.csid, self.front, (old_csid, old_front) in etcd_commands():
-            self.row(
-                "csid in %s, but for its rows" % where,
-                without(self.csid, "--log"),
-                without(without(old_csid, "--tables"), "--existing", 1),
-            )
-            self.row(
-                "the front in %s, but for --standby" % where, without(self.front, "--standby"), old_front
-            )
-            self.row(
-                "its time is more than that of a lease in " + where,
-                seconds(value(self.front, "--standby")) > int(value(etcd, "--lease")),
-                True,
-            )
-            self.row(
-                "the socket of csid-etcd in " + where, value(self.csid, "--log"), value(etcd, "--listen")
-            )
-            self.row(
-                "the folder of what TLS needs in " + where,
-                {os.path.dirname(value(etcd, it)) for it in TLS},
-                {"/etc/csid-etcd"},
-            )
-        self.row(
-            "what is looked at before a start over etcd, where there is no file",
-            over_etcd(UNITS[0]).all("ExecStartPre"),
-            [],
-        )
-        unit = Unit(ETCD_UNIT)
-        self.row(
-            "the folders of " + ETCD_UNIT,
-            ["/run/" + unit.all("RuntimeDirectory")[0], "/var/lib/" + unit.all("StateDirectory")[0]],
-            [os.path.dirname(value(unit.words(), it)) for it in ["--listen", "--revision"]],
-        )
-        self.row(
-            ETCD_UNIT + " is started again",
-            (unit.all("Restart"), unit.all("StartLimitIntervalSec")),
-            (["always"], ["0"]),
-        )
-        self.row(
-            "the users of the units",
-            {tuple(it.all(key)) for it in [unit, Unit(UNITS[0])] for key in ["User", "Group"]},
-            {("csid",)},
-        )
-        self.check_etcd_manifest(Kubernetes(ETCD_MANIFEST), Kubernetes())
-
-    def check_etcd_manifest(self, manifest, other):
-        same = sorted(set(manifest.objects) & set(other.objects) - {"ConfigMap", "Role"})
-        self.row(
-            "the objects of both manifests",
-            {kind: manifest.objects[kind] for kind in same},
-            {kind: other.objects[kind] for kind in same},
-        )
-        self.row("the configurations of both", manifest.config(), other.config())
-        etcd = manifest.containers["csid-etcd"]
-        for where, words in [("the manifest", etcd["command"]), ("the unit", Unit(ETCD_UNIT).words())]:
-            self.row(
-                "the name of the plugin to csid-etcd in " + where,
-                value(words, "--name"),
-                toml(manifest.config())["name"],
-            )
-        given = {variable["name"]: variable.get("valueFrom") for variable in etcd["env"]}
-        self.row(
-            "the words that are told by variables",
-            set(re.findall(r"\$\((\w+)\)", " ".join(etcd["command"]))),
-            {it for it in given if given[it]},
-        )
-        config = manifest.objects["ConfigMap"]
-        self.row(
-            "where the members of etcd stand",
-            given["ENDPOINTS"],
-            {"configMapKeyRef": {"name": config["metadata"]["name"], "key": "endpoints"}},
-        )
-        self.row("who they are", config["data"]["endpoints"], value(Unit(ETCD_UNIT).words(), "--endpoints"))
-        self.check_secret(manifest, etcd)
-        self.check_first_row(manifest, etcd)
-        for name, options in [
-            ("csid-etcd", ["--listen", "--revision", "--cacert"]),
-            ("csid", ["--log", "--socket", "--config"]),
-            ("front", ["--csid", "--control"]),
-        ]:
-            container = manifest.containers[name]
-            mounts = {m["mountPath"]: m["name"] for m in container["volumeMounts"]}
-            self.row(
-                "the folders of " + name,
-                [
-                    it
-                    for it in options
-                    if os.path.dirname(value(plain(container["command"]), it)) not in mounts
-                ],
-                [],
-            )
-            self.row(
-                "the folder of the log in " + name,
-                mounts.get("/run/csid-etcd"),
-                "log" if name != "front" else None,
-            )
-        self.check_replica(manifest, other)
-
-    def check_first_row(self, manifest, etcd):
-        """No csid-etcd makes the first row on its own. The step that makes it does so where it is asked
-        to, by the name and the etcd that csid-etcd has.
-        """
-        for where, words in [("the manifest", etcd["command"]), ("the unit", Unit(ETCD_UNIT).words())]:
-            self.row("rows have to stand in " + where, "--existing" in words, True)
-        step, given = manifest.first["new"], {
-            variable["name"]: variable["valueFrom"] for variable in manifest.first["new"]["env"]
-        }
-        config = manifest.objects["ConfigMap"]["metadata"]["name"]
-        self.row(
-            "what tells the first step",
-            given["NEW"],
-            {"configMapKeyRef": {"name": config, "key": "new", "optional": True}},
-        )
-        self.row("and what is told now", manifest.objects["ConfigMap"]["data"]["new"], "yes")
-        told, words = shell(step["command"]).split(" || exec ")
-        self.row("when it does something", told, 'test "$NEW" != yes')
-        words = shlex.split(words)
-        self.row("what it does", words[:2], ["csid-etcd", "--new"])
-        self.row(
-            "by the name and the files of csid-etcd",
-            {it: value(words, it) for it in ["--name", *TLS]},
-            {it: value(etcd["command"], it) for it in ["--name", *TLS]},
-        )
-        self.row(
-            "before the members that csid-etcd has",
-            (value(words, "--endpoints"), given["ENDPOINTS"]),
-            ("$ENDPOINTS", {it["name"]: it.get("valueFrom") for it in etcd["env"]}["ENDPOINTS"]),
-        )
-        mounted = {m["mountPath"]: m["name"] for m in step["volumeMounts"]}
-        self.row(
-            "its folders",
-            mounted,
-            {m["mountPath"]: m["name"] for m in etcd["volumeMounts"] if m["mountPath"] in mounted},
-        )
-
-    def check_secret(self, manifest, etcd):
-        name, files = re.search(r"create secret generic (\S+) (.*)", read(ETCD_MANIFEST)).groups()
-        volumes = {
-            volume["name"]: volume["secret"]["secretName"]
-            for volume in manifest.pod["volumes"]
-            if "secret" in volume
-        }
-        self.row("the Secret", list(volumes.values()), [name])
-        self.row(
-            "its files",
-            re.findall(r"--from-file=(\S+)", files),
-            [os.path.basename(value(etcd["command"], it)) for it in TLS],
-        )
-        self.row(
-            "its folder",
-            [m["mountPath"] for m in etcd["volumeMounts"] if m["name"] in volumes],
-            [os.path.dirname(value(etcd["command"], TLS[0]))],
-        )
-
-    def check_replica(self, manifest, other):
-        """Two pods on two machines are replaced in order, whichever of them serves."""
-        self.row("how many there are", manifest.set["replicas"], 2)
-        self.row(
-            "how they are replaced",
-            manifest.set["strategy"],
-            {"type": "RollingUpdate", "rollingUpdate": {"maxUnavailable": 1, "maxSurge": 0}},
-        )
-        apart = manifest.pod["affinity"]["podAntiAffinity"]["requiredDuringSchedulingIgnoredDuringExecution"]
-        self.row(
-            "how they stand apart",
-            apart,
-            [
-                {
-                    "topologyKey": "kubernetes.io/hostname",
-                    "labelSelector": {"matchLabels": manifest.set["template"]["metadata"]["labels"]},
-                }
-            ],
-        )
-        self.row(
-            "what has to answer before a pod is ready",
-            [
-                name
-                for name, it in manifest.containers.items()
-                if "readinessProbe" in it or "startupProbe" in it
-            ],
-            [],
-        )
-        port = int(value(manifest.containers["front"]["command"], "--metrics").lstrip(":"))
-        for name in ETCD_PROGRAMS:
-            probe = manifest.containers[name]["livenessProbe"]
-            self.row("the probe of " + name, probe["httpGet"], {"path": "/livez", "port": port})
-            # The front waits for csid for five seconds.
-            self.row("its time is above that of the front", probe["timeoutSeconds"] > 5, True)
-        for name in ["provisioner", "attacher"]:
-            sidecar = dict(manifest.containers[name])
-            sidecar["args"] = [
-                word.replace("ownerref-level=2", "ownerref-level=1") for word in sidecar["args"]
-            ]
-            self.row("the container %s of both manifests" % name, sidecar, other.containers[name])
-            self.row(name + " elects nobody", [word for word in sidecar["args"] if "election" in word], [])
+            self.check("its severity", rule["labels"]["severity"] in ("critical", "warning"), True)
 
     def test_memory_of_the_front(self):
         """The front may have as much memory by its unit and by the Nomad job as by the manifests, and Go
@@ -688,31 +626,31 @@ class DeployTest(RowTest):
         """
         unit, task = Unit(UNITS[1]), Nomad().tasks()["front"]
         mebibytes = int(re.fullmatch(r"(\d+)M", unit.all("MemoryMax")[0]).group(1))
-        self.row("the limit of the Nomad job", re.findall(r"memory_max = (\d+)", task), [str(mebibytes)])
+        self.check("the limit of the Nomad job", re.findall(r"memory_max = (\d+)", task), [str(mebibytes)])
         told = re.findall(r'GOMEMLIMIT +. "(\w+)"', task)
-        self.row("what Go knows in it", told, [unit.variables()["GOMEMLIMIT"]])
+        self.check("what Go knows in it", told, [unit.variables()["GOMEMLIMIT"]])
         for name in [MANIFEST, ETCD_MANIFEST]:
             front = Kubernetes(name).containers["front"]
-            self.row("the limit in " + name, front["resources"]["limits"]["memory"], "%dMi" % mebibytes)
+            self.check("the limit in " + name, front["resources"]["limits"]["memory"], "%dMi" % mebibytes)
             told = [it["value"] for it in front["env"] if it["name"] == "GOMEMLIMIT"]
-            self.row("what Go knows in " + name, told, [unit.variables()["GOMEMLIMIT"]])
+            self.check("what Go knows in " + name, told, [unit.variables()["GOMEMLIMIT"]])
 
     def test_memory_of_csid(self):
         """csid may have as much memory by its unit and by the Nomad job as by the manifests."""
         limit = Unit(UNITS[0]).all("MemoryMax")[0]
-        self.row("the limit of the unit", limit, "1G")
+        self.check("the limit of the unit", limit, "1G")
         task = Nomad().tasks()["csid"]
-        self.row("the limit of the Nomad job", re.findall(r"memory_max = (\d+)", task), ["1024"])
+        self.check("the limit of the Nomad job", re.findall(r"memory_max = (\d+)", task), ["1024"])
         for name in [MANIFEST, ETCD_MANIFEST]:
             resources = Kubernetes(name).containers["csid"]["resources"]
-            self.row("the limit in " + name, resources["limits"]["memory"], limit + "i")
+            self.check("the limit in " + name, resources["limits"]["memory"], limit + "i")
 
     def test_chown(self):
         """csid and the front may give their sockets to a group (--group, --control-group), and csid the WAL
         the owner of its file: that call is the last that their units allow.
         """
         for name in [*UNITS, FIRST]:
-            self.row(
+            self.check(
                 "what %s allows last" % name,
                 Unit(name).all("SystemCallFilter")[1:],
                 ["~@privileged @resources", "@chown"],
@@ -730,7 +668,7 @@ class DeployTest(RowTest):
         ]:
             unit = Unit(name)
             kept = [it for it in ["RuntimeDirectory", "StateDirectory"] if unit.all(it)]
-            self.row(
+            self.check(
                 "who may read what %s makes" % name,
                 (unit.all("UMask"), [unit.all(it + "Mode") for it in kept]),
                 ([mask], [["0750"]] * len(kept)),
@@ -760,7 +698,7 @@ class DeployTest(RowTest):
             done = subprocess.run(
                 ["systemd-analyze", "verify", "--man=no"] + paths, capture_output=True, text=True
             )
-            self.row("systemd-analyze verify", (done.returncode, done.stdout + done.stderr), (0, ""))
+            self.check("systemd-analyze verify", (done.returncode, done.stdout + done.stderr), (0, ""))
             for path in paths:
                 words = [
                     "systemd-analyze",
@@ -771,7 +709,7 @@ class DeployTest(RowTest):
                     path,
                 ]
                 done = subprocess.run(words, capture_output=True, text=True)
-                self.row(
+                self.check(
                     "systemd-analyze security %s: %s"
                     % (os.path.basename(path), done.stdout.strip().split("\n")[-1]),
                     done.returncode,

@@ -52,10 +52,10 @@ class AlertsTest(RowTest):
         }
         with open(path, "w") as file:
             json.dump(test, file)
-        self.row(name, self.promtool("test", "rules", path), (0, ""))
+        self.check(name, self.promtool("test", "rules", path), (0, ""))
 
     def test_rules_are_rules(self):
-        self.row("alerts.yaml", self.promtool("check", "rules", ALERTS), (0, ""))
+        self.check("alerts.yaml", self.promtool("check", "rules", ALERTS), (0, ""))
 
     def test_queries_are_queries(self):
         """Each query of the dashboard is taken as the expression of a rule."""
@@ -69,7 +69,7 @@ class AlertsTest(RowTest):
         path = os.path.join(self.folder, "queries.json")
         with open(path, "w") as file:
             json.dump({"groups": [{"name": "queries", "rules": rules}]}, file)
-        self.row("the queries", self.promtool("check", "rules", path), (0, ""))
+        self.check("the queries", self.promtool("check", "rules", path), (0, ""))
 
     def test_shares(self):
         """Each alert of a share comes above its share, after a quarter of an hour."""

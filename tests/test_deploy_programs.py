@@ -1,5 +1,6 @@
 """What deploy/ starts, with the built programs."""
 
+import contextlib
 import os
 import re
 import subprocess
@@ -12,7 +13,6 @@ from tests.support.deploy import (
     Kubernetes,
     Nomad,
     Pod,
-    SECONDS,
     UNITS,
     Unit,
     commands,
@@ -23,9 +23,9 @@ from tests.support.deploy import (
     over_log,
     plain,
     value,
-    wait,
 )
 from tests.support.change_stores import KeptChangeStore
+from tests.support.processes import SECONDS, read, run, wait, write
 from tests.support.rows import ProgramTest
 
 
@@ -49,12 +49,12 @@ class ProgramsTest(ProgramTest):
                     text=True,
                     timeout=SECONDS,
                 )
-            self.row("the configuration of " + where, (done.returncode, done.stderr), (0, ""))
+            self.check("the configuration of " + where, (done.returncode, done.stderr), (0, ""))
 
     def check_option(self, where, text, words):
         """The help of a program has each option that it is given."""
         for option in [w for w in words if w.startswith("--")]:
-            self.row(
+            self.check(
                 "%s in %s" % (option, where),
                 re.search(r"(^|[\s-])%s\b" % option.lstrip("-"), text) is not None,
                 True,
@@ -69,119 +69,142 @@ class ProgramsTest(ProgramTest):
                     where, over_log(program) if program == self.csid else help_of(program), given
                 )
 
-    def test_first_step(self):
-        """csid never makes a file on its own. The step that does makes the one that csid wants, where it is
-        told to, and keeps what is in one.
-        """
+
+class FirstStepTest(ProgramTest):
+    """csid never makes a file on its own. The step that does makes the file that csid wants where it is told
+    to, and keeps what is in one.
+    """
+
+    def test_csid_wants_a_file(self):
         for where, words, _ in commands():
-            self.row("the file has to stand in " + where, "--existing" in words, True)
-            self.row("silent peers are closed in " + where, value(words, "--idle"), "60")
+            with self.subTest(where=where):
+                self.assertIn("--existing", words)
+                self.assertEqual(value(words, "--idle"), "60")
+
+    def test_unit_makes_the_file_that_csid_wants(self):
+        """No condition keeps it from a file whose making was cut short."""
         unit = Unit(FIRST)
         tables = value(Unit(UNITS[0]).words(), "--tables")
-        self.row("the unit makes the file that csid wants", value(unit.words(), "--tables"), tables)
-        self.row(
-            "no condition keeps it from a file whose making was cut short",
-            [key for key in ("ConditionPathExists", "ConditionFileNotEmpty") if unit.all(key)],
-            [],
-        )
-        wanted = [unit.all("WantedBy")] + [
-            Unit(name).all(key) for name in UNITS for key in ("Wants", "Requires", "ExecStartPre")
-        ]
-        self.row("nothing starts it by itself", FIRST in str(wanted) or wanted[0] != [], False)
-        if not os.access(self.csid, os.X_OK):
-            self.skipTest("%s is not built" % self.csid)
-        for where, step, path in first_steps():
-            with tempfile.TemporaryDirectory() as folder:
-                os.symlink(self.csid, os.path.join(folder, "csid"))
-                config, file = os.path.join(folder, "config.toml"), os.path.join(folder, "volumes.db")
-                with open(config, "w") as text:
-                    text.write(Nomad().config() + "\n")
-                step = re.sub(r"/\S+/config\.toml", config, step.replace(path, file))
-                variables = {**os.environ, "PATH": folder + ":" + os.environ["PATH"]}
+        self.assertEqual(value(unit.words(), "--tables"), tables)
+        for key in "ConditionPathExists", "ConditionFileNotEmpty":
+            self.assertEqual(unit.all(key), [], key)
 
-                def made(**told):
-                    done = subprocess.run(
-                        ["sh", "-c", step],
-                        env={**variables, **told},
-                        stdin=subprocess.DEVNULL,
-                        capture_output=True,
-                        text=True,
-                        timeout=SECONDS,
-                    )
-                    return done.returncode, done.stderr, os.path.exists(file)
+    def test_nothing_starts_the_unit_by_itself(self):
+        self.assertEqual(Unit(FIRST).all("WantedBy"), [])
+        for name in UNITS:
+            for key in "Wants", "Requires", "ExecStartPre":
+                self.assertNotIn(FIRST, str(Unit(name).all(key)))
 
-                if "NEW" in step:
-                    self.row("nothing is made in %s where it is not told" % where, made(), (0, "", False))
-                self.row("the file is made in " + where, made(NEW="yes"), (0, "", True))
-                whole = os.path.getsize(file)
-                for suffix in "", "-wal":
-                    os.unlink(file + suffix)
-                with open(file, "wb") as content:
-                    content.write(b"SQLite format 3\0\4\0")
-                self.row(
-                    "a file whose making was cut short is made whole in " + where,
-                    (made(NEW="yes"), os.path.getsize(file)),
-                    ((0, "", True), whole),
-                )
-                with open(file, "rb") as content:
-                    before = content.read()
-                self.row(
-                    "a file that is whole is left in " + where,
-                    (made(NEW="yes"), open(file, "rb").read()),
-                    ((0, "", True), before),
-                )
-                with open(file, "wb") as content:
-                    content.write(b"mine")
-                self.row(
-                    "another file is left in " + where,
-                    (made(NEW="yes")[0], open(file, "rb").read()),
-                    (4, b"mine"),
-                )
-
-    def test_checks_before_a_start(self):
-        """What csid.service looks at before a start: a file that is missing is not made, and what makes it is
-        named; tables that are refused end the start; a configuration that is refused is left to csid.
+    def steps(self):
+        """Yields each step as a function that returns its status, standard error and the content of the file,
+        with the path of the file and whether it must be told.
         """
         if not os.access(self.csid, os.X_OK):
             self.skipTest("%s is not built" % self.csid)
+        os.symlink(self.csid, os.path.join(self.folder, "csid"))
+        config, file = os.path.join(self.folder, "config.toml"), os.path.join(self.folder, "volumes.db")
+        write(config, (Nomad().config() + "\n").encode())
+        path = self.folder + ":" + os.environ["PATH"]
+        for where, step, there in first_steps():
+            step = re.sub(r"/\S+/config\.toml", config, step.replace(there, file))
+
+            def make(step=step, **told):
+                variables = {**os.environ, "PATH": path, **told}
+                _, error, status = run(["sh", "-c", step], env=variables, stdin=subprocess.DEVNULL)
+                return status, error, read(file) if os.path.exists(file) else None
+
+            for name in "volumes.db", "volumes.db-wal":
+                with contextlib.suppress(FileNotFoundError):
+                    os.unlink(os.path.join(self.folder, name))
+            yield where, make, file, "NEW" in step
+
+    def test_file_is_made_where_the_step_is_told_to(self):
+        for where, make, _, is_told in self.steps():
+            with self.subTest(where=where):
+                if is_told:
+                    self.assertEqual(make(), (0, "", None))
+                status, error, content = make(NEW="yes")
+                self.assertEqual((status, error, content[:15]), (0, "", b"SQLite format 3"))
+
+    def test_file_whose_making_was_cut_short_is_made_whole(self):
+        for where, make, file, _ in self.steps():
+            with self.subTest(where=where):
+                whole = make(NEW="yes")[2]
+                for suffix in "", "-wal":
+                    os.unlink(file + suffix)
+                write(file, b"SQLite format 3\0\4\0")
+                status, error, content = make(NEW="yes")
+                self.assertEqual((status, error, len(content)), (0, "", len(whole)))
+
+    def test_file_that_is_whole_is_kept(self):
+        for where, make, _, _ in self.steps():
+            with self.subTest(where=where):
+                whole = make(NEW="yes")[2]
+                self.assertEqual(make(NEW="yes"), (0, "", whole))
+
+    def test_other_file_is_kept(self):
+        for where, make, file, _ in self.steps():
+            with self.subTest(where=where):
+                write(file, b"mine")
+                self.assertEqual(make(NEW="yes")[::2], (4, b"mine"))
+
+
+class CheckBeforeStartTest(ProgramTest):
+    """What csid.service looks at before a start."""
+
+    def setUp(self):
+        super().setUp()
+        if not os.access(self.csid, os.X_OK):
+            self.skipTest("%s is not built" % self.csid)
+        self.find, self.judge = Unit(UNITS[0]).all("ExecStartPre")
+        self.put("config", Nomad().config() + "\n")
+
+    def put(self, name, text):
+        write(os.path.join(self.folder, name), text.encode())
+
+    def end(self, command):
+        """How a command of the unit ends, over files in the folder of the test."""
         unit = Unit(UNITS[0])
-        missing, check = map(unit.script, unit.all("ExecStartPre"))
-        file, config = value(unit.words(), "--tables"), value(unit.words(), "--config")
-        with tempfile.TemporaryDirectory() as folder:
+        script = unit.script(command)
+        for option, name in ("--tables", "/volumes.db"), ("--config", "/config"):
+            script = script.replace(value(unit.words(), option), self.folder + name)
+        out, error, status = run(["sh", "-c", script.replace("/usr/local/bin/csid", self.csid)])
+        return status, out.decode(), error.replace(self.folder, "")
 
-            def ended(script):
-                for there, here in [(file, "/volumes.db"), (config, "/config")]:
-                    script = script.replace(there, folder + here)
-                script = script.replace("/usr/local/bin/csid", self.csid)
-                done = subprocess.run(["sh", "-c", script], capture_output=True, text=True, timeout=SECONDS)
-                return done.returncode, done.stdout, done.stderr.replace(folder, "")
+    def make(self):
+        words = ["pipe", "--tables", self.folder + "/volumes.db", "--config", self.folder + "/config"]
+        self.assertEqual(run([self.csid, *words], input=b""), (b"", "", 0))
 
-            def put(name, text):
-                with open(os.path.join(folder, name), "w") as content:
-                    content.write(text)
+    def test_missing_file_is_not_made_and_the_unit_that_makes_it_is_named(self):
+        status, _, line = self.end(self.find)
+        self.assertEqual(status, 1)
+        self.assertIn("systemctl start csid-new ", line)
+        self.assertFalse(os.path.exists(self.folder + "/volumes.db"))
 
-            put("config", Nomad().config() + "\n")
-            status, _, line = ended(missing)
-            self.row("no file", (status, "systemctl start csid-new " in line), (1, True))
-            self.row("none is made", os.path.exists(folder + "/volumes.db"), False)
-            put("volumes.db-wal", "changes")
-            self.row("a log alone is left to the check", ended(missing), (0, "", ""))
-            os.unlink(folder + "/volumes.db-wal")
-            subprocess.run(
-                [self.csid, "pipe", "--tables", folder + "/volumes.db", "--config", folder + "/config"],
-                stdin=subprocess.DEVNULL,
-                check=True,
-                timeout=SECONDS,
-            )
-            has = "volumes 0, attachments 0, next number 1, format 2\n"
-            self.row("a file", (ended(missing), ended(check)), ((0, "", ""), (0, has, "")))
-            put("config", "")
-            line = "csid: /config: the key 'name' is missing\n"
-            self.row("a configuration that is refused", ended(check), (0, "", line))
-            put("config", Nomad().config() + "\n")
-            put("volumes.db", "mine")
-            status, _, line = ended(check)
-            self.row("tables that are refused", (status, line.startswith("csid: /volumes.db: ")), (1, True))
+    def test_log_alone_is_left_to_the_check(self):
+        self.put("volumes.db-wal", "changes")
+        self.assertEqual(self.end(self.find), (0, "", ""))
+
+    def test_tables_are_summarized(self):
+        self.make()
+        has = "volumes 0, attachments 0, next number 1, format 2\n"
+        self.assertEqual((self.end(self.find), self.end(self.judge)), ((0, "", ""), (0, has, "")))
+
+    def test_configuration_that_is_refused_is_left_to_csid(self):
+        self.make()
+        self.put("config", "")
+        self.assertEqual(self.end(self.judge), (0, "", "csid: /config: the key 'name' is missing\n"))
+
+    def test_tables_that_are_refused_end_the_start(self):
+        self.put("volumes.db", "mine")
+        status, _, line = self.end(self.judge)
+        self.assertEqual((status, line[:18]), (1, "csid: /volumes.db:"))
+
+
+class ProcessesTest(ProgramTest):
+    """The commands of the manifests, as processes of a namespace of their own. Folders and programs
+    differ.
+    """
 
     def test_first_processes(self):
         """The very commands of the manifest, as first processes of a namespace of their own, end by SIGTERM.
@@ -197,7 +220,7 @@ class ProgramsTest(ProgramTest):
                     pod.first_step()
                 pod.start(name)
                 wait(lambda: os.path.exists(folder + socket))
-                self.row(name + " ends by SIGTERM", pod.ends(name), True)
+                self.check(name + " ends by SIGTERM", pod.ends(name), True)
 
     def test_processes_over_etcd(self):
         """The commands of a pod over etcd: csid-etcd without one, and csid and the front over a log that is
@@ -210,8 +233,8 @@ class ProgramsTest(ProgramTest):
         ) as pod:
             path = folder + value(manifest.containers["csid-etcd"]["command"], "--listen")
             pod.start("csid-etcd", {"$(ENDPOINTS)": "127.0.0.1:1", "$(POD_NAME)": "csid-0"})
-            self.row("csid-etcd makes its socket without etcd", wait(lambda: os.path.exists(path)), True)
-            self.row("it ends by SIGTERM", (pod.ends("csid-etcd"), os.path.exists(path)), (True, False))
+            self.check("csid-etcd makes its socket without etcd", wait(lambda: os.path.exists(path)), True)
+            self.check("it ends by SIGTERM", (pod.ends("csid-etcd"), os.path.exists(path)), (True, False))
         over_log(self.csid)
         with tempfile.TemporaryDirectory() as folder, Pod(
             folder, manifest, {"csid": self.csid, "front": self.front}
@@ -224,24 +247,24 @@ class ProgramsTest(ProgramTest):
         shorter = {value(pod.manifest.containers["front"]["command"], "--standby"): "1s"}
         pod.start("csid")
         pod.start("front", shorter)
-        self.row("csid makes its socket without a log", wait(lambda: os.path.exists(backend)), True)
+        self.check("csid makes its socket without a log", wait(lambda: os.path.exists(backend)), True)
         time.sleep(1.5)
-        self.row("the front makes none before csid serves", os.path.exists(endpoint), False)
+        self.check("the front makes none before csid serves", os.path.exists(endpoint), False)
         log = KeptChangeStore(path)
-        self.row("the front makes its socket once csid serves", wait(lambda: os.path.exists(endpoint)), True)
-        self.row("csid made its first row", log.rows(), ([], [], [(1, 2, 1)]))
+        self.assertTrue(wait(lambda: os.path.exists(endpoint)), "the front makes a socket")
+        self.check("csid made its first row", log.rows(), ([], [], [(1, 2, 1)]))
         log.end()
-        self.row(
+        self.check(
             "without the log the front ends", wait(lambda: pod.processes["front"].poll() is not None), True
         )
-        self.row(
+        self.check(
             "by itself, and takes its socket away",
             (pod.processes["front"].returncode, os.path.exists(endpoint)),
             (3, False),
         )
         pod.start("front", shorter)
         log = KeptChangeStore(path)
-        self.row("and serves again once the log is back", wait(lambda: os.path.exists(endpoint)), True)
+        self.check("and serves again once the log is back", wait(lambda: os.path.exists(endpoint)), True)
         for name in ["front", "csid"]:
-            self.row(name + " over a log ends by SIGTERM", pod.ends(name), True)
+            self.check(name + " over a log ends by SIGTERM", pod.ends(name), True)
         log.end()

@@ -42,20 +42,20 @@ class SessionTest(CsictlTest):
         return done.stdout, done.stderr, done.returncode
 
     def test_calls_are_six(self):
-        self.row("the calls", len([it for it in self.commands if it.startswith("call ")]), 6)
+        self.check("the calls", len([it for it in self.commands if it.startswith("call ")]), 6)
 
     def test_pasted_session_prints_what_it_shows(self):
-        self.row("the session", self.bash(typed="\n".join(self.lines) + "\n"), (self.answers, "", 0))
+        self.check("the session", self.bash(typed="\n".join(self.lines) + "\n"), (self.answers, "", 0))
 
     def test_example_prints_what_the_session_shows(self):
         came = self.bash(os.path.join(TOP, "examples", "session"))
-        self.row("examples/session", came, (self.answers, "", 0))
+        self.check("examples/session", came, (self.answers, "", 0))
         left = sorted(set(os.listdir(self.folder)) - {"csid", "csictl"})
-        self.row("what it leaves", left, [])
+        self.check("what it leaves", left, [])
 
     def test_example_has_the_commands_of_the_session(self):
         lines = read("examples", "session").splitlines()
-        self.row("its last lines", lines[-len(self.commands) :], self.commands)
+        self.check("its last lines", lines[-len(self.commands) :], self.commands)
 
     def test_example_without_programs_says_what_makes_them(self):
         """Where nothing is built, and the PATH has what the script itself needs alone."""
@@ -71,4 +71,4 @@ class SessionTest(CsictlTest):
             timeout=SECONDS,
         )
         wanted = "session: 'csid' is not on the PATH, and ./build has not made it\n"
-        self.row("what it says", (done.stdout, done.stderr, done.returncode), ("", wanted, 1))
+        self.check("what it says", (done.stdout, done.stderr, done.returncode), ("", wanted, 1))

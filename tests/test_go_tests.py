@@ -59,8 +59,8 @@ class GoTestsTest(RowTest):
                 text=True,
                 timeout=SECONDS,
             )
-            self.row(name, (done.stdout, done.returncode), (lines, status))
+            self.check(name, (done.stdout, done.returncode), (lines, status))
             with open(os.path.join(folder, "words"), encoding="utf-8") as file:
                 words = file.read().splitlines()
             wanted = ["test -count=1 -p 1 -timeout 300s -v%s ./..." % it for it in ("", " -run ^(TestB)$")]
-            self.row(name + ": its runs", words, wanted[: len(runs)])
+            self.check(name + ": its runs", words, wanted[: len(runs)])

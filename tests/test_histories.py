@@ -134,13 +134,13 @@ class SearchTest(RowTest):
     def test_histories_by_hand(self):
         for name, is_linearizable, rows in ROWS:
             found = linearization(operations_of(rows), Model())
-            self.row(name, found is not None, is_linearizable)
+            self.check(name, found is not None, is_linearizable)
 
     def test_order_keeps_real_time(self):
         rows = [FIRST, (delete, 2, 5, v.DONE), (publish("n1"), 3, 4, v.WRITER), (unpublish, 3, 6, v.DONE)]
         order, model = linearization(operations_of(rows), Model())
-        self.row("the order", [it.client for it in order], [0, 2, 3, 1])
-        self.row("the model after it", (model.volumes, model.attachments, model.next), ([], {}, 2))
+        self.check("the order", [it.client for it in order], [0, 2, 3, 1])
+        self.check("the model after it", (model.volumes, model.attachments, model.next), ([], {}, 2))
 
 
 class ClientsTest(RowTest):
@@ -161,8 +161,8 @@ class ClientsTest(RowTest):
 
     def are_linearizable(self, fronts, count):
         orders = self.orders(fronts, count)
-        self.row("histories without an order", orders.count(None), 0)
-        self.row("histories", len(orders), count)
+        self.check("histories without an order", orders.count(None), 0)
+        self.check("histories", len(orders), count)
 
     def plugin(self, **how):
         return Plugin(program("csid"), place("front"), self.files, **how)
@@ -176,13 +176,13 @@ class ClientsTest(RowTest):
         self.are_linearizable(self.plugin(), HISTORIES)
 
     def test_forgotten_file_is_noticed(self):
-        self.row("the last history has no order", self.orders(self.plugin(forgets=True), HISTORIES)[-1], None)
+        self.assertIsNone(self.orders(self.plugin(forgets=True), HISTORIES)[-1])
 
     def test_clients_are_linearizable_over_takeovers(self):
         stacks = self.stacks()
         self.are_linearizable(stacks, HISTORIES_OVER_ETCD)
-        self.row("the lead passed over", stacks.takeovers >= HISTORIES_OVER_ETCD // 8, True)
+        self.check("the lead passed over", stacks.takeovers >= HISTORIES_OVER_ETCD // 8, True)
 
     def test_two_leaders_are_noticed(self):
         orders = self.orders(self.stacks(is_apart=True), HISTORIES_OVER_ETCD)
-        self.row("the last history has no order", orders[-1], None)
+        self.check("the last history has no order", orders[-1], None)

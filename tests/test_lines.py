@@ -51,4 +51,4 @@ class Lines(RowTest):
                 for number, line in enumerate(lines_of(path), 1)
                 if len(line) > most and is_meant(line)
             ]
-            self.row(name, longer, [])
+            self.check(name, longer, [])

@@ -145,7 +145,7 @@ class PagesTest(FilesTest):
             text=True,
             timeout=SECONDS,
         )
-        self.row("scripts/lists --check", (done.returncode, done.stdout, done.stderr), (0, "", ""))
+        self.check("scripts/lists --check", (done.returncode, done.stdout, done.stderr), (0, "", ""))
 
 
 class ListsTest(FilesTest):
@@ -169,15 +169,15 @@ class ListsTest(FilesTest):
         return done.returncode, done.stdout, done.stderr
 
     def test_check_names_pages_and_writes_none(self):
-        self.row("--check", self.lists("--check"), (1, "", ALL_DIFFER))
-        self.row("the page", self.read("docs/DECISIONS.md"), FILES["docs/DECISIONS.md"])
+        self.check("--check", self.lists("--check"), (1, "", ALL_DIFFER))
+        self.check("the page", self.read("docs/DECISIONS.md"), FILES["docs/DECISIONS.md"])
 
     def test_lists_are_written(self):
-        self.row("writing", self.lists(), (0, "", ""))
-        self.row("crates", self.read("docs/ARCHITECTURE.md"), ARCHITECTURE)
-        self.row("records", self.read("docs/DECISIONS.md"), DECISIONS)
-        self.row("limits and faults", self.read("docs/OPERATING.md"), OPERATING)
-        self.row("--check", self.lists("--check"), (0, "", ""))
+        self.check("writing", self.lists(), (0, "", ""))
+        self.check("crates", self.read("docs/ARCHITECTURE.md"), ARCHITECTURE)
+        self.check("records", self.read("docs/DECISIONS.md"), DECISIONS)
+        self.check("limits and faults", self.read("docs/OPERATING.md"), OPERATING)
+        self.check("--check", self.lists("--check"), (0, "", ""))
 
     def test_sources_without_a_list_are_refused(self):
         rows = [
@@ -214,12 +214,12 @@ class ListsTest(FilesTest):
         ]
         for name, text, fault in rows:
             self.write(name, text)
-            self.row(name, self.lists(), (1, "", "lists: %s\n" % fault))
+            self.check(name, self.lists(), (1, "", "lists: %s\n" % fault))
             self.write(name, FILES[name])
         os.remove(os.path.join(self.folder, "crates/high/src/main.rt"))
         missing = "lists: crates/high has no src/lib.rt and no src/main.rt\n"
-        self.row("no source", self.lists(), (1, "", missing))
+        self.check("no source", self.lists(), (1, "", missing))
 
     def test_arguments_that_are_not_known(self):
         usage = "usage: scripts/lists [--check]\n"
-        self.row("another word", self.lists("--chek"), (2, "", usage))
+        self.check("another word", self.lists("--chek"), (2, "", usage))

@@ -137,35 +137,35 @@ class PagesTest(FilesTest):
 
     def compare(self, rows, *words):
         status, said = self.places(rows, *words)
-        self.row("the status", status, 1)
+        self.check("the status", status, 1)
         for number, (name, _, wanted) in enumerate(rows):
-            self.row(name, said.pop(2 * number + 1, []), wanted)
-        self.row("other lines", said, {})
+            self.check(name, said.pop(2 * number + 1, []), wanted)
+        self.check("other lines", said, {})
 
     def test_page_of_crate(self):
         """A page has the public functions, laws and wrong bodies of a crate, and nothing hidden."""
-        self.row("made", self.ended("theorems"), (0, []))
-        self.row("its text", self.read("docs/theorems/low.md"), PAGE)
-        self.row("compared", self.ended("theorems", "--check"), (0, []))
+        self.check("made", self.ended("theorems"), (0, []))
+        self.check("its text", self.read("docs/theorems/low.md"), PAGE)
+        self.check("compared", self.ended("theorems", "--check"), (0, []))
 
     def test_page_that_differs(self):
         """A page that is not what the sources say is refused, and not written."""
         self.ended("theorems")
         self.write("crates/low/src/sums.rt", SUMS.replace("few", "most"))
-        self.row("compared", self.ended("theorems", "--check"), (1, [CHANGED]))
-        self.row("again", self.ended("theorems", "--check"), (1, [CHANGED]))
-        self.row("made", self.ended("theorems"), (0, []))
-        self.row("then compared", self.ended("theorems", "--check"), (0, []))
+        self.check("compared", self.ended("theorems", "--check"), (1, [CHANGED]))
+        self.check("again", self.ended("theorems", "--check"), (1, [CHANGED]))
+        self.check("made", self.ended("theorems"), (0, []))
+        self.check("then compared", self.ended("theorems", "--check"), (0, []))
 
     def test_function_without_wrong_body(self):
         """A public function needs a wrong body or a reason, and a reason needs such a function."""
         self.write("tests/edits/low.edits", EDITS.partition("\n\n")[2])
-        self.row("no reason", self.ended("theorems"), (1, [LACKING]))
+        self.check("no reason", self.ended("theorems"), (1, [LACKING]))
         self.write("docs/theorems/reasons", "low::double: a sum\n")
-        self.row("a reason", self.ended("theorems"), (0, []))
+        self.check("a reason", self.ended("theorems"), (0, []))
         self.write("tests/edits/low.edits", EDITS)
         unneeded = "low::double needs no reason (docs/theorems/reasons)"
-        self.row("a reason too many", self.ended("theorems"), (1, [unneeded]))
+        self.check("a reason too many", self.ended("theorems"), (1, [unneeded]))
 
     def test_lines_of_no_crate(self):
         """A line of docs/theorems is of a crate, or what was planted or tested of a folder that exists."""
@@ -177,30 +177,30 @@ class PagesTest(FilesTest):
             "docs/theorems/tested has a line of no crate: other",
             "docs/theorems/reasons has a line of no crate: none::double",
         ]
-        self.row("each is named", self.ended("theorems"), (1, wanted))
+        self.check("each is named", self.ended("theorems"), (1, wanted))
         held = (
             "\n## Held by tests alone\n\n"
             "|what no clause forbids|rows that hold it|\n|---|---|\n|A length|a row|\n"
         )
-        self.row("the page of the crate", self.read("docs/theorems/low.md"), PAGE + held)
+        self.check("the page of the crate", self.read("docs/theorems/low.md"), PAGE + held)
         rows = self.read("docs/theorems/README.md").splitlines()[-3:]
         wanted = ["3 refused.", "2 noticed.", "1 refused."]
-        self.row("its line and those of others", [it.split("|")[-2] for it in rows], wanted)
+        self.check("its line and those of others", [it.split("|")[-2] for it in rows], wanted)
 
     def test_page_of_no_crate(self):
         """A page of a crate that is gone is refused, and taken away."""
         self.ended("theorems")
         self.write("docs/theorems/gone.md", "# `gone`\n")
-        self.row("compared", self.ended("theorems", "--check"), (1, [CHANGED.replace("low", "gone")]))
-        self.row("made", self.ended("theorems"), (0, []))
-        self.row("it is gone", os.path.exists(os.path.join(self.folder, "docs/theorems/gone.md")), False)
+        self.check("compared", self.ended("theorems", "--check"), (1, [CHANGED.replace("low", "gone")]))
+        self.check("made", self.ended("theorems"), (0, []))
+        self.check("it is gone", os.path.exists(os.path.join(self.folder, "docs/theorems/gone.md")), False)
 
     def test_wrong_body_of_no_function(self):
         """A wrong body that changes no function has a line of its own."""
         edit = "\nedit: no_laws\nfile: src/lib.rt\nold: pub mod laws;\nnew: mod laws;\n"
         self.write("tests/edits/low.edits", EDITS + edit)
-        self.row("made", self.ended("theorems"), (0, []))
-        self.row("its line", "\nOf no one function: `no_laws`.\n" in self.read("docs/theorems/low.md"), True)
+        self.check("made", self.ended("theorems"), (0, []))
+        self.assertIn("\nOf no one function: `no_laws`.\n", self.read("docs/theorems/low.md"))
 
     def test_dead_links_and_names(self):
         """What a page refers to exists."""
@@ -241,11 +241,11 @@ class PagesTest(FilesTest):
             ("35 words", words[:100] + "\n" + words[100:], []),
         ]
         self.compare(rows, "--style")
-        self.row("without --style", self.places(rows), (0, {}))
+        self.check("without --style", self.places(rows), (0, {}))
         self.write("docs/PAGE.md", "# Page\n\nIt takes 12 ms, and so\n%sare too many.\n" % words)
         _, said = self.ended("check-pages", "--style", "README.md", "docs/PAGE.md")
-        self.row("a figure twice", said[0], "README.md:3: 12 ms is in docs/PAGE.md too")
-        self.row("44 words", said[3][:34], "docs/PAGE.md:3: 44 words: It takes")
+        self.check("a figure twice", said[0], "README.md:3: 12 ms is in docs/PAGE.md too")
+        self.check("44 words", said[3][:34], "docs/PAGE.md:3: 44 words: It takes")
         self.write("README.md", "# Low\n")
         long = "a " * 35 + "a.\n\n"
         for name, page, status in [
@@ -259,4 +259,4 @@ class PagesTest(FilesTest):
             ),
         ]:
             self.write("docs/PAGE.md", page)
-            self.row(name, self.ended("check-pages", "--style", "docs/PAGE.md")[0], status)
+            self.check(name, self.ended("check-pages", "--style", "docs/PAGE.md")[0], status)

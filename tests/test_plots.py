@@ -23,7 +23,7 @@ class PagesTest(RowTest):
         done = subprocess.run(
             [os.path.join(TOP, "bench", "plots"), "--check"], capture_output=True, text=True, timeout=SECONDS
         )
-        self.row("bench/plots --check", (done.returncode, done.stdout, done.stderr), (0, "", ""))
+        self.check("bench/plots --check", (done.returncode, done.stdout, done.stderr), (0, "", ""))
 
 
 class PlotsTest(RowTest):
@@ -77,33 +77,33 @@ class PlotsTest(RowTest):
         ]
         for name, old, new, plots in rows:
             wanted = (1 if plots else 0, "", "".join(OUT_OF_DATE % it for it in plots))
-            self.row(name, self.after(old, new), wanted)
+            self.check(name, self.after(old, new), wanted)
 
     def test_missing_tables_are_reported(self):
         """Each plot whose table, row or numbers are not there is named, and the others are compared."""
         hostile = NO_TABLE % ("hostile", "Hostile messages", "request, ms, MiB")
-        self.row("a table", self.after("| request | ms | MiB |", "| what | ms | MiB |"), (1, "", hostile))
-        self.row("a section", self.after("## Hostile messages", "## Messages"), (1, "", hostile))
+        self.check("a table", self.after("| request | ms | MiB |", "| what | ms | MiB |"), (1, "", hostile))
+        self.check("a section", self.after("## Hostile messages", "## Messages"), (1, "", hostile))
         start = NO_ROW % ("start", "a start over ")
-        self.row("a row", self.after("| a start over 1,000;", "| an end over 1,000;"), (1, "", start))
+        self.check("a row", self.after("| a start over 1,000;", "| an end over 1,000;"), (1, "", start))
         times = self.cell("| a start over 1,000;", 2)
         status, _, said = self.after(times, "quick")
-        self.row("numbers", (status, said.count("\n"), "'quick'" in said), (1, 1, True))
+        self.check("numbers", (status, said.count("\n"), "'quick'" in said), (1, 1, True))
         status, _, said = self.after(times, "; ".join(times.split("; ")[:2]) + " ms")
-        self.row("a number", (status, said.count("\n"), "'a start over ..'" in said), (1, 1, True))
-        self.row("it draws none then", self.checked()[0], 1)
+        self.check("a number", (status, said.count("\n"), "'a start over ..'" in said), (1, 1, True))
+        self.check("it draws none then", self.checked()[0], 1)
 
     def test_missing_plots_are_reported(self):
         path = os.path.join(self.folder, "docs/plots/front.svg")
         with open(path, "w", encoding="utf-8") as file:
             file.write("<svg/>\n")
-        self.row("another file", self.checked("--check"), (1, "", GONE % "front"))
+        self.check("another file", self.checked("--check"), (1, "", GONE % "front"))
         os.remove(path)
-        self.row("no file", self.checked("--check"), (1, "", GONE % "front"))
+        self.check("no file", self.checked("--check"), (1, "", GONE % "front"))
         said = self.after("](plots/front.svg)", "](plots/back.svg)")
-        self.row("a page without it", said, (1, "", GONE % "front" + NOT_SHOWN % "front"))
+        self.check("a page without it", said, (1, "", GONE % "front" + NOT_SHOWN % "front"))
 
     def test_arguments_that_are_not_known(self):
         status, out, said = self.checked("--chek")
         usage = ["usage: bench/plots            writes docs/plots/NAME.svg"]
-        self.row("another word", (status, out, said.splitlines()[:1]), (2, "", usage))
+        self.check("another word", (status, out, said.splitlines()[:1]), (2, "", usage))

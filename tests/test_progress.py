@@ -46,7 +46,7 @@ class ProgressTest(FilesTest):
         run.stdin.flush()
         time.sleep(wait)
         passed, said = run.communicate(lines[-1] + "\n", timeout=SECONDS)
-        self.row("the status", run.returncode, 0)
+        self.check("the status", run.returncode, 0)
         return passed.splitlines(), [line.removeprefix("gate: ") for line in said.splitlines()]
 
     def test_start(self):
@@ -54,13 +54,13 @@ class ProgressTest(FilesTest):
         kept = "rt: %s is kept: an earlier run on this machine proved the same files"
         lines = ["rt: low proved", "3 passed, 0 failed"]
         passed, said = self.heard(*lines)
-        self.row("the lines", passed, lines)
-        self.row("from nothing", said, [START % (0, "4,800 million steps in 2 lanes, 35 minutes")])
+        self.check("the lines", passed, lines)
+        self.check("from nothing", said, [START % (0, "4,800 million steps in 2 lanes, 35 minutes")])
         _, said = self.heard(kept % "low", kept % "middle", "rt: high proved", jobs="1")
-        self.row("one is left", said, [START % (2, "2,400 million steps in 1 lane, 20 minutes")])
+        self.check("one is left", said, [START % (2, "2,400 million steps in 1 lane, 20 minutes")])
         _, said = self.heard(kept % "low", kept % "middle", kept % "high")
         start = "3 of 3 crates are kept of earlier runs on this machine, and nothing is proved again"
-        self.row("none is left", said, [start])
+        self.check("none is left", said, [start])
 
     def test_how_far(self):
         """A line counts what was proved and tried, and leaves out what is kept."""
@@ -68,5 +68,5 @@ class ProgressTest(FilesTest):
         lines.append("rt: middle: trying its must-fail edits (2)")
         _, said = self.heard(*lines, "3 passed, 0 failed", wait=4.0)
         told = [re.sub(r"in 1 minute, some \d+ minutes? more$", "in TIME", line) for line in said[1:]]
-        self.row("some lines", bool(told), True)
-        self.row("each", set(told), {"1 of 2 crates, 43 % of the steps, in TIME"})
+        self.check("some lines", bool(told), True)
+        self.check("each", set(told), {"1 of 2 crates, 43 % of the steps, in TIME"})

@@ -300,7 +300,7 @@ class RepeatsTest(CsidTest):
     def stream(self, name, *steps):
         """Compares the replies to calls with those of their steps."""
         calls, replies = (b"".join(side) for side in zip(*steps))
-        self.row(name, run([self.csid, "pipe"], input=calls), (replies, "", 0))
+        self.check(name, run([self.csid, "pipe"], input=calls), (replies, "", 0))
 
     def test_repeat_at_once_has_the_same_reply(self):
         for it in DIFFERS + ALONE:
@@ -309,7 +309,7 @@ class RepeatsTest(CsidTest):
     def test_repeat_differs_after_another_call(self):
         for it in DIFFERS:
             asked, before, after = it.question
-            self.row(it.name + ": differs", it.again == it.call[1] and before == after, False)
+            self.check(it.name + ": differs", it.again == it.call[1] and before == after, False)
             steps = it.call, it.other, (asked, before), (it.call[0], it.again), (asked, after)
             self.stream(it.name, *it.before, *steps)
 

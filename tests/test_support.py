@@ -17,7 +17,7 @@ def faults_of(pair):
         """A test of one row."""
 
         def runTest(self):
-            self.row("a pair", *pair)
+            self.check("a pair", *pair)
 
     result = unittest.TestResult()
     OneRow().run(result)
@@ -42,13 +42,13 @@ class SupportTest(RowTest):
             ("a part less", "csid: two\n", False),
             ("two lines", "csid: two\none\n", False),
         ]:
-            self.row(name, line == text, is_equal)
-        self.row("a part of the begin alone", csictl.Line("csid: ", "csid") == "csid: one\n", False)
+            self.check(name, line == text, is_equal)
+        self.check("a part of the begin alone", csictl.Line("csid: ", "csid") == "csid: one\n", False)
         for name, shown, texts in [
             ("text", csictl.Shown("one", "two"), ["one two\n", "one\n", "two\n", "one two"]),
             ("bytes", processes.Shown(b"one", b"two"), [b"one two\n", b"one\n", b"two\n", b"one two"]),
         ]:
-            self.row("each part, in " + name, [shown == text for text in texts], [True, False, False, False])
+            self.check("in " + name, [shown == text for text in texts], [True, False, False, False])
 
     def test_ends(self):
         """A connection has ended where nothing comes, and in the time that is given."""
@@ -61,13 +61,13 @@ class SupportTest(RowTest):
             one, other = socket.socketpair()
             one.sendall(given)
             one.close()
-            self.row(name, has_ended(other, within), wanted)
+            self.check(name, has_ended(other, within), wanted)
             other.close()
 
     def test_counts(self):
         """Ends that have a line, and those of counts."""
         lines = GONE * 2 + "csid: 5 more connections ended: 2 failed, 3 had gone\n" + GONE
-        self.row("of each", dict(ended(lines, GONE)), {"of a line": 3, "failed": 2, "had gone": 3})
+        self.check("of each", dict(ended(lines, GONE)), {"of a line": 3, "failed": 2, "had gone": 3})
 
     def test_played_servers(self):
         """A connection that there was not to be is one of the calls."""
@@ -77,8 +77,8 @@ class SupportTest(RowTest):
                 caller.connect(peer.path)
                 caller.sendall(b"a")
                 caller.shutdown(socket.SHUT_WR)
-                self.row("no reply to " + name, caller.recv(1), b"")
+                self.check("no reply to " + name, caller.recv(1), b"")
             for _ in range(count):
                 with socket.socket(socket.AF_UNIX) as caller:
                     caller.connect(peer.path)
-            self.row(name, peer.end(), wanted)
+            self.check(name, peer.end(), wanted)

@@ -324,6 +324,6 @@ class WalkTest(RowTest):
             for seed in SEEDS:
                 for place in "memory", "tables", "a log":
                     walk = self.walk(seed, place, os.path.join(folder, "%d %s" % (seed, place)))
-                    self.row("seed %d over %s" % (seed, place), walk.faults[:3], [])
+                    self.check("seed %d over %s" % (seed, place), walk.faults[:3], [])
                     seen += walk.seen
-        self.row("what happens, happens often", [what for what in EXPECTED if seen[what] < OFTEN], [])
+        self.check("what happens, happens often", [what for what in EXPECTED if seen[what] < OFTEN], [])

@@ -4,24 +4,11 @@ every one does, and one that keeps rows.
 import os
 import socket
 import threading
-import time
 
 from tests.vectors import messages as v
 
 READ, MAKE, COMMIT, LEAD = [b"/fomaheti.log.v1.Log/" + it for it in (b"Read", b"Make", b"Commit", b"Lead")]
 OK = v.reply()
-# How long anything may take.
-SECONDS = 30
-
-
-def wait(happens, seconds=SECONDS, pause=0.005):
-    """Whether something happens in time."""
-    end = time.monotonic() + seconds
-    while not happens():
-        if time.monotonic() > end:
-            return False
-        time.sleep(pause)
-    return True
 
 
 class ChangeStore:

@@ -2,7 +2,6 @@
 
 import os
 import re
-import resource
 import socket
 import subprocess
 import tempfile
@@ -11,7 +10,8 @@ import time
 from tests.support.processes import SECONDS, TOP
 
 
-VERSION = open(os.path.join(TOP, "VERSION")).read().strip()
+with open(os.path.join(TOP, "VERSION"), encoding="utf-8") as version:
+    VERSION = version.read().strip()
 
 
 class Line:
@@ -77,10 +77,6 @@ def run(words, stdout=subprocess.PIPE, **how):
 def text(came):
     """The same with standard output as a text."""
     return came[0].decode(), came[1], came[2]
-
-
-def small_memory():
-    resource.setrlimit(resource.RLIMIT_DATA, (700_000, 700_000))
 
 
 class Server:

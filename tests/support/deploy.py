@@ -8,10 +8,9 @@ import shlex
 import shutil
 import signal
 import subprocess
-import time
 import unittest
 
-from tests.support.processes import TOP
+from tests.support.processes import SECONDS, TOP, wait
 
 
 DEPLOY = os.path.join(TOP, "deploy")
@@ -32,8 +31,6 @@ TLS = ["--cacert", "--cert", "--key"]
 EXPOSURE = 30
 # Runs a program as the first process of a namespace, with a network of its own in which each port is free.
 UNSHARE = ["unshare", "--pid", "--net", "--fork"]
-# How long a program may take to end after SIGTERM.
-SECONDS = 5
 
 
 def read(name):
@@ -299,12 +296,3 @@ class Pod:
             first = int(children.read().split()[0])
         os.kill(first, signal.SIGTERM)
         return wait(lambda: process.poll() is not None)
-
-
-def wait(happens):
-    end = time.monotonic() + SECONDS
-    while time.monotonic() < end:
-        if happens():
-            return True
-        time.sleep(0.02)
-    return False

@@ -5,7 +5,8 @@ import os
 from tests.support.processes import TOP
 
 
-VERSION = open(os.path.join(TOP, "VERSION"), "rb").read().strip()
+with open(os.path.join(TOP, "VERSION"), "rb") as version:
+    VERSION = version.read().strip()
 PROBE = b"/csi.v1.Identity/Probe"
 INFO = b"/csi.v1.Identity/GetPluginInfo"
 

@@ -21,7 +21,7 @@ class PlayedServer:
         self.listener = socket.socket(socket.AF_UNIX)
         self.listener.bind(self.path)
         self.listener.listen(8)
-        self.listener.settimeout(10)
+        self.listener.settimeout(SECONDS)
         self.thread = threading.Thread(target=self.serve)
         self.thread.start()
 

@@ -4,6 +4,7 @@ import contextlib
 import os
 import resource
 import shutil
+import socket
 import subprocess
 import time
 import unittest
@@ -154,13 +155,21 @@ def little_room():
     resource.setrlimit(resource.RLIMIT_FSIZE, (400_000, 400_000))
 
 
-def wait(happens):
-    end = time.monotonic() + SECONDS
+def wait(happens, seconds=SECONDS, pause=0.01):
+    """Whether something happens in time."""
+    end = time.monotonic() + seconds
     while not happens():
         if time.monotonic() > end:
             return False
-        time.sleep(0.01)
+        time.sleep(pause)
     return True
+
+
+def free_ports(count):
+    """Ports of loopback that are free now."""
+    with contextlib.ExitStack() as stack:
+        sockets = [stack.enter_context(socket.create_server(("127.0.0.1", 0))) for _ in range(count)]
+        return [it.getsockname()[1] for it in sockets]
 
 
 def has_ended(peer, within):
@@ -176,6 +185,11 @@ def has_ended(peer, within):
 def write(path, text):
     with open(path, "wb") as file:
         file.write(text)
+
+
+def read(path):
+    with open(path, "rb") as file:
+        return file.read()
 
 
 @contextlib.contextmanager

@@ -16,7 +16,7 @@ import sys
 import threading
 import time
 
-from tests.vectors import messages as v
+from tests.support import etcd
 from tests.support.broken import (
     DATA,
     END,
@@ -30,7 +30,8 @@ from tests.support.broken import (
     message_frames,
     replies_in,
 )
-from tests.support.change_stores import SECONDS, wait
+from tests.support.processes import SECONDS, wait
+from tests.vectors import messages as v
 
 TOP = os.path.dirname(os.path.dirname(os.path.dirname(os.path.abspath(__file__))))
 NAME = "pools.example.org"
@@ -177,41 +178,15 @@ class Program:
             self.start()
 
 
-class Etcd:
+class Etcd(etcd.Etcd):
     """One member of etcd, and its rows over its gateway."""
 
     def __init__(self, run):
-        ports = [socket.create_server(("127.0.0.1", 0)) for _ in range(2)]
-        client, peer = ["127.0.0.1:%d" % it.getsockname()[1] for it in ports]
-        for it in ports:
-            it.close()
-        self.endpoint, run.programs, self.port = client, run.programs + [self], int(client.split(":")[1])
-        self.words = [
-            "etcd",
-            "--data-dir",
-            run.path("etcd"),
-            "--listen-client-urls",
-            "http://" + client,
-            "--advertise-client-urls",
-            "http://" + client,
-            "--listen-peer-urls",
-            "http://" + peer,
-            "--initial-advertise-peer-urls",
-            "http://" + peer,
-            "--initial-cluster",
-            "default=http://" + peer,
-            "--log-level",
-            "error",
-            "--auto-compaction-retention",
-            "1m",
-        ]
-        self.start()
+        run.programs.append(self)
+        super().__init__(run.folder, "etcd", "--auto-compaction-retention", "1m")
 
     def start(self):
-        self.process = subprocess.Popen(
-            self.words, stdin=subprocess.DEVNULL, stdout=subprocess.DEVNULL, stderr=subprocess.DEVNULL
-        )
-        assert wait(lambda: socket.socket().connect_ex(("127.0.0.1", self.port)) == 0), "etcd does not listen"
+        super().start()
         self.begun = time.monotonic()
 
     def has_ended(self):
@@ -265,10 +240,6 @@ class Etcd:
     def remove(self, *names):
         for name in names:
             self.ask("deleterange", ("%s/%s" % (NAME, name)).encode())
-
-    def end(self):
-        self.process.kill()
-        self.process.wait()
 
 
 def connected(path, seconds=SECONDS):

@@ -20,6 +20,7 @@ import time
 sys.dont_write_bytecode = True
 sys.path.insert(0, os.path.dirname(os.path.dirname(os.path.dirname(os.path.realpath(__file__)))))
 
+from tests.support import etcd
 from tests.support.processes import TOP, place, program
 from tests.support.rows import RowTest
 
@@ -461,31 +462,12 @@ def has(volumes, attachments, number, format=2):
     return "volumes %d, attachments %d, next number %d, format %d\n" % (volumes, attachments, number, format)
 
 
-class Etcd:
-    """An etcd of one member on loopback, in a folder of its own."""
+class Etcd(etcd.Etcd):
+    """An etcd in a folder of its own."""
 
     def __init__(self):
         self.folder = tempfile.mkdtemp()
-        self.endpoint, peer = ["127.0.0.1:%d" % port for port in free_ports(2)]
-        words = [
-            "--data-dir",
-            "data",
-            "--log-level",
-            "error",
-            "--listen-client-urls",
-            "http://" + self.endpoint,
-            "--advertise-client-urls",
-            "http://" + self.endpoint,
-            "--listen-peer-urls",
-            "http://" + peer,
-            "--initial-advertise-peer-urls",
-            "http://" + peer,
-            "--initial-cluster",
-            "default=http://" + peer,
-        ]
-        self.process = subprocess.Popen(
-            ["etcd", *words], cwd=self.folder, stdout=subprocess.DEVNULL, stderr=subprocess.DEVNULL
-        )
+        super().__init__(self.folder)
         wait(lambda: self.ctl("endpoint", "health").returncode == 0)
 
     def ctl(self, *words):
@@ -500,17 +482,8 @@ class Etcd:
         return self
 
     def __exit__(self, *_):
-        self.process.kill()
-        self.process.wait()
+        self.end()
         shutil.rmtree(self.folder)
-
-
-def free_ports(count):
-    with contextlib.ExitStack() as stack:
-        sockets = [stack.enter_context(socket.socket()) for _ in range(count)]
-        for it in sockets:
-            it.bind(("127.0.0.1", 0))
-        return [it.getsockname()[1] for it in sockets]
 
 
 PLUGIN, NODE = "pools.example.org", "n'2/é \U0001d11e"

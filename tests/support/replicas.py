@@ -10,19 +10,12 @@ import subprocess
 import time
 
 from tests.support.callers import Fronts
+from tests.support.etcd import Etcd
 from tests.support.processes import SECONDS, wait
 
 NAME, LEASE = "pools.example.org", 2
 # What ends csid, or csid-etcd by a signal. SIGTERM releases the lock at once, the others keep it for a lease.
 FAULTS = ["csid", signal.SIGTERM, signal.SIGKILL, signal.SIGTERM, signal.SIGSTOP]
-
-
-def free_ports(count):
-    sockets = [socket.create_server(("127.0.0.1", 0)) for _ in range(count)]
-    ports = [it.getsockname()[1] for it in sockets]
-    for it in sockets:
-        it.close()
-    return ports
 
 
 def wait_for(happens, what):
@@ -33,38 +26,6 @@ def wait_for(happens, what):
 def listens(path):
     with socket.socket(socket.AF_UNIX) as peer:
         return peer.connect_ex(path) == 0
-
-
-class Etcd:
-    """One member of etcd, with its data in a folder under a name."""
-
-    def __init__(self, folder, name="etcd"):
-        client, peer = ["http://127.0.0.1:%d" % port for port in free_ports(2)]
-        self.endpoint = client.removeprefix("http://")
-        self.errors = open(os.path.join(folder, name + ".log"), "ab")
-        words = {
-            "--name": "m",
-            "--data-dir": os.path.join(folder, name),
-            "--listen-client-urls": client,
-            "--advertise-client-urls": client,
-            "--listen-peer-urls": peer,
-            "--initial-advertise-peer-urls": peer,
-            "--initial-cluster": "m=" + peer,
-            "--log-level": "error",
-        }
-        self.process = subprocess.Popen(
-            ["etcd", *sum(words.items(), ())],
-            stdin=subprocess.DEVNULL,
-            stdout=self.errors,
-            stderr=self.errors,
-        )
-        host, port = self.endpoint.split(":")
-        wait_for(lambda: socket.socket().connect_ex((host, int(port))) == 0, "an etcd that listens")
-
-    def end(self):
-        self.process.kill()
-        self.process.wait()
-        self.errors.close()
 
 
 class Replica:

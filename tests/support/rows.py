@@ -40,11 +40,11 @@ class RowTest(unittest.TestCase):
         signal.alarm(self.longest)
         self.addCleanup(signal.alarm, 0)
 
-    def row(self, name, came, wanted):
+    def check(self, name, got, want):
         """Compares what came with what must come."""
-        with self.subTest(name):
-            if came != wanted:
-                self.fail("came:   %s\nwanted: %s" % (shown(came), shown(wanted)))
+        with self.subTest(name=name):
+            if got != want:
+                self.fail("got:  %s\nwant: %s" % (shown(got), shown(want)))
 
 
 class FilesTest(RowTest):

@@ -1,0 +1,152 @@
+"""Runs the classes of a suite side by side, each in a process of its own, as many at a time as there are
+processors.
+"""
+
+import collections
+import concurrent.futures
+import dataclasses
+import io
+import multiprocessing
+import os
+import time
+import unittest
+import warnings
+
+# The modules that take the longest: they start first, so that none runs alone at the end.
+LONGEST = ["test_csid_peers", "test_histories", "test_recipes", "test_recipes_etcd", "test_csid_change_store"]
+
+
+@dataclasses.dataclass
+class Report:
+    """A test of another process in the lists of a result. A failure of what a class sets up has no name."""
+
+    description: str
+    name: str
+
+    def __str__(self):
+        return self.description
+
+    def shortDescription(self):
+        return None
+
+
+@dataclasses.dataclass
+class Outcome:
+    """What came of the tests of a class: their number and seconds, a text of each, and lists of a result."""
+
+    count: int
+    seconds: float
+    text: str
+    failures: list
+    errors: list
+    skipped: list
+
+    def passed(self):
+        return not self.errors and not self.failures
+
+
+class Text(io.StringIO):
+    """The stream of a result."""
+
+    def writeln(self, line=""):
+        self.write(line + "\n")
+
+
+def reports(result, found):
+    """Pairs of a report and a text, for pairs of a test and a text."""
+    for test, text in found:
+        case = getattr(test, "test_case", test)
+        name = case.id() if isinstance(case, unittest.TestCase) else None
+        yield Report(result.getDescription(test), name), text
+
+
+def run_suite(suite, verbosity, settings):
+    """Runs a suite in this process."""
+    result, begin = unittest.TextTestResult(Text(), True, verbosity), time.monotonic()
+    vars(result).update(settings)
+    suite.run(result)
+    lists = [list(reports(result, it)) for it in (result.failures, result.errors, result.skipped)]
+    return Outcome(result.testsRun, time.monotonic() - begin, result.stream.getvalue(), *lists)
+
+
+def send_outcome(sender, names, filters, *how):
+    """Runs the tests of these names, in another process."""
+    if filters:
+        warnings.simplefilter(filters)
+    sender.send(run_suite(unittest.defaultTestLoader.loadTestsFromNames(names), *how))
+
+
+def run_apart(name, tests, *how):
+    """Runs the tests of a class in a process of their own."""
+    context = multiprocessing.get_context("spawn")
+    receiver, sender = context.Pipe(duplex=False)
+    process = context.Process(target=send_outcome, args=(sender, [test.id() for test in tests], *how))
+    process.start()
+    sender.close()
+    try:
+        return receiver.recv()
+    except EOFError:
+        process.join()
+        ended = "its process ended with status %d\n" % process.exitcode
+        return Outcome(0, 0, "", [], [(Report(name, None), ended)], [])
+    finally:
+        process.join()
+
+
+def by_class(suite, classes):
+    """Adds each test of nested suites to the list of its class."""
+    for test in suite:
+        if isinstance(test, unittest.TestSuite):
+            by_class(test, classes)
+        else:
+            classes["%s.%s" % (type(test).__module__, type(test).__qualname__)].append(test)
+    return classes
+
+
+def place(name):
+    """Where a class is in the order of starts."""
+    module = name.split(".")[1]
+    return LONGEST.index(module) if module in LONGEST else len(LONGEST)
+
+
+class Runner(unittest.TextTestRunner):
+    """Runs the classes of a suite side by side, and shows a line when one has ended."""
+
+    def run(self, suite):
+        classes = by_class(suite, collections.defaultdict(list))
+        # Tests of unittest itself stand for modules that cannot be imported.
+        missing = [it for name in list(classes) if name.startswith("unittest.") for it in classes.pop(name)]
+
+        def run(result):
+            unittest.TestSuite(missing).run(result)
+            self.run_classes(classes, result)
+
+        return super().run(run)
+
+    def run_classes(self, classes, result):
+        """Adds what comes of the tests to a result, in the order of the suite."""
+        settings = {it: getattr(result, it) for it in ("buffer", "failfast", "tb_locals")}
+        pool, runs, outcomes = concurrent.futures.ThreadPoolExecutor(len(os.sched_getaffinity(0))), {}, {}
+        for name in sorted(classes, key=place):
+            run = pool.submit(run_apart, name, classes[name], self.warnings, self.verbosity, settings)
+            runs[run] = name
+        try:
+            for run in concurrent.futures.as_completed(runs):
+                outcomes[runs[run]] = run.result()
+                self.show(runs[run], run.result())
+                if self.failfast and not run.result().passed():
+                    break
+        finally:
+            pool.shutdown(cancel_futures=True)
+        for outcome in (outcomes[name] for name in classes if name in outcomes):
+            result.testsRun += outcome.count
+            for kind in ("failures", "errors", "skipped"):
+                getattr(result, kind).extend(getattr(outcome, kind))
+
+    def show(self, name, outcome):
+        if self.verbosity > 1:
+            self.stream.write(outcome.text)
+        if self.verbosity > 0:
+            ended = "ok" if outcome.passed() else "FAILED"
+            self.stream.writeln("%-6s %s: %d in %.1f s" % (ended, name, outcome.count, outcome.seconds))
+            self.stream.flush()
