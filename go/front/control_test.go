@@ -100,11 +100,7 @@ func TestSilentControlPeers(t *testing.T) {
 	c, socket, _ := controlled(t, path)
 	runs := dial(t, socket)
 	runs.Write(fromHex(t, shortFrame))
-	for begin := time.Now(); len(c.handler.backend.turn) == 0; time.Sleep(time.Millisecond) {
-		if time.Since(begin) > 10*time.Second {
-			t.Fatal("no call runs")
-		}
-	}
+	underWay(t, c.handler.backend, 1)
 	var silent []net.Conn
 	for i := 0; i < maxControls; i++ {
 		conn := dial(t, socket)
@@ -160,7 +156,7 @@ func TestUnansweredControlCall(t *testing.T) {
 	}
 }
 
-// A call whose peer goes while it waits for its turn is never sent; one whose peer waits for the reply alone is.
+// A call whose peer goes while it waits is never sent; one whose peer waits for the reply alone is.
 func TestControlPeerThatGoes(t *testing.T) {
 	paths := make(chan string, 9)
 	path, _ := csid(t, func(conn net.Conn) {
@@ -174,9 +170,7 @@ func TestControlPeerThatGoes(t *testing.T) {
 		}
 	})
 	c, socket, log := controlled(t, path)
-	if err := c.handler.backend.takeTurn(soon(t)); err != nil {
-		t.Fatal(err)
-	}
+	letGo := hold(c.handler.backend)
 	gone, waiting := dial(t, socket), dial(t, socket)
 	gone.Write(fromHex(t, "0005 2f676f6e65 00 00000000"))
 	gone.Close()
@@ -187,7 +181,7 @@ func TestControlPeerThatGoes(t *testing.T) {
 			t.Fatalf("logged %q", log)
 		}
 	}
-	<-c.handler.backend.turn
+	letGo()
 	if got, err := io.ReadAll(waiting); err != nil || !bytes.Equal(got, notFound) {
 		t.Errorf("%x, %v", got, err)
 	}
@@ -217,11 +211,8 @@ func TestEndOfControl(t *testing.T) {
 	runs, idle := dial(t, socket), dial(t, socket)
 	runs.Write(fromHex(t, shortFrame+shortFrame))
 	idle.Write([]byte{0})
-	for begin := time.Now(); len(c.handler.backend.turn) == 0 || open(c.listener) < 2; time.Sleep(time.Millisecond) {
-		if time.Since(begin) > 10*time.Second {
-			t.Fatal("no call runs")
-		}
-	}
+	underWay(t, c.handler.backend, 1)
+	awaits(t, "two connections", func() bool { return open(c.listener) == 2 })
 	c.stop()
 	// The connection is reset where the byte was not read yet.
 	if got, err := io.ReadAll(idle); err != nil && !frames.IsClosing(err) || len(got) > 0 {
@@ -243,11 +234,7 @@ func TestControlConnectionsAtTheEnd(t *testing.T) {
 	c, socket, _ := controlled(t, path)
 	runs := dial(t, socket)
 	runs.Write(fromHex(t, shortFrame))
-	for begin := time.Now(); len(c.handler.backend.turn) == 0; time.Sleep(time.Millisecond) {
-		if time.Since(begin) > 10*time.Second {
-			t.Fatal("no call runs")
-		}
-	}
+	underWay(t, c.handler.backend, 1)
 	c.stop()
 	close(let)
 	if got, err := io.ReadAll(runs); err != nil || !bytes.Equal(got, notFound) {
