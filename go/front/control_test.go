@@ -9,10 +9,13 @@ import (
 	"path/filepath"
 	"strings"
 	"sync"
+	"sync/atomic"
 	"testing"
 	"time"
 
 	"github.com/prometheus/client_golang/prometheus/testutil"
+	"google.golang.org/grpc/codes"
+	"google.golang.org/grpc/status"
 
 	"fomaheti/frames"
 )
@@ -187,6 +190,57 @@ func TestControlPeerThatGoes(t *testing.T) {
 	}
 	if first := <-paths; first != "/a/b" || len(paths) > 0 {
 		t.Errorf("csid got %s, and %d more", first, len(paths))
+	}
+}
+
+// Calls of the control socket and of gRPC are on their way together. If the connection ends, the first
+// of them gets no reply, and the other one has that of the next connection.
+func TestControlCallOnTheWay(t *testing.T) {
+	for _, isControlFirst := range []bool{true, false} {
+		path, connections := concurrentCsid(t, func(conn net.Conn, number int32) {
+			for isCalled(conn) {
+				if number == 1 {
+					conn.Write(notFound)
+					isCalled(conn)
+					awaitBytes(conn, shortCall)
+					break
+				}
+				conn.Write(notFound)
+			}
+			conn.Close()
+		})
+		c, socket, _ := controlled(t, path)
+		b := c.handler.backend
+		b.setPromptTime(time.Hour)
+		wants(t, b, codes.NotFound)
+		conn, came := dial(t, socket), make(chan error, 1)
+		begins := []func(){
+			func() { conn.Write(fromHex(t, shortFrame)); conn.CloseWrite() },
+			func() {
+				go func() {
+					_, err := c.handler.ask(soon(t), "/a/b", nil)
+					came <- err
+				}()
+			},
+		}
+		want, wantCode := notFound, codes.Unavailable
+		if isControlFirst {
+			want, wantCode = nil, codes.NotFound
+		} else {
+			begins[0], begins[1] = begins[1], begins[0]
+		}
+		begins[0]()
+		underWay(t, b, 1)
+		begins[1]()
+		if got, err := io.ReadAll(conn); err != nil || !bytes.Equal(got, want) {
+			t.Errorf("control first %v: %x, %v", isControlFirst, got, err)
+		}
+		if err := <-came; status.Code(err) != wantCode {
+			t.Errorf("control first %v: of gRPC: %v", isControlFirst, err)
+		}
+		if made := atomic.LoadInt32(connections); made != 2 {
+			t.Errorf("%d connections", made)
+		}
 	}
 }
 
