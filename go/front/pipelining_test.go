@@ -3,6 +3,7 @@ package main
 import (
 	"context"
 	"encoding/binary"
+	"errors"
 	"fmt"
 	"io"
 	"math/rand"
@@ -709,6 +710,35 @@ func TestLateReplyBeforeOtherCalls(t *testing.T) {
 	}
 }
 
+// The front reads the replies that csid wrote before it ends a connection, so it knows the first
+// unanswered call.
+func TestRepliesBeforeTheFrontEndsAConnection(t *testing.T) {
+	for replies := uint32(0); replies < 4; replies++ {
+		s, why := sends(t, 4, nil), errors.New("the front ends it")
+		for call := 1; call <= 4; call++ {
+			takeCall(s.conn)
+		}
+		s.b.mutex.Lock()
+		for number := uint32(1); number <= replies; number++ {
+			s.conn.Write(okReply(number))
+		}
+		s.b.kept.end(why)
+		s.b.mutex.Unlock()
+		for number, got := range s.all(t, 4) {
+			if number == replies+1 {
+				if got.err != why {
+					t.Errorf("%d replies: the call in doubt: %v", replies, got)
+				}
+			} else if got.err != nil || string(got.got.Body) != string(numbered(number)) {
+				t.Errorf("%d replies: call %d: %v", replies, number, got)
+			}
+		}
+		if made, want := fmt.Sprint(s.made.rows()), []string{"[2 3 4]", "[3 4]", "[4]", "[]"}[replies]; made != want {
+			t.Errorf("%d replies: sent again %s, wanted %s", replies, made, want)
+		}
+	}
+}
+
 // A call that was given up is not late while a call before it is unanswered whose caller waits.
 func TestGivenUpBehindAPatientCaller(t *testing.T) {
 	contexts, giveUp := givesUp(t, 2)
@@ -725,6 +755,24 @@ func TestGivenUpBehindAPatientCaller(t *testing.T) {
 	}
 	if made := atomic.LoadInt32(s.connections); made != 1 {
 		t.Errorf("%d connections", made)
+	}
+}
+
+// Once it is the first unanswered call, its reply must come in time.
+func TestGivenUpBehindACallThatIsAnswered(t *testing.T) {
+	contexts, giveUp := givesUp(t, 2)
+	s := sends(t, 3, contexts)
+	s.b.late = 50 * time.Millisecond
+	giveUp()
+	s.all(t, 1)
+	serveOn(s, 1)
+	for number, got := range s.all(t, 2) {
+		if got.err != nil {
+			t.Errorf("call %d: %v", number, got)
+		}
+	}
+	if made := fmt.Sprint(s.made.rows()); made != "[1 3]" {
+		t.Errorf("made %s", made)
 	}
 }
 
