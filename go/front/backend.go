@@ -1,10 +1,10 @@
 package main
 
 import (
+	"container/list"
 	"context"
-	"errors"
 	"fmt"
-	"os"
+	"sync"
 	"time"
 
 	"github.com/prometheus/client_golang/prometheus"
@@ -13,25 +13,31 @@ import (
 	"fomaheti/frames"
 )
 
-// How soon it is seen that a caller gave up while csid has its call. A deadline is seen at once.
-const cancelTime = 5 * time.Millisecond
+// A call is sent after others if csid should come to it within this time. Until it is sent its
+// caller can give it up, and a csid that takes longer gains nothing by a further call.
+const promptTime = 2 * time.Millisecond
 
-// backend hands calls to csid, one by one over one connection, since csid serves one connection at a time.
+// With so many calls on their way a new call waits for the next reply. Then one write sends all
+// that came in the meantime, and csid still has a call to go on with.
+const enoughSent = 2
+
+// backend hands calls to csid over one connection, since csid serves one connection at a time.
 type backend struct {
 	path string
 	// How long a reply may take once its caller gave the call up.
 	late time.Duration
-	// Holds one value while a call has its turn. A channel and not a mutex, so that waiting ends with a call's deadline.
-	turn chan struct{}
-	// The rest belongs to the call that has the turn. There is no connection where kept is nil.
-	kept *connection
-	pace pace
-	// What exchanges took of late, the last ones most.
+	// Guards the fields from here to usual.
+	mutex sync.Mutex
+	// The calls that are not sent, in the order in which they will be.
+	waiting list.List
+	// The connection to csid, or nil.
+	kept         *connection
+	isConnecting bool
+	pace         pace
+	promptTime   time.Duration
+	// How long csid took for a call, as a moving average.
 	usual time.Duration
-	// The last connection that gave no reply, or could not be made: why, and when that was seen. A reply wipes it out.
-	failure   error
-	failureAt time.Time
-	// When the last reply came. It belongs to no call.
+	// When the last reply came.
 	life life
 	// Connections that were made, and attempts that failed.
 	connections prometheus.Counter
@@ -42,56 +48,67 @@ func newBackend(path string, late time.Duration) *backend {
 	return &backend{
 		path:        path,
 		late:        late,
-		turn:        make(chan struct{}, 1),
 		pace:        pace{pause: leastPause},
+		promptTime:  promptTime,
 		connections: newCounter("connections_total", "Connections to csid that were made."),
 		failures:    newCounter("connection_failures_total", "Attempts at a connection to csid that failed."),
 	}
 }
 
-// call hands a call to csid when it is its turn, and gives the reply. No call is sent twice that csid may have done: where an error comes it has done
-// it, or not, and the caller must repeat it.
-func (b *backend) call(ctx context.Context, path string, message []byte) (frames.Reply, error) {
-	came := time.Now()
-	if err := b.takeTurn(ctx); err != nil {
-		return frames.Reply{}, err
-	}
-	for {
-		isOld, err := b.ready(ctx, came)
-		if err != nil {
-			<-b.turn
-			return frames.Reply{}, err
-		}
-		b.kept.begin(path, message)
-		got := b.exchange(ctx)
-		if got.isUnderWay() {
-			b.leave()
-			return frames.Reply{}, ended(ctx)
-		}
-		b.settle(got)
-		if got.isUndone && isOld && ended(ctx) == nil {
-			// csid closed the connection in this moment, as one that was idle.
-			continue
-		}
-		<-b.turn
-		return got.answer, got.err
+// stage is where a call is.
+type stage int
+
+const (
+	// Among the calls that wait.
+	isWaiting stage = iota
+	// Among the calls on their way.
+	isSent
+	// Among the calls of a connection that are sent again over the next one.
+	isRefused
+	// It has its outcome, or its caller gave it up.
+	isOver
+)
+
+// call is a call until it has its outcome.
+type call struct {
+	ctx     context.Context
+	path    string
+	message []byte
+	// The bytes of its frame.
+	size  int
+	stage stage
+	// Its place among the calls that wait.
+	place *list.Element
+	// Whether it has let other calls go first, and whether it has been sent again. It does each
+	// once at most.
+	hasYielded, isRepeated bool
+	// Gets the outcome. It has room for it, so that nothing waits for the caller.
+	done chan outcome
+}
+
+// outcome is the reply to a call, or why there is none.
+type outcome struct {
+	answer frames.Reply
+	err    error
+}
+
+// finish gives a call its outcome, unless its caller gave it up.
+func (c *call) finish(answer frames.Reply, err error) {
+	if c.stage != isOver {
+		c.stage = isOver
+		c.done <- outcome{answer, err}
 	}
 }
 
-// exchange carries the call that has the turn until it has an outcome, or its caller gave it up.
-func (b *backend) exchange(ctx context.Context) outcome {
-	for {
-		look := time.Now().Add(cancelTime)
-		if deadline, isLimited := ctx.Deadline(); isLimited && deadline.Before(look) {
-			look = deadline
-		}
-		if got := b.kept.exchange(look); !got.isUnderWay() || ended(ctx) != nil {
-			return got
-		}
-	}
+// isHasty reports whether the deadline of a call is nearer than its reply should be if so many
+// calls are before it.
+func (c *call) isHasty(before int, usual time.Duration) bool {
+	deadline, isLimited := c.ctx.Deadline()
+	return isLimited && time.Until(deadline) <= time.Duration(before+1)*usual
 }
 
-// ended is why a caller waits no longer. A deadline counts from its time on, also where the context learns of it a little later.
+// ended is why a caller waits no longer. A deadline counts from its time on, also where the context
+// learns of it a little later.
 func ended(ctx context.Context) error {
 	if err := ctx.Err(); err != nil {
 		return err
@@ -102,93 +119,292 @@ func ended(ctx context.Context) error {
 	return nil
 }
 
-// leave gives up the call that has the turn. One of which csid may have something is carried to its end first, and its late reply is dropped, so that the
-// connection stays as clean as after any other call.
-func (b *backend) leave() {
-	if b.kept.sent == 0 {
-		<-b.turn
+// call sends a call to csid, and returns the reply. It never sends a call twice that csid may have
+// done: after an error csid has done the call or not, and the caller must repeat it.
+func (b *backend) call(ctx context.Context, path string, message []byte) (frames.Reply, error) {
+	if err := ended(ctx); err != nil {
+		return frames.Reply{}, err
+	}
+	size := frames.RequestHeadBytes(path) + len(message)
+	c := &call{ctx: ctx, path: path, message: message, size: size, done: make(chan outcome, 1)}
+	b.begin(c)
+	select {
+	case got := <-c.done:
+		return got.answer, got.err
+	case <-ctx.Done():
+	}
+	if b.giveUp(c) {
+		return frames.Reply{}, ended(ctx)
+	}
+	got := <-c.done
+	return got.answer, got.err
+}
+
+// begin sends a call, or lets it wait. A call alone is sent at once.
+func (b *backend) begin(c *call) {
+	b.mutex.Lock()
+	defer b.mutex.Unlock()
+	if b.kept != nil && b.waiting.Len() == 0 && len(b.kept.sent) < enoughSent && b.mayBeSent(c) {
+		b.kept.add(c)
+		b.write(b.kept)
 		return
 	}
-	deadline := time.Now().Add(b.late)
-	go func() {
-		b.settle(b.kept.exchange(deadline))
-		<-b.turn
-	}()
-}
-
-// takeTurn waits for the turn. A call whose deadline is nearer than an exchange usually takes lets the others that wait go before it,
-// once: with more callers than there is time for, most calls that are sent would otherwise be given up before their replies.
-func (b *backend) takeTurn(ctx context.Context) error {
-	for isLast := false; ; isLast = true {
-		select {
-		case b.turn <- struct{}{}:
-		case <-ctx.Done():
-			return ctx.Err()
-		}
-		deadline, isLimited := ctx.Deadline()
-		if isLast || !isLimited || time.Until(deadline) > b.usual {
-			return nil
-		}
-		<-b.turn
+	c.place = b.waiting.PushBack(c)
+	if b.kept == nil {
+		b.send()
 	}
 }
 
-// ready sees to a connection on which nothing is on its way: the one that is kept, or a new one. A call that came before a connection
-// failed is called with that, so those who wait need not fail one by one.
-func (b *backend) ready(ctx context.Context, came time.Time) (isOld bool, err error) {
-	if err := ended(ctx); err != nil {
-		return false, err
+// mayBeSent reports whether a call may be sent now over the connection.
+func (b *backend) mayBeSent(c *call) bool {
+	conn := b.kept
+	if len(conn.sent) == 0 {
+		return conn.isOpen()
 	}
-	if b.kept != nil && b.kept.isQuiet() {
-		return true, nil
+	return conn.hasRoom(c) && time.Since(conn.begun)+time.Duration(len(conn.sent))*b.usual < b.promptTime
+}
+
+// giveUp forgets a call, and reports whether it had no outcome. A call that is not sent never will
+// be. One that csid may have a part of is carried to its end, and its reply dropped, so the
+// connection stays as clean as after any other call.
+func (b *backend) giveUp(c *call) bool {
+	b.mutex.Lock()
+	defer b.mutex.Unlock()
+	switch c.stage {
+	case isOver:
+		return false
+	case isWaiting:
+		b.waiting.Remove(c.place)
+	case isSent:
+		if conn := b.kept; conn.isUnwritten(c) {
+			conn.takeBack()
+		} else if conn.sent[0] == c {
+			b.limit(conn)
+		}
 	}
-	b.drop()
-	if b.failure != nil && came.Before(b.failureAt) {
-		return false, b.failure
+	c.stage, c.message = isOver, nil
+	return true
+}
+
+// limit ends a connection unless the reply to its first call, which was given up, comes in time.
+func (b *backend) limit(conn *connection) {
+	first := conn.sent[0]
+	conn.late = time.AfterFunc(b.late, func() {
+		b.mutex.Lock()
+		defer b.mutex.Unlock()
+		if len(conn.sent) > 0 && conn.sent[0] == first {
+			conn.end(fmt.Errorf("an earlier call was given up, and no reply to it came within %v", b.late))
+		}
+	})
+}
+
+// send sends the calls that wait, as many as may be sent now. Without a connection it has one made.
+func (b *backend) send() {
+	for b.kept != nil && b.load(b.kept) {
+		b.write(b.kept)
 	}
-	if err := b.pace.wait(ctx); err != nil {
-		return false, err
+	if b.kept == nil && b.waiting.Len() > 0 && !b.isConnecting {
+		b.isConnecting = true
+		time.AfterFunc(b.pace.left(), b.connect)
 	}
-	if b.kept, err = connect(b.path); err != nil {
+}
+
+// load moves calls that wait to those on their way, until one may not be sent now or has a message
+// that is not copied. It reports whether it moved any. A call whose deadline is nearer than its
+// reply should be lets the others go first, once: with more callers than there is time for, most
+// calls that are sent would otherwise be given up before their replies.
+func (b *backend) load(conn *connection) (any bool) {
+	for b.waiting.Len() > 0 && conn.message == nil {
+		c := b.waiting.Front().Value.(*call)
+		if why := ended(c.ctx); why != nil {
+			b.waiting.Remove(c.place)
+			c.finish(frames.Reply{}, why)
+			continue
+		}
+		if !b.mayBeSent(c) {
+			break
+		}
+		if !c.hasYielded && b.waiting.Len() > 1 && c.isHasty(len(conn.sent), b.usual) {
+			c.hasYielded = true
+			b.waiting.MoveToBack(c.place)
+			continue
+		}
+		b.waiting.Remove(c.place)
+		conn.add(c)
+		any = true
+	}
+	return any
+}
+
+// write writes the frames of the calls on their way. If the socket does not take all of them, which
+// happens with long messages, a goroutine writes the rest of the first one that is not written
+// whole. The calls after that one wait again.
+func (b *backend) write(conn *connection) {
+	isDone := true
+	err := conn.raw.Write(func(file uintptr) bool {
+		isDone = conn.write(file)
+		return true
+	})
+	if err != nil {
+		// The connection has ended and was closed. lose is yet to be called, with the reason.
+		conn.end(nil)
+	}
+	for conn.isUnwritten(conn.last()) && (conn.isBroken || conn.unwritten() > conn.last().size) {
+		b.putBack(conn.takeBack())
+	}
+	if !isDone && !conn.isBroken {
+		conn.isWriting = true
+		go b.writeRest(conn)
+	}
+}
+
+// writeRest writes what is left as the socket takes it, and then sends the calls that wait.
+func (b *backend) writeRest(conn *connection) {
+	conn.raw.Write(func(file uintptr) bool {
+		b.mutex.Lock()
+		defer b.mutex.Unlock()
+		return b.kept != conn || conn.write(file)
+	})
+	b.mutex.Lock()
+	defer b.mutex.Unlock()
+	conn.isWriting = false
+	if b.kept == conn {
+		b.send()
+	}
+}
+
+// putBack lets a call wait before all others, unless its caller gave it up.
+func (b *backend) putBack(c *call) {
+	if c.stage != isOver {
+		c.stage = isWaiting
+		c.place = b.waiting.PushFront(c)
+	}
+}
+
+// connect makes a connection if a call still waits for one.
+func (b *backend) connect() {
+	b.mutex.Lock()
+	defer b.mutex.Unlock()
+	b.isConnecting = false
+	b.dropEnded()
+	if b.waiting.Len() == 0 {
+		return
+	}
+	b.pace.begins()
+	conn, err := connect(b.path)
+	if err != nil {
 		b.failures.Inc()
-		b.failed(err)
-		return false, err
+		b.fail(err)
+		return
 	}
 	b.connections.Inc()
-	return false, nil
+	b.kept = conn
+	go b.read(conn)
+	b.send()
 }
 
-// settle draws from an outcome what the next call must know. After status 13 csid refuses each further change over the connection.
-func (b *backend) settle(got outcome) {
-	if got.err == nil {
-		b.life.shows()
-		b.usual += (got.took - b.usual) / 8
-		b.kept.hasServed = true
-		b.failure = nil
-		b.pace.served()
-		if got.answer.Code == codes.Internal {
-			b.drop()
+// dropEnded drops the calls that wait whose callers wait no longer.
+func (b *backend) dropEnded() {
+	for place := b.waiting.Front(); place != nil; {
+		c := place.Value.(*call)
+		place = place.Next()
+		if why := ended(c.ctx); why != nil {
+			b.waiting.Remove(c.place)
+			c.finish(frames.Reply{}, why)
 		}
-		return
 	}
-	if !b.kept.hasServed {
-		b.failed(got.err)
-	}
-	b.drop()
 }
 
-func (b *backend) failed(err error) {
-	if errors.Is(err, os.ErrDeadlineExceeded) {
-		err = fmt.Errorf("an earlier call was given up, and no reply to it came within %v", b.late)
-	}
-	b.failure, b.failureAt = err, time.Now()
+// fail answers all calls that wait with the reason why a connection could not be made, or ended
+// without any reply, so that each of them need not find out for itself.
+func (b *backend) fail(why error) {
 	b.pace.failed()
+	for b.waiting.Len() > 0 {
+		b.waiting.Remove(b.waiting.Front()).(*call).finish(frames.Reply{}, why)
+	}
 }
 
-// drop closes the connection, if there is one: the next call gets a new one.
-func (b *backend) drop() {
-	if b.kept != nil {
-		b.kept.Close()
-		b.kept = nil
+// read gives the calls of a connection their replies until it ends, and closes it.
+func (b *backend) read(conn *connection) {
+	for {
+		answer, err := conn.next()
+		if err == nil {
+			err = b.answered(conn, answer)
+		}
+		if err != nil {
+			conn.socket.Close()
+			b.lose(conn, err)
+			return
+		}
 	}
+}
+
+// answered gives the first call on its way its reply. An error says why the connection is to be
+// closed. Calls that wait are sent after the last of the replies that came together.
+func (b *backend) answered(conn *connection, answer frames.Reply) error {
+	b.mutex.Lock()
+	defer b.mutex.Unlock()
+	if len(conn.sent) == 0 {
+		return errUnasked
+	}
+	c := conn.takeFirst()
+	b.served(conn)
+	if conn.isSpoiled && isDown(answer) && c.stage != isOver && !c.isRepeated {
+		c.stage = isRefused
+		conn.again = append(conn.again, c)
+	} else {
+		c.finish(answer, nil)
+	}
+	// After status 13 csid refuses each further change over the connection.
+	conn.isSpoiled = conn.isSpoiled || answer.Code == codes.Internal
+	isLast := conn.replies.Buffered() == 0
+	switch {
+	case len(conn.sent) == 0 && conn.isSpoiled:
+		return errSpoiled
+	case len(conn.sent) == 0 && !isLast:
+		return errUnasked
+	case len(conn.sent) > 0 && conn.sent[0].stage == isOver:
+		b.limit(conn)
+	}
+	if isLast {
+		b.send()
+	}
+	return nil
+}
+
+// served records that a reply came.
+func (b *backend) served(conn *connection) {
+	now := time.Now()
+	b.usual += (now.Sub(conn.begun) - b.usual) / 8
+	conn.begun = now
+	conn.hasServed = true
+	b.life.shows()
+	b.pace.served()
+}
+
+// lose drops a connection that is closed, after reading a reply failed with err. The calls that
+// csid cannot have done are sent again over the next connection, before all that wait. The others
+// have no reply.
+func (b *backend) lose(conn *connection, err error) {
+	b.mutex.Lock()
+	defer b.mutex.Unlock()
+	b.kept = nil
+	conn.stopLate()
+	why := conn.reason(err)
+	for place, c := range conn.sent {
+		if conn.hasServed && !c.isRepeated && conn.isUndone(place, err) {
+			conn.again = append(conn.again, c)
+		} else {
+			c.finish(frames.Reply{}, why)
+		}
+	}
+	conn.sent = nil
+	for i := len(conn.again) - 1; i >= 0; i-- {
+		conn.again[i].isRepeated, conn.again[i].hasYielded = true, true
+		b.putBack(conn.again[i])
+	}
+	if conn.hasSent && !conn.hasServed {
+		b.fail(why)
+	}
+	b.send()
 }

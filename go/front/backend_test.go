@@ -55,22 +55,6 @@ func wants(t *testing.T, b *backend, code codes.Code) {
 	}
 }
 
-// An old connection that closes just when the call begins is no reason to refuse it.
-func TestUnsentCallIsSentAnew(t *testing.T) {
-	path, _ := csid(t, func(conn net.Conn) {
-		if isCalled(conn) {
-			conn.Write(notFound)
-		}
-		isCalled(conn)
-	})
-	b := newBackend(path, time.Minute)
-	for round := 0; round < 3; round++ {
-		wants(t, b, codes.NotFound)
-		// Half closed: nothing comes from csid, so the connection looks quiet, and nothing can be sent.
-		b.kept.CloseWrite()
-	}
-}
-
 // Nor is one that closes when the call has come, and leaves it unread, as csid closes a connection that was idle. Where it was read it may have been done,
 // and is not sent again.
 func TestUnreadCallIsSentAnew(t *testing.T) {
@@ -92,36 +76,6 @@ func TestUnreadCallIsSentAnew(t *testing.T) {
 	atomic.StoreInt32(&reads, shortCall)
 	if got, err := b.call(soon(t), "/a/b", nil); err != errUnanswered {
 		t.Errorf("a call that was read: %v, %v", got, err)
-	}
-}
-
-// A context that ended makes no connection.
-func TestEndedContext(t *testing.T) {
-	_, path := listening(t)
-	b := newBackend(path, time.Minute)
-	ctx, cancel := context.WithCancel(context.Background())
-	cancel()
-	if _, err := b.call(ctx, "/a/b", nil); err != context.Canceled || b.kept != nil {
-		t.Errorf("%v, %v", err, b.kept)
-	}
-}
-
-// Nor is a call sent whose context ended before its turn, also where a connection is there.
-func TestEndedContextOverAConnection(t *testing.T) {
-	path, _ := csid(t, answering(notFound))
-	b := newBackend(path, time.Minute)
-	wants(t, b, codes.NotFound)
-	ctx, cancel := context.WithCancel(context.Background())
-	cancel()
-	before := b.life.shown
-	// Each one has its turn at once, or is over at once: by chance.
-	for call := 0; call < 50; call++ {
-		if _, err := b.call(ctx, "/a/b", nil); err != context.Canceled {
-			t.Errorf("%v", err)
-		}
-	}
-	if err := b.takeTurn(soon(t)); err != nil || b.life.shown != before {
-		t.Errorf("%v, and a reply came: %v", err, b.life.shown != before)
 	}
 }
 
@@ -158,186 +112,6 @@ func TestLateReply(t *testing.T) {
 	}
 }
 
-// A call that was given up holds up the next ones for so long at most, and then a new connection is made.
-func TestLateReplyThatNeverComes(t *testing.T) {
-	isSilent := true
-	path, connections := csid(t, func(conn net.Conn) {
-		for isCalled(conn) {
-			if !isSilent {
-				conn.Write(notFound)
-			}
-		}
-		isSilent = false
-	})
-	b := newBackend(path, 100*time.Millisecond)
-	ctx, cancel := context.WithTimeout(context.Background(), 20*time.Millisecond)
-	defer cancel()
-	b.call(ctx, "/a/b", nil)
-	if _, err := b.call(context.Background(), "/a/b", nil); err == nil || err.Error() != "an earlier call was given up, and no reply to it came within 100ms" {
-		t.Errorf("a call that came before: %v", err)
-	}
-	wants(t, b, codes.NotFound)
-	if made := atomic.LoadInt32(connections); made != 2 {
-		t.Errorf("%d connections", made)
-	}
-}
-
-// So does one that was given up while csid read nothing of it.
-func TestCallThatIsNeverRead(t *testing.T) {
-	listener, path := listening(t)
-	unread := make(chan net.Conn, 1)
-	ctx, cancel := context.WithCancel(context.Background())
-	go func() {
-		for {
-			conn, err := listener.Accept()
-			if err != nil {
-				return
-			}
-			select {
-			case unread <- conn:
-				cancel()
-			default:
-				go answering(notFound)(conn)
-			}
-		}
-	}()
-	b := newBackend(path, 100*time.Millisecond)
-	if _, err := b.call(ctx, "/a/b", make([]byte, frames.MaxMessageBytes)); err != context.Canceled {
-		t.Errorf("%v", err)
-	}
-	if err := b.takeTurn(soon(t)); err != nil {
-		t.Fatalf("it still has the turn: %v", err)
-	}
-	<-b.turn
-	wants(t, b, codes.NotFound)
-	(<-unread).Close()
-}
-
-// A call of which csid can have nothing leaves nothing on the connection, and the next one has its turn at once.
-func TestCallThatIsNeverSent(t *testing.T) {
-	path, _ := csid(t, func(conn net.Conn) { time.Sleep(time.Minute) })
-	b := newBackend(path, time.Minute)
-	if _, err := b.ready(soon(t), time.Now()); err != nil {
-		t.Fatal(err)
-	}
-	b.kept.SetWriteDeadline(time.Now().Add(50 * time.Millisecond))
-	for _, err := b.kept.Write([]byte{0}); err == nil; _, err = b.kept.Write([]byte{0}) {
-	}
-	ctx, cancel := context.WithTimeout(context.Background(), 50*time.Millisecond)
-	defer cancel()
-	if _, err := b.call(ctx, "/a/b", nil); err != context.DeadlineExceeded {
-		t.Errorf("%v", err)
-	}
-	if err := b.takeTurn(soon(t)); err != nil || b.kept.sent != 0 {
-		t.Errorf("%v, and %d bytes were sent", err, b.kept.sent)
-	}
-}
-
-// The pause grows as well with each connection that cannot be made, and a call that came before is answered with that failure.
-func TestConnectionsThatCannotBeMade(t *testing.T) {
-	_, path := listening(t)
-	b := newBackend(path+".absent", time.Minute)
-	came := time.Now()
-	for _, want := range []time.Duration{200 * time.Millisecond, 400 * time.Millisecond} {
-		if _, err := b.call(soon(t), "/a/b", nil); !errors.Is(err, os.ErrNotExist) || b.pace.pause != want {
-			t.Errorf("%v, and a pause of %v", err, b.pace.pause)
-		}
-	}
-	b.path = path
-	if _, err := b.ready(soon(t), came); !errors.Is(err, os.ErrNotExist) {
-		t.Errorf("a call that came before: %v", err)
-	}
-}
-
-// A late reply shows as any other that csid lives.
-func TestLateReplyIsASignOfLife(t *testing.T) {
-	gone := make(chan struct{})
-	ctx, cancel := context.WithCancel(context.Background())
-	path, _ := csid(t, func(conn net.Conn) {
-		if isCalled(conn) {
-			cancel()
-			<-gone
-			conn.Write(notFound)
-		}
-		isCalled(conn)
-	})
-	b := newBackend(path, time.Minute)
-	if _, err := b.call(ctx, "/a/b", nil); err != context.Canceled {
-		t.Errorf("%v", err)
-	}
-	before := b.life.silence()
-	close(gone)
-	if err := b.takeTurn(soon(t)); err != nil {
-		t.Fatal(err)
-	}
-	if b.life.silence() >= before {
-		t.Error("csid did not show that it lives")
-	}
-}
-
-// A call is sent where nobody else waits, however near its deadline is.
-func TestLoneCallWithAShortDeadline(t *testing.T) {
-	path, _ := csid(t, answering(notFound))
-	b := newBackend(path, time.Minute)
-	b.usual = time.Hour
-	wants(t, b, codes.NotFound)
-}
-
-// holdsUpNobody looks that the pause is the least one, and that a call that came so early is answered with no failure.
-func holdsUpNobody(t *testing.T, b *backend, came time.Time) {
-	t.Helper()
-	if b.pace.pause != leastPause {
-		t.Errorf("a pause of %v", b.pace.pause)
-	}
-	if _, err := b.ready(soon(t), came); err != nil {
-		t.Errorf("a call that came before: %v", err)
-	}
-}
-
-// A reply ends what a failure began: the pause is the least one again, and a call that came before both is answered with neither.
-func TestReplyBehindAFailure(t *testing.T) {
-	path, _ := csid(t, answering([]byte{13, 0, 0, 0, 0, 0, 0, 0}))
-	b := newBackend(path, time.Minute)
-	came := time.Now()
-	b.failed(errUnanswered)
-	wants(t, b, codes.Internal)
-	holdsUpNobody(t, b, came)
-}
-
-// A connection that gave a reply, and is closed unanswered later, costs the call that was on its way, and neither a pause nor the calls that wait.
-func TestConnectionThatEndsBehindAReply(t *testing.T) {
-	path, _ := csid(t, func(conn net.Conn) {
-		if isCalled(conn) {
-			conn.Write(notFound)
-		}
-		isCalled(conn)
-	})
-	b := newBackend(path, time.Minute)
-	came := time.Now()
-	wants(t, b, codes.NotFound)
-	if _, err := b.call(soon(t), "/a/b", nil); err != errUnanswered {
-		t.Errorf("the call that was on its way: %v", err)
-	}
-	holdsUpNobody(t, b, came)
-}
-
-// Behind status 13 the next call has another connection.
-func TestRefusedChange(t *testing.T) {
-	path, connections := csid(t, func(conn net.Conn) {
-		if isCalled(conn) {
-			conn.Write([]byte{13, 0, 0, 0, 0, 0, 0, 0})
-		}
-		isCalled(conn)
-	})
-	b := newBackend(path, time.Minute)
-	for round := int32(1); round <= 3; round++ {
-		wants(t, b, codes.Internal)
-		if made := atomic.LoadInt32(connections); made != round || b.kept != nil {
-			t.Errorf("%d connections, the last one kept: %v", made, b.kept != nil)
-		}
-	}
-}
-
 // However many call, few connections are made to a csid that closes each; all calls are answered with it, and none waits for the others.
 func TestFewConnections(t *testing.T) {
 	path, connections := csid(t, func(net.Conn) {})
@@ -371,48 +145,6 @@ func TestFewConnections(t *testing.T) {
 		t.Errorf("%d calls were told, the last one after %v", told, time.Duration(most))
 	}
 	t.Logf("%d connections, %d calls", atomic.LoadInt32(connections), told)
-}
-
-// Where a connection lasted the least pause and served, the next one is made at once, and a pause after failures is over with a reply.
-func TestPauses(t *testing.T) {
-	p := pace{pause: leastPause}
-	wait := func() time.Duration {
-		begin := time.Now()
-		if err := p.wait(context.Background()); err != nil {
-			t.Fatal(err)
-		}
-		return time.Since(begin).Truncate(50 * time.Millisecond)
-	}
-	if got := wait(); got != 0 {
-		t.Errorf("the first: %v", got)
-	}
-	p.failed()
-	begin := time.Now()
-	if got := wait(); got < 150*time.Millisecond {
-		t.Errorf("after a failure: %v", got)
-	}
-	if got := p.last.Sub(begin); got < 150*time.Millisecond {
-		t.Errorf("the next pause begins %v after the beginning of this one", got)
-	}
-	for i := 0; i < 10; i++ {
-		p.failed()
-	}
-	if p.pause != time.Second {
-		t.Errorf("after many failures: %v", p.pause)
-	}
-	p.served()
-	if p.pause != 100*time.Millisecond {
-		t.Errorf("the pause after a reply: %v", p.pause)
-	}
-	time.Sleep(leastPause)
-	if got := wait(); got != 0 {
-		t.Errorf("after a reply: %v", got)
-	}
-	ctx, cancel := context.WithCancel(context.Background())
-	cancel()
-	if err := p.wait(ctx); err != context.Canceled {
-		t.Errorf("under a context that ended: %v", err)
-	}
 }
 
 // With more callers than there is time for, those who give up leave the others at least half of the calls of patient callers.
@@ -455,4 +187,321 @@ func TestShortDeadlines(t *testing.T) {
 		t.Errorf("%d connections", made)
 	}
 	t.Logf("%d calls of hasty callers, %d of patient ones", hasty, patient)
+}
+
+// kept is the connection of a backend; nil where it has none.
+func kept(b *backend) *connection {
+	b.mutex.Lock()
+	defer b.mutex.Unlock()
+	return b.kept
+}
+
+// count is how many calls of a backend wait, and how many are on their way.
+func count(b *backend) (waiting, sent int) {
+	b.mutex.Lock()
+	defer b.mutex.Unlock()
+	if b.kept != nil {
+		sent = len(b.kept.sent)
+	}
+	return b.waiting.Len(), sent
+}
+
+// awaits waits until something is so.
+func awaits(t *testing.T, what string, isSo func() bool) {
+	t.Helper()
+	for begin := time.Now(); !isSo(); time.Sleep(time.Millisecond) {
+		if time.Since(begin) > 10*time.Second {
+			t.Fatalf("%s: not within 10 seconds", what)
+		}
+	}
+}
+
+// underWay waits until so many calls of a backend are on their way.
+func underWay(t *testing.T, b *backend, calls int) {
+	t.Helper()
+	awaits(t, "calls on their way", func() bool { _, sent := count(b); return sent == calls })
+}
+
+// hold keeps the calls of a backend without a connection waiting until it is let go.
+func hold(b *backend) (letGo func()) {
+	b.mutex.Lock()
+	defer b.mutex.Unlock()
+	b.isConnecting = true
+	return func() {
+		b.mutex.Lock()
+		defer b.mutex.Unlock()
+		b.isConnecting = false
+		b.send()
+	}
+}
+
+// An old connection over which nothing can be sent is no reason to refuse a call.
+func TestUnsentCallIsSentAnew(t *testing.T) {
+	path, _ := csid(t, func(conn net.Conn) {
+		if isCalled(conn) {
+			conn.Write(notFound)
+		}
+		isCalled(conn)
+	})
+	b := newBackend(path, time.Minute)
+	for round := 0; round < 3; round++ {
+		wants(t, b, codes.NotFound)
+		if conn := kept(b); conn != nil {
+			conn.socket.CloseWrite()
+		}
+	}
+}
+
+// A context that ended makes no connection, also where it ends in the pause before one.
+func TestEndedContext(t *testing.T) {
+	path, connections := csid(t, answering(notFound))
+	b := newBackend(path, time.Minute)
+	ctx, cancel := context.WithCancel(context.Background())
+	cancel()
+	if _, err := b.call(ctx, "/a/b", nil); err != context.Canceled {
+		t.Errorf("%v", err)
+	}
+	b.pace.begins()
+	ctx, cancel = context.WithTimeout(context.Background(), leastPause/10)
+	defer cancel()
+	if _, err := b.call(ctx, "/a/b", nil); err != context.DeadlineExceeded {
+		t.Errorf("in the pause: %v", err)
+	}
+	awaits(t, "the pause is over", func() bool { b.mutex.Lock(); defer b.mutex.Unlock(); return !b.isConnecting })
+	if made := atomic.LoadInt32(connections); made != 0 || kept(b) != nil {
+		t.Errorf("%d connections", made)
+	}
+}
+
+// Nor is a call sent whose context ended, also where a connection is there.
+func TestEndedContextOverAConnection(t *testing.T) {
+	path, _ := csid(t, answering(notFound))
+	b := newBackend(path, time.Minute)
+	wants(t, b, codes.NotFound)
+	ctx, cancel := context.WithCancel(context.Background())
+	cancel()
+	before := b.life.shown
+	if _, err := b.call(ctx, "/a/b", nil); err != context.Canceled {
+		t.Errorf("%v", err)
+	}
+	if waiting, sent := count(b); waiting != 0 || sent != 0 || b.life.shown != before {
+		t.Errorf("%d wait, %d are on their way, and a reply came: %v", waiting, sent, b.life.shown != before)
+	}
+}
+
+// A call that was given up holds up the next ones for so long at most, and then a new connection is made.
+func TestLateReplyThatNeverComes(t *testing.T) {
+	isSilent := true
+	path, connections := csid(t, func(conn net.Conn) {
+		for isCalled(conn) {
+			if !isSilent {
+				conn.Write(notFound)
+			}
+		}
+		isSilent = false
+	})
+	b := newBackend(path, 100*time.Millisecond)
+	ctx, cancel := context.WithTimeout(context.Background(), 20*time.Millisecond)
+	defer cancel()
+	b.call(ctx, "/a/b", nil)
+	if _, err := b.call(context.Background(), "/a/b", nil); err == nil || err.Error() != "an earlier call was given up, and no reply to it came within 100ms" {
+		t.Errorf("a call that came before: %v", err)
+	}
+	wants(t, b, codes.NotFound)
+	if made := atomic.LoadInt32(connections); made != 2 {
+		t.Errorf("%d connections", made)
+	}
+}
+
+// So does one that was given up while csid read nothing of it.
+func TestCallThatIsNeverRead(t *testing.T) {
+	listener, path := listening(t)
+	unread := make(chan net.Conn, 1)
+	ctx, cancel := context.WithCancel(context.Background())
+	go func() {
+		for {
+			conn, err := listener.Accept()
+			if err != nil {
+				return
+			}
+			select {
+			case unread <- conn:
+				awaitBytes(conn, 1)
+				cancel()
+			default:
+				go answering(notFound)(conn)
+			}
+		}
+	}()
+	b := newBackend(path, 100*time.Millisecond)
+	if _, err := b.call(ctx, "/a/b", make([]byte, frames.MaxMessageBytes)); err != context.Canceled {
+		t.Errorf("%v", err)
+	}
+	awaits(t, "its connection is closed", func() bool { return kept(b) == nil })
+	wants(t, b, codes.NotFound)
+	(<-unread).Close()
+}
+
+// stuff writes to a connection until its socket takes no more.
+func stuff(conn *connection) {
+	conn.socket.SetWriteDeadline(time.Now().Add(50 * time.Millisecond))
+	for _, err := conn.socket.Write([]byte{0}); err == nil; _, err = conn.socket.Write([]byte{0}) {
+	}
+	conn.socket.SetWriteDeadline(time.Time{})
+}
+
+// A call of which csid can have nothing leaves nothing on the connection when it is given up, and the next one goes out as soon as the socket takes it.
+func TestCallThatIsNeverSent(t *testing.T) {
+	let := make(chan struct{})
+	path, _ := csid(t, func(conn net.Conn) {
+		in := bufio.NewReader(conn)
+		io.ReadFull(in, make([]byte, shortCall))
+		conn.Write(notFound)
+		<-let
+		for padding := []byte{0, 0}; padding[1] == 0; padding, _ = in.Peek(2) {
+			in.Discard(1)
+		}
+		io.ReadFull(in, make([]byte, shortCall))
+		conn.Write(notFound)
+	})
+	b := newBackend(path, time.Minute)
+	wants(t, b, codes.NotFound)
+	stuff(kept(b))
+	for round := 0; round < 2; round++ {
+		ctx, cancel := context.WithTimeout(context.Background(), 50*time.Millisecond)
+		if _, err := b.call(ctx, "/a/b", nil); err != context.DeadlineExceeded {
+			t.Errorf("%v", err)
+		}
+		cancel()
+	}
+	if waiting, sent := count(b); waiting != 0 || sent != 0 || kept(b).unwritten() != 0 {
+		t.Errorf("%d calls wait, %d are on their way", waiting, sent)
+	}
+	close(let)
+	wants(t, b, codes.NotFound)
+}
+
+// The pause grows as well with each connection that cannot be made, and the calls that wait are answered with that failure.
+func TestConnectionsThatCannotBeMade(t *testing.T) {
+	_, path := listening(t)
+	b := newBackend(path+".absent", time.Minute)
+	for _, want := range []time.Duration{200 * time.Millisecond, 400 * time.Millisecond} {
+		if _, err := b.call(soon(t), "/a/b", nil); !errors.Is(err, os.ErrNotExist) || b.pace.pause != want {
+			t.Errorf("%v, and a pause of %v", err, b.pace.pause)
+		}
+	}
+}
+
+// A late reply shows as any other that csid lives.
+func TestLateReplyIsASignOfLife(t *testing.T) {
+	gone := make(chan struct{})
+	ctx, cancel := context.WithCancel(context.Background())
+	path, _ := csid(t, func(conn net.Conn) {
+		if isCalled(conn) {
+			cancel()
+			<-gone
+			conn.Write(notFound)
+		}
+		isCalled(conn)
+	})
+	b := newBackend(path, time.Minute)
+	if _, err := b.call(ctx, "/a/b", nil); err != context.Canceled {
+		t.Errorf("%v", err)
+	}
+	before := b.life.silence()
+	close(gone)
+	underWay(t, b, 0)
+	if b.life.silence() >= before {
+		t.Error("csid did not show that it lives")
+	}
+}
+
+// A call is sent where nobody else waits, however near its deadline is.
+func TestLoneCallWithAShortDeadline(t *testing.T) {
+	path, _ := csid(t, answering(notFound))
+	b := newBackend(path, time.Minute)
+	b.usual = time.Hour
+	wants(t, b, codes.NotFound)
+}
+
+// A reply ends what a failure began: the pause is the least one again.
+func TestReplyBehindAFailure(t *testing.T) {
+	path, _ := csid(t, answering([]byte{13, 0, 0, 0, 0, 0, 0, 0}))
+	b := newBackend(path, time.Minute)
+	b.fail(errUnanswered)
+	wants(t, b, codes.Internal)
+	if b.pace.pause != leastPause {
+		t.Errorf("a pause of %v", b.pace.pause)
+	}
+}
+
+// A connection that gave a reply, and is closed unanswered later, costs the call that was on its way, and neither a pause nor the calls that wait.
+func TestConnectionThatEndsBehindAReply(t *testing.T) {
+	let := make(chan struct{})
+	path, _ := csid(t, func(conn net.Conn) {
+		if isCalled(conn) {
+			conn.Write(notFound)
+		}
+		isCalled(conn)
+		<-let
+	})
+	b := newBackend(path, time.Minute)
+	b.promptTime = 0
+	wants(t, b, codes.NotFound)
+	came := make(chan error)
+	go func() {
+		_, err := b.call(soon(t), "/a/b", nil)
+		came <- err
+	}()
+	underWay(t, b, 1)
+	go func() {
+		_, err := b.call(soon(t), "/a/b", nil)
+		came <- err
+	}()
+	awaits(t, "a call waits", func() bool { waiting, _ := count(b); return waiting == 1 })
+	close(let)
+	if first, second := <-came, <-came; first != errUnanswered || second != nil {
+		t.Errorf("the call that was on its way: %v, the one that waited: %v", first, second)
+	}
+	if b.pace.pause != leastPause {
+		t.Errorf("a pause of %v", b.pace.pause)
+	}
+}
+
+// After status 13 the next call has another connection.
+func TestRefusedChange(t *testing.T) {
+	path, connections := csid(t, func(conn net.Conn) {
+		if isCalled(conn) {
+			conn.Write([]byte{13, 0, 0, 0, 0, 0, 0, 0})
+		}
+		isCalled(conn)
+	})
+	b := newBackend(path, time.Minute)
+	for round := int32(1); round <= 3; round++ {
+		wants(t, b, codes.Internal)
+		awaits(t, "the connection is closed", func() bool { return kept(b) == nil })
+		if made := atomic.LoadInt32(connections); made != round {
+			t.Errorf("%d connections", made)
+		}
+	}
+}
+
+// The pause after a failure is twice the last one, up to the greatest, and after a reply the least. It begins with a connection.
+func TestPauses(t *testing.T) {
+	p := pace{pause: leastPause}
+	if got := p.left(); got > 0 {
+		t.Errorf("before the first connection: %v", got)
+	}
+	for _, want := range []time.Duration{200, 400, 800, 1000, 1000} {
+		if p.failed(); p.pause != want*time.Millisecond {
+			t.Errorf("%v, wanted %d ms", p.pause, want)
+		}
+	}
+	p.begins()
+	if got := p.left(); got > time.Second || got < 900*time.Millisecond {
+		t.Errorf("after a connection that failed: %v", got)
+	}
+	if p.served(); p.left() > leastPause {
+		t.Errorf("after a reply: %v", p.left())
+	}
 }

@@ -33,7 +33,7 @@ const peerLookTime = 100 * time.Millisecond
 const viaControl = "control"
 
 // control answers calls in the envelope of docs/PROTOCOL.md over a Unix socket, as csid does: who uses csictl need not wait until the front leaves csid's one
-// connection. Each connection has one call at a time, which has its turn like those of gRPC.
+// connection. Each connection has one call at a time, which waits like those of gRPC.
 type control struct {
 	handler  *handler
 	listener *limitedListener

@@ -9,10 +9,13 @@ import (
 	"path/filepath"
 	"strings"
 	"sync"
+	"sync/atomic"
 	"testing"
 	"time"
 
 	"github.com/prometheus/client_golang/prometheus/testutil"
+	"google.golang.org/grpc/codes"
+	"google.golang.org/grpc/status"
 
 	"fomaheti/frames"
 )
@@ -100,11 +103,7 @@ func TestSilentControlPeers(t *testing.T) {
 	c, socket, _ := controlled(t, path)
 	runs := dial(t, socket)
 	runs.Write(fromHex(t, shortFrame))
-	for begin := time.Now(); len(c.handler.backend.turn) == 0; time.Sleep(time.Millisecond) {
-		if time.Since(begin) > 10*time.Second {
-			t.Fatal("no call runs")
-		}
-	}
+	underWay(t, c.handler.backend, 1)
 	var silent []net.Conn
 	for i := 0; i < maxControls; i++ {
 		conn := dial(t, socket)
@@ -160,7 +159,7 @@ func TestUnansweredControlCall(t *testing.T) {
 	}
 }
 
-// A call whose peer goes while it waits for its turn is never sent; one whose peer waits for the reply alone is.
+// A call whose peer goes while it waits is never sent; one whose peer waits for the reply alone is.
 func TestControlPeerThatGoes(t *testing.T) {
 	paths := make(chan string, 9)
 	path, _ := csid(t, func(conn net.Conn) {
@@ -174,9 +173,7 @@ func TestControlPeerThatGoes(t *testing.T) {
 		}
 	})
 	c, socket, log := controlled(t, path)
-	if err := c.handler.backend.takeTurn(soon(t)); err != nil {
-		t.Fatal(err)
-	}
+	letGo := hold(c.handler.backend)
 	gone, waiting := dial(t, socket), dial(t, socket)
 	gone.Write(fromHex(t, "0005 2f676f6e65 00 00000000"))
 	gone.Close()
@@ -187,12 +184,63 @@ func TestControlPeerThatGoes(t *testing.T) {
 			t.Fatalf("logged %q", log)
 		}
 	}
-	<-c.handler.backend.turn
+	letGo()
 	if got, err := io.ReadAll(waiting); err != nil || !bytes.Equal(got, notFound) {
 		t.Errorf("%x, %v", got, err)
 	}
 	if first := <-paths; first != "/a/b" || len(paths) > 0 {
 		t.Errorf("csid got %s, and %d more", first, len(paths))
+	}
+}
+
+// Calls of the control socket and of gRPC are on their way together. If the connection ends, the first
+// of them gets no reply, and the other one has that of the next connection.
+func TestControlCallOnTheWay(t *testing.T) {
+	for _, isControlFirst := range []bool{true, false} {
+		path, connections := concurrentCsid(t, func(conn net.Conn, number int32) {
+			for isCalled(conn) {
+				if number == 1 {
+					conn.Write(notFound)
+					isCalled(conn)
+					awaitBytes(conn, shortCall)
+					break
+				}
+				conn.Write(notFound)
+			}
+			conn.Close()
+		})
+		c, socket, _ := controlled(t, path)
+		b := c.handler.backend
+		b.setPromptTime(time.Hour)
+		wants(t, b, codes.NotFound)
+		conn, came := dial(t, socket), make(chan error, 1)
+		begins := []func(){
+			func() { conn.Write(fromHex(t, shortFrame)); conn.CloseWrite() },
+			func() {
+				go func() {
+					_, err := c.handler.ask(soon(t), "/a/b", nil)
+					came <- err
+				}()
+			},
+		}
+		want, wantCode := notFound, codes.Unavailable
+		if isControlFirst {
+			want, wantCode = nil, codes.NotFound
+		} else {
+			begins[0], begins[1] = begins[1], begins[0]
+		}
+		begins[0]()
+		underWay(t, b, 1)
+		begins[1]()
+		if got, err := io.ReadAll(conn); err != nil || !bytes.Equal(got, want) {
+			t.Errorf("control first %v: %x, %v", isControlFirst, got, err)
+		}
+		if err := <-came; status.Code(err) != wantCode {
+			t.Errorf("control first %v: of gRPC: %v", isControlFirst, err)
+		}
+		if made := atomic.LoadInt32(connections); made != 2 {
+			t.Errorf("%d connections", made)
+		}
 	}
 }
 
@@ -217,11 +265,8 @@ func TestEndOfControl(t *testing.T) {
 	runs, idle := dial(t, socket), dial(t, socket)
 	runs.Write(fromHex(t, shortFrame+shortFrame))
 	idle.Write([]byte{0})
-	for begin := time.Now(); len(c.handler.backend.turn) == 0 || open(c.listener) < 2; time.Sleep(time.Millisecond) {
-		if time.Since(begin) > 10*time.Second {
-			t.Fatal("no call runs")
-		}
-	}
+	underWay(t, c.handler.backend, 1)
+	awaits(t, "two connections", func() bool { return open(c.listener) == 2 })
 	c.stop()
 	// The connection is reset where the byte was not read yet.
 	if got, err := io.ReadAll(idle); err != nil && !frames.IsClosing(err) || len(got) > 0 {
@@ -243,11 +288,7 @@ func TestControlConnectionsAtTheEnd(t *testing.T) {
 	c, socket, _ := controlled(t, path)
 	runs := dial(t, socket)
 	runs.Write(fromHex(t, shortFrame))
-	for begin := time.Now(); len(c.handler.backend.turn) == 0; time.Sleep(time.Millisecond) {
-		if time.Since(begin) > 10*time.Second {
-			t.Fatal("no call runs")
-		}
-	}
+	underWay(t, c.handler.backend, 1)
 	c.stop()
 	close(let)
 	if got, err := io.ReadAll(runs); err != nil || !bytes.Equal(got, notFound) {

@@ -170,9 +170,18 @@ func isOpen(answer frames.Reply) bool {
 	return answer.Code == codes.Internal && openReasons[answer.Text]
 }
 
+// downReason is the text of status 13 over a connection after its store refused a change. The call
+// changed nothing.
+const downReason = "store is down"
+
+// isDown reports whether csid did not make a call because its store was down.
+func isDown(answer frames.Reply) bool {
+	return answer.Code == codes.Internal && answer.Text == downReason
+}
+
 // openReasons are the texts of status 13 after which it is open whether a change was made. An orchestrator is then answered UNAVAILABLE:
 // sidecars take INTERNAL for a final answer, after which they believe that none was.
-var openReasons = map[string]bool{"out of memory": true, "store refused": true, "store is down": true}
+var openReasons = map[string]bool{"out of memory": true, "store refused": true, downReason: true}
 
 // refusal is the answer to a call that got no reply. It has one of the codes after which an orchestrator takes the outcome as open,
 // and repeats the call.

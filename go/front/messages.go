@@ -17,7 +17,7 @@ const lookTime = 50 * time.Millisecond
 // errLate ends a call whose message held up others. What was received of it is dropped, or it would have no bound.
 var errLate = status.Error(codes.Unavailable, "the message did not come in time, and other calls wait")
 
-// messages bounds what the messages of all calls take that wait for their turn or for their replies.
+// messages bounds what the messages of all calls take that wait to be sent or for their replies.
 type messages struct {
 	places *places
 	idle   chan *receiver

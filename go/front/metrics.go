@@ -43,7 +43,7 @@ func newMetrics() *metrics {
 			Namespace: namespace, Name: "call_duration_seconds", Help: "Seconds from the beginning of a call to its answer, by method.", Buckets: buckets,
 		}, []string{"method"}),
 		waiting: prometheus.NewGauge(prometheus.GaugeOpts{
-			Namespace: namespace, Name: "waiting_calls", Help: "Calls that wait for their turn at csid, or for its reply.",
+			Namespace: namespace, Name: "waiting_calls", Help: "Calls that wait to be sent to csid, or for its reply.",
 		}),
 		refusals: prometheus.NewCounterVec(prometheus.CounterOpts{
 			Namespace: namespace, Name: "internal_refusals_total", Help: "Calls that csid refused for want of memory or for its store, by reason.",

@@ -1,9 +1,6 @@
 package main
 
-import (
-	"context"
-	"time"
-)
+import "time"
 
 // csid opens and judges its whole file for each connection, also for one that was left in the meantime. So connections begin a pause apart at
 // least, and it doubles with each that gave no reply.
@@ -18,21 +15,11 @@ type pace struct {
 	pause time.Duration
 }
 
-// wait waits until a connection may begin, unless the context ends before.
-func (p *pace) wait(ctx context.Context) error {
-	pause := time.NewTimer(time.Until(p.last.Add(p.pause)))
-	defer pause.Stop()
-	select {
-	case <-pause.C:
-		if err := ctx.Err(); err != nil {
-			return err
-		}
-		p.last = time.Now()
-		return nil
-	case <-ctx.Done():
-		return ctx.Err()
-	}
-}
+// left is how long no connection may begin.
+func (p *pace) left() time.Duration { return time.Until(p.last.Add(p.pause)) }
+
+// begins records that a connection begins now.
+func (p *pace) begins() { p.last = time.Now() }
 
 // served notes that a reply came over the last connection: where it lasted the least pause, the next one need not wait.
 func (p *pace) served() {

@@ -9,6 +9,9 @@ import (
 // Where files of tables are compared: on the disk of temporary files, and in memory.
 var folders = []struct{ name, path string }{{"disk", os.TempDir()}, {"tmpfs", "/dev/shm"}}
 
+// The numbers of callers next to a driver, in rising order.
+var comparedCallers = []int{1, 8, 64}
+
 // compare measures each work through the front and csid, and by a driver in Go: the same calls by the same callers, in rounds that take turns.
 func compare(csid, front, driver string, rounds int) error {
 	for i, folder := range folders {
@@ -44,7 +47,7 @@ func compareIn(path, name, csid, front, driver string, rounds int, isAll bool) e
 		}
 		defer server.Wait()
 		defer server.Process.Kill()
-		callers, err := newCallers(each.socket)
+		callers, err := newCallers(each.socket, comparedCallers[len(comparedCallers)-1])
 		if err != nil {
 			return err
 		}
@@ -65,13 +68,13 @@ func compareWork(w work, folder string, groups [][]caller, rounds int) error {
 	if w.changes {
 		name += " on " + folder
 	}
-	for _, count := range []int{1, maxCallers} {
+	for _, count := range comparedCallers {
 		some := [][]caller{groups[0][:count], groups[1][:count]}
 		best, err := bestRounds(w, some, rounds)
 		if err != nil {
 			return err
 		}
-		fmt.Printf("%-27s %d callers: front and csid %7.0f calls/s, driver in Go %7.0f, front by driver %.2f\n", name, count, best[0].rate, best[1].rate, best[0].rate/best[1].rate)
+		fmt.Printf("%-27s %2d callers: front and csid %7.0f calls/s, driver in Go %7.0f, front by driver %.2f\n", name, count, best[0].rate, best[1].rate, best[0].rate/best[1].rate)
 	}
 	return nil
 }

@@ -106,7 +106,25 @@ func create(c caller, caller, i int) ([]byte, error) {
 // readonly is the body of ControllerPublishVolume: the context "readonly", "false".
 var readonly = []byte("\x0a\x11\x0a\x08readonly\x12\x05false")
 
-// mix is the life of a volume: it is made, published, listed with up to nine others, unpublished and deleted.
+// pageEntries is the most entries of a page.
+const pageEntries = 10
+
+// entries is the number of entries of a page, each of which is a field 1. Those of the next token
+// count too.
+func entries(page []byte) (count int) {
+	for len(page) > 0 {
+		size, varint := binary.Uvarint(page[1:])
+		if varint <= 0 || uint64(len(page)-1-varint) < size {
+			return count
+		}
+		page = page[1+varint+int(size):]
+		count++
+	}
+	return count
+}
+
+// mix is the life of a volume: it is made, published, listed with up to nine others, unpublished and
+// deleted. A page that is full may not have the volume of this caller.
 func mix(c caller, caller, i int) error {
 	volume, err := create(c, caller, i)
 	if err != nil {
@@ -116,11 +134,11 @@ func mix(c caller, caller, i int) error {
 	if err := wants(c, controller+"ControllerPublishVolume", append(published, 0x1a, 6, 0x0a, 0, 0x1a, 2, 8, 1), readonly); err != nil {
 		return err
 	}
-	page, err := c.call(controller+"ListVolumes", []byte{8, 10})
+	page, err := c.call(controller+"ListVolumes", []byte{8, pageEntries})
 	if err != nil {
 		return err
 	}
-	if !bytes.Contains(page, []byte("\x12\x04\x0a\x02n1")) {
+	if entries(page) < pageEntries && !bytes.Contains(page, []byte("\x12\x04\x0a\x02n1")) {
 		return fmt.Errorf("a page without a published volume: %x", page)
 	}
 	if err := wants(c, controller+"ControllerUnpublishVolume", published, []byte{}); err != nil {
@@ -284,11 +302,12 @@ func startCsid(program, folder, socket, tables string) (*exec.Cmd, error) {
 	return start(socket, program, words...)
 }
 
-// maxCallers is how many callers there are at most, each with a connection of its own.
+// The callers of each work next to csid alone, at most.
 const maxCallers = 8
 
-func newCallers(socket string) (callers []caller, err error) {
-	for len(callers) < maxCallers {
+// newCallers returns so many callers, each with a connection of its own.
+func newCallers(socket string, count int) (callers []caller, err error) {
+	for len(callers) < count {
 		each, err := newSidecar(socket)
 		if err != nil {
 			return nil, err
@@ -307,7 +326,7 @@ func throughFront(program, csid, folder string, rounds int) error {
 	}
 	defer front.Wait()
 	defer front.Process.Kill()
-	callers, err := newCallers(socket)
+	callers, err := newCallers(socket, maxCallers)
 	if err != nil {
 		return err
 	}

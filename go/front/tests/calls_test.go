@@ -182,7 +182,7 @@ func TestHalfFrame(t *testing.T) {
 	}
 }
 
-// A call that waits for its turn ends with its own deadline, or when its caller gives up, and csid never sees it.
+// A call that waits for others ends with its own deadline, or when its caller gives up, and csid never sees it.
 func TestWaitingForTheTurn(t *testing.T) {
 	t.Parallel()
 	first := runCall(t, "/a/first")

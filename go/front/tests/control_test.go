@@ -104,7 +104,7 @@ func TestControlSocketByClient(t *testing.T) {
 	}
 }
 
-// A call of the control socket waits for its turn as any other, and those of gRPC wait for it.
+// A call of the control socket waits for others as any, and those of gRPC wait for it.
 func TestTurnOfControl(t *testing.T) {
 	t.Parallel()
 	let := make(chan struct{})

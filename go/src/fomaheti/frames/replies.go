@@ -42,6 +42,9 @@ func IsPath(path string) bool {
 	return 0 < len(path) && len(path) <= MaxPathBytes
 }
 
+// RequestHeadBytes is how many bytes AppendRequestHead appends.
+func RequestHeadBytes(path string) int { return 2 + len(path) + 1 + 4 }
+
 // AppendRequestHead appends the frame of a call without its message, which follows it.
 func AppendRequestHead(frame []byte, path string, messageBytes int) []byte {
 	frame = append(frame, byte(len(path)>>8), byte(len(path)))
@@ -77,6 +80,12 @@ func NewReplies(in io.Reader) *Replies {
 
 // Buffered is how many bytes were received and belong to no reply that was read.
 func (r *Replies) Buffered() int { return r.in.Buffered() }
+
+// Await waits for the first byte of the next reply. Call it only between two replies.
+func (r *Replies) Await() error {
+	_, err := r.in.Peek(1)
+	return err
+}
 
 // Next reads the next reply. What breaks a rule is reported as soon as it is received. Where the reader fails by a deadline, Next can be called
 // again, and goes on where it stopped.

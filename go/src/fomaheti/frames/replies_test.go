@@ -29,6 +29,25 @@ func TestRequestHead(t *testing.T) {
 		if got := AppendRequestHead(nil, row.path, row.length); !bytes.Equal(got, fromHex(t, row.want)) {
 			t.Errorf("%s, %d bytes: %x", row.path, row.length, got)
 		}
+		if got, want := RequestHeadBytes(row.path), len(fromHex(t, row.want)); got != want {
+			t.Errorf("%s: %d bytes, wanted %d", row.path, got, want)
+		}
+	}
+}
+
+// Waiting for a reply takes nothing of it, and reports an end as such.
+func TestAwait(t *testing.T) {
+	replies := NewReplies(bytes.NewReader(fromHex(t, "05 0000 00 00000000")))
+	for i := 0; i < 2; i++ {
+		if err := replies.Await(); err != nil {
+			t.Error(err)
+		}
+	}
+	if got, err := replies.Next(); err != nil || got.Code != codes.NotFound {
+		t.Errorf("%v, %v", got, err)
+	}
+	if err := replies.Await(); err != io.EOF {
+		t.Errorf("at the end: %v", err)
 	}
 }
 
