@@ -648,6 +648,7 @@ class ModesTest(StoredTest):
         self.assertEqual(self.tables.run(modify), (reply(b""), "", 0))
         first = self.VOLUMES[0][:5] + (bytes.fromhex("42060a016b120176"),)
         self.assertEqual(self.rows(), ([first, *self.VOLUMES[1:]], self.ATTACHED, [(1, 2, 8)]))
+        self.check_listed({3: [b"n2"], 5: [b"n1"]})
 
 
 def part(number, content):

@@ -56,7 +56,7 @@ class LowMemoryTest(CsidTest):
         self.assertEqual(self.tables.ask("SELECT * FROM meta"), [(1, 2, 3)])
 
     def test_volumes_are_served_and_nothing_is_said_of_the_option(self):
-        self.tables.run(ASKED)
+        run(self.low, input=ASKED)
         server = Server(self.csid, self.folder, "--low-memory", "--connections", "1")
         listing = controller("ListVolumes")
         self.assertEqual(server.ask(listing), run(self.tables.command, input=listing)[0])
@@ -129,7 +129,7 @@ class MemoryTest(CsidTest):
                 self.assertEqual((1000 < made < most, came), (True, [0] * made + [13] * (most - made)))
                 self.assertEqual(server.ask(controller("ListVolumes", bytes.fromhex("0801")))[:1], b"\0")
                 for first, end in (1, 501), (501, made - 99):
-                    self.assertEqual(set(server.answers(self.deletes(first, end))), {0})
+                    self.assertEqual(server.answers(self.deletes(first, end)), [0] * (end - first))
                 self.assertEqual(server.answers(self.creates(most + 1, 100)), [0] * 100)
                 server.end()
 
