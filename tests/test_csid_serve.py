@@ -115,6 +115,7 @@ class SurveyTest(ServeTest):
     def test_file_that_was_removed_is_made_again(self):
         tables = self.fill()
         server = self.serve()
+        self.assertEqual(server.ask(controller("ListVolumes")).count(b"vol-"), 2)
         for ending in "", "-wal":
             os.unlink(tables.path + ending)
         self.assertEqual(server.ask(controller("ListVolumes")), reply(b""))
@@ -300,6 +301,21 @@ class StayingPeersTest(ServeTest):
         self.assertEqual(set(counts) - {"of a line", "made room for others"}, set())
         self.assertEqual(sum(counts.values()), 8)
 
+    def test_peer_that_was_answered_and_has_gone_leaves_its_place(self):
+        server, held = self.hold(255)
+        begun = server.lines()
+        for number in 254, 0, 1:
+            held[number].sendall(frame(PROBE)[len(self.PARTS[number % len(self.PARTS)]) :])
+            self.assertEqual(held[number].recv(4096), READY)
+            held[number].close()
+        more = [self.connect(server) for _ in range(10)]
+        self.assertTrue(has_ended(held[2], (0, 10)))
+        more[9].sendall(frame(PROBE))
+        self.assertEqual(more[9].recv(4096), READY)
+        # 252 waited, and 10 came: 6 made room.
+        counts = ended(server.lines()[len(begun) :], CROWDED)
+        self.assertEqual(sum(counts.values()), 6)
+
     def test_garbage_of_a_peer_that_stays_is_refused(self):
         """The connection is closed, and the next one is answered."""
         server = self.serve()
@@ -389,6 +405,15 @@ class EndsTest(ServeTest):
         wait(lambda: sum(ended(self.new_lines(), line).values()) == sum(counts.values()))
         self.assertEqual(dict(ended(self.new_lines(), line)), counts)
 
+    def send_and_go(self, pieces):
+        """Each piece is sent by a peer that goes before csid looks at it."""
+        # Stopped, csid takes no connection: the system keeps them for it.
+        os.kill(self.server.process.pid, signal.SIGSTOP)
+        for piece in pieces:
+            with self.server.connect() as peer:
+                peer.sendall(piece)
+        os.kill(self.server.process.pid, signal.SIGCONT)
+
     def test_silent_peers_have_ten_lines_and_a_count(self):
         for _ in range(200):
             self.connect(self.server)
@@ -398,13 +423,17 @@ class EndsTest(ServeTest):
 
     def test_peers_that_have_gone_have_ten_lines_and_a_count(self):
         """Of those that sent nothing nothing is reported."""
-        # Stopped, csid takes no connection: the system keeps them for it.
-        os.kill(self.server.process.pid, signal.SIGSTOP)
-        for given in [frame(PROBE)[:7]] * 30 + [frame(PROBE)] * 30 + [b""] * 30:
-            with self.server.connect() as peer:
-                peer.sendall(given)
-        os.kill(self.server.process.pid, signal.SIGCONT)
+        self.send_and_go([frame(PROBE)[:7]] * 30 + [frame(PROBE)] * 30 + [b""] * 30)
         self.check_counts(GONE, {"of a line": 10, "had gone": 50})
+
+    def test_ends_have_lines_again_after_a_second(self):
+        for _ in range(2):
+            self.send_and_go([frame(PROBE)[:7]] * 60)
+            self.check_counts(GONE, {"of a line": 10, "had gone": 50})
+            time.sleep(1.1)
+            self.begun = self.server.lines()
+        self.send_and_go([frame(PROBE)[:7]])
+        self.assertTrue(wait(lambda: self.new_lines() == GONE))
 
     def test_peers_with_garbage_are_counted(self):
         line = line_of("bad path length at byte 0")

@@ -126,7 +126,9 @@ class TakenSocketTest(SocketTest):
         self.assertEqual(server.end(), ("", 0))
 
     def test_no_tables_are_made_without_a_configuration(self):
+        """The configuration is judged before the socket, whose path is taken."""
         config = self.path("no.toml")
+        write(self.path("a.sock"), b"mine")
         came = self.refuse(self.path("a.sock"), "--config", config)
         self.assertEqual(came, ("", "csid: %s: %s\n" % (config, NOT_THERE), 3))
         self.assertFalse(os.path.exists(self.path("taken.db")))
@@ -213,8 +215,8 @@ class SharedFileTest(SocketTest):
             peer.sendall(PROBE)
             self.assertEqual(peer.recv(4096), READY)
             self.assertEqual(done(peer), b"")
-        self.assertEqual(self.one.end(), ("", 0))
         self.assertEqual(self.other.ask(LISTING), ok("0a28%s1200" % VOL_1))
+        self.assertEqual(self.one.end(), ("", 0))
         self.assertEqual(self.other.end(), (self.locked, 0))
 
 
@@ -282,9 +284,9 @@ class KeptTest(SocketTest):
     def create(self, name):
         return self.ask(CREATE, "--name", name, "--mode", "1")
 
-    def check_closed(self):
+    def check_closed(self, method="Probe"):
         """A call has no reply. It may be on the way or unread when csid closes: sending fails, or reading."""
-        self.assertEqual(self.ask("Probe"), ("", Line("csictl: " + self.server.path + ": "), 5))
+        self.assertEqual(self.ask(method), ("", Line("csictl: " + self.server.path + ": "), 5))
 
     def connect(self):
         """A connection of SQLite to the file, which csid closes after its reply."""
@@ -301,16 +303,32 @@ class KeptTest(SocketTest):
         self.assertEqual(self.ask("ListVolumes"), self.LISTED)
         self.assertEqual(self.create("a"), created)
 
-    def test_volume_outlives_a_kill_within_a_connection(self):
-        self.start()
-        words = [sys.executable, "-c", KEEPER, self.server.path, CREATE_A.hex()]
+    def kill_within_a_connection(self, create):
+        """csid is killed while it serves the connection over which a volume was made, and started again."""
+        words = [sys.executable, "-c", KEEPER, self.server.path, create.hex()]
         with subprocess.Popen(words, stdout=subprocess.PIPE) as holder:
             self.assertEqual(holder.stdout.readline(), b"created\n")
             self.assertEqual(self.server.kill(), ("", -signal.SIGKILL))
             holder.kill()
         self.start()
+
+    def test_volume_outlives_a_kill_within_a_connection(self):
+        self.start()
+        self.kill_within_a_connection(CREATE_A)
         self.assertEqual(self.ask("ListVolumes"), self.LISTED)
         self.assertEqual(self.ask("DeleteVolume", "--volume", "vol-1"), ("0 OK -\n", "", 0))
+        self.assertEqual(self.ask("ListVolumes"), ("0 OK -\n", "", 0))
+
+    def test_next_number_outlives_kills(self):
+        self.start()
+        self.create("a")
+        self.server.kill()
+        self.start()
+        self.kill_within_a_connection(CREATE_B)
+        listed = self.ask("ListVolumes")[0].splitlines()[1:]
+        self.assertEqual(listed, ["volume vol-1 1048576 -", "volume vol-2 1048576 -"])
+        self.assertEqual(self.ask("DeleteVolume", "--volume", "vol-2"), ("0 OK -\n", "", 0))
+        self.assertEqual(self.ask("ListVolumes"), self.LISTED)
 
     def test_connection_over_a_broken_row_is_closed_until_it_is_fixed(self):
         self.start("--connections", "4")
@@ -320,7 +338,7 @@ class KeptTest(SocketTest):
                 connection.execute("UPDATE volumes SET pool = ?", (pool,))
             if pool == "p3":
                 self.check_closed()
-                self.check_closed()
+                self.check_closed("ListVolumes")
         self.assertEqual(self.ask("ListVolumes"), self.LISTED)
         line = "csid: %s: volume 1: its pool is not one of the configuration\n" % self.file
         self.assertEqual(self.server.end(), (line * 2, 0))
@@ -353,7 +371,7 @@ class KeptTest(SocketTest):
         self.create("a")
         self.connect().executescript("BEGIN IMMEDIATE; COMMIT")
         self.remove_file()
-        self.assertEqual(self.create("z")[0], "0 OK %s\nvolume vol-1 1048576\n" % VOL_1)
+        self.assertEqual(self.create("z"), ("0 OK %s\nvolume vol-1 1048576\n" % VOL_1, "", 0))
         self.assertEqual(self.server.end(), ("", 0))
         self.assertEqual([*self.connect().execute("PRAGMA integrity_check")], [("ok",)])
 

@@ -101,6 +101,8 @@ class DurabilityTest(CsidTest):
         self.assertEqual(self.tables.run(DELETE), (refusal(9, "volume is in use"), "", 0))
         unpublish = controller("ControllerUnpublishVolume", VOL_1)
         self.assertEqual(self.tables.run(unpublish + DELETE), (reply(b"") * 2, "", 0))
+        self.assertEqual(self.tables.run(LISTING), (reply(b""), "", 0))
+        self.assertEqual(self.tables.ask("SELECT count(*) FROM attachments"), [(0,)])
 
     def test_number_of_a_deleted_volume_is_not_given_again(self):
         self.tables.run(CREATE + DELETE)
@@ -360,6 +362,7 @@ class PermissionsTest(CsidTest):
 
     def test_socket_in_a_folder_that_is_not_writable_is_refused(self):
         path = os.path.join(self.held, "csid.sock")
+        self.fill()
         os.chmod(self.held, 0o555)
         words = ["serve", "--socket", path, "--tables", self.tables.path]
         came = run([self.program, *words], input=b"", **self.how)
@@ -461,10 +464,23 @@ class ExistingTest(CsidTest):
         self.assertEqual(server.lines(), server.has(1, 0, 2))
         self.assertEqual(server.ask(LISTING), page_of(VOLUME_1))
 
+    def test_rows_of_the_file_and_a_change_in_the_wal_are_served_together(self):
+        self.tables.new().script(A)
+        server = Server(self.csid, self.held)
+        with server.connect() as peer:
+            peer.sendall(controller("CreateVolume", CREATE_B))
+            peer.recv(1 << 16)
+            server.end()
+        server = Server(self.csid, self.held, "--existing")
+        self.addCleanup(server.end)
+        self.assertEqual(server.lines(), server.has(2, 0, 10))
+        self.assertEqual(server.ask(LISTING).count(b"vol-"), 2)
+
     def test_file_that_is_away_for_a_while_is_served_again(self):
         """As on a disk that is not mounted. Nothing is made meanwhile."""
         self.tables.new().script(A)
         server = Server(self.csid, self.held, "--existing")
+        self.assertEqual(server.ask(LISTING), ONE)
         away = os.path.join(self.folder, "away")
         os.rename(self.held, away)
         os.mkdir(self.held)

@@ -295,11 +295,13 @@ class EtcdManifestTest(RowTest):
         given = {it["name"]: it["valueFrom"] for it in step["env"]}
         self.assertEqual(given["NEW"], {"configMapKeyRef": source})
         self.assertEqual(self.config["data"]["new"], "yes")
-        self.assertEqual(shell(step["command"]).split(" || exec ")[0], 'test "$NEW" != yes')
+        told, _ = shell(step["command"]).split(" || exec ")
+        self.assertEqual(told, 'test "$NEW" != yes')
 
     def test_first_row_is_made_by_the_name_and_the_etcd_of_csid_etcd(self):
         step = self.manifest.first["new"]
-        words = shlex.split(shell(step["command"]).split(" || exec ")[1])
+        _, command = shell(step["command"]).split(" || exec ")
+        words = shlex.split(command)
         self.assertEqual(words[:2], ["csid-etcd", "--new"])
         for option in ["--name", *TLS]:
             self.assertEqual(value(words, option), value(self.etcd["command"], option))

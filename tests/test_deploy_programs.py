@@ -135,16 +135,25 @@ class FirstStepTest(ProgramTest):
                 write(file, b"SQLite format 3\0\4\0")
                 status, error, content = make(NEW="yes")
                 self.assertEqual((status, error, len(content)), (0, "", len(whole)))
+                self.assertEqual(make(NEW="yes"), (0, "", content))
 
     def test_file_that_is_whole_is_kept(self):
         for where, make, _, _ in self.steps():
             with self.subTest(where=where):
                 whole = make(NEW="yes")[2]
+                self.assertIsNotNone(whole)
                 self.assertEqual(make(NEW="yes"), (0, "", whole))
 
     def test_other_file_is_kept(self):
         for where, make, file, _ in self.steps():
             with self.subTest(where=where):
+                write(file, b"mine")
+                self.assertEqual(make(NEW="yes")[::2], (4, b"mine"))
+
+    def test_other_file_is_kept_also_next_to_a_log(self):
+        for where, make, file, _ in self.steps():
+            with self.subTest(where=where):
+                make(NEW="yes")
                 write(file, b"mine")
                 self.assertEqual(make(NEW="yes")[::2], (4, b"mine"))
 
@@ -198,7 +207,13 @@ class CheckBeforeStartTest(ProgramTest):
     def test_tables_that_are_refused_end_the_start(self):
         self.put("volumes.db", "mine")
         status, _, line = self.end(self.judge)
-        self.assertEqual((status, line[:18]), (1, "csid: /volumes.db:"))
+        self.assertEqual((status, line[:19]), (1, "csid: /volumes.db: "))
+
+    def test_tables_that_are_refused_end_the_start_also_next_to_a_log(self):
+        self.make()
+        self.put("volumes.db", "mine")
+        status, _, line = self.end(self.judge)
+        self.assertEqual((status, line[:19]), (1, "csid: /volumes.db: "))
 
 
 class ProcessesTest(ProgramTest):

@@ -206,23 +206,37 @@ class FileAndEtcdTest(EtcdRecipeTest):
         row = "INSERT INTO volumes VALUES (301,'next',1048576,'p1',"
         self.assertIn(row, read(self.place.top + "/exported"))
 
-    def go_back(self):
-        """The steps of the way back to a file."""
-        self.place.must("systemctl start csid-front; mv %s aside" % self.go_over())
+    def go_back(self, copies, counts):
+        """The steps of the way back to a file, which then has these counts."""
+        self.place.must("systemctl start csid-front; mv %s aside" % copies)
         self.assertEqual(self.recipe(BACK, 0), ("", "", 0))
         self.check_nothing_runs()
         out, error, status = self.recipe(BACK, 1)
         error = re.sub(r"revision \d+", "revision R", error)
-        wanted = (self.counts, "csid-etcd: at revision R: " + self.counts, 0)
-        self.assertEqual((out, error, status), wanted)
+        self.assertEqual((out, error, status), (counts, "csid-etcd: at revision R: " + counts, 0))
+
+    def test_number_of_a_volume_that_was_deleted_over_etcd_is_not_given_again_by_the_file(self):
+        copies = self.go_over()
+        self.place.must("systemctl stop csid-front")
+        self.assertEqual(self.place.call(*create("next")), "0 OK\nvolume vol-301 1048576\n")
+        self.assertEqual(self.place.call("DeleteVolume", "--volume", "vol-301"), "0 OK\n")
+        counts = has(len(self.rows["volumes"]), len(self.rows["attachments"]), 302)
+        self.go_back(copies, counts)
+        after = all_rows(self.place.folder + "volumes.db")
+        self.assertEqual([[value for _, value in row] for row in after["meta"]], [[1, 2, 302]])
+        for table in "volumes", "attachments":
+            self.assertEqual(after[table], self.rows[table])
+        os.unlink(self.place.control.over_etcd)
+        self.assertEqual(self.recipe(BACK, 2), ("", "", 0))
+        self.assertEqual(self.said(), "csid: /var/lib/csid/volumes.db: " + counts)
 
     def test_rows_of_the_file_are_the_same_after_both_ways(self):
-        self.go_back()
+        self.go_back(self.go_over(), self.counts)
         self.assertEqual(self.place.owners(), {OWNER})
         self.assertEqual(all_rows(self.place.folder + "volumes.db"), self.rows)
 
     def test_volumes_are_the_same_over_the_file(self):
-        self.go_back()
+        self.go_back(self.go_over(), self.counts)
         os.unlink(self.place.control.over_etcd)
         self.assertEqual(self.recipe(BACK, 2), ("", "", 0))
         self.assertEqual(self.said(), "csid: /var/lib/csid/volumes.db: " + self.counts)

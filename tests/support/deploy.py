@@ -295,4 +295,5 @@ class Pod:
         with open("/proc/%d/task/%d/children" % (process.pid, process.pid)) as children:
             first = int(children.read().split()[0])
         os.kill(first, signal.SIGTERM)
-        return wait(lambda: process.poll() is not None)
+        # Less than the grace of the front, 20 s, which is for calls on their way.
+        return wait(lambda: process.poll() is not None, seconds=15)
