@@ -52,7 +52,7 @@ SECTIONS = {
         "THE CONTROL SOCKET",
         "WHAT A CALL IS ANSWERED",
         "WATCHING THE FRONT",
-        "ONE CALL AT A TIME",
+        "CALLS ON THEIR WAY",
         "EXIT STATUS",
         "FILES",
         "SEE ALSO",
