@@ -425,7 +425,7 @@ func TestLoneCallWithAShortDeadline(t *testing.T) {
 }
 
 // A reply ends what a failure began: the pause is the least one again.
-func TestReplyBehindAFailure(t *testing.T) {
+func TestReplyAfterAFailure(t *testing.T) {
 	path, _ := csid(t, answering([]byte{13, 0, 0, 0, 0, 0, 0, 0}))
 	b := newBackend(path, time.Minute)
 	b.fail(errUnanswered)
@@ -436,7 +436,7 @@ func TestReplyBehindAFailure(t *testing.T) {
 }
 
 // A connection that gave a reply, and is closed unanswered later, costs the call that was on its way, and neither a pause nor the calls that wait.
-func TestConnectionThatEndsBehindAReply(t *testing.T) {
+func TestConnectionThatEndsAfterAReply(t *testing.T) {
 	let := make(chan struct{})
 	path, _ := csid(t, func(conn net.Conn) {
 		if isCalled(conn) {

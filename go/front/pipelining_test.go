@@ -118,7 +118,7 @@ func (c *caller) begins(t *testing.T, ctx context.Context, number uint32) {
 	awaits(t, "a call begins", func() bool { nowWaiting, nowSent := count(c.b); return nowWaiting+nowSent > waiting+sent })
 }
 
-// all waits for the outcomes of so many calls, and returns them by number.
+// all waits for the outcomes of that number of calls, and returns them by number.
 func (c *caller) all(t *testing.T, calls int) map[uint32]result {
 	t.Helper()
 	all := map[uint32]result{}
@@ -134,6 +134,16 @@ func (c *caller) all(t *testing.T, calls int) map[uint32]result {
 		}
 	}
 	return all
+}
+
+// served waits until that number of calls have their own replies.
+func (c *caller) served(t *testing.T, calls int) {
+	t.Helper()
+	for number, got := range c.all(t, calls) {
+		if got.err != nil || string(got.got.Body) != string(numbered(number)) {
+			t.Errorf("call %d: %v", number, got)
+		}
+	}
 }
 
 // onTheirWay is a backend with calls from 1 on their way over its first connection, which served
@@ -320,7 +330,7 @@ func TestConnectionThatEnds(t *testing.T) {
 
 // After a refused change the calls that were answered that the store is down are sent again, in order
 // and before a newer call. The others have their replies.
-func TestCallsBehindARefusedChange(t *testing.T) {
+func TestCallsAfterARefusedChange(t *testing.T) {
 	rows := []struct {
 		name string
 		// The call of 16 that is refused, whether the call after it needs no store, and after how many
@@ -443,11 +453,7 @@ func TestSlowReplyBeforeFastOnes(t *testing.T) {
 	s := sends(t, 16, nil)
 	time.Sleep(100 * time.Millisecond)
 	serveOn(s, 16)
-	for number, got := range s.all(t, 16) {
-		if got.err != nil || string(got.got.Body) != string(numbered(number)) {
-			t.Errorf("call %d: %v", number, got)
-		}
-	}
+	s.served(t, 16)
 	if made := atomic.LoadInt32(s.connections); made != 1 {
 		t.Errorf("%d connections", made)
 	}
@@ -696,11 +702,7 @@ func TestLateReplyBeforeOtherCalls(t *testing.T) {
 	awaits(t, "the connection is closed", func() bool {
 		return kept(s.b) != nil && kept(s.b).socket != nil && atomic.LoadInt32(s.connections) == 2
 	})
-	for number, got := range s.all(t, 2) {
-		if got.err != nil {
-			t.Errorf("call %d: %v", number, got)
-		}
-	}
+	s.served(t, 2)
 	if made := fmt.Sprint(s.made.rows()); made != "[2 4]" {
 		t.Errorf("made %s", made)
 	}
@@ -740,7 +742,7 @@ func TestRepliesBeforeTheFrontEndsAConnection(t *testing.T) {
 }
 
 // A call that was given up is not late while a call before it is unanswered whose caller waits.
-func TestGivenUpBehindAPatientCaller(t *testing.T) {
+func TestGivenUpAfterAPatientCaller(t *testing.T) {
 	contexts, giveUp := givesUp(t, 2)
 	s := sends(t, 3, contexts)
 	s.b.late = 50 * time.Millisecond
@@ -748,29 +750,21 @@ func TestGivenUpBehindAPatientCaller(t *testing.T) {
 	s.all(t, 1)
 	time.Sleep(200 * time.Millisecond)
 	serveOn(s, 3)
-	for number, got := range s.all(t, 2) {
-		if got.err != nil {
-			t.Errorf("call %d: %v", number, got)
-		}
-	}
+	s.served(t, 2)
 	if made := atomic.LoadInt32(s.connections); made != 1 {
 		t.Errorf("%d connections", made)
 	}
 }
 
 // Once it is the first unanswered call, its reply must come in time.
-func TestGivenUpBehindACallThatIsAnswered(t *testing.T) {
+func TestGivenUpAfterACallThatIsAnswered(t *testing.T) {
 	contexts, giveUp := givesUp(t, 2)
 	s := sends(t, 3, contexts)
 	s.b.late = 50 * time.Millisecond
 	giveUp()
 	s.all(t, 1)
 	serveOn(s, 1)
-	for number, got := range s.all(t, 2) {
-		if got.err != nil {
-			t.Errorf("call %d: %v", number, got)
-		}
-	}
+	s.served(t, 2)
 	if made := fmt.Sprint(s.made.rows()); made != "[1 3]" {
 		t.Errorf("made %s", made)
 	}

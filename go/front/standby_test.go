@@ -106,7 +106,7 @@ func TestWatchOverClosedConnections(t *testing.T) {
 }
 
 // A front that hung itself, so that it heard nothing for longer than the bound, asks before it believes that csid does.
-func TestWatchBehindAStandstill(t *testing.T) {
+func TestWatchAfterAStandstill(t *testing.T) {
 	const limit = time.Minute
 	h := replying(t, "00 0000 00 00000000")
 	over := make(chan error, 1)
