@@ -12,7 +12,7 @@ COLOURS = (
 
 
 def pyplot(name):
-    """Returns matplotlib's pyplot for a script of bench/, which ends where there is none."""
+    """Returns matplotlib's pyplot for a script of bench/. Without matplotlib the script ends."""
     try:
         import matplotlib
     except ImportError:

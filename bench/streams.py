@@ -76,7 +76,7 @@ def short_name(number):
 
 
 def alike_name(number):
-    """12 bytes, of which the first ones are those of each other name."""
+    """12 bytes. The first ones are the same in every name."""
     return b"volume%06d" % number
 
 
@@ -104,14 +104,14 @@ def delete(number):
 
 
 def capacity(standing):
-    """What is free next to so many volumes."""
+    """The free bytes while `standing` volumes exist."""
     return call(b"GetCapacity", b""), reply(
         b"\x08" + varint(POOL_BYTES - standing * MIB) + part(2, b"\x08" + varint(GREATEST_BYTES))
     )
 
 
 def page(after, entries, last, published=()):
-    """A page of volumes that all stand, after the volume of that number, of `last` in all."""
+    """A page of volumes that all exist, after the volume of that number, of `last` in all."""
     token = part(2, b"%d" % after) if after else b""
     first, end = after + 1, min(after + entries, last)
     body = b"".join(
@@ -139,8 +139,8 @@ def pages(standing, count):
 
 def mix(standing, rounds, with_capacity=True):
     """Rounds of calls, each for a volume of its own, which is gone at the end of the round. In a round: a
-    create, a publish, a page of ten of which
-    six stand, what is free (unless it is left out), an unpublish and a delete."""
+    create, a publish, a page of ten of which six exist, the free bytes (unless they are left out), an
+    unpublish and a delete."""
     for number in range(standing + 1, standing + rounds + 1):
         after = standing - 5
         body = b"".join(part(1, volume(other) + part(2, b"")) for other in range(after + 1, standing + 1))
@@ -166,7 +166,7 @@ def answered(calls):
 
 
 def fill(csid, config, path, count):
-    """Makes a file of tables by csid, and puts so many volumes into it by the C library of SQLite."""
+    """Makes a file of tables by csid, and puts `count` volumes into it by the C library of SQLite."""
     subprocess.run([csid, "pipe", "--config", config, "--tables", path], stdin=subprocess.DEVNULL, check=True)
     with contextlib.closing(sqlite3.connect(path)) as database, database:
         database.executemany(

@@ -1,5 +1,5 @@
-"""The worst messages of about 1 MiB that are known: those of crates/test_bytes/stdin, and creates for the
-volume machine.
+"""The worst known messages of about 1 MiB: the rows of crates/test_bytes/stdin, and creates for the volume
+machine.
 
 What the notation of a message means is explained at the head of the section codec of crates/test_bytes/stdin.
 """
@@ -27,7 +27,7 @@ def method_and_message(row):
 
 
 def shrunk(notation, most):
-    """The notation with at most so many repetitions of each part."""
+    """The notation with at most `most` repetitions of each part."""
     return re.sub(r"\*(\d+)", lambda times: "*%d" % min(int(times[1]), most), notation)
 
 
@@ -100,7 +100,7 @@ MOUNTS = "[1a(12(0a(#3)) 1a(0801))]*80600"
 
 
 def shuffled(count):
-    """Keys of a letter and a sign, a digit or a letter, whose order by bytes is another than that of their
+    """Keys of a letter and a sign, a digit or a letter. Their order by bytes differs from the order of their
     folded letters.
     """
     second = [
@@ -117,7 +117,7 @@ FEW = SEVEN + '[0a(0a("z" #1))]*25'
 MARKED = SEVEN + '[0a(0a("z" #1))]*26'
 LARGE = SEVEN + "[0a(0a(#2))]*2035"
 
-# What is answered: a volume of the pool p1, or a refusal.
+# The reply: a volume of the pool p1, or a refusal.
 VOLUME = (
     '0a(08808040 12("vol-%d") 1a(0a("pool") 12("p1")) 2a('
     + SEVEN.replace('"))', '") 1200)')

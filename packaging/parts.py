@@ -1,9 +1,9 @@
-"""What the programs of a release use, as far as it can be told here: the crates of the Rattle kit, and
+"""What the programs of a release use, as far as it is known here: the crates of the Rattle kit, and
 Debian's packages of Go's sources.
 
 A crate of the kit names in its README.md the Rust crate that it follows, and has the texts of its licences
-next to it. A Debian package has its version in dpkg's records and its licence in its file of copyright. What
-is not said there is reported as unknown.
+next to it. A Debian package has its version in dpkg's records and its licence in its file of copyright. A
+fact that neither gives is reported as unknown.
 """
 import os
 import re
@@ -29,12 +29,12 @@ SHORT = {
 
 
 class Failure(Exception):
-    """What the programs stand on cannot be told."""
+    """The parts of the programs are not known."""
 
 
 class Part:
-    """One thing that a program stands on: its version and licence, where it is from, the files with the
-    licence's text, and what it needs.
+    """One part that a program uses: its version and licence, its origin, the files with the licence's text,
+    and its own parts.
     """
 
     def __init__(self, name, version, licence, source, files, needs=()):
@@ -100,8 +100,8 @@ def licence_files(folder):
 
 
 def licence_of(files):
-    """The licence that texts are known to be: one, or the choice that Rust crates give. Of other sets of
-    texts it cannot be told which holds where.
+    """The known licence of texts: one, or the choice that Rust crates give. For other sets of texts it is
+    unknown which one applies to which file.
     """
     known = [next((short for short, words in TEXTS if words in read(it)), UNKNOWN) for it in files]
     if [os.path.basename(it) for it in files] == ["LICENSE-APACHE", "LICENSE-MIT"]:

@@ -1,4 +1,4 @@
-"""The crates of the repository, and folders in which one of them is worked on next to others.
+"""The crates of the repository, and folders for work on one crate while others are checked.
 
 A run of rt keeps every other out of the folders that it reads. So where several are to run side by side, each
 gets a folder of its own with links to the files of the crates that it reads, and to the libraries that were
@@ -22,7 +22,7 @@ def read_crates():
 
 
 def below(name, uses):
-    """Returns the crates that a crate stands on, the lowest first."""
+    """Returns the crates that a crate uses, directly or not, the lowest first."""
     found = []
     for used in uses[name]:
         found += [it for it in [*below(used, uses), used] if it not in found]
@@ -30,7 +30,7 @@ def below(name, uses):
 
 
 def with_below(names, uses):
-    """Returns crates and all that they stand on, the lowest first."""
+    """Returns crates and all crates that they use, the lowest first."""
     found = []
     for name in names:
         found += [it for it in [*below(name, uses), name] if it not in found]
@@ -60,7 +60,7 @@ def lanes_for():
 
 
 def link(source, to):
-    """Makes a folder whose files are links to those of another, or copies where there can be no links."""
+    """Makes a folder whose files are links to another folder's files, or copies if links are impossible."""
     try:
         shutil.copytree(source, to, copy_function=os.link)
     except (OSError, shutil.Error):

@@ -14,7 +14,7 @@ class Function(collections.namedtuple("Function", "module name path body")):
     """A function of a crate: its module, its name, its path below the crate, and its text."""
 
     def is_called(self, path):
-        """Returns whether the checker's name of a function is that of this one, or of a closure in it."""
+        """Returns whether the checker's name of a function means this function, or a closure in it."""
         within = f"{self.module}::" if self.module else ""
         return path == self.path or path.startswith(within) and f"::fn::{self.name}::" in f"::{path}"
 
@@ -66,9 +66,9 @@ def type_at(lines, start, indent):
 
 
 def block_name(head):
-    """Returns how the checker calls the impl with a head, of what follows its word: the type, and the trait
-    with what it is given, as in `AdoptFaultFromSqlError`; or the type with what it is given, unless that is
-    the impl's own parameters alone, as in `Through+MemKeeper+D`.
+    """Returns the checker's name of the impl with a head, from the text after the word `impl`: the type, and
+    the trait with its arguments, as in `AdoptFaultFromSqlError`; or the type with its arguments, unless these
+    are only the impl's own parameters, as in `Through+MemKeeper+D`.
     """
     given, rest = split_brackets(head.strip())
     own = {it.partition(":")[0].strip() for it in parts_of(given)}
@@ -133,7 +133,7 @@ class Edit:
                 raise ValueError(f"{crate}/{name} has a line that begins with no known word: {line}")
 
     def apply(self, texts):
-        """Puts its texts into those of the crate's files, and returns whether each old text was in its file
+        """Applies its texts to the crate's files, and returns whether each old text was in its file
         exactly once. Files that are not in `texts` are read.
         """
         changed = {}

@@ -14,12 +14,13 @@ from tests.support.runner import Runner
 
 
 def name_of(test):
-    """The name of a test that failed, or None for something else, as what a class sets up."""
+    """The name of a test that failed, or None for a failure outside tests, such as a class's setup."""
     return test.id() if isinstance(test, unittest.TestCase) else test.name
 
 
 def failed(result):
-    """The names of the tests that failed; none where something else did, as what a class sets up."""
+    """The names of the tests that failed; an empty list for a failure outside tests, such as a class's setup.
+    """
     names = {name_of(test) for test, _ in result.failures + result.errors}
     return [] if None in names else sorted(names)
 

@@ -11,9 +11,9 @@ from tests.support.processes import TOP, wait
 from tests.support.rows import RowTest
 
 
-# How long a build may take in which nothing is proved.
+# The longest time of a build that proves nothing.
 SECONDS = 60
-CRATES = """# Two are above one, a program is above both, and one stands alone.
+CRATES = """# Two are above one, a program is above both, and one is alone.
 low: kit_crate
 left: low
 right: low
@@ -55,7 +55,7 @@ served.bind(sys.argv[sys.argv.index("--socket") + 1])
 sys.stderr.write("csid: v.db: volumes 0\\n")
 signal.pause()
 """
-# A Probe, and how csid replies to it with what it is known by there, worked out from docs/PROTOCOL.md.
+# A Probe, and csid's reply to it, worked out from docs/PROTOCOL.md.
 PROBE = b"\x00\x16/csi.v1.Identity/Probe\x00\x00\x00\x00\x00"
 SENT = "sent 00162f6373692e76312e4964656e746974792f50726f62650000000000: /csi.v1.Identity/Probe\n"
 REPLIES = [
@@ -160,8 +160,8 @@ class BuildsTest(RowTest):
         super().setUp()
         self.place = Place(self.folder)
 
-    # Calls of rt: a crate, its kind, the crates that crates.txt has there, those below it, its files, those
-    # of them that were built, and what it is given.
+    # Calls of rt: a crate, its kind, the crates in its crates.txt, the crates below it, its files, the built
+    # ones of these, and the words of the call.
     LOW = "low|lib |low||lib.rt||"
     UPPER = "upper|lib |left low right upper|left low right|lib.rt||"
     CSID = "csid|run |csid left low right upper|left low right upper|main.rt||a call"
@@ -185,7 +185,7 @@ class BuildsTest(RowTest):
         self.assertEqual(self.place.run("./build", "alone")[:2], (0, ""))
 
     def test_no_crate_above_one_that_fails_is_built(self):
-        """What was built stays."""
+        """Built programs stay."""
         self.place.run("./build", "csid")
         status, out, error, calls = self.place.run("./build", "csid", faulty="left")
         self.assertEqual((status, out), (1, ""))
@@ -221,7 +221,7 @@ class BuildsTest(RowTest):
             )
 
     def test_run(self):
-        """The program that was built is run where nothing is newer, else the sources."""
+        """The built program is run if no source is newer, otherwise the sources."""
         program = self.place.path("crates/csid/out/csid")
         self.place.write("crates/csid/out/csid", '#!/bin/sh\necho "csid $*"\n', 0o755)
         for path in ["crates.txt", "crates/low/src/lib.rt", "crates/csid/src/main.rt"]:
@@ -311,7 +311,7 @@ class BuildsTest(RowTest):
         self.check("nothing is left: " + what, (os.path.exists(socket), runs(int(pid))), (False, False))
 
     def test_serve_over_a_file(self):
-        """Where something stands at the socket's path nothing is begun."""
+        """If a file exists at the socket's path, nothing is begun."""
         self.place.write("a.sock", "mine")
         status, out, error, calls = self.place.run("./run", "serve", "--tables", "v.db", "--socket=a.sock")
         line = "run: %s: a file exists there already; remove it if no csid serves on it\n"

@@ -152,7 +152,7 @@ class CallTest(CsictlTest):
         return server
 
     def listen(self, backlog):
-        """A socket that takes no connection by itself, and its path."""
+        """A socket that accepts no connection, and its path."""
         path = os.path.join(self.folder, "peer.sock")
         listener = self.enterContext(socket.socket(socket.AF_UNIX))
         listener.bind(path)
@@ -203,7 +203,7 @@ class CsidCallsTest(CallTest):
         self.assertEqual(came, (None, Line("csictl: standard output: "), 5))
 
     def test_server_ends_after_its_connections(self):
-        """Then nobody listens."""
+        """Then no program listens."""
         self.server.kill()
         self.server = self.serve("--connections", "2")
         for _ in range(2):
@@ -347,7 +347,7 @@ class LongWaitTest(CallTest):
         thread.join()
 
     def test_wait_ends_with_the_time_of_the_option(self):
-        """Nobody takes the first connection from the backlog. For the later ones it has no room."""
+        """The first connection stays in the backlog, and leaves no room for later ones."""
         _, path = self.listen(0)
         late = "csictl: %s: %s\n" % (path, LATE)
         for seconds, error in ("7", waits(path) + late), ("3", late), ("4", waits(path) + late):
@@ -355,7 +355,7 @@ class LongWaitTest(CallTest):
                 self.assertEqual(self.call(path, "Probe", "--timeout", seconds), ("", error, 5))
 
 
-# Runs a command in a mount namespace where /run is empty, but for what is made there.
+# Runs a command in a mount namespace with an empty /run.
 IN_RUN = 'mount -t tmpfs none /run && mkdir /run/csid && %s && exec %s "$@"'
 
 

@@ -310,7 +310,7 @@ SHOWN = [
     ("no answer", ["nodes"], [[CLOSED]], [[""]], "", "csictl: PATH: closed without a reply\n", 5),
 ]
 
-# Bytes, and how they are shown: in the greatest unit in which they are exact to one decimal.
+# Bytes, and how they are shown: in the greatest unit that is exact to one decimal.
 SIZES = [
     (0, "0 B"),
     (1, "1 B"),
@@ -700,7 +700,7 @@ class PeopleTest(AskTest):
     """The commands for people."""
 
     def shown(self, name, words, connections, tokens, wanted):
-        """Compares what comes of the pages of a server, and what it was asked."""
+        """Compares the output for a server's pages, and the calls that the server got."""
         pages = Pages(self.folder, connections)
         out, said, status = wanted
         self.check(name, self.ask(pages.path, *words), (out, said.replace("PATH", pages.path), status))
@@ -730,7 +730,7 @@ class PeopleTest(AskTest):
         self.check("what was asked", len(pages.end()[0]), 2)
 
     def test_changes(self):
-        """The calls of changes, and what is said of their replies."""
+        """The calls of changes, and the lines for their replies."""
         for words, method, message, reply, *wanted in CHANGES:
             self.change(" ".join(words), words, method, message, reply, tuple(wanted))
         for size, wanted in WRITTEN:
@@ -787,8 +787,8 @@ class RemovalTest(AskTest):
     """`csictl unpublish` and `csictl delete` look first whether there is something to remove."""
 
     def removed(self, name, words, connections, wanted):
-        """Compares what comes of a removal over a server that is played, and what it was asked: of each
-        connection calls and their answers.
+        """Compares the output of a removal with a played server, and the calls that the server got: for each
+        connection the calls and their replies.
         """
         pages = Pages(self.folder, [[answer for _, answer in part] for part in connections])
         out, said, status = wanted

@@ -55,7 +55,7 @@ from tests.support.tables import (
 )
 
 
-# Each row: what it shows, what is done to new tables, the line. A line of None: nothing is wrong.
+# Each row: its name, the statement over new tables, the line. With None as the line, nothing is wrong.
 SPOILED = [
     ("nothing", "", None),
     ("another table", "CREATE TABLE notes (a)", OTHER_TABLES),
@@ -429,8 +429,8 @@ RECONFIGURED = [
 ]
 
 
-# What --check-tables says before the line of a row that is to blame: of a volume and of an attachment that,
-# and of some rows something else, or nothing.
+# The lines of --check-tables before the line of a broken row: the same for all volumes and for all
+# attachments, and for some rows others, or none.
 BROKEN_A = "volume 1: it is vol-1 (a), 1 MiB in pool p1"
 EXPLAINED = {
     "a number of 0": None,
@@ -456,7 +456,7 @@ EXPLAINED = {
 
 
 def explained(name, line):
-    """What is said before the line of a row, or nothing."""
+    """The lines before the line of a row. May be empty."""
     is_of_a = line.startswith("volume 1") and KIND not in line
     return EXPLAINED.get(name, BROKEN_A if is_of_a else None)
 
@@ -470,7 +470,7 @@ class AdoptionTest(CsidTest):
         self.config = os.path.join(self.folder, "config.toml")
 
     def check_refused(self, name, line, config=None):
-        """`csid --check-tables` explains a refused row, then says the line by which it is refused."""
+        """`csid --check-tables` explains a refused row, then prints the line of the refusal."""
         out, said, status = self.tables.says(line)
         more = explained(name, line)
         if more is not None:
@@ -491,7 +491,7 @@ class AdoptionTest(CsidTest):
                     self.assertEqual(self.tables.run(frame(PROBE)), self.tables.says(line))
 
     def test_first_rule_that_is_broken_is_reported(self):
-        """The rows break all rules. One after the other is fixed."""
+        """The rows break all rules. They are fixed in order."""
         rows = "SELECT * FROM volumes", "SELECT rowid, * FROM attachments"
         self.tables.new().script(GOOD + next_is(50) + "".join(spoil for spoil, _, _ in TURNS))
         before = list(map(self.tables.ask, rows))
@@ -518,7 +518,8 @@ class AdoptionTest(CsidTest):
         self.tables.new().script(MANY % (count, BLOCK_CAPS) + next_is(200000))
 
     def test_limit_of_volumes_is_100000(self):
-        """A new name is refused, one that exists is answered, and after a delete there is room for one."""
+        """A new name is refused, an existing one is answered, and after a delete there is room for one
+        volume."""
         self.fill(100000)
         names = b"\x0a\x01z", b"\x0a\x02v1", b"\x0a\x01a"
         new, first, another = [controller("CreateVolume", CREATE_A.replace(names[2], it)) for it in names]

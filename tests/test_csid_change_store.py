@@ -32,7 +32,7 @@ MOUNT = v.unhex("1a0c12060a04657874341a020801")
 
 
 class PlayedStore(change_stores.ChangeStore):
-    """A log that has a reply for each frame, and notes what it was asked for."""
+    """A log that has a reply for each frame, and notes the frames."""
 
     def __init__(self, path):
         self.asked, self.replies, self.turns = [], [], []
@@ -53,7 +53,7 @@ class PlayedStore(change_stores.ChangeStore):
         return None if reply == CLOSED else reply
 
     def take(self):
-        """What it was asked for until now, which is forgotten."""
+        """The frames until now. They are then forgotten."""
         asked, self.asked = self.asked, []
         return asked
 
@@ -164,8 +164,8 @@ RICH_ROW = [
     v.msg(5, BLOCK, MOUNT),
     v.msg(6, v.unhex("22060a016b120176 42060a016d120177")),
 ]
-# A create that is longer than what a socket takes while nobody reads. It is given up after a piece that went
-# out in part, and one that did not.
+# A create longer than the buffer of a socket that is not read. It is given up after a piece that was sent in
+# part, and a piece that was not sent.
 LARGE = v.create(
     v.txt(1, "large"), *[v.msg(3, v.msg(2, v.txt(1, "%06d" % it)), v.msg(3, MODE)) for it in range(20_000)]
 )
@@ -277,7 +277,7 @@ def stalled(csid, folder, log, call):
 
 
 def nobody(csid, folder):
-    """csid over a socket that is not there: it goes on, and answers nobody."""
+    """csid over a socket that does not exist: it goes on, and answers no call."""
     path = os.path.join(folder, "csid.sock")
     process = subprocess.Popen(
         [csid, "serve", "--socket", path, "--log", os.path.join(folder, "none"), "--connections", "1"],
@@ -295,7 +295,7 @@ def nobody(csid, folder):
     return came, status
 
 
-# Each row: what is wrong, the pages of the change store, the line.
+# Each row: the fault, the pages of the change store, the line.
 MALFORMED = "its rows are malformed"
 KIND = "volume 1: a value is not of the kind of its column"
 REFUSED = [
@@ -598,7 +598,7 @@ class SlowReaderTest(CsidTest):
 
     # They fit on one page.
     VOLUMES = range(1, 101)
-    # So many pages of 4,300 bytes are more than a socket holds.
+    # This many pages of 4,300 bytes do not fit into the buffer of a socket.
     LISTINGS = 200
 
     def setUp(self):
@@ -612,14 +612,14 @@ class SlowReaderTest(CsidTest):
         self.calls, self.pages = v.listing() * self.LISTINGS, page * self.LISTINGS
 
     def change_store(self, path):
-        """A change store with volumes, which it tells fifty at a time."""
+        """A change store with volumes, fifty a page."""
         store = KeptChangeStore(path, page_rows=50)
         store.volumes = {it: ("v%d" % it, MIB, "p1", BLOCK, b"") for it in self.VOLUMES}
         store.next = len(self.VOLUMES) + 1
         return store
 
     def read_late(self, calls, count):
-        """So many bytes of the replies to calls, of which none is read in the first three seconds."""
+        """The first bytes of the replies to calls, read only after three seconds."""
         with self.server.connect() as peer:
             threading.Thread(target=peer.sendall, args=(calls,), daemon=True).start()
             time.sleep(3)

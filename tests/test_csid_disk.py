@@ -136,7 +136,7 @@ class KillTest(DiskTest):
         self.assertEqual(self.tables.ask("PRAGMA integrity_check"), [("ok",)])
 
     def test_salts_of_a_log_are_drawn_at_random(self):
-        """So frames of an older WAL are never taken for those of a newer one ("Database File Format" of
+        """So frames of an older WAL are never taken for a newer WAL's ("Database File Format" of
         SQLite, 4.1).
         """
         salts = []
@@ -149,8 +149,7 @@ class KillTest(DiskTest):
 
 
 class ReplacementTest(DiskTest):
-    """The file is deleted, or another one is put in its place, while csid has it open: it goes on over the
-    old one.
+    """The file is deleted, or replaced by another one, while csid has it open: it goes on over the old one.
     """
 
     def setUp(self):
@@ -335,7 +334,7 @@ class RefusedCommitTest(DiskTest):
 
 
 class RefusedReadTest(DiskTest):
-    """A file of which pages are overwritten while a connection has it open."""
+    """A file whose pages are overwritten while a connection has it open."""
 
     def check_reads(self, wanted, said, *words):
         """Reads of a volume beyond the page that are answered so, and what csid says then."""

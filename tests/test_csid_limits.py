@@ -1,4 +1,5 @@
-"""csid under limits of its memory: a control group, by which Linux ends a process, and an address space."""
+"""csid under limits of its memory: a control group, whose limit makes Linux end a process, and an address
+space."""
 
 import contextlib
 import os

@@ -167,7 +167,7 @@ class ListedTest(CsidTest):
 
 
 class ListTest(ListedTest):
-    """What is listed, in columns and in JSON."""
+    """The listing, in columns and in JSON."""
 
     def test_table(self):
         """Each volume is a row, in the order of numbers, and each pool and node that has some another."""
@@ -234,7 +234,7 @@ class ListTest(ListedTest):
         self.check("none", self.document(Tables(self.csid, self.folder, "new.db").new()), empty)
 
     def test_chosen(self):
-        """A name, a pool and a node choose; a volume fits each that is given. Sums are of what is listed."""
+        """A name, a pool and a node choose; a volume fits each given one. Sums count the listed volumes."""
         tables = Tables(self.csid, self.folder).new().script(ROWS)
         for name, options, ids in [
             ("a name", ["--name", "a b"], ["vol-2"]),

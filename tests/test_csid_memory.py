@@ -31,7 +31,7 @@ from tests.support.tables import (
 
 
 class LowMemoryTest(CsidTest):
-    """csid with --low-memory, and where there is no memory for a copy of the volumes."""
+    """csid with --low-memory, and without memory for a copy of the volumes."""
 
     PROBE = controller("GetCapacity")
     # 1,048 MiB, and 8 MiB for one volume.
@@ -64,7 +64,7 @@ class LowMemoryTest(CsidTest):
         self.assertEqual(server.end()[:2], (server.has(1, 0, 3), 0))
 
     def test_volumes_take_no_memory(self):
-        """Without the option too the file is read where there is no memory for a copy."""
+        """Without the option too, the file is read if there is no memory for a copy."""
         self.fill()
         came = run(self.low + ["--config", self.config], input=self.PROBE, preexec_fn=some_memory)
         self.assertEqual(came, (self.ROOM, "", 0))
@@ -91,7 +91,7 @@ class MemoryTest(CsidTest):
     """csid where memory is short."""
 
     def test_want_of_memory_for_a_copy_is_no_failed_disk(self):
-        """Whatever the copy of the tables lacks."""
+        """The files of the copy of the tables."""
         tables = Tables(self.csid, self.folder).new()
         tables.script(volume(1, "printf('%.*c', 200000, 'x')") + next_is(2))
         for option in "--check-tables", "--list-tables":

@@ -31,7 +31,7 @@ LATE = frame(PROBE, bytes.fromhex("7a f02e") + b"x" * 6000)
 
 
 def drip(peer, seconds):
-    """Sends a byte each quarter of a second, until the connection is closed or so many seconds are over."""
+    """Sends a byte each quarter of a second, until the connection is closed or `seconds` are over."""
     with contextlib.suppress(OSError):
         for _ in range(4 * seconds):
             peer.sendall(b"\0")
@@ -176,7 +176,7 @@ class PeersTest(CsidTest):
         self.assertEqual(alone.recv(4096), READY)
 
     def test_one_that_comes_again_is_served_after_one_that_waited(self):
-        """Each connection is served in the order in which it came."""
+        """Connections are served in the order of their arrival."""
         first, waited = self.connect(frame(PROBE)), self.connect(frame(PROBE))
         self.assertEqual(first.recv(4096), READY)
         again = self.connect(frame(PROBE))
@@ -297,7 +297,7 @@ class SlowPeerTest(CsidTest):
                 self.assertLess(processor_seconds(server.process.pid) - begin, 0.1)
 
     def test_first_call_above_4096_bytes_is_in_the_tables(self):
-        """A connection with so many bytes of a call is served before the call is whole."""
+        """A connection with this many bytes of a call is served before the call is whole."""
         parameters = bytes.fromhex("22 8420 0a01 6b 12fe1f") + b"v" * 4094
         server = Server(self.csid, self.folder)
         self.assertEqual(server.ask(controller("CreateVolume", CREATE_A + parameters)), reply(VOLUME_1))

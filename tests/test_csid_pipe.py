@@ -72,7 +72,7 @@ STREAMS = [
     ("the lesser place of two faults", frame(b"/ a", flag=1), *fault("bad path at byte 3")),
 ]
 
-# Faults after calls: what was answered before stands, the place counts from the start, and nothing after it
+# Faults after calls: the replies before stay, the offset counts from the start, and nothing after the fault
 # is answered.
 AFTER = [
     ("a fault after a call", frame(PROBE) + frame(b"/ a") + frame(PROBE), READY, "bad path at byte 32"),
@@ -286,7 +286,7 @@ ASKS = [
 
 
 def by_turns(csid, pieces, expected):
-    """Sends the pieces one by one; after each it reads so many bytes as are expected before the next."""
+    """Sends the pieces one by one; after each it reads the bytes expected before the next."""
     process = subprocess.Popen(
         [csid], stdin=subprocess.PIPE, stdout=subprocess.PIPE, stderr=subprocess.PIPE, bufsize=0
     )

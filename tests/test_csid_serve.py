@@ -89,7 +89,7 @@ class SurveyTest(ServeTest):
         self.assertEqual(server.end(), (begun, KILLED, True))
 
     def fill(self):
-        """Tables with two volumes, of which one is attached."""
+        """Tables with two volumes, one of them attached."""
         publish = controller("ControllerPublishVolume", VOL_1 + bytes.fromhex("12026e31") + BLOCK)
         tables = Tables(self.csid, self.folder)
         tables.run(controller("CreateVolume", CREATE_A) + publish + controller("CreateVolume", CREATE_B))
@@ -160,8 +160,8 @@ class AccessTest(ServeTest):
         self.assertEqual(self.modes(), ["0o640"] * 2)
 
     def groups(self):
-        """Words for groups that this user may give a file to, and their numbers: one that root names or that
-        is its own, and the one that it has.
+        """Words for groups that this user may give a file to, and their numbers: a group that root names or
+        that the user is in, and its own group.
         """
         with open("/etc/group") as file:
             names = {int(line.split(":")[2]): line.split(":")[0] for line in file if line.count(":") == 3}
@@ -194,7 +194,7 @@ class AccessTest(ServeTest):
         self.assertEqual(server.end(), (line, 7, False))
 
     def test_group_is_sought_by_name_and_then_by_number(self):
-        """Another /etc/group is put in the place of this one, for csid alone."""
+        """/etc/group is replaced by another one, for csid alone."""
         groups, program = os.path.join(self.folder, "groups"), os.path.join(self.folder, "csid-with-groups")
         write(groups, GROUPS)
         bind = 'exec unshare --mount sh -c \'mount --bind "$0" /etc/group && exec "$@"\' %s %s "$@"\n'
@@ -225,7 +225,7 @@ class IdleTest(ServeTest):
         self.begun = self.server.lines()
 
     def test_silent_peer_is_closed_after_the_seconds(self):
-        """One that comes later is answered before that."""
+        """A later connection is answered first."""
         peer = self.connect(self.server)
         self.assertEqual(self.server.ask(frame(PROBE)), READY)
         self.assertEqual(self.server.lines(), self.begun)
@@ -268,7 +268,7 @@ class IdleTest(ServeTest):
 
 
 class StayingPeersTest(ServeTest):
-    """Peers that stay and say nothing, or garbage, keep nobody waiting."""
+    """Silent peers, and peers that send garbage, keep no other peer waiting."""
 
     PARTS = [frame(PROBE)[:size] for size in (0, 1, 2, 20, 28)]
 
@@ -334,7 +334,7 @@ class StayingPeersTest(ServeTest):
 
 
 class UnreadErrorTest(CsidTest):
-    """Nobody reads the standard error of csid: calls are answered all the same."""
+    """The standard error of csid is not read: calls are answered all the same."""
 
     def setUp(self):
         super().setUp()
@@ -464,7 +464,7 @@ class WaitingPeersTest(ServeTest):
         self.assertTrue(wait(lambda: server.lines() == begun + IDLE * 8))
 
     def test_peer_that_nobody_waits_for_stays(self):
-        """One that has sent a part of a call does not wait."""
+        """A connection that has sent a part of a call does not wait."""
         server = self.serve("--idle", "60")
         peer = self.connect(server, frame(PROBE))
         self.assertEqual(peer.recv(4096), READY)
@@ -475,11 +475,11 @@ class WaitingPeersTest(ServeTest):
             self.assertEqual(peer.recv(4096), READY)
 
     def test_byte_now_and_then_does_not_make_the_time_of_a_call_longer(self):
-        """Neither for a long call that is served, nor for one that is not served yet."""
+        """Neither for a long call that is served, nor for a call that is not served yet."""
         server = self.serve()
         begun = server.lines()
         slow, part = self.connect(server), self.connect(server)
-        # Of so many that end at once, some have no line of their own.
+        # If this many end at once, some have no line of their own.
         for _ in range(40):
             self.connect(server, frame(PROBE)[:20])
         slow.sendall(frame(PROBE, LONGEST)[:5000])

@@ -184,7 +184,7 @@ class StandardErrorTest(SocketTest):
             with self.subTest(shell=shell):
                 server = self.serve("u%d.sock" % number, "--connections", "3", shell=shell)
                 self.assertEqual([server.ask(b"\0\0"), server.ask(PROBE)], [bad, READY])
-                # A folder is in the place of each that is closed.
+                # A folder replaces each closed standard stream.
                 for closed, word in enumerate(["<&-", ">&-", "2>&-"]):
                     if word in shell.split():
                         place = os.readlink("/proc/%d/fd/%d" % (server.process.pid, closed))
@@ -221,8 +221,8 @@ class SharedFileTest(SocketTest):
 
 
 class ExchangedFileTest(SocketTest):
-    """Another file is put in the place of the one that a connection has open: the connection goes on, and the
-    next one takes what is there.
+    """The file that a connection has open is replaced: the connection goes on, and the next one takes the new
+    file.
     """
 
     # A volume of 2 MiB.
@@ -304,7 +304,7 @@ class KeptTest(SocketTest):
         self.assertEqual(self.create("a"), created)
 
     def kill_within_a_connection(self, create):
-        """csid is killed while it serves the connection over which a volume was made, and started again."""
+        """csid is killed while it serves the connection that made a volume, and started again."""
         words = [sys.executable, "-c", KEEPER, self.server.path, create.hex()]
         with subprocess.Popen(words, stdout=subprocess.PIPE) as holder:
             self.assertEqual(holder.stdout.readline(), b"created\n")

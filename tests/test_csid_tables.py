@@ -138,8 +138,7 @@ class DurabilityTest(CsidTest):
 
 
 class FirstPageTest(CsidTest):
-    """A file that has nothing gets pages of 1,024 bytes. In one that has anything no byte is written before
-    it is opened.
+    """An empty file gets pages of 1,024 bytes. In any other file no byte is written before it is opened.
     """
 
     def setUp(self):
@@ -272,7 +271,7 @@ class OtherFilesTest(CsidTest):
         self.assertEqual(os.listdir(self.folder), ["dangling.db"])
 
     def test_path_that_sqlite_takes_for_no_file_is_refused(self):
-        """A name for a database in memory, and a URI. None of the files is made."""
+        """A name for a database in memory, and a URI. No file is made."""
         for path in ":memory:", "file:x.db":
             line = "csid: %s: csid needs the path of a file, and this is none for SQLite\n" % path
             for words in (
@@ -393,7 +392,7 @@ class OrderOfFaultsTest(CsidTest):
 
 
 class ExistingTest(CsidTest):
-    """`csid --existing`: nothing is made where there is nothing, and what exists is served."""
+    """`csid --existing`: a missing file is not made, and an existing one is served."""
 
     def setUp(self):
         super().setUp()
@@ -477,7 +476,7 @@ class ExistingTest(CsidTest):
         self.assertEqual(server.ask(LISTING).count(b"vol-"), 2)
 
     def test_file_that_is_away_for_a_while_is_served_again(self):
-        """As on a disk that is not mounted. Nothing is made meanwhile."""
+        """As on a disk that is not mounted. No file is made in the meantime."""
         self.tables.new().script(A)
         server = Server(self.csid, self.held, "--existing")
         self.assertEqual(server.ask(LISTING), ONE)
@@ -512,7 +511,7 @@ class EmptiedTest(CsidTest):
         self.assertGreater(len(self.log), 568)
 
     def put(self, file, log):
-        """Writes the file and its log. None stands for no file."""
+        """Writes the file and its log. None means no file."""
         self.tables.clear()
         for ending, content in ("", file), ("-wal", log):
             if content is not None:

@@ -1,4 +1,4 @@
-"""scripts/dearest: which declarations it counts of what checks kept, in files as the checker writes them."""
+"""scripts/dearest: which kept declarations it counts, in files as the checker writes them."""
 
 import os
 import shutil
@@ -13,13 +13,13 @@ MODULE = "Rattle-low-proofs.thing.make.Proof"
 
 
 def declaration(name, search, kernel, used):
-    """What is kept of a declaration: its key, the number of the check that used it last, and the steps."""
+    """The record of a declaration: its key, the number of the check that used it last, and the steps."""
     steps = b'[{"aux":[],"name":"%s","notes":[],"spent":null,"steps":[%d,%d,0],"toil":[1,2]}]'
     return b"k" * 32 + bytes([used]) + b"\x08A" + steps % (name.encode(), search, kernel)
 
 
 class DearestTest(FilesTest):
-    """A crate with one function, of which two checks kept something."""
+    """A crate with one function, with records of two checks."""
 
     def put(self, name, data):
         path = os.path.join(self.folder, name)
@@ -28,7 +28,7 @@ class DearestTest(FilesTest):
             file.write(data)
 
     def told(self, *declarations, names):
-        """The lines about a module that has these names now, with declarations of which those are kept."""
+        """The lines about a module that has these names now, with these kept declarations."""
         scripts = os.path.join(self.folder, "scripts")
         os.makedirs(scripts, exist_ok=True)
         shutil.copy(os.path.join(TOP, "scripts", "dearest"), scripts)
@@ -44,7 +44,7 @@ class DearestTest(FilesTest):
         return ran.returncode, ran.stdout.splitlines()
 
     def test_last_form_counts(self):
-        """Of two forms of a declaration the one that was used last counts, wherever it is."""
+        """Of two forms of a declaration the last used one counts, in any order."""
         first = declaration("other", 1_000_000, 0, 0)
         old, new = declaration("it", 5_000_000, 1_000_000, 0), declaration("it", 2_000_000, 1_000_000, 1)
         wanted = 0, ["4 in all: Proof 4", "    4.0  thing.make (Proof 4.0)"]

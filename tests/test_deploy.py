@@ -1,5 +1,5 @@
-"""The files of deploy/: they can be read, say the same of names, sockets, ports and images, confine what they
-run, and end it.
+"""The files of deploy/: they can be read, agree on names, sockets, ports and images, confine their programs,
+and end them.
 """
 
 import json
@@ -40,8 +40,8 @@ from tests.support.deploy import (
 from tests.support.processes import TOP
 from tests.support.rows import RowTest
 
-# Each unit that serves: what it is called where it speaks, and which statuses are an end as asked for, or no
-# reason to be started again.
+# Each unit that serves: the name in its lines, and the statuses that are an intended end, or no reason for a
+# restart.
 STATUSES = [
     ("csid.service", "csid", [], ["2 3"]),
     ("csid-front.service", "csid-front", ["1"], ["2"]),
@@ -119,7 +119,7 @@ class ManifestTest(RowTest):
 
 
 class CapacityTest(RowTest):
-    """The provisioner publishes the capacity of pools, by which the scheduler chooses nodes."""
+    """The provisioner publishes the capacity of pools, and the scheduler chooses nodes by it."""
 
     OWNERS = {"StatefulSet": ["statefulsets"], "Deployment": ["replicasets", "deployments"]}
 
@@ -244,7 +244,7 @@ class EtcdUnitTest(RowTest):
 
 
 class EtcdManifestTest(RowTest):
-    """The manifest over etcd: two pods on two machines, of which one serves."""
+    """The manifest over etcd: two pods on two machines, and one of them serves."""
 
     def setUp(self):
         super().setUp()
@@ -383,8 +383,8 @@ class NamesTest(RowTest):
 
 
 class DeployTest(RowTest):
-    """The files of deploy/: they can be read, say the same of names, sockets, ports and images, confine what
-    they run, and end it.
+    """The files of deploy/: they can be read, agree on names, sockets, ports and images, confine their
+    programs, and end them.
     """
 
     def test_probes(self):
@@ -401,7 +401,7 @@ class DeployTest(RowTest):
 
     def test_nodes(self):
         """Each configuration has a pool and a node, as volumes are created and attached with it as it is; and
-        Nomad is told where the job may run, which it wants before its version 1.5.
+        the Nomad job says where it may run, which Nomad before 1.5 requires.
         """
         nomad = Nomad()
         for where, text in [
@@ -421,7 +421,7 @@ class DeployTest(RowTest):
         self.check("where the job may run", len(named), 1)
 
     def test_sockets(self):
-        """Each front is given the socket of its csid, and each sidecar that of its front."""
+        """Each front is given the socket of its csid, and each sidecar the socket of its front."""
         for where, self.csid, self.front in commands():
             self.check(
                 "the socket of csid in " + where, value(self.front, "--csid"), value(self.csid, "--socket")
@@ -509,8 +509,8 @@ class DeployTest(RowTest):
             )
 
     def test_statuses(self):
-        """What is refused for its arguments or its configuration is not started again, and what systemd says
-        of a status is put right.
+        """A program refused for its arguments or its configuration is not started again, and systemd's words
+        for a status are corrected.
         """
         for name, program, done, refused in STATUSES:
             unit = Unit(name)

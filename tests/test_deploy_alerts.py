@@ -11,9 +11,9 @@ from tests.support.deploy import DEPLOY, need, read
 from tests.support.rows import RowTest
 
 ALERTS = os.path.join(DEPLOY, "alerts.yaml")
-# Of what is used, by hundredths, the alerts that must come: a share is above 80 % only where it is more.
+# The alerts that must come for a used share, in hundredths: exactly 80 % gives no alert yet.
 SHARES = [(79, []), (80, []), (81, [80]), (90, [80]), (91, [80, 90])]
-# The alerts, and the series of what is used and of the most, with the label that names one of several.
+# The alerts, and the series of the used and the greatest value, with the label that names one of several.
 FULL = [
     ("Pool", "csid_front_pool_used_bytes", "csid_front_pool_size_bytes", ', pool="p1"'),
     ("Node", "csid_front_node_attachments", "csid_front_node_max_volumes", ', node="n1"'),
@@ -28,7 +28,7 @@ def constant(name, labels, value):
 
 
 def firing(pattern, minutes, names):
-    """That after so many minutes the alerts of these names are firing, and no other one of the pattern."""
+    """Checks that after `minutes` the alerts of these names fire, and no other one of the pattern."""
     return {
         "expr": 'count by (alertname) (ALERTS{alertstate="firing", alertname=~"%s"})' % pattern,
         "eval_time": "%dm" % minutes,

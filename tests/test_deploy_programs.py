@@ -71,8 +71,8 @@ class ProgramsTest(ProgramTest):
 
 
 class FirstStepTest(ProgramTest):
-    """csid never makes a file on its own. The step that does makes the file that csid wants where it is told
-    to, and keeps what is in one.
+    """csid never makes a file on its own. The preparing step makes the file that csid wants, at the given
+    path, and keeps an existing one.
     """
 
     def test_csid_wants_a_file(self):
@@ -97,7 +97,7 @@ class FirstStepTest(ProgramTest):
 
     def steps(self):
         """Yields each step as a function that returns its status, standard error and the content of the file,
-        with the path of the file and whether it must be told.
+        with the path of the file and whether the step must be given it.
         """
         if not os.access(self.csid, os.X_OK):
             self.skipTest("%s is not built" % self.csid)

@@ -44,8 +44,8 @@ def volume(number):
 
 
 FIRST = (create("a"), 0, 1, volume(1))
-# Each row: its name, whether it is linearizable, and its operations: what is done, from when to when, and the
-# reply. A reply that nobody heard is None. The volume `vol-1` can be published at one node at a time.
+# Each row: its name, whether it is linearizable, and its operations: its effect, its begin and end, and the
+# reply. An unheard reply is None. The volume `vol-1` can be published at one node at a time.
 ROWS = [
     ("no calls", True, []),
     ("one after the other", True, [FIRST, (publish("n1"), 2, 3, v.WRITER), (unpublish, 4, 5, v.DONE)]),

@@ -27,7 +27,7 @@ class SomeTest(unittest.TestCase):
         self.assertEqual(1 + 1, %d)
 """
 REASONS = "left out: a tool is not here (2 tests)\nleft out: no disk can be mounted (1 test)\n"
-# A test of two rows, of which one fails, or both, in the first runs of it.
+# A test of two rows. One fails, or both, in its first runs.
 UNSTEADY = """import os
 import unittest
 
@@ -63,7 +63,7 @@ class SomeTest(unittest.TestCase):
     def test_some(self):
         os._exit(3)
 """
-# Two classes, each of which waits for the other one.
+# Two classes that wait for each other.
 MEETING = """import os
 import time
 import unittest

@@ -1,4 +1,4 @@
-"""How long lines are: 110 columns of what is read as text, 160 of a definition."""
+"""How long lines are: 110 columns for text, 160 for a definition."""
 
 import glob
 import os
@@ -36,7 +36,7 @@ def is_code(line):
 
 
 class Lines(RowTest):
-    """Other lines of the crates are as `rt fmt` leaves them, and those of Go as gofmt does."""
+    """Other lines of the crates are as `rt fmt` leaves them, and lines of Go as gofmt does."""
 
     def test_lines(self):
         for name, paths, most, is_meant in [

@@ -1,4 +1,4 @@
-"""scripts/lists: the lists of docs/ are those of their sources, and a source that has none is refused."""
+"""scripts/lists: the lists of docs/ agree with their sources, and a source without a list is refused."""
 
 import os
 import shutil

@@ -168,7 +168,8 @@ class PagesTest(FilesTest):
         self.check("a reason too many", self.ended("theorems"), (1, [unneeded]))
 
     def test_lines_of_no_crate(self):
-        """A line of docs/theorems is of a crate, or what was planted or tested of a folder that exists."""
+        """A line of docs/theorems is about a crate, or about planted or tested bodies of an existing folder.
+        """
         self.write("docs/theorems/planted", "low: 3 refused.\ntests: 2 noticed.\nhigh: 1 refused.\n")
         self.write("docs/theorems/tested", "low: A length | a row\nother: A name | a row\n")
         self.write("docs/theorems/reasons", "none::double: a sum\n")

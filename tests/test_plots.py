@@ -1,4 +1,4 @@
-"""bench/plots: the plots of docs/PERFORMANCE.md are those of its tables, and a missing table is named."""
+"""bench/plots: the plots of docs/PERFORMANCE.md match its tables, and a missing table is named."""
 
 import os
 import re

@@ -50,7 +50,7 @@ class ProgressTest(FilesTest):
         return passed.splitlines(), [line.removeprefix("gate: ") for line in said.splitlines()]
 
     def test_start(self):
-        """What is left is divided by the lanes, and is never less than what waits for one another."""
+        """The rest is divided by the lanes, and is never less than the longest chain."""
         kept = "rt: %s is kept: an earlier run on this machine proved the same files"
         lines = ["rt: low proved", "3 passed, 0 failed"]
         passed, said = self.heard(*lines)
@@ -63,7 +63,7 @@ class ProgressTest(FilesTest):
         self.check("none is left", said, [start])
 
     def test_how_far(self):
-        """A line counts what was proved and tried, and leaves out what is kept."""
+        """A line counts proved and tried crates, and leaves out kept ones."""
         lines = ["rt: low is kept: an earlier run", "rt: middle proved"]
         lines.append("rt: middle: trying its must-fail edits (2)")
         _, said = self.heard(*lines, "3 passed, 0 failed", wait=4.0)

@@ -113,7 +113,7 @@ class RecipesTest(RecipeTest):
             self.check("the one that is left", place.call("DeleteVolume", "--volume", "vol-2"), "0 OK\n")
 
     def begin_restore(self, place):
-        """Four volumes, of which the first two are attached at n1, a copy, and step 1 of a restore of it."""
+        """Four volumes, the first two attached at n1, a copy, and step 1 of a restore of it."""
         for name in ["a", "b", "c", "d"]:
             place.call(*create(name))
         for volume in ["vol-1", "vol-2"]:
@@ -304,7 +304,7 @@ LOW = "volume 40: its number is not from 1 to below the next number"
 
 
 class RestoreTest(RecipeTest):
-    """Of three volumes of the orchestrator the copy has one, and it has one that was deleted since."""
+    """The copy has one of the orchestrator's three volumes, and one that was deleted since."""
 
     def setUp(self):
         super().setUp()
@@ -322,7 +322,7 @@ class RestoreTest(RecipeTest):
         self.place.orchestrator("vol-40\nvol-2\nvol-3\n", "vol-40 rw n1\n")
 
     def test_rows_of_the_copy_are_back(self):
-        """What was there is put aside."""
+        """The old files are put aside."""
         self.assertEqual((self.place.owners(), self.place.modes()), ({OWNER}, {"0o600"}))
         self.assertEqual(self.place.rows(), ({1: "a", 2: "b"}, 3))
         self.assertEqual(self.place.rows(self.copies + "/old/volumes.db"), ({2: "b", 3: "c"}, 4))
@@ -455,8 +455,7 @@ class DevicesTest(RecipeTest):
             self.check("none after it is deleted", (out, errors, status), refused)
 
     def test_data_without_volume(self):
-        """Of the data on a device those are shown whose volumes are not listed, and none where there is no
-        listing.
+        """Data on a device is shown if its volume is not listed, and never without a listing.
         """
         heading = "## When they are swept"
         with Place(self.csictl, self.csid) as place:
@@ -476,7 +475,7 @@ class DevicesTest(RecipeTest):
 
 
 class KubernetesTest(RecipeTest):
-    """The commands of docs/DEPLOY.md by which the file comes out of its claim and into it."""
+    """The commands of docs/DEPLOY.md that copy the file out of its claim and into it."""
 
     def setUp(self):
         super().setUp()
@@ -517,7 +516,7 @@ class KubernetesTest(RecipeTest):
         return place.shell(begin + end + raised + into + start, copies=copies)
 
     def test_volumes_of_the_copy_are_restored(self):
-        """The one that was made since is not there, and its number is not given again."""
+        """The volume made since the copy is gone, and its number is not given again."""
         served = "csid: /var/lib/csid/volumes.db: " + has(3, 0, 41)
         self.assertEqual(self.restore(), ("41\n" + has(3, 0, 41) + "volumes.db: OK\n" + served, "", 0))
         self.place.must("systemctl stop csid-front")

@@ -30,7 +30,7 @@ from tests.support.recipes import (
 )
 
 
-# The parts of names that are hard to spell in JSON, in SQL or in lines.
+# The parts of names that are hard to write in JSON, in SQL or in lines.
 HARD = [
     "plain",
     "it's",
@@ -281,7 +281,7 @@ class KubernetesEtcdTest(EtcdRecipeTest):
         out, error, status = self.place.shell(first + "".join(steps))
         return out, re.sub(r"revision \d+", "revision R", error), status
 
-    # The steps that are those of the recipes without Kubernetes are taken from these.
+    # Steps shared with the recipes without Kubernetes are taken from these.
 
     def go_over(self):
         no_new_rows, aside, to_deployment = blocks("### In Kubernetes, from a file to etcd", "ETCD.md")
@@ -312,7 +312,7 @@ class KubernetesEtcdTest(EtcdRecipeTest):
         self.assertEqual(self.list_volumes(), ["vol-1", "vol-3", "vol-4"])
 
     def test_file_of_the_claim_is_put_aside(self):
-        """csid serves no file in its place."""
+        """csid serves no file instead."""
         self.go_over()
         self.assertEqual(self.place.rows(self.aside), ({1: "a", 3: "c", 4: "late"}, 5))
         came = self.place.shell(

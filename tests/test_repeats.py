@@ -1,6 +1,6 @@
 """A call that is repeated after a call of another client (docs/MACHINE.md, "Repeats among other clients"). If
 the other call leaves its object alone, the repeat is answered by the same bytes and changes nothing. Each
-line of the table has a history in which the other call does not, and the repeat differs.
+line of the table has a history whose other call does not, and the repeat differs.
 """
 
 import collections
@@ -174,7 +174,7 @@ DIFFERS = [
 
 
 def alone(name, before, call, other, *volumes):
-    """A history whose repeat has the reply of the call, and changes none of these volumes."""
+    """A history whose repeat has the reply of the call, and leaves these volumes unchanged."""
     return History(name, before, call, other, call[1], listing(volumes, volumes))
 
 
@@ -298,7 +298,7 @@ class RepeatsTest(CsidTest):
     """Calls to a `csid pipe`, one stream for each history."""
 
     def stream(self, name, *steps):
-        """Compares the replies to calls with those of their steps."""
+        """Compares the replies to calls with the replies in their steps."""
         calls, replies = (b"".join(side) for side in zip(*steps))
         self.check(name, run([self.csid, "pipe"], input=calls), (replies, "", 0))
 

@@ -28,7 +28,7 @@ class SupportTest(RowTest):
     """Comparisons, and servers that are played."""
 
     def test_rows(self):
-        # Not by a row, which would have to hold for itself.
+        # Not by a row: the row would hold for itself.
         same = [((1, 1), 0), ((b"", b""), 0)]
         for pair, count in [*same, ((1, 2), 1), ((b"", ""), 1), (((1, "", 0), (1, "", 1)), 1)]:
             if faults_of(pair) != count:
@@ -65,7 +65,7 @@ class SupportTest(RowTest):
             other.close()
 
     def test_counts(self):
-        """Ends that have a line, and those of counts."""
+        """Ends that have a line, and ends that are counted."""
         lines = GONE * 2 + "csid: 5 more connections ended: 2 failed, 3 had gone\n" + GONE
         self.check("of each", dict(ended(lines, GONE)), {"of a line": 3, "failed": 2, "had gone": 3})
 

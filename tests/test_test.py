@@ -9,7 +9,8 @@ import unittest
 from tests.support.processes import SECONDS, TOP
 from tests.support.rows import FilesTest
 
-# What ./test calls of the system. Nothing else is on the PATH, so what a part needs is missing.
+# The programs of the system that ./test calls. The PATH has no others, so the programs that a part needs are
+# missing.
 TOOLS = "bash basename cat cmp dirname env find grep ls mktemp nproc paste rm sed sort tail tee timeout wc"
 # A package's name, and the tool that its installation brings.
 BROUGHT = {"sqlite3": "sqlite3", "tini": "tini", "systemd": "systemd-analyze", "strace": "strace"}
@@ -27,7 +28,7 @@ PLAYED = {
     "bin/rt": "",
     "bin/id": "echo 0",
 }
-# Writes down what is installed, and brings it.
+# Notes the packages to install, and provides them.
 APT = """[ "$2" = install ] || exit 0
 shift 4
 for package in "$@"; do

@@ -13,7 +13,7 @@ from tests.vectors.rows import Reader
 
 class VectorsTest(FilesTest):
     def groups_of(self, text):
-        """The groups of a file with this text, or what is wrong with it."""
+        """The groups of a file with this text, or its fault."""
         self.write("rows.txt", text)
         try:
             return Reader(os.path.join(self.folder, "rows.txt")).groups

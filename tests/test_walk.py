@@ -1,13 +1,13 @@
-"""Requests at random to csid, each reply of which must be a model's.
+"""Requests at random to csid: each reply must be a model's.
 
 Requests are put to csid over volumes in memory, over a file of tables and over a log, and to a model: each
-reply must be the model's, byte for byte, and so must what is listed after each request.
+reply must be the model's, byte for byte, and so must the listing after each request.
 
 The requests are over few names, sizes and nodes, so that they meet. Over a file csid is started again and
 again: after its input ended, where the rows must be the model's, and after SIGKILL, or with the file made
-one of format 1. Over a log, which keeps its rows in this process, changes fail: they are refused, or nobody
-knows of them; the call is then put again on a new connection, and has the model's reply. Between the pages
-of a listing there are further requests. What happens must happen often.
+one of format 1. Over a log, which keeps its rows in this process, changes fail: they are refused, or their
+outcome is unknown; the call is then made again on a new connection, and has the model's reply. Between the
+pages of a listing there are further requests. Each kind of outcome must happen often.
 """
 
 import collections
@@ -27,7 +27,7 @@ from tests.support.rows import RowTest
 
 SEEDS, STEPS, WALKS, OFTEN, SECONDS = range(1, 5), 2000, 100, 30, 300
 
-# What must happen often: what is done, and each refusal.
+# The outcomes that must happen often: each kind of change, and each refusal.
 EXPECTED = [
     "created",
     "created again",
@@ -65,7 +65,7 @@ EXPECTED = [
     "a change that the log made, but did not answer",
     "a connection that the log ended",
 ]
-# What a log does of a change, by what is reported of it.
+# Whether a log makes a change, by its report.
 FAULTS = {
     change_stores.KeptChangeStore.REFUSES: "a change that the log refused",
     change_stores.KeptChangeStore.ENDS: "a change that the log did not make",
@@ -74,7 +74,7 @@ FAULTS = {
 
 
 class Server:
-    """csid as a process that is asked and answers, over a file of tables where there is one."""
+    """csid as a process that answers calls, over a file of tables if there is one."""
 
     def __init__(self, csid, tables):
         self.command, self.tables = [csid, "pipe"] + (["--tables", tables] if tables else []), tables
@@ -93,7 +93,7 @@ class Server:
         return head + text + read(int.from_bytes(text[-4:], "big"))
 
     def end(self):
-        """What it wrote that nobody asked for, and its status."""
+        """Its unread output, and its status."""
         return self.process.communicate()[0], self.process.returncode
 
     def kill(self):
@@ -192,7 +192,7 @@ def rows_in(path):
 
 
 class Walk:
-    """One walk, and what was found."""
+    """One walk, and its findings."""
 
     def __init__(self, csid, seed, server):
         self.model, self.server = Model(), server
@@ -209,7 +209,7 @@ class Walk:
         return came == reply
 
     def step(self):
-        """A request, and what is listed after it."""
+        """A request, and the listing after it."""
         listed = self.asks(*self.requests.next()) and self.asks(v.listing(), *self.model.listing(0, "")[:2])
         rule = self.model.breaks()
         if rule:
@@ -217,8 +217,8 @@ class Walk:
         return listed and not rule
 
     def pages(self):
-        """Page after page, with requests between: nothing is listed twice, what is listed stands, and what
-        stood all the while is listed.
+        """Page after page, with requests between: no volume is listed twice, listed volumes exist, and a
+        volume that existed all the while is listed.
         """
         throughout, listed, token = {it.number for it in self.model.volumes}, [], None
         while token != "":
@@ -286,7 +286,7 @@ class Walk:
         self.server.start()
 
     def run(self):
-        # What is reported of pools that have no volumes.
+        # The report for pools without volumes.
         if not all(self.asks(*self.requests.capacity()) for _ in range(8)):
             return self
         for at in range(STEPS):

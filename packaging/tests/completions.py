@@ -18,7 +18,7 @@ function=$(complete -p "$1" | sed -n 's/^complete -F \\([a-z_]*\\) .*/\\1/p')
 "$function"
 printf '%s\\n' "${COMPREPLY[@]}"
 """
-# Words, and what is offered for the last of them. The folder of the row has the files 'volumes.db' and
+# Words, and the completions offered for the last word. The folder of the row has the files 'volumes.db' and
 # 'config.toml'.
 ROWS = [
     (
@@ -161,7 +161,7 @@ def value_rows(programs):
                 }
 
 
-# A value that csictl takes for each option of a message; those of a capability need its mode.
+# A value that csictl takes for each option of a message; the options of a capability need its mode.
 VALUES = {
     "--name": ["a"],
     "--required": ["1"],

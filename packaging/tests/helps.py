@@ -31,7 +31,7 @@ def listed(program, words):
 
 
 def options_of(name, program):
-    """The options of a program, by its subcommands; those of '' are what it takes without one. The common
+    """The options of a program, by its subcommands; '' has the options without a subcommand. The common
     ones are left out.
     """
     return {it: listed(program, [it] if it else []) - COMMON for it in ["", *SUBCOMMANDS[name]]}

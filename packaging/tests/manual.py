@@ -1,5 +1,5 @@
-"""The pages of manual: their parts and options, what is refused, and that man and groff have no warning where
-they are installed.
+"""The manual pages: their parts and options, what is refused, and that man and groff give no warning if they
+are installed.
 """
 import os
 import re
@@ -94,7 +94,7 @@ SECTIONS = {
         "SEE ALSO",
     ],
 }
-# What is in a page as roff, worked out by hand from docs/ and deploy/.
+# The contents of a page as roff, worked out by hand from docs/ and deploy/.
 TEXTS = [
     ("csid.1", '.TH CSID 1 2001-09-09 "csid VERSION" "User Commands"\n'),
     ("csid.1", ".SH NAME\ncsid \\- storage-plugin controller for the Container Storage Interface\n"),
@@ -307,7 +307,7 @@ def made_rows(programs, folder):
 
 
 def parts(programs, folder):
-    """The rows, of which the later ones read the pages that the first ones make in a folder."""
+    """The rows. The later ones read the pages that the first ones make in a folder."""
     warnings = [
         warning_rows(folder, "groff", "-man", "-ww", "-z"),
         warning_rows(folder, "man", "--warnings", "-l", "-Tutf8"),

@@ -48,7 +48,7 @@ RESTARTED_ETCD = [
     "deb-systemd-invoke try-restart csid.service csid-front.service",
 ]
 ETCD_UNIT = "etc/systemd/system/csid-etcd.service"
-# What is in the package with csid-etcd alone.
+# The files that only the package with csid-etcd has.
 OF_ETCD = [
     "./usr/bin/csid-etcd",
     "./usr/share/bash-completion/completions/csid-etcd",
@@ -139,7 +139,7 @@ class System:
         return run("chroot", self.root, *words)
 
     def command(self, unit):
-        """The words that a unit starts, and the variables that it sets, of which one may be such a word."""
+        """The words that a unit starts, and the variables that it sets. A variable may be such a word."""
         text = re.sub(r"\\\n\s*", "", read(self.path("lib/systemd/system/" + unit)))
         variables = dict(
             word.split("=", 1)
@@ -190,8 +190,8 @@ def ended(process):
 
 
 def content_rows(programs, package):
-    """The paths and modes. Whose licences there are depends on what the programs stand on, so of these the
-    modes alone.
+    """The paths and modes. The licences depend on the parts of the programs, so only their modes are
+    compared.
     """
     held = [
         re.sub(r" +\d+ \d{4}-\d\d-\d\d \d\d:\d\d ", " ", it)
@@ -212,8 +212,8 @@ def content_rows(programs, package):
 
 
 def control_rows(programs, package):
-    """What the package needs: the libraries that the programs are linked to, and what the maintainer scripts
-    call. Its checksums are those of its files.
+    """What the package needs: the libraries that the programs are linked to, and the programs that the
+    maintainer scripts call. Its checksums match its files.
     """
     linked = {
         os.path.realpath(it)

@@ -1,5 +1,5 @@
-"""A release: what is in its folder, in its tar.gz and in its list of parts, and what ./release refuses to
-begin with.
+"""A release: its folder, its tar.gz and its list of parts, and the states in which ./release refuses to
+begin.
 """
 import hashlib
 import json
@@ -22,7 +22,7 @@ CSID, CSICTL, FRONT, ETCD = (
 )
 USAGE = "release: usage: ./release [--out FOLDER | --check]\n"
 NO_KIT = "%s: 'rt' is not on the PATH: the Rattle toolchain is needed (README.md, 'Build, run, test')\n"
-# Programs that are there, what is newer than they are, and what ./release says.
+# The programs that exist, the files that are newer, and the line of ./release.
 REFUSED = [
     ([], None, BUILD % (CSID, "./build")),
     ([CSID, FRONT], None, BUILD % (CSICTL, "./build")),
@@ -35,8 +35,8 @@ REFUSED = [
     ([CSID, CSICTL, FRONT], "go/go", BUILD % (FRONT, "go/front/build")),
     ([CSID, CSICTL, FRONT], "VERSION", BUILD % (FRONT, "go/front/build")),
 ]
-# The same of csid-etcd, where the sources of etcd's client are here. The front was built again after what is
-# newer.
+# The same rows for csid-etcd, if the sources of etcd's client are installed. The front was built again after
+# the newer file.
 REFUSED_ETCD = [
     ([CSID, CSICTL, FRONT], None, BUILD % (ETCD, "go/etcd/build")),
     ([CSID, CSICTL, FRONT, ETCD], "go/etcd/import.go", BUILD % (ETCD, "go/etcd/build")),
@@ -76,8 +76,8 @@ def folder_rows(folder, name, package):
 
 
 def files_of(programs):
-    """What a release has next to licences: the programs, their pages of manual and completions, and what is
-    committed of README.md, docs/ and deploy/, but for docs/theorems, which is about the sources.
+    """The contents of a release apart from licences: the programs, their manual pages and completions, and
+    the committed files of README.md, docs/ and deploy/ except docs/theorems, which is about the sources.
     """
     parts = ["README.md", "VERSION", "docs", "deploy", ":!docs/theorems"]
     committed = output("git", "-C", TOP, "ls-files", *parts).split("\n")
@@ -92,7 +92,7 @@ def files_of(programs):
 
 
 def archive_rows(path, name, programs):
-    """The files of the tar.gz, whose owner, date and order tell nothing of who made it."""
+    """The files of the tar.gz. Their owner, date and order do not reveal who made it."""
     date = int(output("git", "-C", TOP, "log", "-1", "--format=%ct"))
     with tarfile.open(path) as archive:
         members = archive.getmembers()
@@ -203,7 +203,7 @@ def clone(folder):
 
 
 def touch(path, seconds):
-    """Makes a file where there is none, and gives it a date so many seconds after that of the clone."""
+    """Makes a file unless it exists, and dates it `seconds` after the clone."""
     os.makedirs(os.path.dirname(path), exist_ok=True)
     with open(path, "a"):
         pass
@@ -262,7 +262,7 @@ def refused(top, programs, newer, again):
     return done
 
 
-# Programs instead of those of packaging/ in a clone: what they do is of no account here.
+# Stand-ins for the programs of packaging/ in a clone: their work does not matter here.
 PLAYED = {
     "licences": "mkdir -p ${*: -1}",
     "deb": 'echo >"$2/csid_$(cat VERSION)_$(dpkg --print-architecture).deb"',
@@ -271,8 +271,8 @@ PLAYED = {
 
 
 def difference_rows(is_etcd):
-    """A check makes two releases, and says so where they differ by their place, their time zone or their
-    mask, or in anything else.
+    """A check makes two releases, and reports any difference, such as one by their place, their time zone or
+    their mask.
     """
     said = "release: two releases of the same programs differ\n"
     with tempfile.TemporaryDirectory() as folder:

@@ -2,12 +2,12 @@
 
 
 class LeftOut(Exception):
-    """Rows that need what is not there."""
+    """Rows that need a program or file that is missing."""
 
 
 def count(parts):
-    """Compares what came with what was wanted in each row of each part, says what differs, and returns the
-    exit status.
+    """Compares the result with the wanted one in each row of each part, reports the differences, and returns
+    the exit status.
     """
     passed = failed = 0
     for part in parts:

@@ -29,7 +29,7 @@ def try_rows(cluster, others, number, replaced):
 
 
 def read_back_rows(cluster, text, meant, found):
-    """What is read back: each leaf, and what a server drops in silence."""
+    """The object read back: each leaf, and the fields that a server drops in silence."""
     kinds = [[one["kind"] for one in objects] for objects in (found, meant)]
     yield "what is read back are its objects", *kinds
     for want, one in zip(meant, found):

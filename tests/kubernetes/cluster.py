@@ -24,7 +24,7 @@ CONTROLLERS = """
 
 
 class LeftOut(Exception):
-    """A row that needs what is not there."""
+    """A row that needs a program or file that is missing."""
 
 
 def free_port():
@@ -148,8 +148,8 @@ class Cluster:
         subprocess.run(command, cwd=self.folder, check=True, capture_output=True)
 
     def certify(self):
-        """Makes the certificates and keys, and the configurations of kubectl: that of the administrator, and
-        one that says nothing of who asks.
+        """Makes the certificates and keys, and the configurations of kubectl: the administrator's, and one
+        without credentials.
         """
         self.openssl("req -x509 -newkey rsa:2048 -nodes -days 2 -subj /CN=ca -keyout ca.key -out ca.crt")
         self.sign("server", "/CN=kube-apiserver", "subjectAltName=IP:127.0.0.1")

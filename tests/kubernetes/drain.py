@@ -1,4 +1,4 @@
-"""The pod may be taken away, and none is made next to it before it has ended."""
+"""The pod may be taken away, and no other pod is made before it has ended."""
 
 import time
 

@@ -1,4 +1,4 @@
-"""The manifest, and its objects: what is given to a server, and what is read back."""
+"""The manifest, and its objects: as a server gets them, and as they are read back."""
 
 import copy
 import os
@@ -9,8 +9,7 @@ TOP = os.path.dirname(os.path.dirname(os.path.dirname(os.path.abspath(__file__))
 MANIFEST = os.path.join(TOP, "deploy", "kubernetes.yaml")
 ACCOUNT, OTHER = "system:serviceaccount:csid:csid", "system:serviceaccount:csid:other"
 DRIVER, ZONE = "pools.example.org", "topology.pools.example.org/zone"
-# Since which version a server knows what is in the manifest, and what is put instead before an older
-# one.
+# The first version of a server that knows each part of the manifest, and the replacement for an older server.
 LATER = [
     ((1, 21), "apiVersion: policy/v1\n", "apiVersion: policy/v1beta1\n"),
     ((1, 27), "  unhealthyPodEvictionPolicy: AlwaysAllow\n", ""),
@@ -30,7 +29,7 @@ def original():
 
 
 def manifest(version):
-    """The manifest as a server of a version is given it, and what was replaced in it."""
+    """The manifest for a server of a version, and the list of its replacements."""
     text, replaced = original(), []
     for since, own, instead in LATER:
         assert text.count(own) == 1, own
@@ -95,7 +94,7 @@ def leaves(meant):
 
 
 def missing(meant, found, path=""):
-    """The paths at which something is not as it was meant. What an object has in addition is the server's."""
+    """The paths at which a value differs from the manifest. Additional values are the server's."""
     if isinstance(meant, dict) and isinstance(found, dict):
         parts = [(key, meant[key], found.get(key, GONE)) for key in meant]
     elif isinstance(meant, list) and isinstance(found, list) and len(meant) == len(found):

@@ -12,7 +12,7 @@ CLAIM_PATH = "/api/v1/namespaces/csid/persistentvolumeclaims/tables-csid-0"
 
 
 def node(name, zone):
-    """A node that is ready, as kubelet and node plugin tell of it."""
+    """A node that is ready, as kubelet and node plugin report it."""
     labels = {"kubernetes.io/hostname": name, ZONE: zone}
     metadata = {
         "name": name,
@@ -45,7 +45,7 @@ def without_tokens(pod):
 
 
 def made_rows(cluster, whole):
-    """The pod and its claim are those of the StatefulSet."""
+    """The StatefulSet owns the pod and its claim."""
     pod = wait(lambda: cluster.get(PATH))
     tokens = without_tokens(pod)
     meant = copy.deepcopy(whole["template"])

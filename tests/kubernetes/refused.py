@@ -78,7 +78,8 @@ WRONG = [
 
 
 def tries_of(kinds):
-    """Each try: its kind, what it is, the object, whether the client looks at it, and what is said of it."""
+    """Each try: its kind, its description, the object, whether the client checks it, and the wanted message.
+    """
     tries = [
         (kind, "%s for %s" % (wrong, path), misspelt(kinds[kind], path, wrong), "true", UNKNOWN)
         for kind, path, wrong in MISSPELT

@@ -2,8 +2,8 @@
 
 from tests.kubernetes.manifest import ACCOUNT, OTHER
 
-# What the sidecars ask for in their own deployments: group, resource and verbs. Those of Role are for the
-# namespace of the pod alone.
+# The rights that the sidecars ask for in their own deployments: group, resource and verbs. The rights of Role
+# are for the namespace of the pod alone.
 MAY = {
     "ClusterRole": [
         ("", "persistentvolumes", "get list watch create patch delete"),

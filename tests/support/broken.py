@@ -75,7 +75,7 @@ class Breaker:
         return self.bytes(message) if how < 9 else message
 
     def stream(self):
-        """Frames in order, of which messages are broken, and then the whole."""
+        """Frames in order, with messages that are broken, and then the whole."""
         frames = []
         for _ in range(self.one_of(1, 1, 2, 5)):
             path, message = self.one_of(*self.corpus)

@@ -43,7 +43,7 @@ class Fronts:
     paths = []
     # How many seconds a client waits for a reply, and the statuses that count as no reply.
     patience, unheard = SECONDS, ()
-    # Of twenty histories those in which a program is killed.
+    # The histories, of twenty, in which a program is killed.
     killed = (4, 11)
 
     def connect(self):
@@ -192,7 +192,7 @@ class Caller:
 
 
 def id_in(reply):
-    """The id of the first volume that a reply names; one that is never given if it names none."""
+    """The id of the first volume that a reply names, or an id that is never given."""
     found = re.search(rb"vol-\d+", reply or b"")
     return found[0].decode() if found else "vol-0"
 

@@ -1,5 +1,5 @@
-"""Change stores at a socket, as `csid serve --log` asks them (docs/PROTOCOL.md, "The change store"): what
-every one does, and one that keeps rows.
+"""Change stores at a socket, as `csid serve --log` asks them (docs/PROTOCOL.md, "The change store"): the part
+that all share, and one that keeps rows.
 """
 import os
 import socket
@@ -156,7 +156,7 @@ class KeptChangeStore(ChangeStore):
         return None if fault == self.LOSES else OK if made else v.refusal(9, "not as the change supposes")
 
     def read(self, token):
-        """A page: so many rows, and how many were told by then as the token of the next."""
+        """A page of rows. The token of the next page is the number of rows given so far."""
         told = int(token or b"0")
         rows = [volume(number, *it) for number, it in sorted(self.volumes.items())] + [
             attachment(*place, *it) for place, it in sorted(self.attachments.items())

@@ -42,7 +42,7 @@ NODES = SAMPLE[SAMPLE.index(b"[[node]]") :]
 SEGMENTS = b'segments = { zone = "a" }'
 
 
-# Further pools and nodes, after those of the sample.
+# Further pools and nodes, after the sample's.
 def pools(count):
     return b"".join(b'[[pool]]\nname = "q%d"\nbytes = 1048576\n' % number for number in range(count))
 

@@ -29,7 +29,7 @@ PROGRAMS, ETCD_PROGRAMS = ["csid", "front"], ["csid-etcd", "csid", "front"]
 TLS = ["--cacert", "--cert", "--key"]
 # The greatest exposure by systemd-analyze security, in tenths.
 EXPOSURE = 30
-# Runs a program as the first process of a namespace, with a network of its own in which each port is free.
+# Runs a program as the first process of a namespace, with a network of its own where each port is free.
 UNSHARE = ["unshare", "--pid", "--net", "--fork"]
 
 
@@ -176,8 +176,8 @@ def shell(command):
 
 
 def etcd_commands():
-    """The words of csid-etcd, csid and the front in each place that starts them over etcd, and those of csid
-    and the front over a file there.
+    """The words of csid-etcd, csid and the front in each place that starts them over etcd, and of csid and
+    the front over a file there.
     """
     plainly = [Unit(name).words() for name in UNITS]
     yield "the units over etcd", Unit(ETCD_UNIT).words(), *[

@@ -35,7 +35,7 @@ READ_FAILED = "csid: a read of standard input failed\n"
 WRITE_FAILED = "csid: a write to standard output failed\n"
 NO_MEMORY = "csid: out of memory\n"
 
-# An unknown field of 1,048,576 bytes in all: its tag, a length of three bytes, and so many bytes.
+# An unknown field of 1,048,576 bytes in all: its tag, a length of three bytes, and the bytes.
 LONGEST = bytes.fromhex("7a fcff3f") + b"x" * 1048572
 
 # Calls of volumes. What a message is made of is in docs/PROTOCOL.md, 'Messages'.

@@ -6,21 +6,21 @@ one order of the calls, which keeps their real-time order, gives each reply (Her
 import collections
 import math
 
-# A call of a client: what it is, for a reader; what it does to a model, which returns the reply; when it was
-# begun, and when it ended. The reply is None if no reply was heard. Then the call took effect before its end,
+# A call of a client: its description; its effect on a model, which returns the reply; when it was begun, and
+# when it ended. The reply is None if no reply was heard. Then the call took effect before its end,
 # or never.
 Operation = collections.namedtuple("Operation", "client what act begun ended reply")
 NEVER = math.inf
 
 
 def begins_first(operation, left):
-    """Whether none of these operations was answered before this one was begun."""
+    """Whether all of these operations were unanswered when this one was begun."""
     return all(it.reply is None or operation.begun <= it.ended for it in left)
 
 
 def linearization(operations, model):
     """Returns an order of operations in which the model gives each reply that was heard, and the model after
-    them; None if there is no such order. The order has all operations that were answered, and maybe others.
+    them; None without such an order. The order has all operations that were answered, and maybe others.
 
     The search is Wing and Gong's ("Testing and verifying concurrent objects", 1993): each operation that may
     be first is tried, and no State with the same operations left is tried twice.

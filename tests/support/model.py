@@ -1,7 +1,7 @@
 """The volume machine, as plain as it can be, and requests at random to it.
 
-It is docs/MACHINE.md with the sample configuration of docs/OPERATING.md, everything looked through again
-for each request; its bytes are those of tests/vectors.
+It is docs/MACHINE.md with the sample configuration of docs/OPERATING.md, everything looked through again for
+each request; its bytes are made by tests/vectors.
 """
 
 import collections
@@ -286,8 +286,8 @@ class Requests:
         )
 
     def topology(self):
-        """The requisite and the preferred terms: one of the one kind, or a preferred one that is the first of
-        two requisite ones.
+        """The requisite and the preferred terms: one term of one kind, or a preferred term that is the first
+        of two requisite ones.
         """
         one, other = self.term(), self.term()
         return self.one_of(([one], []), ([], [one]), ([one, other], [one]), *[([], [])] * 6)

@@ -85,7 +85,7 @@ def with_shell(csid, redirection, given):
     return run(["sh", "-c", 'exec "$0" ' + redirection, csid], input=given)
 
 
-# More than csid takes over the file below where it keeps none of it: 1,000 volumes with parameters of 4,096
+# More than csid needs over the file below without a copy of it: 1,000 volumes with parameters of 4,096
 # bytes in 1,024 entries.
 def some_memory():
     resource.setrlimit(resource.RLIMIT_DATA, (48 << 20, 48 << 20))
@@ -100,12 +100,12 @@ def memory_of_24_mib():
 
 
 def memory_of(size):
-    """What gives a process so many bytes of memory."""
+    """Returns a function that limits the calling process to `size` bytes of memory."""
     return lambda: resource.setrlimit(resource.RLIMIT_DATA, (size, size))
 
 
 def statuses(peer, count):
-    """The statuses of so many replies of a connection; of fewer where it ends."""
+    """The statuses of the next `count` replies of a connection; fewer if it ends."""
     held, came = b"", []
     while len(came) < count:
         piece = peer.recv(1 << 16)
@@ -131,7 +131,7 @@ def as_nobody():
 
 
 def fill(folder):
-    """Leaves no byte on the disk of a folder; what is there is taken away to make room."""
+    """Fills the disk of a folder to the last byte. Removing the file makes room again."""
     path = os.path.join(folder, "filler")
     try:
         with open(path, "wb", buffering=0) as file:
@@ -210,8 +210,8 @@ def small_disk(folder):
 
 
 def copy_for_nobody(csid, folder):
-    """A copy of csid that the user nobody can run, and how to run it: root may all, so it becomes nobody.
-    Where that cannot be, the test is skipped.
+    """A copy of csid that the user `nobody` can run, and how to run it: root has every right, so it becomes
+    `nobody`. If that is impossible, the test is skipped.
     """
     os.chmod(folder, 0o777)
     copy = shutil.copy(csid, os.path.join(folder, "csid"))

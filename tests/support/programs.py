@@ -1,5 +1,4 @@
-"""The built programs as processes for tests/faults, an etcd, and connections to them; and what is found
-there.
+"""The built programs as processes for tests/faults, an etcd, and connections to them; and the findings.
 """
 import base64
 import collections
@@ -54,7 +53,7 @@ def program(name, place):
 
 
 class Run:
-    """One run of a part: its inputs, and what was found."""
+    """One run of a part: its inputs, and its findings."""
 
     passed = failed = 0
     lock = threading.Lock()

@@ -1,5 +1,5 @@
 #!/usr/bin/env python3
-"""The folder in which recipes are run, and what is there for systemctl, kubectl and the front."""
+"""The folder of a run of recipes, and the stand-ins there for systemctl, kubectl and the front."""
 
 import contextlib
 import functools
@@ -79,7 +79,7 @@ class Control:
             top + "/var/lib/csid/volumes.db",
             top + "/run/csid-etcd/log.sock",
         )
-        # Where it stands, csid has the option of deploy/etcd.d/csid.conf.
+        # If it exists, csid has the option of deploy/etcd.d/csid.conf.
         self.over_etcd = top + "/over-etcd"
 
     def pid_file(self, unit):
@@ -176,10 +176,9 @@ class Control:
 
 
 class Cluster(Control):
-    """The kubectl of the recipes, for one pod of a StatefulSet or Deployment: of the two of a Deployment it
-    is the one that leads. The claim is
-    /var/lib/csid, and any pod may have it next to another, as one of ReadWriteOnce on one machine: what
-    keeps them apart is the recipe."""
+    """The kubectl of the recipes, for one pod of a StatefulSet or Deployment: for a Deployment's two pods it
+    is the leader. The claim is /var/lib/csid, and any pod may have it next to another, as with ReadWriteOnce
+    on one machine: only the recipe keeps them apart."""
 
     def __init__(self, top):
         super().__init__(top)
@@ -241,8 +240,8 @@ class Cluster(Control):
             self.start(unit)
 
     def scale(self, *words):
-        """The pod ends after this call, and answers further calls until then. That of the StatefulSet begins
-        again by another one.
+        """The pod ends after this call, and answers further calls until then. A further call starts the
+        StatefulSet's pod again.
         """
         if words == ("statefulset", "csid", "--replicas", "1"):
             return self.begin_statefulset()
@@ -256,7 +255,7 @@ class Cluster(Control):
         )
 
     def end_units(self):
-        """csid is ended within a connection, so what was changed last is in the log of its file alone."""
+        """csid is ended within a connection, so the last changes are only in the log of its file."""
         time.sleep(0.5)
         self.stop("csid-front")
         frames = os.path.join(self.top, "frames")
@@ -272,7 +271,7 @@ class Cluster(Control):
         os.unlink(self.pods + "csid-0")
 
     def wait(self, condition, pod, *_):
-        """Until the pod of csid is gone, or that of the claim is there."""
+        """Waits until the pod of csid is gone, or the claim's pod exists."""
         name, is_there = {
             ("--for=delete", "pod"): ("csid-0", False),
             ("--for=condition=Ready", "pod/csid-tables"): ("csid-tables", True),
@@ -329,7 +328,7 @@ def wait(happens):
 
 
 class Place:
-    """A folder in which recipes are run, with a csid that was started over a file without volumes."""
+    """A folder for recipes, with a csid started over a file without volumes."""
 
     def __init__(self, csictl, csid, is_new=True, **more):
         self.top = tempfile.mkdtemp()

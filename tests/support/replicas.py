@@ -29,7 +29,7 @@ def listens(path):
 
 
 class Replica:
-    """A csid over a csid-etcd, each of which can be started again. `words` are further words of csid."""
+    """A csid over a csid-etcd. Each can be started again. `words` are further words of csid."""
 
     def __init__(self, programs, folder, number, etcd, *words):
         self.csid_program, self.keeper_program = programs

@@ -78,7 +78,7 @@ class CsictlTest(CsidTest):
 
 
 class ProgramTest(RowTest):
-    """A test of the built programs together, some of which may be missing."""
+    """A test of the built programs together. Some may be missing."""
 
     def setUp(self):
         super().setUp()

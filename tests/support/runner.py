@@ -114,7 +114,7 @@ class Runner(unittest.TextTestRunner):
 
     def run(self, suite):
         classes = by_class(suite, collections.defaultdict(list))
-        # Tests of unittest itself stand for modules that cannot be imported.
+        # unittest makes tests of its own for modules that cannot be imported.
         missing = [it for name in list(classes) if name.startswith("unittest.") for it in classes.pop(name)]
 
         def run(result):

@@ -70,7 +70,7 @@ class Server:
             return replies
 
     def answers(self, calls):
-        """Makes calls over one connection, and reads replies meanwhile. Returns their statuses."""
+        """Makes calls over one connection while it reads replies. Returns their statuses."""
         with self.connect() as peer:
             threading.Thread(target=lambda: [peer.sendall(it) for it in calls], daemon=True).start()
             return statuses(peer, len(calls))

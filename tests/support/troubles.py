@@ -1,4 +1,4 @@
-"""Parts of tests/faults in which nothing is broken but what programs run on: the disk, signals, clocks."""
+"""Parts of tests/faults that break only the surroundings of programs: the disk, signals, clocks."""
 import ctypes
 import json
 import os
@@ -21,21 +21,21 @@ NEW_MOUNTS, NEW_TIME = 0x20000, 0x80
 
 
 def only(body, *numbers):
-    """What stands under a number in a message, and so on in that."""
+    """The value under a number in a message, and so on for nested messages."""
     for number in numbers:
         body = dict(change_stores.fields(body))[number]
     return body
 
 
 class Record:
-    """Which ids stand, with their names, by what was answered OK; and each id that was ever given."""
+    """The ids that exist, with their names, from the OK replies; and each id that was ever given."""
 
     def __init__(self, run):
         self.run, self.names, self.standing = run, {}, {}
 
     def does(self, ask, what, of):
-        """Asks for a volume to be made or removed, and notes it. True where the answer is OK, else what
-        refused it.
+        """Asks for a volume to be made or removed, and notes it. Returns True for OK, or otherwise the
+        refusal.
         """
         answer, why = (
             ask("CreateVolume", v.name(of) + BLOCK) if what == "make" else ask("DeleteVolume", v.vol(of))
@@ -208,7 +208,7 @@ def one_call(run, record, source, client, waits):
 
 
 def makes(run, record, disk, waits):
-    """Makes again what is open, each until it is OK."""
+    """Makes each call in doubt again, until it is OK."""
     for call in waits:
 
         def again():
@@ -344,7 +344,7 @@ class Stack:
                 else ("make", "c%d-%d" % (number, count))
             )
             done, end = False, time.monotonic() + 4 * SECONDS
-            # What is late is a finding, but no call is given up: it may have been made, and the record would
+            # A late reply is a finding, but no call is given up: it may have been made, and the record would
             # not know it.
             while done is not True:
                 if time.monotonic() > end:
@@ -365,7 +365,7 @@ class Stack:
             mine = [of for of, name in list(self.record.standing.items()) if name.startswith("c%d-" % number)]
 
     def sends(self, source):
-        """A signal to one of the four; what is stopped goes on, in time or after the end of its lease."""
+        """A signal to one of the four; a stopped program goes on, in time or after the end of its lease."""
         victim, how = source.choice(self.all), source.choice(SIGNALS)
         if victim.has_ended():
             return
@@ -422,7 +422,7 @@ class Stack:
         return ids is not None
 
     def ends(self):
-        """The callers end, and what is listed and in etcd is what they were answered."""
+        """The callers end, and the listing and etcd agree with their replies."""
         self.over.set()
         self.run.check(
             "the callers end",
@@ -444,7 +444,7 @@ class Stack:
 
 
 def signals(run, clocks=None):
-    """What was answered OK is in the rows, and no id is given twice."""
+    """Each change answered OK is in the rows, and no id is given twice."""
     stack = Stack(run, clocks)
     for it in stack.callers:
         it.start()
@@ -460,8 +460,8 @@ def signals(run, clocks=None):
 
 
 def clock(run):
-    """Each start has a monotonic clock and one of the time since the boot that are years before or after
-    those of the others.
+    """Each start has a monotonic clock and a clock since the boot that are years before or after the other
+    starts'.
     """
     print(
         (

@@ -1,4 +1,4 @@
-"""All vectors, in the order in which they are printed."""
+"""All vectors, in the order of printing."""
 
 import collections
 import re

@@ -13,7 +13,7 @@ from tests.vectors.steps import (
 
 GROUPS = {}
 
-# Of each range: its numbers, or None where there is none, and the reply.
+# For each range: its numbers, or None if it is absent, and the reply.
 SIZES = {
     "required-one-mib": (MIB, None, CREATED),
     "required-one-mib-and-a-byte": (MIB + 1, None, created(1, 2 * MIB, P1)),

@@ -147,12 +147,12 @@ def mount_group(text):
 
 
 def cap(*parts):
-    """A capability of create, publish and validate; those of GetCapacity are field 1."""
+    """A capability of create, publish and validate; GetCapacity has capabilities in field 1."""
     return msg(3, *parts)
 
 
 def parameter(key, value):
-    """An entry of the parameters of create and validate; those of GetCapacity are field 2."""
+    """An entry of the parameters of create and validate; GetCapacity has parameters in field 2."""
     return entry(4, key, value)
 
 

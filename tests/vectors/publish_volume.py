@@ -13,8 +13,8 @@ from tests.vectors.steps import (
 
 GROUPS = {}
 
-# Of each mode: the reply to a second node that writes where the first one writes, and to one that reads where
-# the first one reads.
+# For each mode: the reply to a second node that writes while the first one writes, and to a second node that
+# reads while the first one reads.
 BLOCK_MODES = [
     (1, ELSEWHERE, ELSEWHERE),
     (2, ELSEWHERE, ELSEWHERE),

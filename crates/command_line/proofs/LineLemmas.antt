@@ -1,4 +1,4 @@
--- What stands in a line after one character more.
+-- The contents of a line after one more character.
 use Rattle.std.proofs.Common.{◌≡◌, ◌∙◌, ◌++◌, List, [], ◌∷◌, ℕ, ap, append_assoc, append-nil, length, sym, arith, encode_utf8, encode_utf8_all}
 use Rattle.std.proofs.lemmas.Str.{encode_ascii, encodes-append}
 use Rattle.std.proofs.lemmas.List.Concat.{flat_map-append}

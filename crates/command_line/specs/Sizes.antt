@@ -14,7 +14,7 @@ half halves = if halves % 2 == 0 then [] else codes ".5"
 abbrev pub halves_text : ℕ → List ℕ → List ℕ
 halves_text halves unit = decimal (halves / 2) ++ (half halves ++ (codes " " ++ unit))
 
--- so many halves of this unit; where they are not exact, the text in another way
+-- a count of halves of this unit; if the count is not exact, the text in another way
 abbrev pub in_unit : Option ℕ → List ℕ → List ℕ → List ℕ
 in_unit (Some halves) unit otherwise = halves_text halves unit
 in_unit None unit otherwise = otherwise

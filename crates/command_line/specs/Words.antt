@@ -1,7 +1,7 @@
 -- Words of a line.
 use Rattle.std.specs.Prelude.{ℕ, List, [], ◌∷◌, ◌++◌}
 
--- a dash where there is nothing
+-- a dash for an empty text
 abbrev pub or_dash : List ℕ → List ℕ
 or_dash [] = 45 ∷ []
 or_dash (byte ∷ rest) = byte ∷ rest

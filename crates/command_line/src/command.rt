@@ -24,7 +24,7 @@ pub enum ArgumentsFault {
     /// Help or the version cannot be written.
     #[error("a write to standard output failed")]
     WriteFailed,
-    /// There is no memory.
+    /// Memory for the arguments was refused.
     #[error("out of memory")]
     NoMemory,
 }
@@ -41,7 +41,7 @@ impl ArgumentsFault {
         }
     }
 
-    /// The exit status.
+    /// The exit status: docs/CLI.md lists them.
     pub fn status(&self) -> u8
         ensures { result ≡ arguments_status self.now }
     {
@@ -106,7 +106,7 @@ fn end(rt: &HostRuntime, error: &ClapError) -> Result<(), ArgumentsFault> {
     }
 }
 
-/// What the arguments ask for; nothing where that is help or the version, which is printed then.
+/// The parsed arguments; `None` after the help or the version was printed.
 ///
 /// # Errors
 ///

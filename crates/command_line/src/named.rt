@@ -3,12 +3,12 @@
 use std::alloc::{AllocError, Global};
 use std::fmt::{self, Display};
 
-/// What is said of a file or of something else, after its name. Its `Display` is `NAME: WHAT`.
+/// A file or another named thing, and a statement about it. Its `Display` is `NAME: WHAT`.
 #[derive(Debug, Drop)]
 pub struct Named<N, W> {
     /// The name, as a path.
     pub name: N,
-    /// What there is to say.
+    /// The statement after the name and the colon.
     pub what: W,
 }
 
@@ -18,7 +18,7 @@ impl<N: Display, W: Display> Display for Named<N, W> {
     }
 }
 
-/// What has failed, and why, both as texts of their own.
+/// A failed thing and the reason, each an owned text.
 pub type Cause = Named<String, String>;
 
 /// Copies a name, and writes why it failed.

@@ -3,7 +3,7 @@
 use clap::{Arg, ArgAction, Command, Error, value_parser};
 use std::alloc::{AllocError, Global};
 
-/// What an option takes, and the name of that in the help.
+/// The kind of value that an option takes, and the value's name in the help.
 #[derive(Clone, Copy)]
 pub enum Takes {
     /// Nothing: it is there or not.
@@ -30,7 +30,7 @@ pub struct CommandOption {
     pub needs: Option<&'static str>,
     /// Nothing else may be given with it.
     pub is_alone: bool,
-    /// What it is without it.
+    /// The default value, as the help shows it; `None` if the option has none.
     pub standard: Option<&'static str>,
     pub help: &'static str,
 }
@@ -72,7 +72,7 @@ fn taking<'a>(arg: Arg<'a>, takes: Takes) -> Arg<'a> {
     }
 }
 
-// What it is called.
+// The argument of `clap` with the option's name and help.
 fn named<'a>(alloc: Global, option: &CommandOption) -> Arg<'a> {
     let arg = Arg::new(alloc, option.name).help(option.help);
     match option.takes {
@@ -117,14 +117,14 @@ pub struct Subcommand {
     pub shared: &'static [CommandOption],
 }
 
-/// What a program's command line may have: options, or one of its commands.
+/// The command line of a program: options, or one of its commands.
 #[derive(Clone, Copy)]
 pub struct CommandLine<'l> {
     /// The name of the program.
     pub name: &'static str,
     pub version: &'static str,
     pub about: &'static str,
-    /// Those without a command; no command can be given with them.
+    /// Options that are given without a command, and never with one.
     pub options: &'static [CommandOption],
     pub subcommands: &'l [Subcommand],
 }

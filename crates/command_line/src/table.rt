@@ -34,7 +34,7 @@ fn put_row(out: &mut String, row: &[String], widths: &[usize]) -> Result<(), All
     out.push('\n')
 }
 
-// How wide a word makes its column.
+// The columns that a word takes, up to the 80 that widen a column.
 fn width_of(word: &str) -> usize {
     if word.len() <= WIDEST { word.len() } else { 0 }
 }

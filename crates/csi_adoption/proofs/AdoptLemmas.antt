@@ -1,4 +1,4 @@
--- What adoption promises, from what was judged.
+-- What adoption promises, from the judgement of the rows.
 use Rattle.std.proofs.Common.{◌≡◌, ◌≢◌, ◌∙◌, inl, inr, refl, sym, ap, subst, arith, ◌≤◌, true, false, true≢false, None, IsTrue}
 use Rattle.sqlite.specs.Effect.{Database}
 use Rattle.sqlite.specs.Held.{Held, state}
@@ -27,7 +27,7 @@ use Rattle.csi_adoption.specs.Judging.{IsFaultOf}
 
 -- ---- a connection that was settled
 
--- nothing but what was committed, and a stop leaves no more
+-- only committed changes are seen, and a stop leaves no more
 pub record IsSettled {S : Type 0} (g : Ghosts S) (old new : Held S) : Type 0 where
   pub clean : conn_doubt g old ≤ conn_doubt g new
   pub was_open : HasCleanDisk (state g new) → IsTrue (state g new).is_open → IsTrue (state g old).is_open
@@ -50,7 +50,7 @@ module _ {S : Type 0} (g : Ghosts S) (conn one two : Held S) (limit : one ≡ re
         unlimited = survives.limit;
       }
 
--- what is committed after it stays
+-- later commits stay
 still_kept : {S : Type 0} {g : Ghosts S} {conn two : Held S} → IsSettled g conn two → (back : Held S) → (HasCleanDisk (state g back) → HasCleanDisk (state g two)) → (HasCleanDisk (state g back) → KeepsCommit (state g two) (state g back))
     → HasCleanDisk (state g back) → KeepsCommit (state g conn) (state g back)
 still_kept settled back before keeps clean = record {
@@ -58,7 +58,7 @@ still_kept settled back before keeps clean = record {
   committed = λ is_open. (keeps clean).committed is_open ∙ settled.kept (before clean) ((keeps clean).was_open is_open);
 }
 
--- ---- tables that stood
+-- ---- tables that existed
 
 module _ {S : Type 0} (g : Ghosts S) (config : Config) (conn two three : Held S) (totals : Totals) (settled : IsSettled g conn two) (live : IsLive (state g two))
     {Left : Trees → Type 0} (survives : Survives (state g two) (state g three) Left)
@@ -66,7 +66,7 @@ module _ {S : Type 0} (g : Ghosts S) (config : Config) (conn two three : Held S)
   before : HasCleanDisk (state g three) → HasCleanDisk (state g two)
   before clean = omega (arith, survives.clean)
 
-  -- what was seen is what was committed
+  -- the rows that were seen are the committed ones
   seen : HasCleanDisk (state g three) → (state g two).now ≡ (state g conn).committed
   seen clean = settled.now (before clean) (taken clean).was_open
 

@@ -17,7 +17,7 @@ use Rattle.csi_adoption.specs.Again.{EitherTaken, EndsTaken, IsTakenAs, StopsTak
 not_none : schema ≡ no_schema → ⊥
 not_none e = let tables = ap (λ s. s.tables) e in absurd cc
 
--- the State of a database with rows is that of its rows
+-- a database with rows has the State of its rows
 state_of_rows : OneState → (db : Database) (s t : State) → db.schema ≡ schema → IsEitherRows s db.trees → IsStateOf db t → t ≡ s
 state_of_rows one db s t ours rows (inl it) = one t s db.trees it.1 rows
 state_of_rows one db s t ours rows (inr none) = absurd (not_none (sym ours ∙ none.0))

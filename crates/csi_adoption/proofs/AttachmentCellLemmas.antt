@@ -54,7 +54,7 @@ same_number n m same = ap nat_of (is_number n (number_value m) refl same)
 pub number_itself : (n : ℕ) → is_same (number_value n) (number_value n) ≡ true
 number_itself n = same_integers (pos n) (pos n) ∙ ap is_eq (tied_itself int_cmp_total (pos n))
 
--- two rowids of which one is less differ
+-- two rowids differ if one is less
 pub are_different : (v w : Value) → is_int v ≡ true → is_int w ≡ true → value_cmp v w ≡ Less → differ v w ≡ true
 unfolding binary
 are_different (Int a) (Int b) left right less = truth_test (is_ne (value_cmp (Int a) (Int b))) ∙ ap is_ne less

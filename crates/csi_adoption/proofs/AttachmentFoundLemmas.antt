@@ -77,7 +77,7 @@ said x = (
   record { node = unwrap_or (as_text (column x 2)) []; cap = unwrap_or (key_at 3 x) spare; readonly = unwrap_or (as_flag (column x 4)) false },
 )
 
--- a row says an attachment that may stand among the volumes
+-- a row encodes an attachment that the volumes allow
 record Says (config : Config) (volumes : FinMap nat_cmp Volume) (x : Row) (e : AttachmentKey × Attachment) : Type 0 where
   entry : drop 1 x ≡ attachment_entry e
   placed : IsPlaced e
@@ -196,17 +196,17 @@ module _ (attachment_agrees : (config : Config) (rowid : Value) (e : AttachmentK
       let r = row_of e has in
       subst (Has places) (sym r.2) (has_permuted places (map seen_attachment (db 3)) (seen_attachment r.0) (IsPermutation-sym _ _ places_are) (mapped_has seen_attachment (db 3) r.0 r.1))
 
-  beside_told : (e f : AttachmentKey × Attachment) → Has (entries found) e → Has (entries found) f → e.0.0 ≡ f.0.0 → are_apart (attachment_entry e) (attachment_entry f) ≡ false → coexist e.1 f.1 ≡ true
-  beside_told e f left right same far =
+  beside_reported : (e f : AttachmentKey × Attachment) → Has (entries found) e → Has (entries found) f → e.0.0 ≡ f.0.0 → are_apart (attachment_entry e) (attachment_entry f) ≡ false → coexist e.1 f.1 ≡ true
+  beside_reported e f left right same far =
       let good = λ (g : AttachmentKey × Attachment) (has : Has (entries found) g). all_has (λ e. is_supported_key e.1.cap ≡ true) (entries found) g supported has in
       let small = λ (g : AttachmentKey × Attachment) (has : Has (entries found) g). all_has IsPlaced (entries found) g placed has in
       not_not (coexist e.1 f.1) (sym ((pair_agrees e f).beside same (small e left).cap (good e left) (small f right).cap (good f right)) ∙ far)
 
-  beside_found : (n : ℕ) (d e : Bytes) (a b : Attachment) → get found (n, d) ≡ Some a → get found (n, e) ≡ Some b → (d ≡ e → ⊥) → coexist a b ≡ true
-  beside_found n d e a b one other far =
+  coexist_found : (n : ℕ) (d e : Bytes) (a b : Attachment) → get found (n, d) ≡ Some a → get found (n, e) ≡ Some b → (d ≡ e → ⊥) → coexist a b ≡ true
+  coexist_found n d e a b one other far =
       elim (one_way (λ x y. are_apart x y ≡ false) places (attachment_entry ((n, d), a)) (attachment_entry ((n, e), b)) none (place_shown ((n, d), a) left) (place_shown ((n, e), b) right) (λ same. far (ap text_of same))) [
-        | inl first ↦ beside_told ((n, d), a) ((n, e), b) left right refl first
-        | inr second ↦ coexist_turned a b ∙ beside_told ((n, e), b) ((n, d), a) right left refl second
+        | inl first ↦ beside_reported ((n, d), a) ((n, e), b) left right refl first
+        | inr second ↦ coexist_turned a b ∙ beside_reported ((n, e), b) ((n, d), a) right left refl second
       ]
     where
       left : Has (entries found) ((n, d), a)
@@ -230,7 +230,7 @@ module _ (attachment_agrees : (config : Config) (rowid : Value) (e : AttachmentK
     placed = placed;
     keyed = keyed_attachments (db 3) rows order known.rising;
     each = stands_found;
-    beside = beside_found;
+    beside = coexist_found;
     nodes = nodes_found;
   }
 

@@ -53,7 +53,7 @@ use Rattle.csi_adoption.proofs.AttachmentMapLemmas.{has_got, shown_by}
 
 -- ---- an attachment with its volume
 
--- a row of attachments whose number is that of a volume
+-- a row of attachments whose number a volume has
 pub record OwnedRow (volumes : FinMap nat_cmp Volume) (r : Row) : Type 0 where
   pub number : ℕ
   pub volume : Volume
@@ -85,7 +85,7 @@ owned_is agrees r v k ks cap caps fit good fits all = owned_cells r v k ks cap c
 module _ (agrees : (e : AttachmentKey × Attachment) (own : List CapKey) → OwnerAgrees e own) (volumes : FinMap nat_cmp Volume) (attached volumes_in_order : List Row)
     (listed : IsPermutation (map volume_entry (entries volumes)) (map seen_volume volumes_in_order)) (stored : AllByRecursion IsStored (entries volumes))
     (kept : (n : ℕ) (v : Volume) → get volumes n ≡ Some v → AreKeys v.caps) where
-  -- each attachment's number is that of a volume
+  -- a volume has each attachment's number
   pub numbered : (owned : List Row) → IsPermutation (owners attached volumes_in_order) owned → list_all is_owned owned ≡ true → (r : Row) → Has attached r → is_integer (column r 1) ≡ true → OwnedRow volumes r
   numbered owned same all r has kind =
       let found = each_owned is_owned (agrees (with_cap no_cap) []).unowned attached volumes_in_order owned same all r has in
@@ -129,7 +129,7 @@ module _ (db : Trees) (sound : IsSound schema db) where
       some_from (λ o. agree plain (1 ∷ 2 ∷ []) o (1 ∷ 2 ∷ []) b && differ (rowid o) (rowid b)) (db 3) a left (and_from _ _ same (are_different (rowid a) (rowid b) first second less)) in
       true≢false (sym clash ∙ no_clash b right)
 
--- ---- how many stand at a node
+-- ---- the number of attachments at a node
 
 same_sums : {A B C : Type 0} (f : A → ℕ) (g : B → ℕ) (h : C → A) (k : C → B) → ((c : C) → f (h c) ≡ g (k c)) → (cs : List C) → sum_by f (map h cs) ≡ sum_by g (map k cs)
 same_sums f g h k same [] = refl

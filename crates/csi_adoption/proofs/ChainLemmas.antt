@@ -41,11 +41,11 @@ module _ {S : Type 0} (g : Ghosts S) where
   }
 
   -- what a scan after another shows is of the trees before both
-  pub shown_behind : {X Y E F : Type 0} (a b c : Held S) (x : X) (r : Result Y F) (What : Trees → List Row → Type 0) {Told : List Row → Type 0} → Scans g a b {E = E} (Ok x) → Scans g b c r
-      → (HasCleanDisk (state g c) → (rows : List Row) × What (state g b).now.trees rows × Told rows) → HasCleanDisk (state g c) → (rows : List Row) × What (state g a).now.trees rows × Told rows
-  shown_behind a b c x r What one two seen clean = let it = seen clean in (it.0, subst (λ (t : Trees). What t it.0) (same_trees a b (one.same (clean_before b c r two clean))) it.1, it.2)
+  pub shown_after : {X Y E F : Type 0} (a b c : Held S) (x : X) (r : Result Y F) (What : Trees → List Row → Type 0) {Report : List Row → Type 0} → Scans g a b {E = E} (Ok x) → Scans g b c r
+      → (HasCleanDisk (state g c) → (rows : List Row) × What (state g b).now.trees rows × Report rows) → HasCleanDisk (state g c) → (rows : List Row) × What (state g a).now.trees rows × Report rows
+  shown_after a b c x r What one two seen clean = let it = seen clean in (it.0, subst (λ (t : Trees). What t it.0) (same_trees a b (one.same (clean_before b c r two clean))) it.1, it.2)
 
-  -- what was looked at so far stays, whatever is answered then
+  -- the rows looked at so far stay, for every answer
   pub ended : {X Y E F : Type 0} (a b : Held S) (x : X) (r : Result Y F) → Scans g a b {E = E} (Ok x) → Scans g a b r
   ended a b x r one = record { same = λ clean. go r (one.same clean); kept = one.kept; survives = one.survives }
     where

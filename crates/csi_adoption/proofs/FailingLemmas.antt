@@ -66,15 +66,15 @@ if_err P (Ok x) e is p = absurd is
 if_err P (Err y) e is p = subst P (sym is) p
 
 -- a failure of the database says nothing of rows
-pub failure_told : {X : Type 0} (P : Type 0) (r : Result X AdoptFault) (e : Error) → IsErrAnd r (λ x. x ≡ failure_of e) → IfErr r (λ fault. is_failure fault ≡ false → P)
-failure_told P r e is = if_err (λ fault. is_failure fault ≡ false → P) r (failure_of e) is (λ known. absurd (true≢false (sym (error_fails e) ∙ known)))
+pub failure_reported : {X : Type 0} (P : Type 0) (r : Result X AdoptFault) (e : Error) → IsErrAnd r (λ x. x ≡ failure_of e) → IfErr r (λ fault. is_failure fault ≡ false → P)
+failure_reported P r e is = if_err (λ fault. is_failure fault ≡ false → P) r (failure_of e) is (λ known. absurd (true≢false (sym (error_fails e) ∙ known)))
 
-pub told_if : {X : Type 0} (P : Type 0) (r : Result X AdoptFault) (f : AdoptFault) → IsErrAnd r (λ x. x ≡ f) → (is_failure f ≡ false → P) → IfErr r (λ fault. is_failure fault ≡ false → P)
-told_if P r f is p = if_err (λ fault. is_failure fault ≡ false → P) r f is p
+pub reported_if : {X : Type 0} (P : Type 0) (r : Result X AdoptFault) (f : AdoptFault) → IsErrAnd r (λ x. x ≡ f) → (is_failure f ≡ false → P) → IfErr r (λ fault. is_failure fault ≡ false → P)
+reported_if P r f is p = if_err (λ fault. is_failure fault ≡ false → P) r f is p
 
-pub any_told : {X : Type 0} (P : Type 0) (r : Result X AdoptFault) → P → IfErr r (λ fault. is_failure fault ≡ false → P)
-any_told P (Ok x) p = tt
-any_told P (Err fault) p = λ known. p
+pub any_reported : {X : Type 0} (P : Type 0) (r : Result X AdoptFault) → P → IfErr r (λ fault. is_failure fault ≡ false → P)
+any_reported P (Ok x) p = tt
+any_reported P (Err fault) p = λ known. p
 
 -- ---- a cause
 
@@ -88,7 +88,7 @@ fallen first rows now start rises bad up =
     let back : IsRising first.column first.last rows = subst (λ n. IsRising n first.last rows) (sym start.column) (subst (λ l. IsRising 0 l rows) (sym start.last) up) in
     true≢false (sym (rises.1.good_is.1 (start.good, back)) ∙ bad)
 
--- what is refused turns on the database and the limit alone
+-- a refusal depends on the database and the limit alone
 refuses_format : (a b : sql.State) (e : Error) → b.now ≡ a.now → b.step_limit ≡ a.step_limit → RefusesFormat b e → RefusesFormat a e
 refuses_format a b e now limit why =
     subst (λ (l : Option ℕ). RefusesFormat (record a { step_limit = l }) e) limit (subst (λ (db : Database). RefusesFormat (record a { now = db; step_limit = b.step_limit }) e) now why)
@@ -97,7 +97,7 @@ refuses_tables : (a b : sql.State) (e : Error) → IsTrue a.is_open → b.step_l
 refuses_tables a b e is_open limit why = (is_open, why.1, why.2, subst (λ (l : Option ℕ). SqlRefuses first_text [] (record a { now = why.1; step_limit = l }) e) limit why.3)
 
 module _ {S : Type 0} (g : Ghosts S) where
-  -- what refuses it is one of what is refused
+  -- its refusal is one of the listed refusals
   refused_as : {P : Error → Type 0} (a b : Held S) (e : Error) → (P e → Refuses g a e) → fails.FailsFor P (state g a) (state g b) e → fails.FailsFor (Refuses g a) (state g a) (state g b) e
   refused_as a b e refuses (fails.for_memory is) = fails.for_memory is
   refused_as a b e refuses (fails.by_disk is more) = fails.by_disk is more
@@ -116,7 +116,7 @@ module _ {S : Type 0} (g : Ghosts S) where
   schema_before : {is : Schema} (a b : Held S) → IsUnchanged (state g a) (state g b) → (state g b).now.schema ≡ is → (state g a).now.schema ≡ is
   schema_before a b same has = sym (ap (λ (d : Database). d.schema) same.0.now_is) ∙ has
 
-  -- what is refused after a scan is refused before it
+  -- a call refused after a scan is refused before it
   same_refuses : (a b : Held S) (e : Error) → IsUnchanged (state g a) (state g b) → (state g b).step_limit ≡ (state g a).step_limit → Refuses g b e → Refuses g a e
   same_refuses a b e same limit (too_many why) = too_many (why.0, (why.1.0, why.1.1, why.1.2, unchanged_then (state g a) (state g b) (state g why.1.1) same why.1.3, why.1.4, why.1.5))
   same_refuses a b e same limit (unrisen is_open is why) = unrisen same.0.was_open is (subst HasUnrisen (ap (λ (d : Database). d.trees) same.0.now_is) why)
@@ -131,15 +131,15 @@ module _ {S : Type 0} (g : Ghosts S) where
   cause_before a b c e same left (fails.as_refused why) = fails.as_refused (same_refuses a b e same left.limit why)
 
   -- after a scan
-  pub cause_behind : {X E : Type 0} {P : Trees → Type 0} (a b c : Held S) (x : X) (e : Error) → Scans g a b {E = E} (Ok x) → Survives (state g b) (state g c) P → HasCause g b c e → HasCause g a c e
-  cause_behind a b c x e one two cause clean = cause_before a b c e (one.same (omega (arith, clean, two.clean))) one.survives (cause clean)
+  pub cause_after : {X E : Type 0} {P : Trees → Type 0} (a b c : Held S) (x : X) (e : Error) → Scans g a b {E = E} (Ok x) → Survives (state g b) (state g c) P → HasCause g b c e → HasCause g a c e
+  cause_after a b c x e one two cause clean = cause_before a b c e (one.same (omega (arith, clean, two.clean))) one.survives (cause clean)
 
-  pub fault_behind : {X E : Type 0} {P : Trees → Type 0} (a b c : Held S) (x : X) (fault : AdoptFault) → Scans g a b {E = E} (Ok x) → Survives (state g b) (state g c) P → OfStore (HasCause g b c) fault → OfStore (HasCause g a c) fault
-  fault_behind a b c x fault one two = of_store_weaker (HasCause g b c) (HasCause g a c) (λ e _. cause_behind a b c x e one two) fault
+  pub fault_after : {X E : Type 0} {P : Trees → Type 0} (a b c : Held S) (x : X) (fault : AdoptFault) → Scans g a b {E = E} (Ok x) → Survives (state g b) (state g c) P → OfStore (HasCause g b c) fault → OfStore (HasCause g a c) fault
+  fault_after a b c x fault one two = of_store_weaker (HasCause g b c) (HasCause g a c) (λ e _. cause_after a b c x e one two) fault
 
-  pub judging_behind : {X Y E : Type 0} {P : Trees → Type 0} (a b c : Held S) (x : X) (r : Result Y AdoptFault) → Scans g a b {E = E} (Ok x) → Survives (state g b) (state g c) P → JudgingFails g b c r → JudgingFails g a c r
-  judging_behind a b c x (Ok y) one two failed = tt
-  judging_behind a b c x (Err fault) one two failed = fault_behind a b c x fault one two failed
+  pub judging_after : {X Y E : Type 0} {P : Trees → Type 0} (a b c : Held S) (x : X) (r : Result Y AdoptFault) → Scans g a b {E = E} (Ok x) → Survives (state g b) (state g c) P → JudgingFails g b c r → JudgingFails g a c r
+  judging_after a b c x (Ok y) one two failed = tt
+  judging_after a b c x (Err fault) one two failed = fault_after a b c x fault one two failed
 
   -- rows that do not rise
   pub unrisen_volumes : (a b : Held S) → (HasCleanDisk (state g b) → IsUnchanged (state g a) (state g b)) → (HasCleanDisk (state g b) → DoNotRise (map seen_volume ((state g a).now.trees 1))) → HasCause g a b (SqliteFailure DatabaseCorrupt)
@@ -161,9 +161,9 @@ module _ {S : Type 0} (g : Ghosts S) where
   pub ours : (a b : Held S) → (state g a).now.schema ≡ schema → IsUnchanged (state g a) (state g b) → (state g b).now.schema ≡ schema
   ours a b is same = ap (λ (d : Database). d.schema) same.0.now_is ∙ is
 
-  -- ---- of what was committed
+  -- ---- committed changes
 
-  -- a connection of which nothing but what was committed is seen
+  -- a connection that shows only committed changes
   pub settled_cause : {P : Trees → Type 0} (conn one two back : Held S) (fault : AdoptFault) → one ≡ record conn { step_limit = None } → (HasCleanDisk (state g two) → IsUndone (state g one) (state g two)) → Survives (state g one) (state g two) (λ _. ⊥)
       → Survives (state g two) (state g back) P → (HasCleanDisk (state g back) → IsTrue (state g back).is_open → IsTrue (state g two).is_open) → OfStore (HasCause g two back) fault → AdoptionFails g conn back fault
   settled_cause conn one two back fault limit undone left last opened = of_store_weaker (HasCause g two back) (λ e. HasCleanDisk (state g back) → FailsCommitted g conn back e) (λ e other cause clean.
@@ -184,7 +184,7 @@ module _ {S : Type 0} (g : Ghosts S) where
             (λ was_shut. inl was_shut),
       )
 
-      -- an open connection alone refuses what is asked
+      -- only an open connection refuses a request
       open_of : (e : Error) → Refuses g two e → IsTrue (state g two).is_open
       open_of e (too_many why) = why.1.3.0.was_open
       open_of e (unrisen is_open is why) = is_open
@@ -199,9 +199,9 @@ module _ {S : Type 0} (g : Ghosts S) where
       go e clean opened undone left other (fails.at_limit is some) = absurd (true≢false (sym (subst IsSome left.limit some)))
       go e clean opened undone left other (fails.as_refused why) = let is_open = open_of e why in as_refused (undone.was_open is_open, two, left.limit, undone.now is_open, why)
 
-  -- what was answered as an error of the database
-  pub told_behind : {X : Type 0} (a b : Held S) (r : Result X AdoptFault) (e : Error) → IsErrAnd r (λ x. x ≡ failure_of e) → HasCause g a b e → JudgingFails g a b r
-  told_behind a b r e is cause = if_err (OfStore (HasCause g a b)) r (failure_of e) is (of_failure (HasCause g a b) e cause)
+  -- an answer that is an error of the database
+  pub reported_after : {X : Type 0} (a b : Held S) (r : Result X AdoptFault) (e : Error) → IsErrAnd r (λ x. x ≡ failure_of e) → HasCause g a b e → JudgingFails g a b r
+  reported_after a b r e is cause = if_err (OfStore (HasCause g a b)) r (failure_of e) is (of_failure (HasCause g a b) e cause)
 
   -- what no failure of the database is
   pub no_store : {X : Type 0} (a b : Held S) (r : Result X AdoptFault) (f : AdoptFault) → IsErrAnd r (λ x. x ≡ f) → is_store f ≡ false → JudgingFails g a b r
@@ -218,27 +218,27 @@ module _ {S : Type 0} (g : Ghosts S) where
 abbrev IsNoStore : Result Meta AdoptFault → Type 0
 IsNoStore r = IfErr r (λ fault. is_store fault ≡ false)
 
-integers_tell : (key number next : ℤ) → IsNoStore (integers_judged key number next)
-integers_tell key number next = go (not (int_eq key (pos 1)) || int_lt number (pos FIRST_FORMAT)) (int_lt (pos LATEST_FORMAT) number)
+integers_report : (key number next : ℤ) → IsNoStore (integers_judged key number next)
+integers_report key number next = go (not (int_eq key (pos 1)) || int_lt number (pos FIRST_FORMAT)) (int_lt (pos LATEST_FORMAT) number)
   where
     go : (a b : Bool) → IsNoStore (cond a (Err (Foreign foreign.Meta)) (cond b (Err (Newer number)) (Ok (record { format = valid_format number; next = valid_next next }))))
     go true b = refl
     go false true = refl
     go false false = tt
 
-row_tells : (key number next : Option ℤ) → IsNoStore (row_judged key number next)
-row_tells (Some key) (Some number) (Some next) = integers_tell key number next
-row_tells (Some key) (Some number) None = refl
-row_tells (Some key) None next = refl
-row_tells None number next = refl
+row_reports : (key number next : Option ℤ) → IsNoStore (row_judged key number next)
+row_reports (Some key) (Some number) (Some next) = integers_report key number next
+row_reports (Some key) (Some number) None = refl
+row_reports (Some key) None next = refl
+row_reports None number next = refl
 
-meta_tells : (rows : MetaRows) → IsNoStore (meta_judged rows)
-meta_tells meta.None = refl
-meta_tells (meta.One m) = row_tells m.key m.format m.next
-meta_tells meta.Many = refl
+meta_reports : (rows : MetaRows) → IsNoStore (meta_judged rows)
+meta_reports meta.None = refl
+meta_reports (meta.One m) = row_reports m.key m.format m.next
+meta_reports meta.Many = refl
 
 pub meta_fails : {S : Type 0} (g : Ghosts S) (a b : Held S) (rows : MetaRows) (r : Result Meta AdoptFault) → r ≡ meta_judged rows → JudgingFails g a b r
-meta_fails g a b rows r is = go r (subst IsNoStore (sym is) (meta_tells rows))
+meta_fails g a b rows r is = go r (subst IsNoStore (sym is) (meta_reports rows))
   where
     go : (r : Result Meta AdoptFault) → IsNoStore r → JudgingFails g a b r
     go (Ok m) none = tt

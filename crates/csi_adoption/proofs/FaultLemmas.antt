@@ -1,4 +1,4 @@
--- Checks in order, each of which ends them by its fault.
+-- Checks in order: the first that finds a fault ends them with it.
 use Rattle.std.proofs.Common.{◌≡◌, inl, inr, refl, Bool, true, false, List, [], ◌∷◌, Option, Some, None, Result, Ok, Err, IsErrAnd, ap, cond}
 use Rattle.sqlite.specs.declared.error.Error.{Error}
 use Rattle.csi_constraints.specs.Folds.{HasSome}
@@ -19,7 +19,7 @@ pub is_err : {X E : Type 0} (r : Result X E) (x : E) → IsErrAnd r (λ e. e ≡
 is_err (Ok y) x h = absurd h
 is_err (Err e) x h = ap Err h
 
--- what is no failure is not told for want of memory
+-- a result that is no failure is never reported as want of memory
 pub not_memory : (e : AdoptFault) → is_failure e ≡ false → is_no_memory e ≡ false
 not_memory (Foreign what) known = refl
 not_memory (Newer format) known = refl

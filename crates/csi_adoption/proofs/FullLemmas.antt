@@ -1,4 +1,4 @@
--- Where the list or its sums have end none is full.
+-- If the list of pools or the list of sums ends, no further pool is full.
 use Rattle.std.proofs.Common.{◌≡◌, ◌⊎◌, inl, inr, refl, ap, ℕ, List, [], ◌∷◌, None}
 use Rattle.csi_constraints.specs.declared.sums.TextSum.{TextSum}
 use Rattle.csi_adoption.specs.Faults.{first_full}

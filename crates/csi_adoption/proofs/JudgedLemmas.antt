@@ -1,4 +1,4 @@
--- The fault of rows, from what was seen of them.
+-- The fault of rows, from the folds over them.
 use Rattle.std.proofs.Common.{◌≡◌, ◌∙◌, inr, refl, sym, ap, ap₂, false, true≢false, List, map, Option, Some, None, Result, Ok, Err, IsErrAnd, IsPermutation}
 use Rattle.sqlite.specs.Order.{Row}
 use Rattle.sqlite.specs.Tree.{Trees}
@@ -10,7 +10,7 @@ use Rattle.csi_constraints.specs.Apart.{apart_named}
 use Rattle.csi_constraints.specs.Joins.{is_owned}
 use Rattle.csi_constraints.specs.declared.named.RowName.{RowName}
 use Rattle.csi_adoption.specs.Faults.{owner_fault as unowned_fault, all_faults, count_faults, failure_of, is_failure, table_faults}
-use Rattle.csi_adoption.specs.Seen.{told_attachments, told_volumes, AttachmentsFound, VolumesFound}
+use Rattle.csi_adoption.specs.Seen.{reported_attachments, reported_volumes, AttachmentsFound, VolumesFound}
 use Rattle.csi_adoption.specs.declared.fault.AdoptFault.{AdoptFault}
 use Rattle.csi_adoption.specs.declared.seen.VolumesSeen.{VolumesSeen}
 use Rattle.csi_adoption.specs.Judging.{first_named, meta_judged, volumes_unless, with_rows, AreJudged, ArePassed, JudgesRows, TablesAreSeen}
@@ -34,10 +34,10 @@ joined_failure config db tables (Err e) x h = λ known. absurd (true≢false (sy
 
 module _ (config : Config) (db : Trees) (m : Meta) (rows : List Row) (same : IsPermutation (map seen_meta (db 0)) rows) (meta_is : meta_judged (with_rows meta.None rows) ≡ Ok m) (tables : TablesSeen) (seen : TablesAreSeen config m db tables) where
   abbrev v : VolumesFound
-  v = told_volumes tables.volumes
+  v = reported_volumes tables.volumes
 
   abbrev a : AttachmentsFound
-  a = told_attachments tables.attachments
+  a = reported_attachments tables.attachments
 
   abbrev AreOwned : List Row → Type 0
   AreOwned owned = IsInOrder (owners (db 3) (db 1)) owned

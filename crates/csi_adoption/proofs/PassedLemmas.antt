@@ -18,7 +18,7 @@ use Rattle.csi_adoption.specs.Judging.{first_named, in_attachments, in_volumes}
 use Rattle.csi_adoption.specs.Passing.{AttachmentsPass, VolumesPass}
 use Rattle.csi_adoption.specs.declared.meta.Meta.{Meta}
 use Rattle.csi_adoption.proofs.JudgingLemmas.{all_roomy, all_unnamed, few_rows, is_next, rows_few, no_next_fault, none_both, none_first, none_full, none_named, unmapped}
-use Rattle.csi_adoption.proofs.SumLemmas.{room_kept, room_told}
+use Rattle.csi_adoption.proofs.SumLemmas.{room_kept, room_reported}
 
 -- what every constraint of the rows after meta asks
 pub record RowsPass (config : Config) (m : Meta) (volume_rows attachment_rows owner_rows place_rows : List Row) : Type 0 where
@@ -32,19 +32,19 @@ pub record IsSmall (config : Config) : Type 0 where
   pub pools : AllByRecursion (λ p. p.bytes < 2 ^ 64 - 1) config.pools
   pub nodes : AllByRecursion (λ m. m.max_volumes < 2 ^ 64 - 1) config.nodes
 
-told_pools : (rows : List Row) (pools : List Pool) → AllByRecursion (λ p. p.bytes < 2 ^ 64 - 1) pools → AllByRecursion (λ p. sum_after 3 p.name (Number 2) 0 rows ≤ p.bytes) pools
+reported_pools : (rows : List Row) (pools : List Pool) → AllByRecursion (λ p. p.bytes < 2 ^ 64 - 1) pools → AllByRecursion (λ p. sum_after 3 p.name (Number 2) 0 rows ≤ p.bytes) pools
     → AllByRecursion (λ p. sum_by (added_by 3 p.name (Number 2)) rows ≤ p.bytes) pools
-told_pools rows [] small all = tt
-told_pools rows (p ∷ pools) small all = (room_told 3 p.name (Number 2) rows p.bytes all.0 small.0, told_pools rows pools small.1 all.1)
+reported_pools rows [] small all = tt
+reported_pools rows (p ∷ pools) small all = (room_reported 3 p.name (Number 2) rows p.bytes all.0 small.0, reported_pools rows pools small.1 all.1)
 
 kept_pools : (rows : List Row) (pools : List Pool) → AllByRecursion (λ p. sum_by (added_by 3 p.name (Number 2)) rows ≤ p.bytes) pools → AllByRecursion (λ p. sum_after 3 p.name (Number 2) 0 rows ≤ p.bytes) pools
 kept_pools rows [] all = tt
 kept_pools rows (p ∷ pools) all = (room_kept 3 p.name (Number 2) rows p.bytes all.0, kept_pools rows pools all.1)
 
-told_nodes : (rows : List Row) (nodes : List Node) → AllByRecursion (λ m. m.max_volumes < 2 ^ 64 - 1) nodes → AllByRecursion (λ m. sum_after 2 m.id One 0 rows ≤ m.max_volumes) nodes
+reported_nodes : (rows : List Row) (nodes : List Node) → AllByRecursion (λ m. m.max_volumes < 2 ^ 64 - 1) nodes → AllByRecursion (λ m. sum_after 2 m.id One 0 rows ≤ m.max_volumes) nodes
     → AllByRecursion (λ m. sum_by (added_by 2 m.id One) rows ≤ m.max_volumes) nodes
-told_nodes rows [] small all = tt
-told_nodes rows (m ∷ nodes) small all = (room_told 2 m.id One rows m.max_volumes all.0 small.0, told_nodes rows nodes small.1 all.1)
+reported_nodes rows [] small all = tt
+reported_nodes rows (m ∷ nodes) small all = (room_reported 2 m.id One rows m.max_volumes all.0 small.0, reported_nodes rows nodes small.1 all.1)
 
 kept_nodes : (rows : List Row) (nodes : List Node) → AllByRecursion (λ m. sum_by (added_by 2 m.id One) rows ≤ m.max_volumes) nodes → AllByRecursion (λ m. sum_after 2 m.id One 0 rows ≤ m.max_volumes) nodes
 kept_nodes rows [] all = tt
@@ -100,7 +100,7 @@ module _ (config : Config) (small : IsSmall config) (volumes attachments owned p
               names = none_named 0 1 _ volumes (unmapped _ _ n3.0);
               pools = none_named 0 1 _ volumes (unmapped _ _ s1.0);
               sizes = none_named 0 1 _ volumes (unmapped _ _ s2.0);
-              rooms = told_pools volumes config.pools small.pools (none_full (λ p. p.bytes) (λ p. sum_after 3 p.name (Number 2) 0 volumes) config.pools (unmapped _ _ s3.0));
+              rooms = reported_pools volumes config.pools small.pools (none_full (λ p. p.bytes) (λ p. sum_after 3 p.name (Number 2) 0 volumes) config.pools (unmapped _ _ s3.0));
               caps = none_named 0 1 _ volumes (unmapped _ _ c1.0);
               params = none_named 0 1 _ volumes (unmapped _ _ c2.0);
               few = few_rows (length volumes) p3.0;
@@ -110,7 +110,7 @@ module _ (config : Config) (small : IsSmall config) (volumes attachments owned p
               caps = none_named 1 2 _ attachments (unmapped _ _ c3.0);
               flags = none_named 1 2 _ attachments (unmapped _ _ c4.0);
               nodes = none_named 1 2 _ attachments (unmapped _ _ c5.0);
-              counts = told_nodes attachments config.nodes small.nodes (none_full (λ m. m.max_volumes) (λ m. sum_after 2 m.id One 0 attachments) config.nodes (unmapped _ _ p2.0));
+              counts = reported_nodes attachments config.nodes small.nodes (none_full (λ m. m.max_volumes) (λ m. sum_after 2 m.id One 0 attachments) config.nodes (unmapped _ _ p2.0));
             };
             owned = none_named 0 1 _ owned (unmapped _ _ b.0);
             beside = unnamed_none places (unmapped _ _ p1.0);

@@ -66,7 +66,7 @@ module _ {K X : Type 0} (R : K → K → Ordering) where
 
 -- ---- rows in the order of the numbers
 
--- a value that is not below one that is not below another is not below that
+-- if a is not below b and b is not below c, a is not below c
 not_below_then : (x y z : Value) → is_lt (value_cmp y x) ≡ false → is_lt (value_cmp z y) ≡ false → is_lt (value_cmp z x) ≡ false
 not_below_then x y z low high = go (value_cmp z x) refl
   where

@@ -1,4 +1,4 @@
--- What folds over the rows of a table have become, as what is seen of it.
+-- The results of folds over the rows of a table, as facts about the table.
 use Rattle.std.proofs.Common.{◌≡◌, ◌∙◌, refl, ap, subst, arith, ℕ, ◌-◌, ◌<◌, ◌^◌, min, Bool, true, List, [], ◌∷◌, length, map, None}
 use Rattle.std.specs.List.{AllZip}
 use Rattle.sqlite.specs.Order.{Row}
@@ -16,7 +16,7 @@ use Rattle.csi_constraints.specs.declared.sums.Weight.{Weight}
 use Rattle.csi_constraints.specs.declared.sums.Weight.TheVariants.{Number, One}
 use Rattle.csi_adoption.specs.Folding.{BeginsAttachments, BeginsVolumes, FoldsAttachments, FoldsVolumes, attachments_seen, volumes_seen}
 use Rattle.csi_adoption.specs.Judging.{SeesAttachments, SeesVolumes, first_named, in_attachments, in_volumes}
-use Rattle.csi_adoption.specs.Seen.{AttachmentsFound, VolumesFound, sums_of, told_attachments, told_volumes}
+use Rattle.csi_adoption.specs.Seen.{AttachmentsFound, VolumesFound, sums_of, reported_attachments, reported_volumes}
 use Rattle.csi_adoption.specs.Starting.{IsBegun, IsRisingStart, IsUnbroken}
 use Rattle.csi_adoption.specs.declared.attachments.AttachmentsFold.{AttachmentsFold}
 use Rattle.csi_adoption.specs.declared.meta.Meta.{Meta}
@@ -79,7 +79,7 @@ pub sees_volumes : (config : Config) (m : Meta) (first : VolumesFold) (rows : Li
     → SeesVolumes config m rows (volumes_seen m.format now)
 sees_volumes config m first rows now begun folds good = record {
   format = refl;
-  found = volumes_same (told_volumes (volumes_seen m.format now)) (in_volumes config m rows)
+  found = volumes_same (reported_volumes (volumes_seen m.format now)) (in_volumes config m rows)
       (named _ _ 0 1 first.kinds rows now.kinds begun.kinds folds.kinds)
       (named _ _ 0 1 first.number rows now.number begun.number folds.number ∙ ap (λ next. first_named 0 1 (is_numbered next) rows) begun.next)
       (named _ _ 0 1 first.name rows now.name begun.name folds.name)
@@ -98,7 +98,7 @@ sees_volumes config m first rows now begun folds good = record {
 pub sees_attachments : (config : Config) (first : AttachmentsFold) (rows : List Row) (now : AttachmentsFold) → BeginsAttachments config first → FoldsAttachments first rows now → now.rising.good ≡ true
     → SeesAttachments config rows (attachments_seen now)
 sees_attachments config first rows now begun folds good = record {
-  found = attachments_same (told_attachments (attachments_seen now)) (in_attachments config rows)
+  found = attachments_same (reported_attachments (attachments_seen now)) (in_attachments config rows)
       (named _ _ 0 2 first.kinds rows now.kinds begun.kinds folds.kinds)
       (named _ _ 1 2 first.cap rows now.cap begun.cap folds.cap)
       (named _ _ 1 2 first.readonly rows now.readonly begun.readonly folds.readonly)

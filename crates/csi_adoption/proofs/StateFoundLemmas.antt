@@ -108,8 +108,8 @@ formats (pos n) low high = elim (of_two n low high) as (λ _. (pos n ≡ pos (va
 
 integers_are : (key format next : ℤ) (m : Meta) → integers_judged key format next ≡ Ok m → (key ≡ pos 1) × (format ≡ pos m.format) × (valid_next next ≡ m.next) × IsFormat m.format
 integers_are key format next m e =
-    let told : Meta = record { format = valid_format format; next = valid_next next } in
-    let parts = no_err (not (int_eq key (pos 1)) || int_lt format (pos FIRST_FORMAT)) (int_lt (pos LATEST_FORMAT) format) (Foreign foreign.Meta) (Newer format) told m e in
+    let reported : Meta = record { format = valid_format format; next = valid_next next } in
+    let parts = no_err (not (int_eq key (pos 1)) || int_lt format (pos FIRST_FORMAT)) (int_lt (pos LATEST_FORMAT) format) (Foreign foreign.Meta) (Newer format) reported m e in
     let low = neither_is (int_eq key (pos 1)) (int_lt format (pos FIRST_FORMAT)) parts.0 in
     let known = formats format low.1 parts.1 in
     let same : valid_format format ≡ m.format = ap (λ (r : Meta). r.format) parts.2 in
@@ -199,7 +199,7 @@ module _ (config : Config) (small : IsSmall config) (bounded : (p : Pool) → Ha
 
 -- ---- a State that meets every constraint is not refused
 
--- the one row of meta is judged as it stands
+-- the one row of meta is judged as it is
 judged_one : (format next : ℕ) → IsFormat format → next ≤ MAX_NUMBER → meta_judged (with_rows meta.None (meta_row format next ∷ [])) ≡ Ok (record { format = format; next = next })
 judged_one format next known low = elim known as (λ _. meta_judged (with_rows meta.None (meta_row format next ∷ [])) ≡ Ok (record { format = format; next = next })) [
   | inl e ↦ subst (λ (f : ℕ). meta_judged (with_rows meta.None (meta_row f next ∷ [])) ≡ Ok (record { format = f; next = next })) (sym e) (ap (λ (n : ℕ). Ok (record { format = FIRST_FORMAT; next = n })) (is_valid next low))

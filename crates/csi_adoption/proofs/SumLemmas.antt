@@ -17,16 +17,16 @@ module _ (at : ℕ) (text : List ℕ) where
   count_few (r ∷ rows) = omega (arith, sum_by-cons (added_by at text One) r rows, one_most (is_text text (column r at)), count_few rows)
 
   module _ (weight : Weight) (rows : List Row) where
-    pub sum_told : sum_by (added_by at text weight) rows ≤ 2 ^ 64 - 1 → sum_after at text weight 0 rows ≡ sum_by (added_by at text weight) rows
-    sum_told low = omega (arith, low)
+    pub sum_reported : sum_by (added_by at text weight) rows ≤ 2 ^ 64 - 1 → sum_after at text weight 0 rows ≡ sum_by (added_by at text weight) rows
+    sum_reported low = omega (arith, low)
 
-    -- a bound below the greatest number that is reported holds of what is reported exactly where it holds of
-    -- the sum
-    pub room_told : (most : ℕ) → sum_after at text weight 0 rows ≤ most → most < 2 ^ 64 - 1 → sum_by (added_by at text weight) rows ≤ most
-    room_told most told low = omega (arith, told, low)
+    -- for a bound below the greatest reportable number, the reported sum is within it exactly when the sum
+    -- is
+    pub room_reported : (most : ℕ) → sum_after at text weight 0 rows ≤ most → most < 2 ^ 64 - 1 → sum_by (added_by at text weight) rows ≤ most
+    room_reported most reported low = omega (arith, reported, low)
 
     pub room_kept : (most : ℕ) → sum_by (added_by at text weight) rows ≤ most → sum_after at text weight 0 rows ≤ most
     room_kept most is = omega (arith, is)
 
-  pub count_told : (rows : List Row) → length rows ≤ 2 ^ 64 - 1 → sum_after at text One 0 rows ≡ sum_by (added_by at text One) rows
-  count_told rows low = sum_told One rows (omega (arith, count_few rows, low))
+  pub count_reported : (rows : List Row) → length rows ≤ 2 ^ 64 - 1 → sum_after at text One 0 rows ≡ sum_by (added_by at text One) rows
+  count_reported rows low = sum_reported One rows (omega (arith, count_few rows, low))

@@ -32,7 +32,7 @@ module _ {S : Type 0} (g : Ghosts S) (config : Config) (two three four : Held S)
   ours : HasCleanDisk (state g three) → (state g three).now.schema ≡ schema
   ours clean = ap (λ (d : Database). d.schema) (same clean).0.now_is ∙ (found clean).schema_is
 
-  -- the rows that were judged, as they stand after the scans
+  -- the judged rows, as they are after the scans
   stand : HasCleanDisk (state g three) → (s : State) → IsRowsOf format s (state g two).now.trees → IsRowsOf format s (state g three).now.trees
   stand clean s rows = subst (λ (d : Database). IsRowsOf format s d.trees) (sym (same clean).0.now_is) rows
 

@@ -1,4 +1,4 @@
--- Rows of volumes that pass are those of the volumes of a State.
+-- Rows of volumes that pass are the rows of a State's volumes.
 use Rattle.std.proofs.Common.{◌≡◌, ◌∙◌, sym, ap, subst, ℕ, ◌≤◌, pos, List, map, length, sum, sum_by, Some, None, Less, arith}
 use Rattle.std.specs.FinMap.{FinMap, empty, entries, entries-from_sorted, from_sorted, get, get-entries, len-entries}
 use Rattle.std.specs.List.{AllByRecursion}
@@ -116,7 +116,7 @@ module _ (config : Config) (m : Meta) (db : Trees) (rows : List Row) (agrees : (
         summed : (pool : List ℕ) → sum (sizes_of volumes pool) ≡ sum_by (added_by 3 pool (Number 2)) rows
         summed pool = subst (λ rs. sum (sizes_of volumes pool) ≡ sum_by (added_by 3 pool (Number 2)) rs) are.listed (sum_of (entries volumes) pool)
 
--- rows of volumes that pass are those of the volumes of a State
+-- rows of volumes that pass are the rows of a State's volumes
 pub volumes_found : ((config : Config) (format next : ℕ) (e : ℕ × Volume) → VolumeAgrees config format next e) → (config : Config) (m : Meta) (db : Trees) (rows : List Row) → m.next ≤ MAX_NUMBER → IsSound schema db → IsInOrder (map seen_volume (db 1)) rows
     → VolumesPass config m rows → VolumesAreKnown rows → FoundVolumes config m rows
 volumes_found agrees config m db rows low sound order pass known =

@@ -1,4 +1,4 @@
--- Entries whose numbers rise are those of a map.
+-- Entries with rising numbers are the entries of a map.
 use Rattle.std.proofs.Common.{◌≡◌, refl, sym, inl, inr, ℕ, T, Bool, true, false, cond, ◌&&◌, List, [], ◌∷◌, Some, Ordering, Less, Equal, Greater, is_eq, is_lt}
 use Rattle.std.specs.Ordering.{eq_by_cmp, nat_cmp}
 use Rattle.std.specs.List.{AllByRecursion}
@@ -30,7 +30,7 @@ module _ {X : Type 0} where
   sorted [] up = tt
   sorted (e ∷ es) up = both _ _ (below e.0 es up.0) (sorted es up.1)
 
-  -- what is found under a number stands there
+  -- a value found under a number is stored there
   pub found_has : (n : ℕ) (v : X) (es : List (ℕ × X)) → find nat_cmp n es ≡ Some v → Has es (n, v)
   found_has n v [] e = absurd (cc)
   found_has n v (x ∷ es) e = go (eq_by_cmp nat_cmp n x.0) refl e (found_has n v es)

@@ -29,7 +29,7 @@ use Rattle.csi_constraints.specs.Volumes.{is_in_pools, is_named, is_numbered, is
 use Rattle.csi_adoption.specs.Passing.{VolumesPass}
 use Rattle.csi_adoption.proofs.VolumeSumLemmas.{sum_of}
 
--- what is so of each of a configuration's list is so of all of it
+-- a fact of each item of a configuration's list holds of the whole list
 all_in : {X : Type 0} (P : X → Type 0) (xs : List X) → ((x : X) → configured.Has xs x → P x) → AllByRecursion P xs
 all_in P [] each = tt
 all_in P (x ∷ xs) each = (each x (inl refl), all_in P xs (λ y h. each y (inr h)))
@@ -68,10 +68,10 @@ module _ (agrees : (config : Config) (format next : ℕ) (e : ℕ × Volume) →
     pools = passes (is_in_pools config.pools) (λ e g. (agrees config format s.next e).pool.1 g.volume.pool);
     sizes = passes is_sized (λ e g. (agrees config format s.next e).bytes.1 g.volume.bytes);
     rooms = all_in (λ p. sum_by (added_by 3 p.name (Number 2)) rows ≤ p.bytes) config.pools (λ p has.
-        let told = sum_by-IsPermutation (added_by 3 p.name (Number 2)) (map volume_entry (entries s.volumes)) rows permuted in
+        let reported = sum_by-IsPermutation (added_by 3 p.name (Number 2)) (map volume_entry (entries s.volumes)) rows permuted in
         let all = sum_of (entries s.volumes) p.name in
         let room = inv.rooms p has in
-        subst (λ n. n ≤ p.bytes) (all ∙ sym told) room);
+        subst (λ n. n ≤ p.bytes) (all ∙ sym reported) room);
     caps = passes has_caps (λ e g. ((agrees config format s.next e).caps g.stored.caps).1 g.volume.caps);
     params = passes (has_params format) (λ e g. ((agrees config format s.next e).params g.stored.params).1 (g.volume.params, g.volume.mutable, g.unmodified));
     few =

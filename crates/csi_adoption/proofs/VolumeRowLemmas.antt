@@ -1,4 +1,4 @@
--- A row of volumes that passes is that of a volume.
+-- A row of volumes that passes is the row of a volume.
 use Rattle.std.proofs.Common.{◌≡◌, ◌∙◌, refl, sym, ap, subst, ℕ, ◌≤◌, ◌<◌, ◌^◌, pos, negsuc, nat_le, nat_lt, bytes_eq, Bool, true, false, cond, ◌&&◌, List, [], ◌∷◌, map, Option, Some, None, IfSome, IsUtf8, arith}
 use Rattle.std.specs.List.{AllByRecursion}
 use Rattle.std.specs.Option.{option_and_then}
@@ -44,7 +44,7 @@ text_of (Real x) e = absurd (cc)
 text_of (Text t) e = (t, refl, IsUtf8-from_is_utf8 t e)
 text_of (Blob b) e = absurd (cc)
 
--- the bytes of a cell, and what is read of them
+-- the bytes of a cell, and the value read from them
 bytes_of : {A : Type 0} (read : List ℕ → Option A) (test : A → Bool) (v : Value) → is_some_and test (option_and_then read (as_blob v)) ≡ true → (b : List ℕ) × (a : A) × (v ≡ Blob b) × (read b ≡ Some a)
 bytes_of read test Null e = absurd (cc)
 bytes_of read test (Int n) e = absurd (cc)

@@ -1,4 +1,4 @@
--- What is reported of a pool's rows is so of its volumes.
+-- The totals reported for a pool's rows are the totals of its volumes.
 use Rattle.std.proofs.Common.{◌≡◌, inl, inr, refl, ap, subst, ℕ, ◌-◌, ◌^◌, ◌≤◌, ◌<◌, cond, List, [], ◌∷◌, map, length, sum, sum_by, is_eq, arith}
 use Rattle.std.specs.Cmp.Lexicographic.{slice_cmp}
 use Rattle.std.specs.List.{AllByRecursion}
@@ -17,9 +17,9 @@ use Rattle.csi_constraints.specs.declared.sums.Weight.TheVariants.{Number, One}
 use Rattle.csi_columns.specs.Entries.{volume_entry}
 use Rattle.csi_adoption.specs.Passing.{VolumesPass}
 use Rattle.csi_adoption.specs.declared.meta.Meta.{Meta}
-use Rattle.csi_adoption.proofs.SumLemmas.{count_told, sum_told}
+use Rattle.csi_adoption.proofs.SumLemmas.{count_reported, sum_reported}
 
--- what is so of all of a configuration's list is so of each of it
+-- a fact of a configuration's whole list holds of each item
 pub all_of : {X : Type 0} (P : X → Type 0) (xs : List X) (x : X) → AllByRecursion P xs → Has xs x → P x
 all_of P [] x all h = absurd h
 all_of P (y ∷ xs) x all (inl same) = subst P same all.0
@@ -42,9 +42,9 @@ sum_of (e ∷ es) pool =
     let there = sum_by-cons (added_by 3 pool (Number 2)) (volume_entry e) (map volume_entry es) in
     omega (arith, here, there, one_test e.1.pool pool e.1.bytes, sum_of es pool)
 
--- what is reported of a pool of the configuration is so of rows that pass
-pub pool_told : (config : Config) (m : Meta) (rows : List Row) → VolumesPass config m rows → (p : Pool) → Has config.pools p → p.bytes < 2 ^ 64 - 1
+-- for rows that pass, the totals reported for a pool of the configuration are true
+pub pool_reported : (config : Config) (m : Meta) (rows : List Row) → VolumesPass config m rows → (p : Pool) → Has config.pools p → p.bytes < 2 ^ 64 - 1
     → (sum_after 3 p.name One 0 rows ≡ sum_by (added_by 3 p.name One) rows) × (sum_after 3 p.name (Number 2) 0 rows ≡ sum_by (added_by 3 p.name (Number 2)) rows)
-pool_told config m rows pass p has low =
+pool_reported config m rows pass p has low =
     let room : sum_by (added_by 3 p.name (Number 2)) rows ≤ p.bytes = all_of (λ q. sum_by (added_by 3 q.name (Number 2)) rows ≤ q.bytes) config.pools p pass.rooms has in
-    (count_told 3 p.name rows (omega (arith, pass.few)), sum_told 3 p.name (Number 2) rows (omega (arith, room, low)))
+    (count_reported 3 p.name rows (omega (arith, pass.few)), sum_reported 3 p.name (Number 2) rows (omega (arith, room, low)))

@@ -16,7 +16,7 @@ use Rattle.csi_adoption.specs.declared.fault.AdoptFault.{AdoptFault}
 use Rattle.csi_adoption.specs.Adopting.{committed, IsAdopted, IsUnadopted}
 
 module _ {S : Type 0} (g : Ghosts S) (config : Config) where
-  -- adoption of the connection gives a keeper of the State, of which a stop leaves no other; or the database
+  -- adoption of the connection gives a keeper of the State, and a stop leaves that State; or the database
   -- or memory failed
   pub record IsTakenAs (conn : Held S) (s : State) : Type 0 where
     pub taken : (t : Tables S) → IsAdopted g config conn t → (tables_model g t).doubt ≡ 0 → (tables_model g t).holds s

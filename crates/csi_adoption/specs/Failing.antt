@@ -66,11 +66,11 @@ IsOfShut seen fault = is_failure fault ≡ false → (fault ≡ Foreign foreign.
 
 module _ {S : Type 0} (g : Ghosts S) (new : Held S) where
   -- rows are judged on a connection that is open
-  abbrev pub TellsOpen : {X : Type 0} → Result X AdoptFault → Type 0
-  TellsOpen r = HasCleanDisk (state g new) → IfErr r (λ fault. is_failure fault ≡ false → IsTrue (state g new).is_open)
+  abbrev pub ReportsOpen : {X : Type 0} → Result X AdoptFault → Type 0
+  ReportsOpen r = HasCleanDisk (state g new) → IfErr r (λ fault. is_failure fault ≡ false → IsTrue (state g new).is_open)
 
-  abbrev pub TellsShut : {X : Type 0} → Result X AdoptFault → Type 0
-  TellsShut r = HasCleanDisk (state g new) → (state g new).is_open ≡ false → IfErr r (IsOfShut (state g new).now.schema)
+  abbrev pub ReportsShut : {X : Type 0} → Result X AdoptFault → Type 0
+  ReportsShut r = HasCleanDisk (state g new) → (state g new).is_open ≡ false → IfErr r (IsOfShut (state g new).now.schema)
 
 -- the database refuses a statement over the last commit of the connection, which was open; the limit on its
 -- steps is removed

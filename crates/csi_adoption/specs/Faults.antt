@@ -92,7 +92,7 @@ owner_fault unowned = attachment_fault attachment_constraint.Owner unowned
 
 abbrev pub count_faults : Config → Option RowName → AttachmentsFound → VolumesFound → Option AdoptFault
 count_faults config apart attachments volumes =
-    first_fault (attachment_fault attachment_constraint.Beside apart ∷ node_fault config.nodes attachments.node_volumes ∷ count_fault volumes.rows ∷ [])
+    first_fault (attachment_fault attachment_constraint.Coexist apart ∷ node_fault config.nodes attachments.node_volumes ∷ count_fault volumes.rows ∷ [])
 
 -- the first fault of the rows of volumes and of attachments, of each row alone
 abbrev pub table_faults : Config → ℕ → VolumesFound → AttachmentsFound → Option AdoptFault
@@ -128,9 +128,9 @@ abbrev pub failure_of : Error → AdoptFault
 failure_of error = if wants_memory error then NoMemory else Store error
 
 -- an answer is the fault if there is one
-abbrev pub Tells : {X : Type 0} → Option AdoptFault → Result X AdoptFault → Type 0
-Tells fault (Ok x) = fault ≡ None
-Tells fault (Err e) = fault ≡ Some e
+abbrev pub Reports : {X : Type 0} → Option AdoptFault → Result X AdoptFault → Type 0
+Reports fault (Ok x) = fault ≡ None
+Reports fault (Err e) = fault ≡ Some e
 
 abbrev pub is_no_memory : AdoptFault → Bool
 is_no_memory NoMemory = true

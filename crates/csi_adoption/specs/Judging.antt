@@ -29,7 +29,7 @@ use Rattle.csi_constraints.specs.Named.{named_out}
 use Rattle.csi_constraints.specs.Volumes.{is_in_pools, is_named, is_numbered, is_sized}
 use Rattle.csi_constraints.specs.declared.named.RowName.{RowName}
 use Rattle.csi_adoption.specs.Faults.{all_faults, is_failure, table_faults}
-use Rattle.csi_adoption.specs.Seen.{AttachmentsFound, VolumesFound, told_attachments, told_volumes}
+use Rattle.csi_adoption.specs.Seen.{AttachmentsFound, VolumesFound, reported_attachments, reported_volumes}
 use Rattle.csi_adoption.specs.declared.fault.AdoptFault.{AdoptFault}
 use Rattle.csi_adoption.specs.declared.fault.AdoptFault.TheVariants.{Foreign, Newer}
 use Rattle.csi_adoption.specs.declared.fault.Foreign.TheVariants as foreign
@@ -118,13 +118,13 @@ in_attachments config rows = record {
 -- a scan over rows whose numbers rise, and whose blobs can be written again
 pub record SeesVolumes (config : Config) (m : Meta) (rows : List Row) (seen : VolumesSeen) : Type 0 where
   pub format : seen.format ≡ m.format
-  pub found : told_volumes seen ≡ in_volumes config m rows
+  pub found : reported_volumes seen ≡ in_volumes config m rows
   pub rising : IsRising 0 None rows
   pub caps : seen.caps ≡ None → AllByRecursion (λ r. IfSome (keys_at 4 r) FitCaps) rows
   pub params : seen.params ≡ None → AllByRecursion (λ r. IfSome (params_at 5 r) (λ ms. FitParams ms.0 ms.1)) rows
 
 pub record SeesAttachments (config : Config) (rows : List Row) (seen : AttachmentsSeen) : Type 0 where
-  pub found : told_attachments seen ≡ in_attachments config rows
+  pub found : reported_attachments seen ≡ in_attachments config rows
   pub rising : IsRising 0 None rows
   pub cap : seen.cap ≡ None → AllByRecursion (λ r. IfSome (key_at 3 r) (λ key. FitCaps (key ∷ []))) rows
 
@@ -192,7 +192,7 @@ volumes_unless tables (Err e) = Err e
 -- where the rows of each table alone break no constraint, and this is what meta says
 abbrev pub JudgesJoined : Config → Trees → Meta → TablesSeen → Result (Unit {0}) AdoptFault → Type 0
 JudgesJoined config db m tables result = TablesAreSeen config m db tables
-    → table_faults config m.next (told_volumes tables.volumes) (told_attachments tables.attachments) ≡ None
+    → table_faults config m.next (reported_volumes tables.volumes) (reported_attachments tables.attachments) ≡ None
     → (rows : List Row) → IsPermutation (map seen_meta (db 0)) rows → meta_judged (with_rows meta.None rows) ≡ Ok m
     → JudgesRows config db (volumes_unless tables result)
 
@@ -203,6 +203,6 @@ JudgesSeen config db m tables result = TablesAreSeen config m db tables
     → JudgesRows config db (volumes_unless tables result)
 
 -- where this is what meta says
-abbrev pub JudgesBehind : Config → Trees → Meta → Result VolumesSeen AdoptFault → Type 0
-JudgesBehind config db m result = (rows : List Row) → IsPermutation (map seen_meta (db 0)) rows → meta_judged (with_rows meta.None rows) ≡ Ok m
+abbrev pub JudgesAfter : Config → Trees → Meta → Result VolumesSeen AdoptFault → Type 0
+JudgesAfter config db m result = (rows : List Row) → IsPermutation (map seen_meta (db 0)) rows → meta_judged (with_rows meta.None rows) ≡ Ok m
     → JudgesRows config db result

@@ -42,8 +42,8 @@ PassesMeta =
     → IsPermutation (map seen_meta (db 0)) meta → meta ≡ meta_row format s.next ∷ []
 
 -- for rows that pass, the totals of a pool are the count and the bytes of its volumes
-abbrev pub TellsPools : Type 0
-TellsPools =
+abbrev pub ReportsPools : Type 0
+ReportsPools =
     (config : Config) (m : Meta) (rows : List Row) → VolumesPass config m rows → (p : Pool) → Has config.pools p → p.bytes < 2 ^ 64 - 1
     → (sum_after 3 p.name One 0 rows ≡ sum_by (added_by 3 p.name One) rows)
     × (sum_after 3 p.name (Number 2) 0 rows ≡ sum_by (added_by 3 p.name (Number 2)) rows)
@@ -63,12 +63,12 @@ FindsTotals =
     ≡ the_total (length (sizes_of found.volumes name)) (sum (sizes_of found.volumes name))
 
 -- a count that is reported up to 2^64 - 1 is the count
-abbrev pub TellsCounts : Type 0
-TellsCounts =
+abbrev pub ReportsCounts : Type 0
+ReportsCounts =
     (at : ℕ) (text : List ℕ) (rows : List Row) → length rows ≤ 2 ^ 64 - 1 → sum_after at text One 0 rows ≡ sum_by (added_by at text One) rows
 
 -- a bound below that number holds of a sum that is reported so exactly where it holds of the sum
-abbrev pub TellsRooms : Type 0
-TellsRooms =
+abbrev pub ReportsRooms : Type 0
+ReportsRooms =
     (at : ℕ) (text : List ℕ) (weight : Weight) (rows : List Row) (most : ℕ) → most < 2 ^ 64 - 1
     → (sum_after at text weight 0 rows ≤ most) ↔ (sum_by (added_by at text weight) rows ≤ most)

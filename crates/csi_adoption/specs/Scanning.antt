@@ -15,4 +15,4 @@ module _ {S : Type 0} (g : Ghosts S) (old new : Held S) where
 
   -- there are such rows, and the answer is theirs
   abbrev pub SeenBy : {X E : Type 0} → Result X E → (Trees → List Row → Type 0) → (List Row → X → Type 0) → Type 0
-  SeenBy result What Told = HasCleanDisk (state g new) → IfOk result (λ seen. (rows : List Row) × What (state g old).now.trees rows × Told rows seen)
+  SeenBy result What Report = HasCleanDisk (state g new) → IfOk result (λ seen. (rows : List Row) × What (state g old).now.trees rows × Report rows seen)

@@ -30,8 +30,8 @@ pub record AttachmentsFound : Type 0 where
 abbrev pub sums_of : List TextSum → List ℕ
 sums_of parts = map (λ t. t.sum) parts
 
-abbrev pub told_volumes : VolumesSeen → VolumesFound
-told_volumes seen = record {
+abbrev pub reported_volumes : VolumesSeen → VolumesFound
+reported_volumes seen = record {
   kinds = seen.kinds;
   number = seen.number;
   name = seen.name;
@@ -44,8 +44,8 @@ told_volumes seen = record {
   rows = seen.rows;
 }
 
-abbrev pub told_attachments : AttachmentsSeen → AttachmentsFound
-told_attachments seen = record {
+abbrev pub reported_attachments : AttachmentsSeen → AttachmentsFound
+reported_attachments seen = record {
   kinds = seen.kinds;
   cap = seen.cap;
   readonly = seen.readonly;

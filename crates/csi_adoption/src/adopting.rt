@@ -16,10 +16,10 @@ ghost use Rattle.csi_keeper.specs.State.{State, first_state};
 ghost use Rattle.csi_tables.specs.Holding.{IsEitherRows};
 ghost use Rattle.csi_adoption.specs.Faults.{is_failure};
 ghost use Rattle.csi_adoption.specs.Adopting.{FoundState, IsAdopted, IsFound, IsNotRefused, IsTaken, IsUnadopted, LeavesLatest};
-ghost use Rattle.csi_adoption.specs.Failing.{JudgingFails, ScanFails, TellsOpen, TellsShut};
+ghost use Rattle.csi_adoption.specs.Failing.{JudgingFails, ScanFails, ReportsOpen, ReportsShut};
 ghost use Rattle.csi_adoption.specs.Scanning.{Scans};
 ghost use Rattle.csi_adoption.specs.declared.meta.Meta.{Meta as Row};
-ghost use Rattle.csi_adoption.specs.Judging.{AreJudged, ArePassed, IsFaultOf, IsMetaFault, JudgesBehind, JudgesJoined, JudgesRows, JudgesSeen, SeesRow, TablesAreSeen};
+ghost use Rattle.csi_adoption.specs.Judging.{AreJudged, ArePassed, IsFaultOf, IsMetaFault, JudgesAfter, JudgesJoined, JudgesRows, JudgesSeen, SeesRow, TablesAreSeen};
 
 use crate::attachment_faults::check_attachment;
 use crate::attachment_laws::{attachments_found, attachments_pass, owners_pass, places_pass};
@@ -47,7 +47,7 @@ use std::alloc::Global;
 /// Why tables were not adopted, and the connection that they are on.
 #[derive(Drop)]
 pub struct AdoptError<S: Alter> {
-    /// Why.
+    /// The first rule that the database breaks, or the failed read.
     pub fault: AdoptFault,
     /// The connection. No transaction is open on it.
     pub conn: Connection<S>,
@@ -60,7 +60,7 @@ pub fn is_blank(schema: &Schema) -> bool
     schema.tables.is_empty() & schema.indexes.is_empty() & schema.views.is_empty()
 }
 
-/// What the scans over volumes and attachments show.
+/// The results of the scans over volumes and attachments.
 #[derive(Drop)]
 pub(crate) struct TablesSeen {
     pub(crate) volumes: VolumesSeen,
@@ -73,7 +73,7 @@ fn see_tables<S: Alter>(
     config: &Config,
     meta: Meta,
 ) -> Result<TablesSeen, Error>
-    requires ours { HasCleanDisk (state S.Store conn.old) → conn.old.schema ≡ our_schema }
+    requires has_schema { HasCleanDisk (state S.Store conn.old) → conn.old.schema ≡ our_schema }
     ensures scans { Scans S.Store conn.old conn.new result }
     ensures failed { ScanFails S.Store conn.old conn.new result }
     ensures seen { HasCleanDisk (state S.Store conn.new)
@@ -95,10 +95,10 @@ fn judge_joined<S: Alter>(
     config: &Config,
     tables: &TablesSeen,
 ) -> Result<(), AdoptFault>
-    requires ours { HasCleanDisk (state S.Store conn.old) → conn.old.schema ≡ our_schema }
+    requires has_schema { HasCleanDisk (state S.Store conn.old) → conn.old.schema ≡ our_schema }
     ensures scans { Scans S.Store conn.old conn.new result }
     ensures failed { JudgingFails S.Store conn.old conn.new result }
-    ensures open { TellsOpen S.Store conn.new result }
+    ensures open { ReportsOpen S.Store conn.new result }
     ensures judged { HasCleanDisk (state S.Store conn.new) → (row : Row)
         → JudgesJoined config.now (state S.Store conn.old).now.trees row tables.now result }
 {
@@ -125,10 +125,10 @@ fn judge_seen<S: Alter>(
     meta: Meta,
     tables: &TablesSeen,
 ) -> Result<(), AdoptFault>
-    requires ours { HasCleanDisk (state S.Store conn.old) → conn.old.schema ≡ our_schema }
+    requires has_schema { HasCleanDisk (state S.Store conn.old) → conn.old.schema ≡ our_schema }
     ensures scans { Scans S.Store conn.old conn.new result }
     ensures failed { JudgingFails S.Store conn.old conn.new result }
-    ensures open { IsTrue (state S.Store conn.old).is_open → TellsOpen S.Store conn.new result }
+    ensures open { IsTrue (state S.Store conn.old).is_open → ReportsOpen S.Store conn.new result }
     ensures judged { HasCleanDisk (state S.Store conn.new)
         → JudgesSeen config.now (state S.Store conn.old).now.trees meta tables.now result }
 {
@@ -144,19 +144,19 @@ fn judge_seen<S: Alter>(
 
 // Judges and counts the rows of volumes and attachments, by the constraints in their order. The scans'
 // results are large, and are passed by reference to the functions that may fail.
-fn judge_behind<S: Alter>(
+fn judge_after<S: Alter>(
     alloc: Global,
     conn: &mut IdleConnection<S>,
     config: &Config,
     meta: Meta,
     content: &mut Content,
 ) -> Result<VolumesSeen, AdoptFault>
-    requires ours { HasCleanDisk (state S.Store conn.old) → conn.old.schema ≡ our_schema }
+    requires has_schema { HasCleanDisk (state S.Store conn.old) → conn.old.schema ≡ our_schema }
     ensures scans { Scans S.Store conn.old conn.new result }
     ensures failed { JudgingFails S.Store conn.old conn.new result }
-    ensures open { TellsOpen S.Store conn.new result }
+    ensures open { ReportsOpen S.Store conn.new result }
     ensures judged { HasCleanDisk (state S.Store conn.new)
-        → JudgesBehind config.now (state S.Store conn.old).now.trees meta result }
+        → JudgesAfter config.now (state S.Store conn.old).now.trees meta result }
 {
     let tables = see_tables(alloc, conn, config, meta)?;
     judge_seen(alloc, conn, config, meta, &tables)?;
@@ -167,10 +167,10 @@ fn judge_behind<S: Alter>(
 
 #[tactic(auto, using(crate::proofs::FaultLemmas::error_fails))]
 fn see_row<S: Alter>(conn: &mut IdleConnection<S>) -> Result<Meta, AdoptFault>
-    requires ours { HasCleanDisk (state S.Store conn.old) → conn.old.schema ≡ our_schema }
+    requires has_schema { HasCleanDisk (state S.Store conn.old) → conn.old.schema ≡ our_schema }
     ensures scans { Scans S.Store conn.old conn.new result }
     ensures failed { JudgingFails S.Store conn.old conn.new result }
-    ensures open { TellsOpen S.Store conn.new result }
+    ensures open { ReportsOpen S.Store conn.new result }
     ensures seen { HasCleanDisk (state S.Store conn.new) → SeesRow (state S.Store conn.old).now.trees result }
 {
     let rows = see_meta(conn)?;
@@ -184,21 +184,21 @@ fn judge_rows<S: Alter>(
     config: &Config,
     content: &mut Content,
 ) -> Result<VolumesSeen, AdoptFault>
-    requires ours { HasCleanDisk (state S.Store conn.old) → conn.old.schema ≡ our_schema }
+    requires has_schema { HasCleanDisk (state S.Store conn.old) → conn.old.schema ≡ our_schema }
     ensures scans { Scans S.Store conn.old conn.new result }
     ensures failed { JudgingFails S.Store conn.old conn.new result }
-    ensures open { TellsOpen S.Store conn.new result }
+    ensures open { ReportsOpen S.Store conn.new result }
     ensures judged { HasCleanDisk (state S.Store conn.new)
         → JudgesRows config.now (state S.Store conn.old).now.trees result }
 {
     let meta = see_row(conn)?;
-    judge_behind(alloc, conn, config, meta, content)
+    judge_after(alloc, conn, config, meta, content)
 }
 
 // The laws of the rows in one call: rows that break no constraint are the rows of a State that meets every
 // constraint, and the rows of such a State break none.
 #[inline(always)]
-fn rows_tell(config: &Config)
+fn rows_report(config: &Config)
     ensures found { (db : Trees) (seen : VolumesSeen) → IsSound our_schema db → ArePassed config.now db seen
         → FoundState config.now db seen }
     ensures no_meta_fault { (db : Trees) (s : State) → IsEitherRows s db → IsInvariant config.now s
@@ -237,7 +237,7 @@ fn judge<S: Alter>(
 ) -> Result<Judged, AdoptFault>
     ensures scans { Scans S.Store conn.old conn.new result }
     ensures failed { JudgingFails S.Store conn.old conn.new result }
-    ensures shut { TellsShut S.Store conn.new result }
+    ensures shut { ReportsShut S.Store conn.new result }
     ensures found { HasCleanDisk (state S.Store conn.new) → IfOk result
         (λ judged. IsFound config.now (state S.Store conn.old).now judged.format judged.totals) }
     ensures first { HasCleanDisk (state S.Store conn.new) → IfErr result
@@ -248,7 +248,7 @@ fn judge<S: Alter>(
     ensures sound { HasCleanDisk (state S.Store conn.new)
         → IfErr result (IsNotRefused config.now (state S.Store conn.old).now) }
 {
-    rows_tell(config);
+    rows_report(config);
     if !is_our_schema(conn.schema()) {
         return Err(AdoptFault::Foreign(Foreign::Schema));
     }
@@ -296,7 +296,7 @@ fn judge_and_upgrade<S: Alter>(
     ensures taken { HasCleanDisk (state S.Store conn.new)
         → IfOk result (IsTaken config.now (state S.Store conn.old) (state S.Store conn.new)) }
     ensures failed { JudgingFails S.Store conn.old conn.new result }
-    ensures shut { TellsShut S.Store conn.new result }
+    ensures shut { ReportsShut S.Store conn.new result }
     ensures kept { HasCleanDisk (state S.Store conn.new)
         → OnErr result (KeepsCommit (state S.Store conn.old) (state S.Store conn.new)) }
     ensures first { HasCleanDisk (state S.Store conn.new) → IfErr result
@@ -338,7 +338,7 @@ fn adopt_into<S: Alter>(
     ensures adopted { IfOk result (λ tables. IsAdopted S.Store config.now conn tables) }
     ensures unadopted { IfErr result (λ error. IsUnadopted S.Store config.now conn error.fault error.conn) }
 {
-    rows_tell(config);
+    rows_report(config);
     one_state();
     conn.set_step_limit(None);
     roll_back(&mut conn);

@@ -94,7 +94,7 @@ pub(crate) fn see_attachments<S: Alter>(
     conn: &mut IdleConnection<S>,
     config: &Config,
 ) -> Result<AttachmentsSeen, Error>
-    requires ours { HasCleanDisk (state S.Store conn.old) → conn.old.schema ≡ our_schema }
+    requires has_schema { HasCleanDisk (state S.Store conn.old) → conn.old.schema ≡ our_schema }
     ensures scans { Scans S.Store conn.old conn.new result }
     ensures failed { ScanFails S.Store conn.old conn.new result }
     ensures seen { SeenBy S.Store conn.old conn.new result
@@ -117,7 +117,7 @@ pub(crate) fn see_owners<S: Alter>(
     alloc: Global,
     conn: &mut IdleConnection<S>,
 ) -> Result<Option<RowName>, Error>
-    requires ours { HasCleanDisk (state S.Store conn.old) → conn.old.schema ≡ our_schema }
+    requires has_schema { HasCleanDisk (state S.Store conn.old) → conn.old.schema ≡ our_schema }
     ensures scans { Scans S.Store conn.old conn.new result }
     ensures failed { ScanFails S.Store conn.old conn.new result }
     ensures seen { SeenBy S.Store conn.old conn.new result (λ db rows. IsInOrder (owners (db 3) (db 1)) rows)
@@ -137,7 +137,7 @@ pub(crate) fn see_apart<S: Alter>(
     alloc: Global,
     conn: &mut IdleConnection<S>,
 ) -> Result<Option<RowName>, Error>
-    requires ours { HasCleanDisk (state S.Store conn.old) → conn.old.schema ≡ our_schema }
+    requires has_schema { HasCleanDisk (state S.Store conn.old) → conn.old.schema ≡ our_schema }
     ensures scans { Scans S.Store conn.old conn.new result }
     ensures failed { ScanFails S.Store conn.old conn.new result }
     ensures seen { SeenBy S.Store conn.old conn.new result

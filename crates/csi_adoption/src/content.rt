@@ -6,12 +6,12 @@ use crate::adopting::TablesSeen;
 use crate::meta::Meta;
 use csi_constraints::TextSum;
 
-/// How much adopted tables have, as their rows were judged.
+/// The counts of adopted tables, from the scans that judged their rows.
 #[derive(Clone, Copy, Debug)]
 pub struct Content {
-    /// How many volumes there are.
+    /// The number of volumes.
     pub volumes: u64,
-    /// How many attachments of volumes at nodes there are, up to the greatest `u64`.
+    /// The number of attachments, up to the greatest `u64`.
     pub attachments: u64,
     /// The number that the next volume gets.
     pub next_number: u64,
@@ -35,7 +35,7 @@ fn total(sums: &[TextSum]) -> u64 {
     total
 }
 
-/// How much the tables have that were seen.
+/// The counts of judged tables.
 pub(crate) fn content_of(tables: &TablesSeen, meta: Meta) -> Content
     ensures volumes { result.volumes ≡ tables.now.volumes.rows }
     ensures next_number { result.next_number ≡ meta.next }

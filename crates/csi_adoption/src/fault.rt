@@ -27,7 +27,7 @@ pub enum Foreign {
     /// A value in a row of attachments is not of its column's kind.
     #[error("row {rowid} of attachments: a value is not of the kind of its column")]
     Attachment {
-        /// The rowid.
+        /// The rowid of the row in its table.
         rowid: i64,
     },
 }
@@ -47,7 +47,7 @@ pub enum AdoptFault {
     /// The rows break a constraint.
     #[error("{0}")]
     Broken(BrokenConstraint),
-    /// The database failed.
+    /// The database failed a read, with this error.
     #[error("the database failed: {0}")]
     Store(SqlError),
     /// Memory was refused.

@@ -1,7 +1,7 @@
 //! Laws of adoption: rows that pass are the rows of a State, and the rows of a State pass.
 
 ghost use Rattle.csi_adoption.specs.Again.{EitherTaken, EndsTaken, StopsTaken};
-ghost use Rattle.csi_adoption.specs.Laws.{FindsTotals, FindsVolumes, HasNoOtherPool, PassesMeta, PassesVolumes, TellsCounts, TellsPools, TellsRooms};
+ghost use Rattle.csi_adoption.specs.Laws.{FindsTotals, FindsVolumes, HasNoOtherPool, PassesMeta, PassesVolumes, ReportsCounts, ReportsPools, ReportsRooms};
 
 use csi_tables::laws::one_state;
 use sqlite::Alter;
@@ -27,14 +27,14 @@ pub fn meta_pass()
 
 /// A count that is reported up to 2^64 - 1 is the count, and a bound below that number holds of a sum
 /// that is reported so exactly where it holds of the sum.
-pub fn sums_told()
-    ensures counts { TellsCounts }
-    ensures rooms { TellsRooms }
+pub fn sums_reported()
+    ensures counts { ReportsCounts }
+    ensures rooms { ReportsRooms }
 {}
 
 /// For rows of volumes that pass, the totals of a pool are the count and the bytes of its volumes.
-pub fn pools_told()
-    ensures { TellsPools }
+pub fn pools_reported()
+    ensures { ReportsPools }
 {}
 
 /// No volume of the found ones has a pool that the configuration has not.

@@ -6,7 +6,8 @@
 //! were. It scans row after row and keeps none, so its memory does not grow with the tables.
 //!
 //! `specs/Seen.antt` has the results of the scans. `specs/Faults.antt` has the fault of each constraint,
-//! their order, and the answers: the first fault (`Tells`), or want of memory for a copy of a name (`Says`).
+//! their order, and the answers: the first fault (`Reports`), or want of memory for a copy of a name
+//! (`Says`).
 //! `specs/Judging.antt` has the fault of given rows, by the format and the next number in the row of `meta`
 //! (`Meta`): the findings of the scans (`in_volumes`, `in_attachments`) have those faults, in their order.
 //!

@@ -16,7 +16,7 @@ use csi_sql::{FIRST_FORMAT, Fold, IdleConnection, LATEST_FORMAT};
 use csi_types::MAX_NUMBER;
 use sqlite::{Alter, Error, Row};
 
-/// What the row of meta says.
+/// The format and the next number in the row of meta.
 #[derive(Clone, Copy)]
 pub(crate) struct Meta {
     /// The format of the tables, the first or the latest.
@@ -123,9 +123,9 @@ pub(crate) fn judge_meta(rows: MetaRows) -> Result<Meta, AdoptFault>
     }
 }
 
-/// Scans meta.
+/// Scans meta, which must have one row with a known format.
 pub(crate) fn see_meta<S: Alter>(conn: &mut IdleConnection<S>) -> Result<MetaRows, Error>
-    requires ours { HasCleanDisk (state S.Store conn.old) → conn.old.schema ≡ our_schema }
+    requires has_schema { HasCleanDisk (state S.Store conn.old) → conn.old.schema ≡ our_schema }
     ensures scans { Scans S.Store conn.old conn.new result }
     ensures failed { ScanFails S.Store conn.old conn.new result }
     ensures seen { SeenBy S.Store conn.old conn.new result

@@ -9,17 +9,17 @@ pub(crate) struct VolumesSeen {
     pub format: u32,
     /// A value is not of the kind of its column.
     pub kinds: Option<RowName>,
-    /// `VolumeConstraint::Number` is broken.
+    /// The first row whose number breaks `VolumeConstraint::Number`.
     pub number: Option<RowName>,
-    /// `VolumeConstraint::Name` is broken.
+    /// The first row whose name breaks `VolumeConstraint::Name`.
     pub name: Option<RowName>,
-    /// `VolumeConstraint::Pool` is broken.
+    /// The first row whose pool breaks `VolumeConstraint::Pool`.
     pub pool: Option<RowName>,
-    /// `VolumeConstraint::Bytes` is broken.
+    /// The first row whose size breaks `VolumeConstraint::Bytes`.
     pub bytes: Option<RowName>,
-    /// `VolumeConstraint::Caps` is broken.
+    /// The first row whose capabilities break `VolumeConstraint::Caps`.
     pub caps: Option<RowName>,
-    /// `VolumeConstraint::Params` is broken.
+    /// The first row whose parameters break `VolumeConstraint::Params`.
     pub params: Option<RowName>,
     /// The bytes of each pool's volumes, by the pools of the configuration.
     pub pool_bytes: Vec<TextSum>,
@@ -53,11 +53,11 @@ impl Drop for VolumesSeen {
 pub(crate) struct AttachmentsSeen {
     /// A value is not of the kind of its column; the row is named by its rowid.
     pub kinds: Option<RowName>,
-    /// `AttachmentConstraint::Cap` is broken.
+    /// The first row whose capability breaks `AttachmentConstraint::Cap`.
     pub cap: Option<RowName>,
-    /// `AttachmentConstraint::Readonly` is broken.
+    /// The first row whose flag breaks `AttachmentConstraint::Readonly`.
     pub readonly: Option<RowName>,
-    /// `AttachmentConstraint::Node` is broken.
+    /// The first row whose node breaks `AttachmentConstraint::Node`.
     pub node: Option<RowName>,
     /// The number of each node's attachments, by the nodes of the configuration.
     pub node_volumes: Vec<TextSum>,

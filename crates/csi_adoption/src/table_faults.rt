@@ -1,7 +1,7 @@
 //! The faults of the tables, in the order of the constraints.
 
-ghost use Rattle.csi_adoption.specs.Faults.{Says, Tells, code_faults, count_fault, count_faults, kinds_faults, table_faults};
-ghost use Rattle.csi_adoption.specs.Seen.{told_attachments, told_volumes};
+ghost use Rattle.csi_adoption.specs.Faults.{Says, Reports, code_faults, count_fault, count_faults, kinds_faults, table_faults};
+ghost use Rattle.csi_adoption.specs.Seen.{reported_attachments, reported_volumes};
 
 use crate::attachment_faults::{check_attachment, check_nodes};
 use crate::fault::{AdoptFault, Foreign};
@@ -13,7 +13,8 @@ use csi_types::MAX_VOLUMES;
 use std::alloc::Global;
 
 fn check_kinds(volumes: &VolumesSeen, attachments: &AttachmentsSeen) -> Result<(), AdoptFault>
-    ensures { Tells (kinds_faults (told_volumes volumes.now) (told_attachments attachments.now)) result }
+    ensures { Reports (kinds_faults (reported_volumes volumes.now) (reported_attachments attachments.now))
+        result }
 {
     if let Some(name) = &volumes.kinds {
         let number = name.number.unwrap_or(0);
@@ -31,7 +32,8 @@ fn check_codes(
     volumes: &VolumesSeen,
     attachments: &AttachmentsSeen,
 ) -> Result<(), AdoptFault>
-    ensures { Says (code_faults (told_volumes volumes.now) (told_attachments attachments.now)) result }
+    ensures { Says (code_faults (reported_volumes volumes.now) (reported_attachments attachments.now))
+        result }
 {
     check_volume(&volumes.caps, VolumeConstraint::Caps)?;
     check_volume(&volumes.params, VolumeConstraint::Params)?;
@@ -53,8 +55,8 @@ pub(crate) fn check_tables(
     volumes: &VolumesSeen,
     attachments: &AttachmentsSeen,
 ) -> Result<(), AdoptFault>
-    ensures { Says (table_faults config.now next (told_volumes volumes.now)
-        (told_attachments attachments.now)) result }
+    ensures { Says (table_faults config.now next (reported_volumes volumes.now)
+        (reported_attachments attachments.now)) result }
 {
     check_kinds(volumes, attachments)?;
     check_numbers(next, volumes)?;
@@ -63,7 +65,7 @@ pub(crate) fn check_tables(
 }
 
 fn check_count(rows: u64) -> Result<(), AdoptFault>
-    ensures { Tells (count_fault rows) result }
+    ensures { Reports (count_fault rows) result }
 {
     if rows > MAX_VOLUMES {
         return Err(AdoptFault::Broken(BrokenConstraint::TooManyVolumes));
@@ -84,10 +86,10 @@ pub(crate) fn check_counts(
     attachments: &AttachmentsSeen,
     volumes: &VolumesSeen,
 ) -> Result<(), AdoptFault>
-    ensures { Says (count_faults config.now apart.now (told_attachments attachments.now)
-        (told_volumes volumes.now)) result }
+    ensures { Says (count_faults config.now apart.now (reported_attachments attachments.now)
+        (reported_volumes volumes.now)) result }
 {
-    check_attachment(alloc, apart, AttachmentConstraint::Beside)?;
+    check_attachment(alloc, apart, AttachmentConstraint::Coexist)?;
     check_nodes(alloc, config.nodes(), attachments.node_volumes.as_slice())?;
     check_count(volumes.rows)
 }

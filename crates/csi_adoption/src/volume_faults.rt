@@ -1,8 +1,8 @@
 //! The faults of volumes, and of the pools that they are in.
 
 ghost use Rattle.std.specs.Prelude.{◌≡◌, option_copied};
-ghost use Rattle.csi_adoption.specs.Faults.{Says, Tells, full_pool, next_fault, number_faults, pool_fault, size_faults, volume_fault};
-ghost use Rattle.csi_adoption.specs.Seen.{sums_of, told_volumes};
+ghost use Rattle.csi_adoption.specs.Faults.{Says, Reports, full_pool, next_fault, number_faults, pool_fault, size_faults, volume_fault};
+ghost use Rattle.csi_adoption.specs.Seen.{sums_of, reported_volumes};
 
 use crate::fault::AdoptFault;
 use crate::seen::VolumesSeen;
@@ -17,7 +17,7 @@ pub(crate) fn check_volume(
     found: &Option<RowName>,
     constraint: VolumeConstraint,
 ) -> Result<(), AdoptFault>
-    ensures { Tells (volume_fault constraint found.now) result }
+    ensures { Reports (volume_fault constraint found.now) result }
 {
     match found {
         Some(name) => Err(AdoptFault::Broken(BrokenConstraint::Volume {
@@ -54,7 +54,7 @@ fn check_pools(alloc: Global, pools: &[Pool], bytes: &[TextSum]) -> Result<(), A
 
 // The fault of a next number that is 0. A number that is not 1 to 2^62 is read as 0.
 fn check_next(next: u64) -> Result<(), AdoptFault>
-    ensures { Tells (next_fault next) result }
+    ensures { Reports (next_fault next) result }
 {
     if next == 0 {
         return Err(AdoptFault::Broken(BrokenConstraint::Next));
@@ -64,7 +64,7 @@ fn check_next(next: u64) -> Result<(), AdoptFault>
 
 /// The fault of the next number, or of a volume's number or name.
 pub(crate) fn check_numbers(next: u64, seen: &VolumesSeen) -> Result<(), AdoptFault>
-    ensures { Tells (number_faults next (told_volumes seen.now)) result }
+    ensures { Reports (number_faults next (reported_volumes seen.now)) result }
 {
     check_next(next)?;
     check_volume(&seen.number, VolumeConstraint::Number)?;
@@ -77,7 +77,7 @@ pub(crate) fn check_sizes(
     config: &Config,
     seen: &VolumesSeen,
 ) -> Result<(), AdoptFault>
-    ensures { Says (size_faults config.now (told_volumes seen.now)) result }
+    ensures { Says (size_faults config.now (reported_volumes seen.now)) result }
 {
     check_volume(&seen.pool, VolumeConstraint::Pool)?;
     check_volume(&seen.bytes, VolumeConstraint::Bytes)?;

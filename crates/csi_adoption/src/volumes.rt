@@ -114,14 +114,14 @@ impl<'a> VolumesFold<'a> {
     }
 }
 
-/// Scans volumes.
+/// Scans volumes for broken constraints, and sums the bytes of each pool.
 pub(crate) fn see_volumes<S: Alter>(
     alloc: Global,
     conn: &mut IdleConnection<S>,
     config: &Config,
     meta: Meta,
 ) -> Result<VolumesSeen, Error>
-    requires ours { HasCleanDisk (state S.Store conn.old) → conn.old.schema ≡ our_schema }
+    requires has_schema { HasCleanDisk (state S.Store conn.old) → conn.old.schema ≡ our_schema }
     ensures scans { Scans S.Store conn.old conn.new result }
     ensures failed { ScanFails S.Store conn.old conn.new result }
     ensures seen { SeenBy S.Store conn.old conn.new result

@@ -7,11 +7,11 @@ use Rattle.std.proofs.lemmas.List.{get_or-set_same, get_or-set_other, length-map
 use Rattle.std.specs.List.{list_all}
 use Rattle.pbwire.specs.Wire.{WireField, Part, Number, Eight, Payload, Four, AreFields}
 use Rattle.pbwire.specs.Reading.{field_at}
-use Rattle.csi_change_store.specs.Cells.{HasColumns, IsReadAs, IsUnread, TakesField, bytes_of, lent, number_of}
+use Rattle.csi_change_store.specs.Cells.{HasColumns, IsReadAs, IsUnread, TakesField, bytes_of, borrowed, number_of}
 use Rattle.csi_change_store.specs.Pages.{AreCells, bytes_at, bytes_in, can_hold, is_cell, last, number_at, number_in}
 use Rattle.csi_change_store.specs.declared.cells.Cells.{Cells}
-use Rattle.csi_change_store.specs.declared.cells.Kind.{Kind}
-use Rattle.csi_change_store.specs.declared.cells.Kind.TheVariants.{Integer, Bytes}
+use Rattle.csi_change_store.specs.declared.cells.CellKind.{CellKind}
+use Rattle.csi_change_store.specs.declared.cells.CellKind.TheVariants.{Integer, Bytes}
 use Rattle.csi_change_store.proofs.CursorLemmas.{same_field}
 
 -- the clauses of pbwire's laws
@@ -31,17 +31,16 @@ pub and_both : (a b : Bool) → a ≡ true → b ≡ true → (a && b) ≡ true
 and_both a b h k = rw (h, k) refl
 
 -- the columns are those that these fields have after the ones that were read
-pub record HasRead (kinds : List Kind) (cells : Cells) (es all : List WireField) : Type 0 where
+pub record HasRead (kinds : List CellKind) (cells : Cells) (es all : List WireField) : Type 0 where
   pub numbers : (k : ℕ) → slice_get kinds k ≡ Some Integer → last number_in k (number_of cells k) es ≡ number_at k all
   pub bytes : (k : ℕ) → slice_get kinds k ≡ Some Bytes → last bytes_in k (bytes_of cells k) es ≡ bytes_at k all
 
--- The fields of the rest complete those that were read to those of the payload, and those of the payload end
--- with them.
-pub record Reading (kinds : List Kind) (payload rest : List ℕ) (cells : Cells) : Type 0 where
+-- The fields already read and the fields of the rest are the fields of the payload.
+pub record Reading (kinds : List CellKind) (payload rest : List ℕ) (cells : Cells) : Type 0 where
   pub whole : (es : List WireField) → AreFields es rest → AreCells kinds es → (all : List WireField) × AreFields all payload × AreCells kinds all × HasRead kinds cells es all
   pub left : (all : List WireField) → AreFields all payload → AreCells kinds all → (es : List WireField) × AreFields es rest × AreCells kinds es
 
-module _ (kinds : List Kind) (payload : List ℕ) where
+module _ (kinds : List CellKind) (payload : List ℕ) where
   pub starts : (cells : Cells) → ((k : ℕ) → number_of cells k ≡ 0) → ((k : ℕ) → bytes_of cells k ≡ []) → Reading kinds payload payload cells
   starts cells none empty = record {
     whole = λ es are fit. (es, are, fit, record { numbers = λ k is. ap (λ n. last number_in k n es) (none k); bytes = λ k is. ap (λ b. last bytes_in k b es) (empty k) });
@@ -74,7 +73,7 @@ module _ (kinds : List Kind) (payload : List ℕ) where
   pub ends : (rest : List ℕ) (cells : Cells) → Reading kinds payload rest cells → rest ≡ [] → IsReadAs kinds payload cells
   ends rest cells r none = let it = r.whole [] none refl in (it.0, it.1, it.2, record { numbers = it.3.numbers; bytes = it.3.bytes })
 
-  -- what is there is no field of a row
+  -- these bytes are no field of a row
   pub stops : Laws → (rest : List ℕ) (cells : Cells) → Reading kinds payload rest cells → rest ≢ [] → ((e : WireField) (more : List ℕ) → field_at rest ≡ Ok (e, more) → is_cell kinds e ≡ true → ⊥) → IsUnread kinds payload
   stops laws rest cells r some bad es are fit = let it = r.left es are fit in none it.0 it.1 it.2
     where
@@ -83,12 +82,12 @@ module _ (kinds : List Kind) (payload : List ℕ) where
       none (f ∷ fs) are fit = let it = (laws.in_order f fs rest).0 are in bad f it.0 it.1 (and_left _ _ fit)
 
 -- the field that was read is the only one, and does not fit
-pub unfit : (kinds : List Kind) (rest more : List ℕ) (e : WireField) → field_at rest ≡ Ok (e, more) → is_cell kinds e ≡ false → (f : WireField) (others : List ℕ) → field_at rest ≡ Ok (f, others) → is_cell kinds f ≡ true → ⊥
+pub unfit : (kinds : List CellKind) (rest more : List ℕ) (e : WireField) → field_at rest ≡ Ok (e, more) → is_cell kinds e ≡ false → (f : WireField) (others : List ℕ) → field_at rest ≡ Ok (f, others) → is_cell kinds f ≡ true → ⊥
 unfit kinds rest more e read bad f others is fits = true≢false (sym (subst (λ x. is_cell kinds x ≡ true) (same_field rest e f more others read is).0 fits) ∙ bad)
 
 -- ---- one field
 
-module _ (kinds : List Kind) (old : Cells) (number : ℕ) where
+module _ (kinds : List CellKind) (old : Cells) (number : ℕ) where
   pub takes_bytes : (bytes : Bor (List ℕ)) → number < length old.payloads → TakesField kinds (record { number = number; part = Payload bytes.now }) old (record old { payloads = set old.payloads number bytes })
   takes_bytes bytes within = record {
     numbers = λ k is. kept (eqb number k) (number_of old k);
@@ -99,19 +98,19 @@ module _ (kinds : List Kind) (old : Cells) (number : ℕ) where
       kept true was = refl
       kept false was = refl
 
-      put : (k : ℕ) (b : Bool) → eqb number k ≡ b → get_or (map lent (set old.payloads number bytes)) k [] ≡ cond b bytes.now (get_or (map lent old.payloads) k [])
+      put : (k : ℕ) (b : Bool) → eqb number k ≡ b → get_or (map borrowed (set old.payloads number bytes)) k [] ≡ cond b bytes.now (get_or (map borrowed old.payloads) k [])
       put k true is =
           let same : k ≡ number = sym (eqb-true number k is) in
-          let inside : number < length (map lent old.payloads) = omega (arith, length-map old.payloads lent) in
-          rw map-set (rw same (get_or-set_same (map lent old.payloads) number bytes.now [] inside))
+          let inside : number < length (map borrowed old.payloads) = omega (arith, length-map old.payloads borrowed) in
+          rw map-set (rw same (get_or-set_same (map borrowed old.payloads) number bytes.now [] inside))
       put k false is =
           let other : k ≢ number = λ e. eqb-false number k is (sym e) in
-          rw map-set (get_or-set_other (map lent old.payloads) number k bytes.now [] other)
+          rw map-set (get_or-set_other (map borrowed old.payloads) number k bytes.now [] other)
 
 -- ---- numbers
 
--- what stands in a column of numbers is one that a row can have
-pub small : (kinds : List Kind) (k : ℕ) → slice_get kinds k ≡ Some Integer → (es : List WireField) (was : ℕ) → AreCells kinds es → was < 2 ^ 63 → last number_in k was es < 2 ^ 63
+-- a value in a column of numbers is a number that a row can have
+pub small : (kinds : List CellKind) (k : ℕ) → slice_get kinds k ≡ Some Integer → (es : List WireField) (was : ℕ) → AreCells kinds es → was < 2 ^ 63 → last number_in k was es < 2 ^ 63
 small kinds k is [] was fit low = low
 small kinds k is (e ∷ es) was fit low = small kinds k is es _ (and_right _ _ fit) (one (eqb e.number k) refl)
   where
@@ -122,5 +121,5 @@ small kinds k is (e ∷ es) was fit low = small kinds k is es _ (and_right _ _ f
     held (Four bytes) fits = low
 
     one : (b : Bool) → eqb e.number k ≡ b → cond b (unwrap_or (number_in e.part) was) was < 2 ^ 63
-    one true at = held e.part (subst (λ (o : Option Kind). option_map_or (λ kind. can_hold kind e.part) o true ≡ true) (ap (slice_get kinds) (eqb-true e.number k at) ∙ is) (and_left _ _ fit))
+    one true at = held e.part (subst (λ (o : Option CellKind). option_map_or (λ kind. can_hold kind e.part) o true ≡ true) (ap (slice_get kinds) (eqb-true e.number k at) ∙ is) (and_left _ _ fit))
     one false at = low

@@ -12,7 +12,7 @@ use Rattle.csi_sql.specs.Tables.{no_schema, schema}
 use Rattle.csi_sql.specs.Transactions.{ChangesFrom, CommitsOver, RunsOver}
 use Rattle.csi_sql.specs.facts.Failing.{Committed, commits}
 use Rattle.csi_change_store.specs.Filling.{AreRead, Fills, HasRows, ReadsRows}
-use Rattle.csi_change_store.specs.Pages.{Notes}
+use Rattle.csi_change_store.specs.Pages.{PagesRead}
 use Rattle.csi_change_store.specs.Taking.{CommitsNothing, ExtendsFrom, PutsAll}
 use Rattle.csi_change_store.specs.Walking.{ReadsAll, all_items}
 
@@ -32,7 +32,7 @@ module _ {S : Type 0} (g : store.Ghosts S) where
     survives = nothing.survives;
   }
 
-  module _ {P : Type 0} (exchanged : P → P → List ℕ → Received → Type 0) (p q : P) (notes : Notes) where
+  module _ {P : Type 0} (exchanged : P → P → List ℕ → Received → Type 0) (p q : P) (notes : PagesRead) where
     pub filled : (old mid end new : Held S) → ReadsAll g (record old { in_transaction = true }) mid exchanged p q notes → CommitsNothing g (record old { in_transaction = true }) mid → Committed g schema old mid end (Ok tt) → end ≡ new → Fills g old new exchanged p q notes
     filled old mid end new r nothing done at = record {
       pages = r.pages;

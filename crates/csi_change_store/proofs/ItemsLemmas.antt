@@ -9,12 +9,12 @@ use Rattle.csi_change_store.specs.Pages.{PageItem, Meta, Volume, Attachment, Tok
 use Rattle.csi_change_store.specs.Asking.{flag_number}
 use Rattle.csi_change_store.specs.Taking.{IsFlagFault, IsItemFault}
 use Rattle.csi_change_store.specs.declared.cells.Cells.{Cells}
-use Rattle.csi_change_store.specs.declared.cells.Kind.{Kind}
+use Rattle.csi_change_store.specs.declared.cells.CellKind.{CellKind}
 use Rattle.csi_change_store.specs.declared.fault.RowsFault.{RowsFault}
 use Rattle.csi_change_store.specs.declared.fault.RowsFault.TheVariants.{Malformed, Untyped, Flag, Refused, Row, NoMemory}
 use Rattle.csi_change_store.proofs.CellsLemmas.{small}
 
--- ---- what was read of a payload
+-- ---- the part of a payload already read
 
 abbrev pub meta_in : Cells → MetaColumns
 meta_in cells = record { format = number_of cells 1; next = number_of cells 2 }
@@ -93,7 +93,7 @@ module _ (payload : List ℕ) (cells : Cells) where
       subst (λ (r : AttachmentColumns). IsItem (bytes_field 3 payload) (Attachment r) × IsTyped (Attachment r) × IsSmall (Attachment r)) (sym is)
       (attachment_spelled read, (node, subst (λ (n : ℕ). n < 2) (sym at) (flag_low flag)), attachment_small read)
 
--- ---- payloads of which no row was read
+-- ---- payloads with no row read yet
 
 abbrev payload_in : WireField → List ℕ
 payload_in e = unwrap_or (bytes_in e.part) []
@@ -107,7 +107,7 @@ other_number n m p q h = ap number_of_field h
 same_payload : (n m : ℕ) (p q : List ℕ) → bytes_field n p ≡ bytes_field m q → q ≡ p
 same_payload n m p q h = sym (ap payload_in h)
 
-unspelled : {Columns : Type 0} (kinds : List Kind) (of : List WireField → Columns) (p q : List ℕ) (row : Columns) → q ≡ p → IsUnread kinds p → IsSpelled kinds of q row → ⊥
+unspelled : {Columns : Type 0} (kinds : List CellKind) (of : List WireField → Columns) (p q : List ℕ) (row : Columns) → q ≡ p → IsUnread kinds p → IsSpelled kinds of q row → ⊥
 unspelled kinds of p q row same unread it = unread it.0 (subst (AreFields it.0) same it.1) it.2
 
 module _ (p : List ℕ) where

@@ -16,7 +16,7 @@ use Rattle.csi_sql.specs.Transactions.{RunsOver}
 use Rattle.csi_sql.specs.facts.Failing.{fails_weaker}
 use Rattle.csi_sql.specs.Refusing.{RefusesAttachment, RefusesNext, RefusesVolume}
 use Rattle.csi_sql.specs.Tables.{schema}
-use Rattle.csi_change_store.specs.Pages.{PageItem, Meta, Volume, Attachment, Token, Skipped, AreTyped, BeginsWith, HasFlag, HasTexts, IsItem, IsPage, IsTyped, Notes, noted, volume_number, with_item}
+use Rattle.csi_change_store.specs.Pages.{PageItem, Meta, Volume, Attachment, Token, Skipped, AreTyped, BeginsWith, HasFlag, HasTexts, IsItem, IsPage, IsTyped, PagesRead, noted, volume_number, with_item}
 use Rattle.csi_change_store.specs.Taking.{CommitsNothing, Extends, ExtendsFrom, FailsWith, IsFaultIn, IsFaultOf, IsItemFault, IsPageFault, IsRefusal, IsRefusedAs, Puts, PutsAll, PutsItem, RefusesItem, RefusesRow, TakesPage, kept_attachment, kept_volume}
 use Rattle.csi_change_store.specs.declared.fault.RowsFault.{RowsFault}
 use Rattle.csi_change_store.specs.declared.fault.RowsFault.TheVariants.{Malformed, Untyped, Flag, Refused, Row, NoMemory}
@@ -76,22 +76,22 @@ pub typed_append : (items more : List PageItem) → AreTyped items → AreTyped 
 typed_append [] more h k = k
 typed_append (item ∷ items) more h k = (h.0, typed_append items more h.1 k)
 
-pub noted_append : (items more : List PageItem) (notes : Notes) → noted (items ++ more) notes ≡ noted more (noted items notes)
+pub noted_append : (items more : List PageItem) (notes : PagesRead) → noted (items ++ more) notes ≡ noted more (noted items notes)
 noted_append [] more notes = refl
 noted_append (item ∷ items) more notes = noted_append items more (with_item item notes)
 
 -- what follows the first items of a page is a page
 module _ (shorter : (bytes rest : List ℕ) (e : WireField) → field_at bytes ≡ Ok (e, rest) → length rest < length bytes) where
-  pub goes_behind : (done items : List PageItem) (bytes rest : List ℕ) → BeginsWith done bytes rest → IsPage bytes items → (more : List PageItem) × IsPage rest more
-  goes_behind [] items bytes rest h page = (items, subst (λ b. BeginsWith items b []) h page)
-  goes_behind (d ∷ done) [] bytes rest h page = absurd (let n : length h.1 < length bytes = shorter bytes h.1 h.0 h.2 in omega (arith, n, ap length page))
-  goes_behind (d ∷ done) (i ∷ items) bytes rest h page =
+  pub goes_after : (done items : List PageItem) (bytes rest : List ℕ) → BeginsWith done bytes rest → IsPage bytes items → (more : List PageItem) × IsPage rest more
+  goes_after [] items bytes rest h page = (items, subst (λ b. BeginsWith items b []) h page)
+  goes_after (d ∷ done) [] bytes rest h page = absurd (let n : length h.1 < length bytes = shorter bytes h.1 h.0 h.2 in omega (arith, n, ap length page))
+  goes_after (d ∷ done) (i ∷ items) bytes rest h page =
       let same = same_field bytes h.0 page.0 h.1 page.1 h.2 page.2 in
-      goes_behind done items h.1 rest h.4 (subst (λ b. BeginsWith items b []) same.1 page.4)
+      goes_after done items h.1 rest h.4 (subst (λ b. BeginsWith items b []) same.1 page.4)
 
   -- no item is encoded where one should be
   pub no_page : (done : List PageItem) (bytes rest : List ℕ) → BeginsWith done bytes rest → rest ≢ [] → ((e : WireField) (more : List ℕ) → field_at rest ≡ Ok (e, more) → (item : PageItem) → IsItem e item → ⊥) → (items : List PageItem) → IsPage bytes items → ⊥
-  no_page done bytes rest h some none items page = let it = goes_behind done items bytes rest h page in from it.0 it.1
+  no_page done bytes rest h some none items page = let it = goes_after done items bytes rest h page in from it.0 it.1
     where
       from : (more : List PageItem) → IsPage rest more → ⊥
       from [] is = some is
@@ -126,7 +126,7 @@ no_cause refuses old new spelled NoMemory is = tt
 -- ---- the items so far
 
 module _ {S : Type 0} (g : store.Ghosts S) where
-  pub record Taking (body rest : List ℕ) (before now : Notes) (a b : Held S) : Type 0 where
+  pub record Taking (body rest : List ℕ) (before now : PagesRead) (a b : Held S) : Type 0 where
     pub done : List PageItem
     pub begins : BeginsWith done body rest
     pub typed : AreTyped done
@@ -155,7 +155,7 @@ module _ {S : Type 0} (g : store.Ghosts S) where
         effect = λ has. let p = first.effect has in both _ _ _ p (second.effect (keeps _ _ p ∙ has));
       }
 
-  pub starts : (body : List ℕ) (notes : Notes) (a : Held S) → Taking body body notes notes a a
+  pub starts : (body : List ℕ) (notes : PagesRead) (a : Held S) → Taking body body notes notes a a
   starts body notes a = record {
     done = [];
     begins = refl;
@@ -165,11 +165,11 @@ module _ {S : Type 0} (g : store.Ghosts S) where
     nothing = nothing_done g a;
   }
 
-  module _ (body mid : List ℕ) (before : Notes) (a b c : Held S) where
-    stays : (now : Notes) → Taking body mid before now a b → HasCleanDisk (state g b) → IsTrue a.in_transaction → IsTrue b.in_transaction
+  module _ (body mid : List ℕ) (before : PagesRead) (a b c : Held S) where
+    stays : (now : PagesRead) → Taking body mid before now a b → HasCleanDisk (state g b) → IsTrue a.in_transaction → IsTrue b.in_transaction
     stays now t clean inside = (t.puts clean inside).inside
 
-    pub goes_on : (rest : List ℕ) (e : WireField) (item : PageItem) (now after : Notes) → Taking body mid before now a b → field_at mid ≡ Ok (e, rest) → IsItem e item → IsTyped item → PutsItem g b c item (Ok tt) → after ≡ with_item item now → Taking body rest before after a c
+    pub goes_on : (rest : List ℕ) (e : WireField) (item : PageItem) (now after : PagesRead) → Taking body mid before now a b → field_at mid ≡ Ok (e, rest) → IsItem e item → IsTyped item → PutsItem g b c item (Ok tt) → after ≡ with_item item now → Taking body rest before after a c
     goes_on rest e item now after t read is typed put noted_so = record {
       done = t.done ++ item ∷ [];
       begins = begins_push t.done body mid rest e item t.begins read is;
@@ -197,7 +197,7 @@ module _ {S : Type 0} (g : store.Ghosts S) where
     refused_later (Token token) e limit why = why
     refused_later Skipped e limit why = why
 
-    fails_so : (rest : List ℕ) (e : WireField) (item : PageItem) (now : Notes) → Taking body mid before now a b → field_at mid ≡ Ok (e, rest) → IsItem e item → HasCleanDisk (state g b) → IsTrue a.in_transaction
+    fails_so : (rest : List ℕ) (e : WireField) (item : PageItem) (now : PagesRead) → Taking body mid before now a b → field_at mid ≡ Ok (e, rest) → IsItem e item → HasCleanDisk (state g b) → IsTrue a.in_transaction
         → (fault : RowsFault) → FailsWith (IsRefusedAs item (state g b)) (state g b) (state g c) fault → FailsWith (λ number x. RefusesRow body number (state g a) x) (state g a) (state g c) fault
     fails_so rest e item now t read is clean inside Malformed failed = tt
     fails_so rest e item now t read is clean inside (Untyped n) failed = tt
@@ -211,7 +211,7 @@ module _ {S : Type 0} (g : store.Ghosts S) where
     fails_so rest e item now t read is clean inside NoMemory failed = tt
 
     -- an item is not put
-    pub refused : (rest : List ℕ) (e : WireField) (item : PageItem) (now after : Notes) (fault : RowsFault) (r : Result (Unit {0}) RowsFault) → IsErrAnd r (λ x. x ≡ fault) → Taking body mid before now a b → field_at mid ≡ Ok (e, rest) → IsItem e item
+    pub refused : (rest : List ℕ) (e : WireField) (item : PageItem) (now after : PagesRead) (fault : RowsFault) (r : Result (Unit {0}) RowsFault) → IsErrAnd r (λ x. x ≡ fault) → Taking body mid before now a b → field_at mid ≡ Ok (e, rest) → IsItem e item
         → PutsItem g b c item (Err fault) → IsRefusal fault → TakesPage g a c body before after r
     refused rest e item now after fault (Ok x) at t read is put refusal = absurd at
     refused rest e item now after fault (Err x) at t read is put refusal = subst (λ y. TakesPage g a c body before after (Err y)) (sym at) (record {
@@ -224,7 +224,7 @@ module _ {S : Type 0} (g : store.Ghosts S) where
       nothing = nothing_then a b c t.nothing put.nothing (stays now t);
     })
 
-  module _ (shorter : (bytes rest : List ℕ) (e : WireField) → field_at bytes ≡ Ok (e, rest) → length rest < length bytes) (body mid : List ℕ) (before now : Notes) (a b : Held S) (t : Taking body mid before now a b) where
+  module _ (shorter : (bytes rest : List ℕ) (e : WireField) → field_at bytes ≡ Ok (e, rest) → length rest < length bytes) (body mid : List ℕ) (before now : PagesRead) (a b : Held S) (t : Taking body mid before now a b) where
     pub ends : mid ≡ [] → TakesPage g a b body before now (Ok tt)
     ends none = record {
       ok = (t.done, subst (λ bytes. BeginsWith t.done body bytes) none t.begins, t.typed, t.noted_is, t.puts);
@@ -234,7 +234,7 @@ module _ {S : Type 0} (g : store.Ghosts S) where
     }
 
     -- no field is there
-    pub stops : (after : Notes) → mid ≢ [] → ((e : WireField) (more : List ℕ) → field_at mid ≡ Ok (e, more) → ⊥) → TakesPage g a b body before after (Err Malformed)
+    pub stops : (after : PagesRead) → mid ≢ [] → ((e : WireField) (more : List ℕ) → field_at mid ≡ Ok (e, more) → ⊥) → TakesPage g a b body before after (Err Malformed)
     stops after some none = record {
       ok = tt;
       fault = no_page shorter t.done body mid t.begins some (λ e more at item spelled. none e more at);
@@ -243,7 +243,7 @@ module _ {S : Type 0} (g : store.Ghosts S) where
     }
 
     -- the field is no item that the tables can take
-    pub unspelled : (rest : List ℕ) (e : WireField) (after : Notes) (fault : RowsFault) (r : Result (Unit {0}) RowsFault) → IsErrAnd r (λ x. x ≡ fault) → field_at mid ≡ Ok (e, rest) → mid ≢ [] → IsItemFault (IsItem e) fault → TakesPage g a b body before after r
+    pub unspelled : (rest : List ℕ) (e : WireField) (after : PagesRead) (fault : RowsFault) (r : Result (Unit {0}) RowsFault) → IsErrAnd r (λ x. x ≡ fault) → field_at mid ≡ Ok (e, rest) → mid ≢ [] → IsItemFault (IsItem e) fault → TakesPage g a b body before after r
     unspelled rest e after fault (Ok x) at read some is = absurd at
     unspelled rest e after fault (Err x) at read some is = subst (λ y. TakesPage g a b body before after (Err y)) (sym at) (record {
       ok = tt;

@@ -6,11 +6,11 @@ use Rattle.sqlite.specs.Held.{Held, state}
 use Rattle.sqlite.specs.State.{HasCleanDisk}
 use Rattle.sqlite.specs.Store as store
 use Rattle.csi_client.specs.declared.receiving.Received.{Received}
-use Rattle.csi_change_store.specs.Pages.{PageItem, AreTyped, IsPage, Notes}
+use Rattle.csi_change_store.specs.Pages.{PageItem, AreTyped, IsPage, PagesRead}
 use Rattle.csi_change_store.specs.Taking.{CommitsNothing, ExtendsFrom, PutsAll, TakesPage}
 use Rattle.csi_change_store.specs.Walking.{GivesPage, HasNextPage, IsFaultAfter, IsPageless, IsReadFault, ReadsAll, ReadsPage, Walks, all_items, no_notes, noted_page}
 use Rattle.csi_change_store.specs.declared.fault.RowsFault.{RowsFault}
-use Rattle.csi_change_store.specs.declared.pages.Notes as noted
+use Rattle.csi_change_store.specs.declared.pages.PagesRead as noted
 use Rattle.csi_change_store.specs.declared.reading.ReadFault.{ReadFault}
 use Rattle.csi_change_store.specs.declared.reading.ReadFault.TheVariants.{Unasked, Unanswered, Rows, Endless, Database}
 use Rattle.csi_change_store.proofs.PagesLemmas.{all_schema, extends_then, nothing_done, nothing_then, puts_append, typed_append}
@@ -18,7 +18,7 @@ use Rattle.csi_change_store.proofs.PagesLemmas.{all_schema, extends_then, nothin
 -- ---- one page
 
 module _ {P : Type 0} (exchanged : P → P → List ℕ → Received → Type 0) (old new : P) where
-  pub page_taken : {S : Type 0} {g : store.Ghosts S} {a b : Held S} (body : List ℕ) (before after : Notes) → GivesPage exchanged old new before.token body → TakesPage g a b body (record before { token = [] }) after (Ok tt) → ReadsPage g a b exchanged old new before after
+  pub page_taken : {S : Type 0} {g : store.Ghosts S} {a b : Held S} (body : List ℕ) (before after : PagesRead) → GivesPage exchanged old new before.token body → TakesPage g a b body (record before { token = [] }) after (Ok tt) → ReadsPage g a b exchanged old new before after
   page_taken body before after given takes = record { body = body; items = takes.ok.0; given = given; page = takes.ok.1; typed = takes.ok.2; noted_is = takes.ok.3; puts = takes.ok.4 }
 
 -- ---- all pages
@@ -41,20 +41,20 @@ not_nil [] x h = cc
 not_nil (y ∷ xs) x h = cc
 
 module _ {P : Type 0} (exchanged : P → P → List ℕ → Received → Type 0) where
-  goes_push : (pages : List (List PageItem)) (items : List PageItem) (first notes : Notes) (old new : P) → Walks exchanged pages first old new notes → HasNextPage pages first → notes.token ≢ [] → HasNextPage (pages ++ items ∷ []) first
-  goes_push [] items first notes old new walks goes some = λ none. some (ap (λ (n : Notes). n.token) walks.1 ∙ none)
+  goes_push : (pages : List (List PageItem)) (items : List PageItem) (first notes : PagesRead) (old new : P) → Walks exchanged pages first old new notes → HasNextPage pages first → notes.token ≢ [] → HasNextPage (pages ++ items ∷ []) first
+  goes_push [] items first notes old new walks goes some = λ none. some (ap (λ (n : PagesRead). n.token) walks.1 ∙ none)
   goes_push (page ∷ pages) items first notes old new walks goes some = goes
 
-  walks_push : (pages : List (List PageItem)) (items : List PageItem) (body : List ℕ) (first notes : Notes) (old mid new : P) → Walks exchanged pages first old mid notes → (pages ≢ [] → notes.token ≢ []) → GivesPage exchanged mid new notes.token body → IsPage body items
+  walks_push : (pages : List (List PageItem)) (items : List PageItem) (body : List ℕ) (first notes : PagesRead) (old mid new : P) → Walks exchanged pages first old mid notes → (pages ≢ [] → notes.token ≢ []) → GivesPage exchanged mid new notes.token body → IsPage body items
       → Walks exchanged (pages ++ items ∷ []) first old new (noted_page items notes)
   walks_push [] items body first notes old mid new walks some given page =
-      (body, new, subst (λ (n : Notes). GivesPage exchanged old new n.token body) walks.1 (subst (λ (p : P). GivesPage exchanged p new notes.token body) walks.0 given), page, tt, (refl, ap (noted_page items) walks.1))
+      (body, new, subst (λ (n : PagesRead). GivesPage exchanged old new n.token body) walks.1 (subst (λ (p : P). GivesPage exchanged p new notes.token body) walks.0 given), page, tt, (refl, ap (noted_page items) walks.1))
   walks_push (p ∷ pages) items body first notes old mid new walks some given page =
       let more = some (no_nil p pages) in
       (walks.0, walks.1, walks.2, walks.3, goes_push pages items (noted_page p first) notes walks.1 mid walks.5 walks.4 more, walks_push pages items body (noted_page p first) notes walks.1 mid new walks.5 (λ _. more) given page)
 
   module _ {S : Type 0} (g : store.Ghosts S) where
-    pub record Reading (old mid : P) (notes : Notes) (a b : Held S) : Type 0 where
+    pub record Reading (old mid : P) (notes : PagesRead) (a b : Held S) : Type 0 where
       pub pages : List (List PageItem)
       pub walks : Walks exchanged pages no_notes old mid notes
       pub going : pages ≢ [] → notes.token ≢ []
@@ -62,12 +62,12 @@ module _ {P : Type 0} (exchanged : P → P → List ℕ → Received → Type 0)
       pub puts : ExtendsFrom g a b (PutsAll (all_items pages))
       pub nothing : CommitsNothing g a b
 
-    module _ (old mid new : P) (notes : Notes) (a b c : Held S) (r : Reading old mid notes a b) where
+    module _ (old mid new : P) (notes : PagesRead) (a b c : Held S) (r : Reading old mid notes a b) where
       -- nothing is committed by what comes next either
       pub still_nothing : CommitsNothing g b c → CommitsNothing g a c
       still_nothing two = nothing_then g a b c r.nothing two (λ clean inside. (r.puts clean inside).inside)
 
-      module _ (after : Notes) (page : ReadsPage g b c exchanged mid new notes after) (two : CommitsNothing g b c) where
+      module _ (after : PagesRead) (page : ReadsPage g b c exchanged mid new notes after) (two : CommitsNothing g b c) where
         abbrev all : List PageItem
         all = all_items r.pages ++ page.items
 
@@ -91,6 +91,6 @@ module _ {P : Type 0} (exchanged : P → P → List ℕ → Received → Type 0)
         reading_ends none = record { pages = now; some = not_nil r.pages page.items; walks = walked; last = none; typed = are_typed; puts = are_put }
 
       -- the next page is not read
-      pub reading_fails : (fault : ReadFault) (end : Result noted.Notes ReadFault) → IsErrAnd end (λ x. x ≡ fault) → IsFaultAfter exchanged mid new notes fault → IfErr end (IsReadFault exchanged old new)
+      pub reading_fails : (fault : ReadFault) (end : Result noted.PagesRead ReadFault) → IsErrAnd end (λ x. x ≡ fault) → IsFaultAfter exchanged mid new notes fault → IfErr end (IsReadFault exchanged old new)
       reading_fails fault (Ok x) at is = tt
       reading_fails fault (Err x) at is = subst (IsReadFault exchanged old new) (sym at) (record { pages = r.pages; notes = notes; mid = mid; walks = r.walks; after = is })

@@ -8,12 +8,12 @@ use Rattle.csi_client.specs.declared.receiving.Received.{Received}
 use Rattle.csi_sql.specs.Making.{MakesTables}
 use Rattle.csi_sql.specs.Tables.{no_schema, schema}
 use Rattle.csi_sql.specs.Transactions.{ChangesFrom}
-use Rattle.csi_change_store.specs.Pages.{PageItem, AreTyped, Notes}
+use Rattle.csi_change_store.specs.Pages.{PageItem, AreTyped, PagesRead}
 use Rattle.csi_change_store.specs.Taking.{PutsAll}
 use Rattle.csi_change_store.specs.Walking.{Walks, all_items, no_notes}
 
 -- all pages of a change store, by exchanges with its peer; the last page has an empty token
-pub record AreRead {P : Type 0} (exchanged : P → P → List ℕ → Received → Type 0) (old new : P) (notes : Notes) (pages : List (List PageItem)) : Type 0 where
+pub record AreRead {P : Type 0} (exchanged : P → P → List ℕ → Received → Type 0) (old new : P) (notes : PagesRead) (pages : List (List PageItem)) : Type 0 where
   pub some : pages ≢ []
   pub walks : Walks exchanged pages no_notes old new notes
   pub last : notes.token ≡ []
@@ -25,7 +25,7 @@ pub record HasRows (items : List PageItem) (old new : Database) : Type 0 where
   pub makes : MakesTables old made
   pub puts : PutsAll items made new
 
-module _ {S : Type 0} (g : Ghosts S) (a b : Held S) {P : Type 0} (exchanged : P → P → List ℕ → Received → Type 0) (old new : P) (notes : Notes) where
+module _ {S : Type 0} (g : Ghosts S) (a b : Held S) {P : Type 0} (exchanged : P → P → List ℕ → Received → Type 0) (old new : P) (notes : PagesRead) where
   pub record Fills : Type 0 where
     pub pages : List (List PageItem)
     pub read : AreRead exchanged old new notes pages

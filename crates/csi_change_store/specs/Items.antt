@@ -1,10 +1,10 @@
 -- The items of the code, without where they lie in memory.
 use Rattle.csi_change_store.specs.Asking.{flag_number}
-use Rattle.csi_change_store.specs.Pages.{PageItem, Meta, Volume, Attachment, Token, Skipped, VolumeColumns, AttachmentColumns, Notes}
+use Rattle.csi_change_store.specs.Pages.{PageItem, Meta, Volume, Attachment, Token, Skipped, VolumeColumns, AttachmentColumns, PagesRead}
 use Rattle.csi_change_store.specs.declared.items.AttachmentRow.{AttachmentRow}
 use Rattle.csi_change_store.specs.declared.items.Item.{Item}
 use Rattle.csi_change_store.specs.declared.items.Item.TheVariants as item
-use Rattle.csi_change_store.specs.declared.pages.Notes as noted
+use Rattle.csi_change_store.specs.declared.pages.PagesRead as noted
 use Rattle.csi_sql.specs.declared.statements.volumes.VolumeRow.{VolumeRow}
 
 abbrev pub volume_columns : VolumeRow → VolumeColumns
@@ -20,5 +20,5 @@ seen_item (item.Attachment row) = Attachment (attachment_columns row)
 seen_item (item.Token token) = Token token.now
 seen_item item.Skipped = Skipped
 
-abbrev pub seen_notes : noted.Notes → Notes
+abbrev pub seen_notes : noted.PagesRead → PagesRead
 seen_notes notes = record { token = notes.token.items; format = notes.format; has_rows = notes.has_rows }

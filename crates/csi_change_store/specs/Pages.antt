@@ -7,13 +7,13 @@ use Rattle.std.specs.Option.{option_map_or}
 use Rattle.pbwire.specs.Wire.{WireField, Part, Number, Eight, Payload, Four, AreFields}
 use Rattle.pbwire.specs.Reading.{field_at}
 use Rattle.csi_change_store.specs.Asking.{bytes_field}
-use Rattle.csi_change_store.specs.declared.cells.Kind.{Kind}
-use Rattle.csi_change_store.specs.declared.cells.Kind.TheVariants.{Skipped as Unused, Integer, Bytes}
+use Rattle.csi_change_store.specs.declared.cells.CellKind.{CellKind}
+use Rattle.csi_change_store.specs.declared.cells.CellKind.TheVariants.{Skipped as Unused, Integer, Bytes}
 
 -- ---- the fields of a row
 
 -- A column of the kind can hold it. No row has a number from 2^63 on.
-abbrev pub can_hold : Kind → Part → Bool
+abbrev pub can_hold : CellKind → Part → Bool
 can_hold Unused part = true
 can_hold Integer (Number n) = nat_lt n (2 ^ 63)
 can_hold Integer (Eight bytes) = false
@@ -25,10 +25,10 @@ can_hold Bytes (Payload bytes) = true
 can_hold Bytes (Four bytes) = false
 
 -- The kinds are by the number of the field, from 0 on, which no field has. A field of no column is skipped.
-abbrev pub is_cell : List Kind → WireField → Bool
+abbrev pub is_cell : List CellKind → WireField → Bool
 is_cell kinds e = option_map_or (λ kind. can_hold kind e.part) (slice_get kinds e.number) true
 
-abbrev pub AreCells : List Kind → List WireField → Type 0
+abbrev pub AreCells : List CellKind → List WireField → Type 0
 AreCells kinds es = list_all (is_cell kinds) es ≡ true
 
 abbrev pub number_in : Part → Option ℕ
@@ -78,13 +78,13 @@ pub record AttachmentColumns : Type 0 where
   pub cap : List ℕ
   pub readonly : ℕ
 
-abbrev pub meta_kinds : List Kind
+abbrev pub meta_kinds : List CellKind
 meta_kinds = Unused ∷ Integer ∷ Integer ∷ []
 
-abbrev pub volume_kinds : List Kind
+abbrev pub volume_kinds : List CellKind
 volume_kinds = Unused ∷ Integer ∷ Bytes ∷ Integer ∷ Bytes ∷ Bytes ∷ Bytes ∷ []
 
-abbrev pub attachment_kinds : List Kind
+abbrev pub attachment_kinds : List CellKind
 attachment_kinds = Unused ∷ Integer ∷ Bytes ∷ Bytes ∷ Integer ∷ []
 
 abbrev pub meta_of : List WireField → MetaColumns
@@ -104,7 +104,7 @@ abbrev pub attachment_of : List WireField → AttachmentColumns
 attachment_of es = record { number = number_at 1 es; node = bytes_at 2 es; cap = bytes_at 3 es; readonly = number_at 4 es }
 
 -- the payload encodes the row
-abbrev pub IsSpelled : {Columns : Type 0} → List Kind → (List WireField → Columns) → List ℕ → Columns → Type 0
+abbrev pub IsSpelled : {Columns : Type 0} → List CellKind → (List WireField → Columns) → List ℕ → Columns → Type 0
 IsSpelled kinds columns_of payload columns = (es : List WireField) × AreFields es payload × AreCells kinds es × (columns ≡ columns_of es)
 
 -- ---- pages
@@ -182,7 +182,7 @@ AreTyped items = AllByRecursion IsTyped items
 
 -- ---- notes of the items in addition to their rows
 
-pub record Notes : Type 0 where
+pub record PagesRead : Type 0 where
   -- the token of the next page, which is empty after the last one
   pub token : List ℕ
   -- the format of the row of meta, if there was one
@@ -190,13 +190,13 @@ pub record Notes : Type 0 where
   -- whether there was a row of volumes or of attachments
   pub has_rows : Bool
 
-abbrev pub with_item : PageItem → Notes → Notes
+abbrev pub with_item : PageItem → PagesRead → PagesRead
 with_item (Meta row) notes = record notes { format = Some row.format }
 with_item (Volume row) notes = record notes { has_rows = true }
 with_item (Attachment row) notes = record notes { has_rows = true }
 with_item (Token token) notes = record notes { token = token }
 with_item Skipped notes = notes
 
-abbrev pub noted : List PageItem → Notes → Notes
+abbrev pub noted : List PageItem → PagesRead → PagesRead
 noted [] notes = notes
 noted (item ∷ items) notes = noted items (with_item item notes)

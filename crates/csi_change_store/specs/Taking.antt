@@ -18,7 +18,7 @@ use Rattle.csi_sql.specs.Tables.{schema}
 use Rattle.csi_change_store.specs.declared.fault.RowsFault.{RowsFault}
 use Rattle.csi_change_store.specs.declared.fault.RowsFault.TheVariants.{Malformed, Untyped, Flag, Refused, Row as RowRefused, NoMemory}
 use Rattle.csi_change_store.specs.Pages.{PageItem, Meta, Volume, Attachment, Token, Skipped, VolumeColumns, AttachmentColumns, AreTyped, BeginsWith}
-use Rattle.csi_change_store.specs.Pages.{HasFlag, HasTexts, IsPage, Notes, node_of, noted, volume_number}
+use Rattle.csi_change_store.specs.Pages.{HasFlag, HasTexts, IsPage, PagesRead, node_of, noted, volume_number}
 
 -- ---- rows, as they are kept
 
@@ -160,7 +160,7 @@ module _ {S : Type 0} (g : Ghosts S) (old new : Held S) where
 
   -- The items that the page encodes are put, all of them and in their order, and noted; or one is not for a
   -- cause.
-  pub record TakesPage (body : List ℕ) (before after : Notes) (r : Result (Unit {0}) RowsFault) : Type 0 where
+  pub record TakesPage (body : List ℕ) (before after : PagesRead) (r : Result (Unit {0}) RowsFault) : Type 0 where
     pub ok : OnOk r ((items : List PageItem) × IsPage body items × AreTyped items × (after ≡ noted items before) × ExtendsFrom g old new (PutsAll items))
     pub fault : IfErr r (IsPageFault body)
     pub failed : HasCleanDisk (state g new) → IsTrue old.in_transaction → (state g old).now.schema ≡ schema

@@ -10,7 +10,7 @@ use Rattle.csi_client.specs.declared.receiving.ReceivedReply.{ReceivedReply}
 use Rattle.csi_keeper.specs.declared.change.StoreFault.{StoreFault}
 use Rattle.csi_keeper.specs.declared.change.StoreFault.TheVariants.{NoMemory, Refused}
 use Rattle.csi_change_store.specs.Asking.{read_frame, token_bytes}
-use Rattle.csi_change_store.specs.Pages.{PageItem, AreTyped, IsPage, Notes, noted}
+use Rattle.csi_change_store.specs.Pages.{PageItem, AreTyped, IsPage, PagesRead, noted}
 use Rattle.csi_change_store.specs.Taking.{ExtendsFrom, IsPageFault, PutsAll}
 use Rattle.csi_change_store.specs.declared.reading.ReadFault.{ReadFault}
 use Rattle.csi_change_store.specs.declared.reading.ReadFault.TheVariants.{Unasked, Unanswered, Rows, Endless, Database as Unkept}
@@ -30,11 +30,11 @@ abbrev pub IsUnframed : List ℕ → StoreFault → Type 0
 IsUnframed token fault = (fault ≡ NoMemory) ⊎ ((fault ≡ Refused) × (MAX_MESSAGE_BYTES < length (token_bytes token)))
 
 -- before any page
-abbrev pub no_notes : Notes
+abbrev pub no_notes : PagesRead
 no_notes = record { token = []; format = None; has_rows = false }
 
 -- the items of one page more
-abbrev pub noted_page : List PageItem → Notes → Notes
+abbrev pub noted_page : List PageItem → PagesRead → PagesRead
 noted_page items notes = noted items (record notes { token = [] })
 
 module _ {P : Type 0} (exchanged : P → P → List ℕ → Received → Type 0) (old new : P) where
@@ -51,7 +51,7 @@ module _ {P : Type 0} (exchanged : P → P → List ℕ → Received → Type 0)
   IsPageless token (Unkept e) = ⊥
 
   -- why no page is read after these notes
-  abbrev pub IsFaultAfter : Notes → ReadFault → Type 0
+  abbrev pub IsFaultAfter : PagesRead → ReadFault → Type 0
   IsFaultAfter notes (Unasked fault) = IsPageless notes.token (Unasked fault)
   IsFaultAfter notes (Unanswered received) = IsPageless notes.token (Unanswered received)
   IsFaultAfter notes (Rows fault) = (body : List ℕ) × GivesPage notes.token body × IsPageFault body fault
@@ -61,12 +61,12 @@ module _ {P : Type 0} (exchanged : P → P → List ℕ → Received → Type 0)
 -- ---- all pages
 
 -- a further page has a token
-abbrev pub HasNextPage : List (List PageItem) → Notes → Type 0
+abbrev pub HasNextPage : List (List PageItem) → PagesRead → Type 0
 HasNextPage [] notes = Unit {0}
 HasNextPage (items ∷ pages) notes = notes.token ≢ []
 
 -- the exchanges that give these pages, in order
-abbrev pub Walks : {P : Type 0} → (P → P → List ℕ → Received → Type 0) → List (List PageItem) → Notes → P → P → Notes → Type 0
+abbrev pub Walks : {P : Type 0} → (P → P → List ℕ → Received → Type 0) → List (List PageItem) → PagesRead → P → P → PagesRead → Type 0
 Walks {P = P} exchanged [] notes old new after = (new ≡ old) × (after ≡ notes)
 Walks {P = P} exchanged (items ∷ pages) notes old new after =
     (body : List ℕ) × (mid : P) × GivesPage exchanged old mid notes.token body × IsPage body items
@@ -78,7 +78,7 @@ all_items (items ∷ pages) = items ++ all_items pages
 
 module _ {S : Type 0} (g : Ghosts S) (a b : Held S) {P : Type 0} (exchanged : P → P → List ℕ → Received → Type 0) (old new : P) where
   -- the rows of a page are put
-  pub record ReadsPage (before after : Notes) : Type 0 where
+  pub record ReadsPage (before after : PagesRead) : Type 0 where
     pub body : List ℕ
     pub items : List PageItem
     pub given : GivesPage exchanged old new before.token body
@@ -88,7 +88,7 @@ module _ {S : Type 0} (g : Ghosts S) (a b : Held S) {P : Type 0} (exchanged : P 
     pub puts : ExtendsFrom g a b (PutsAll items)
 
   -- The rows of all pages are put. The last page has an empty token.
-  pub record ReadsAll (notes : Notes) : Type 0 where
+  pub record ReadsAll (notes : PagesRead) : Type 0 where
     pub pages : List (List PageItem)
     pub some : pages ≢ []
     pub walks : Walks exchanged pages no_notes old new notes
@@ -99,7 +99,7 @@ module _ {S : Type 0} (g : Ghosts S) (a b : Held S) {P : Type 0} (exchanged : P 
 -- why not all pages are read: some were, and then came the fault
 pub record IsReadFault {P : Type 0} (exchanged : P → P → List ℕ → Received → Type 0) (old new : P) (fault : ReadFault) : Type 0 where
   pub pages : List (List PageItem)
-  pub notes : Notes
+  pub notes : PagesRead
   pub mid : P
   pub walks : Walks exchanged pages no_notes old mid notes
   pub after : IsFaultAfter exchanged mid new notes fault

@@ -11,22 +11,22 @@ use envelope::{MAX_MESSAGE_BYTES, put_request};
 use pbwire::put_bytes;
 use std::alloc::{AllocError, Global};
 
-// What comes in a message before a long token: a tag of one byte, and a length of three.
+// The bytes of a message before a long token: a tag of one byte, and a length of three.
 const TOKEN_HEAD_BYTES: usize = 1 + 3;
 
 /// The most bytes of a token that a message holds.
 pub(crate) const MAX_TOKEN_BYTES: usize = MAX_MESSAGE_BYTES - TOKEN_HEAD_BYTES;
 
-/// What a change store is asked for.
+/// The calls that a change store answers.
 #[derive(Clone, Copy)]
 pub(crate) enum ChangeStoreCall {
     /// A page of the rows.
     Read,
     /// The row of `meta`, of a change store that has no row at all.
     Make,
-    /// A change.
+    /// Make a change.
     Commit,
-    /// Whether it still leads.
+    /// Say whether it still leads.
     Lead,
 }
 

@@ -2,7 +2,7 @@
 
 ghost use Rattle.std.specs.Prelude.{◌≡◌, ◌<◌, ◌≤◌, ◌^◌, [], nat_lt, slice_set, ℕ, IfNone, IfSome, IsTrue, get_or, length, map};
 ghost use Rattle.pbwire.specs.Reading.{wire_field_of};
-ghost use Rattle.csi_change_store.specs.Cells.{IsReadAs, IsUnread, TakesField, bytes_of, lent, number_of};
+ghost use Rattle.csi_change_store.specs.Cells.{IsReadAs, IsUnread, TakesField, bytes_of, borrowed, number_of};
 ghost use Rattle.csi_change_store.specs.Pages.{is_cell};
 
 use pbwire::laws::{listed, spelled};
@@ -14,10 +14,10 @@ const NUMBERS: usize = 7;
 // The numbers in columns are below it.
 const LIMIT: u64 = 1 << 63;
 
-/// What a column holds.
+/// The type of a column.
 #[derive(Clone, Copy)]
-pub(crate) enum Kind {
-    /// No column.
+pub(crate) enum CellKind {
+    /// A field that no column has; its value is skipped.
     Skipped,
     Integer,
     Bytes,
@@ -33,7 +33,7 @@ pub(crate) struct Cells<'a> {
 impl<'a> Cells<'a> {
     fn new() -> Cells<'a>
         ensures numbers { (k : ℕ) → get_or result.numbers k 0 ≡ 0 }
-        ensures bytes { (k : ℕ) → get_or (map lent result.payloads) k [] ≡ [] }
+        ensures bytes { (k : ℕ) → get_or (map borrowed result.payloads) k [] ≡ [] }
     {
         Cells {
             numbers: [0; NUMBERS],
@@ -42,7 +42,7 @@ impl<'a> Cells<'a> {
     }
 
     // Takes a field, if its column can hold it. A field of no column is skipped.
-    fn set_field(&mut self, kinds: &[Kind], field: Field<'a>) -> bool
+    fn set_field(&mut self, kinds: &[CellKind], field: Field<'a>) -> bool
         requires { length kinds.now ≤ 7 }
         ensures fits { result ≡ is_cell kinds.now (wire_field_of field.entry) }
         ensures taken { IsTrue result → TakesField kinds.now (wire_field_of field.entry) self.old self.new }
@@ -52,14 +52,14 @@ impl<'a> Cells<'a> {
             return true;
         };
         match (*kind, field.value) {
-            (Kind::Skipped, _) => true,
-            (Kind::Integer, Value::Varint(number)) => self.set_number(at, number),
-            (Kind::Integer, Value::Bytes(_) | Value::Fixed64(_) | Value::Fixed32(_)) => false,
-            (Kind::Bytes, Value::Bytes(bytes)) => {
+            (CellKind::Skipped, _) => true,
+            (CellKind::Integer, Value::Varint(number)) => self.set_number(at, number),
+            (CellKind::Integer, Value::Bytes(_) | Value::Fixed64(_) | Value::Fixed32(_)) => false,
+            (CellKind::Bytes, Value::Bytes(bytes)) => {
                 self.payloads[at] = bytes;
                 true
             }
-            (Kind::Bytes, Value::Varint(_) | Value::Fixed64(_) | Value::Fixed32(_)) => false,
+            (CellKind::Bytes, Value::Varint(_) | Value::Fixed64(_) | Value::Fixed32(_)) => false,
         }
     }
 
@@ -95,7 +95,7 @@ impl<'a> Cells<'a> {
 }
 
 /// The columns of a row, if the payload encodes one: each field of a column fits it.
-pub(crate) fn read_cells<'a>(kinds: &[Kind], payload: &'a [u8]) -> Option<Cells<'a>>
+pub(crate) fn read_cells<'a>(kinds: &[CellKind], payload: &'a [u8]) -> Option<Cells<'a>>
     requires { length kinds.now ≤ 7 }
     ensures read { IfSome result (λ cells. IsReadAs kinds.now payload.now cells) }
     ensures unread { IfNone result (IsUnread kinds.now payload.now) }

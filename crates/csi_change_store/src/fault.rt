@@ -22,7 +22,7 @@ pub enum RowsFault {
     Flag {
         /// The number of the volume.
         number: u64,
-        /// The node.
+        /// The node's id in the row.
         node: String,
     },
     /// The database refused the row of `meta`.

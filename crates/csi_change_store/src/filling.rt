@@ -4,7 +4,7 @@ ghost use Rattle.std.specs.Prelude.{◌≡◌, false, IfOk};
 ghost use Rattle.csi_change_store.specs.Filling.{Fills, ReadsRows};
 ghost use Rattle.csi_change_store.specs.Items.{seen_notes};
 
-use crate::pages::Notes;
+use crate::pages::PagesRead;
 use crate::peer::Peer;
 use crate::reading::{ReadFault, read_pages};
 use csi_sql::make_tables;
@@ -17,7 +17,7 @@ fn fill<P: Peer, S: Alter>(
     alloc: Global,
     peer: &mut P,
     conn: &mut Connection<S>,
-) -> Result<Notes, ReadFault>
+) -> Result<PagesRead, ReadFault>
     requires { conn.old.in_transaction ≡ false }
     ensures idle { conn.new.in_transaction ≡ false }
     ensures filled { IfOk result (λ notes. Fills S.Store conn.old conn.new P.exchanged peer.old peer.new
@@ -40,7 +40,7 @@ pub fn read_rows<P: Peer, S: Alter>(
     alloc: Global,
     peer: &mut P,
     conn: &mut Connection<S>,
-) -> Result<Notes, ReadFault>
+) -> Result<PagesRead, ReadFault>
     requires { conn.old.in_transaction ≡ false }
     ensures idle { conn.new.in_transaction ≡ false }
     ensures rows { IfOk result (λ notes. ReadsRows S.Store conn.old conn.new P.exchanged peer.old peer.new

@@ -9,31 +9,31 @@ ghost use Rattle.csi_change_store.specs.Pages.{Attachment, IsItem, IsSmall, IsTy
 ghost use Rattle.csi_change_store.specs.Taking.{IsFlagFault, IsItemFault};
 ghost use Rattle.csi_change_store.specs.declared.fault.RowsFault.TheVariants.{Malformed, Untyped};
 
-use crate::cells::{Cells, Kind, read_cells};
+use crate::cells::{CellKind, Cells, read_cells};
 use crate::fault::RowsFault;
 use csi_sql::statements::volumes::VolumeRow;
 use pbwire::{Field, Value};
 use std::alloc::Global;
 use std::str;
 
-const META: [Kind; 3] = [Kind::Skipped, Kind::Integer, Kind::Integer];
+const META: [CellKind; 3] = [CellKind::Skipped, CellKind::Integer, CellKind::Integer];
 
-const VOLUME: [Kind; 7] = [
-    Kind::Skipped,
-    Kind::Integer,
-    Kind::Bytes,
-    Kind::Integer,
-    Kind::Bytes,
-    Kind::Bytes,
-    Kind::Bytes,
+const VOLUME: [CellKind; 7] = [
+    CellKind::Skipped,
+    CellKind::Integer,
+    CellKind::Bytes,
+    CellKind::Integer,
+    CellKind::Bytes,
+    CellKind::Bytes,
+    CellKind::Bytes,
 ];
 
-const ATTACHMENT: [Kind; 5] = [
-    Kind::Skipped,
-    Kind::Integer,
-    Kind::Bytes,
-    Kind::Bytes,
-    Kind::Integer,
+const ATTACHMENT: [CellKind; 5] = [
+    CellKind::Skipped,
+    CellKind::Integer,
+    CellKind::Bytes,
+    CellKind::Bytes,
+    CellKind::Integer,
 ];
 
 /// A row of attachments, as a page has it.
@@ -45,7 +45,7 @@ pub(crate) struct AttachmentRow<'a> {
     pub(crate) readonly: bool,
 }
 
-/// What one field of a page encodes.
+/// One field of a page, read.
 #[derive(Clone, Copy)]
 pub(crate) enum Item<'a> {
     /// The row of `meta`: its format, and the next number.
@@ -59,7 +59,7 @@ pub(crate) enum Item<'a> {
 }
 
 // The columns of a row.
-fn cells_of<'a>(kinds: &[Kind], payload: &'a [u8]) -> Result<Cells<'a>, RowsFault>
+fn cells_of<'a>(kinds: &[CellKind], payload: &'a [u8]) -> Result<Cells<'a>, RowsFault>
     requires { length kinds.now ≤ 7 }
     ensures read { IfOk result (λ cells. IsReadAs kinds.now payload.now cells) }
     ensures unread { IfErr result (λ fault. (fault ≡ Malformed) × IsUnread kinds.now payload.now) }
@@ -141,7 +141,7 @@ fn meta_of<'a>(payload: &'a [u8]) -> Result<Item<'a>, RowsFault>
     Ok(Item::Meta(cells.number(1), cells.number(2)))
 }
 
-/// What a field of a page encodes, as far as the tables can hold it.
+/// Reads a field of a page, if the tables can hold its value.
 pub(crate) fn item_of<'a>(alloc: Global, field: Field<'a>) -> Result<Item<'a>, RowsFault>
     ensures item { IfOk result (λ item. IsItem (wire_field_of field.entry) (seen_item item)) }
     ensures typed { IfOk result (λ item. IsTyped (seen_item item)) }

@@ -43,7 +43,7 @@ mod remote;
 pub use asking::{lead_frame, make_frame, read_frame};
 pub use fault::RowsFault;
 pub use filling::read_rows;
-pub use pages::{Notes, put_page};
+pub use pages::{PagesRead, put_page};
 pub use peer::{Channel, Peer};
 pub use reading::{ReadFault, read_pages};
 pub use remote::RemoteChangeStore;

@@ -18,21 +18,21 @@ use std::alloc::Global;
 
 /// The notes of pages in addition to their rows.
 #[derive(Drop)]
-pub struct Notes {
+pub struct PagesRead {
     /// The token of the next page. It is empty after the last one.
     pub token: Vec<u8>,
     /// The format in the row of `meta`, if there was one.
     pub format: Option<u64>,
-    /// Whether there was a row of volumes or of attachments.
+    /// Whether a row of volumes or of attachments has come so far.
     pub has_rows: bool,
 }
 
-impl Notes {
-    /// Nothing was read yet.
-    pub fn new(alloc: Global) -> Notes
+impl PagesRead {
+    /// The state before the first page.
+    pub fn new(alloc: Global) -> PagesRead
         ensures { (result.token.items ≡ []) × (result.format ≡ None) × (result.has_rows ≡ false) }
     {
-        Notes {
+        PagesRead {
             token: Vec::new(alloc),
             format: None,
             has_rows: false,
@@ -106,7 +106,7 @@ fn put_item<S: Alter>(tx: &mut Transaction<'_, S>, item: &Item<'_>) -> Result<()
 }
 
 // Notes what an item says in addition to its row.
-fn note_item(notes: &mut Notes, item: &Item<'_>) -> Result<(), RowsFault>
+fn note_item(notes: &mut PagesRead, item: &Item<'_>) -> Result<(), RowsFault>
     ensures noted { OnOk result (seen_notes notes.new
         ≡ with_item (seen_item item.now) (seen_notes notes.old)) }
     ensures fault { IfErr result (λ fault. fault ≡ NoMemory) }
@@ -127,7 +127,7 @@ fn note_item(notes: &mut Notes, item: &Item<'_>) -> Result<(), RowsFault>
 fn put_items<S: Alter>(
     alloc: Global,
     tx: &mut Transaction<'_, S>,
-    notes: &mut Notes,
+    notes: &mut PagesRead,
     body: &[u8],
 ) -> Result<(), RowsFault>
     ensures same_reference { tx.new.conn.ghost_name ≡ tx.old.conn.ghost_name }
@@ -156,7 +156,7 @@ fn put_items<S: Alter>(
 pub fn put_page<S: Alter>(
     alloc: Global,
     tx: &mut Transaction<'_, S>,
-    notes: &mut Notes,
+    notes: &mut PagesRead,
     body: &[u8],
 ) -> Result<(), RowsFault>
     ensures same_reference { tx.new.conn.ghost_name ≡ tx.old.conn.ghost_name }

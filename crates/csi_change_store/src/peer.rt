@@ -15,7 +15,7 @@ use std::io::{Read, Write};
 ///
 /// The promises about the State hold while `doubt`, which never falls, is 0.
 pub trait Peer {
-    // What contracts see of it.
+    // The model of a keeper behind this connection, as contracts see it.
     ghost model: { Self → Model State };
 
     // The effect of one exchange: the peer before and after, the frame and the outcome. No other clause gives
@@ -36,7 +36,7 @@ pub trait Peer {
 pub struct Channel<R, W> {
     reader: R,
     writer: W,
-    // How many exchanges were begun, up to the greatest `u64`.
+    // The exchanges begun so far, up to the greatest `u64`.
     exchanges: u64,
 }
 

@@ -8,7 +8,7 @@ ghost use Rattle.csi_change_store.specs.declared.reading.ReadFault.TheVariants.{
 
 use crate::asking::read_frame;
 use crate::fault::RowsFault;
-use crate::pages::{Notes, put_page};
+use crate::pages::{PagesRead, put_page};
 use crate::peer::Peer;
 use csi_client::Received;
 use csi_keeper::StoreFault;
@@ -21,9 +21,9 @@ const MOST_PAGES: u64 = 1 << 20;
 /// Why the rows of a change store were not read.
 #[derive(Debug, Drop)]
 pub enum ReadFault {
-    /// There is no frame that asks for the page: for want of memory, or since its token is too long.
+    /// The frame that asks for the page was not made: memory was refused, or the token is too long.
     Unasked(StoreFault),
-    /// What came instead of a reply with status 0.
+    /// The change store sent something other than a reply with status 0.
     Unanswered(Received),
     /// The rows of a page were not taken.
     Rows(RowsFault),
@@ -60,7 +60,7 @@ fn read_page<P: Peer, S: Alter>(
     alloc: Global,
     peer: &mut P,
     tx: &mut Transaction<'_, S>,
-    notes: &mut Notes,
+    notes: &mut PagesRead,
 ) -> Result<(), ReadFault>
     ensures same_reference { tx.new.conn.ghost_name ≡ tx.old.conn.ghost_name }
     ensures page { OnOk result (ReadsPage S.Store tx.old.conn.now tx.new.conn.now P.exchanged peer.old
@@ -86,14 +86,14 @@ pub fn read_pages<P: Peer, S: Alter>(
     alloc: Global,
     peer: &mut P,
     tx: &mut Transaction<'_, S>,
-) -> Result<Notes, ReadFault>
+) -> Result<PagesRead, ReadFault>
     ensures same_reference { tx.new.conn.ghost_name ≡ tx.old.conn.ghost_name }
     ensures read { IfOk result (λ notes. ReadsAll S.Store tx.old.conn.now tx.new.conn.now P.exchanged peer.old
         peer.new (seen_notes notes)) }
     ensures fault { IfErr result (IsReadFault P.exchanged peer.old peer.new) }
     ensures nothing { CommitsNothing S.Store tx.old.conn.now tx.new.conn.now }
 {
-    let mut notes = Notes::new(alloc);
+    let mut notes = PagesRead::new(alloc);
     for turn in 0..MOST_PAGES {
         read_page(alloc, peer, tx, &mut notes)?;
         if notes.token.is_empty() {

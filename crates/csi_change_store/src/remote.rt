@@ -14,7 +14,7 @@ use csi_keeper::{Change, StoreFault};
 use csi_through::ChangeStore;
 use std::alloc::Global;
 
-// What a reply says of a change.
+// The outcome of a change, from the reply.
 fn answer_of(received: &Received) -> Result<(), StoreFault>
     ensures { result ≡ answer_of received.now }
 {

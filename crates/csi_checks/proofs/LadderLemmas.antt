@@ -12,11 +12,11 @@ mapped : {X Y : Type 0} (f : X → Y) (o p : Option X) → option_map f (option_
 mapped f None p = refl
 mapped f (Some x) p = refl
 
--- the first line of two tables is that of the first, or of the second where the first has none
+-- the first line of two tables is the first table's, or the second's if the first table is empty
 pub cut : {A : Type 0} (front back : List (Reason × (A → Bool))) (a : A) → first_line (front ++ back) a ≡ option_or (first_line front a) (first_line back a)
 cut front back a = ap (option_map (λ line. line.0)) (find-append (λ line. line.1 a) front back) ∙ mapped (λ line. line.0) (find (λ line. line.1 a) front) (find (λ line. line.1 a) back)
 
--- the first line of the whole table, by those of its three parts
+-- the first line of the whole table, from the first lines of its three parts
 pub chained : (p : Parts) (kind size term : Option Reason) → kind ≡ first_line kind_lines p → size ≡ first_line size_lines p → term ≡ first_line term_lines p
     → option_or kind (option_or size term) ≡ first_line lines p
 chained p kind size term a b c =

@@ -4,14 +4,14 @@ use Rattle.csi_types.specs.Checks.{Parts, lines, terms}
 use Rattle.csi_types.specs.Maps.{TextMap}
 use Rattle.csi_types.specs.declared.reason.Reason.{Reason}
 use Rattle.csi_types.specs.declared.topology.Requirement.{Requirement}
-use Rattle.csi_checks.specs.declared.parts.Parts.{Parts as LentParts}
+use Rattle.csi_checks.specs.declared.parts.Parts.{Parts as BorrowedParts}
 
--- the topology of a request, and those of its requirement
+-- the topology of a request, and the topologies of its requirement
 abbrev pub topologies_in : Option TextMap → Option Requirement → List TextMap
 topologies_in None requirement = terms requirement
 topologies_in (Some topology) requirement = topology ∷ terms requirement
 
-abbrev pub parts_in : LentParts → Parts
+abbrev pub parts_in : BorrowedParts → Parts
 parts_in p =
     let topologies = topologies_in (option_map (λ t. t.now) p.topology) (option_map (λ r. r.now) p.requirement) in
     record {
@@ -32,7 +32,7 @@ parts_in p =
       has_source = p.has_source;
     }
 
--- the table in three parts: names and capabilities; sizes; topologies and what is missing
+-- the table in three parts: names and capabilities; sizes; topologies and missing fields
 abbrev pub kind_lines : List (Reason × (Parts → Bool))
 kind_lines = take 7 lines
 

@@ -7,7 +7,7 @@ ghost use Rattle.csi_types.specs.Checks.{is_missing, is_known_mode, is_supported
 use crate::measures::{bytes_of_texts, is_long_text};
 use csi_types::{Access, Capability, MAX_MOUNT_FLAGS_BYTES, is_known_mode, is_supported};
 
-/// Whether one is neither block nor mount.
+/// Whether a capability of the list is neither block nor mount.
 pub(crate) fn has_missing_access(capabilities: &[Capability]) -> bool
     ensures { result ≡ list_any (λ c. is_missing c.access) capabilities.now }
 {
@@ -25,7 +25,7 @@ pub(crate) fn has_unknown_mode(capabilities: &[Capability]) -> bool
         .any(|capability| !is_known_mode(capability.mode))
 }
 
-/// Whether one is not supported.
+/// Whether a capability of the list is not supported.
 pub(crate) fn has_unsupported(capabilities: &[Capability]) -> bool
     ensures { result ≡ list_any (λ c. not (is_supported c)) capabilities.now }
 {

@@ -10,7 +10,7 @@ use csi_types::{
     CapacityRange, Items, MAX_MAP_BYTES, MAX_NODE_ID_BYTES, MAX_TEXT_BYTES, Map, Text, map_bytes,
 };
 
-/// Whether one of the texts is empty.
+/// Whether a text of the list is empty.
 pub(crate) fn is_any_empty(texts: &[Text]) -> bool
     ensures { result ≡ list_any is_empty texts.now }
 {
@@ -24,14 +24,14 @@ pub(crate) fn is_long_text(text: &Text) -> bool
     text.len() > MAX_TEXT_BYTES
 }
 
-/// Whether one of the texts has more than 128 bytes.
+/// Whether a text of the list has more than 128 bytes.
 pub(crate) fn is_any_long(texts: &[Text]) -> bool
     ensures { result ≡ list_any (longer_than MAX_TEXT_BYTES) texts.now }
 {
     texts.iter().any(is_long_text)
 }
 
-/// Whether one of the node ids has more than 256 bytes.
+/// Whether a node id of the list has more than 256 bytes.
 pub(crate) fn is_any_long_node_id(ids: &[Text]) -> bool
     ensures { result ≡ list_any (longer_than MAX_NODE_ID_BYTES) ids.now }
 {
@@ -65,14 +65,14 @@ pub(crate) fn is_any_negative(ranges: &[CapacityRange]) -> bool
         .any(|range| range.required < 0 || range.limit < 0)
 }
 
-/// Whether one of the numbers is below 0.
+/// Whether a number of the list is below 0.
 pub(crate) fn is_any_below_zero(numbers: &[i32]) -> bool
     ensures { result ≡ list_any is_negative numbers.now }
 {
     numbers.iter().any(|number| *number < 0)
 }
 
-/// Whether one of the maps has no entry.
+/// Whether a map of the list has no entry.
 pub(crate) fn is_any_without_entry(maps: &[Map]) -> bool
     ensures { result ≡ list_any (λ m. len m == 0) maps.now }
 {

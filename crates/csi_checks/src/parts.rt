@@ -10,12 +10,13 @@ use csi_types::{
 };
 use std::slice::from_ref;
 
-/// What a request has of each part; an empty list, or `None`, where its method has no such field.
+/// The parts of a request that the checks look at; a part is empty or `None` if the method has no such
+/// field.
 #[derive(Clone, Copy)]
 pub(crate) struct Parts<'a> {
     pub(crate) name: Option<&'a Text>,
     pub(crate) capabilities: &'a [Capability],
-    /// One must be given.
+    /// Whether the request must have a capability.
     pub(crate) wants_capability: bool,
     /// A volume is to be made for them.
     pub(crate) is_create: bool,

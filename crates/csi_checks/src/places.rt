@@ -12,10 +12,10 @@ use std::hash::DefaultHasher;
 // More than twice as many as one message of 1 MiB has different topologies.
 const SLOTS: usize = 262_144;
 
-// How many slots are tried, from that of the mark on.
+// The number of slots tried for a mark, from its own slot on.
 const TRIED: usize = 256;
 
-/// How long a table is.
+/// The number of slots of a table. The last ones are only tried for marks near the end.
 pub(crate) const TABLE_LENGTH: usize = SLOTS + TRIED;
 
 /// No place of a list.

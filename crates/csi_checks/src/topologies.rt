@@ -22,7 +22,7 @@ pub(crate) fn has_large_term(requirement: &Requirement) -> bool
     is_any_large(requirement.requisite.as_slice()) || is_any_large(requirement.preferred.as_slice())
 }
 
-/// Whether one of the maps has more than 4,096 bytes.
+/// Whether a map of the list has more than 4,096 bytes.
 pub(crate) fn is_any_large(maps: &[Map]) -> bool
     ensures { result ≡ list_any (λ m. nat_lt MAX_MAP_BYTES (map_bytes m)) maps.now }
 {
@@ -42,7 +42,7 @@ fn is_any_ambiguous(topologies: &Items<Map>) -> bool
     topologies.iter().any(|topology| has_alike_keys(topology))
 }
 
-/// Whether there is a requisite topology, and some preferred one is none of them. No topology has
+/// Whether there is a requisite topology, and a preferred topology that is not among them. No topology has
 /// two keys that are alike.
 pub(crate) fn prefers_another(requirement: &Requirement) -> bool
     requires { list_any has_alike_keys (requirement.now.requisite ++ requirement.now.preferred) ≡ false }
@@ -60,7 +60,7 @@ pub(crate) fn prefers_another(requirement: &Requirement) -> bool
     }
 }
 
-// Whether one of many topologies is none of a long list. The table is a large local.
+// Whether a topology of the second list is not in the long first one. The table is a large local.
 #[inline(never)]
 fn is_any_outside_many(list: &[Map], topologies: &[Map]) -> bool
     requires list { All (λ m. has_alike_keys m ≡ false) list.now }
@@ -85,7 +85,7 @@ fn note_all(table: &mut [u32], begun: DefaultHasher, list: &[Map])
     }
 }
 
-// Whether one of the topologies is none of the list. The table proposes where they may be.
+// Whether a topology is not in the list. The table proposes where each may be.
 fn is_any_outside(table: &[u32], begun: DefaultHasher, list: &[Map], topologies: &[Map]) -> bool
     requires list { All (λ m. has_alike_keys m ≡ false) list.now }
     requires all { All (λ m. has_alike_keys m ≡ false) topologies.now }
@@ -102,7 +102,7 @@ fn is_any_outside(table: &[u32], begun: DefaultHasher, list: &[Map], topologies:
 
 fn is_proposed(places: &[u32], list: &[Map], topology: &Map) -> bool
     requires list { All (λ m. has_alike_keys m ≡ false) list.now }
-    requires one { has_alike_keys topology.now ≡ false }
+    requires keys_differ { has_alike_keys topology.now ≡ false }
     ensures { result ≡ true → list_any (same_topology topology.now) list.now ≡ true }
 {
     for place in places {
@@ -118,7 +118,7 @@ fn is_proposed(places: &[u32], list: &[Map], topology: &Map) -> bool
 
 fn is_at(list: &[Map], place: usize, topology: &Map) -> bool
     requires list { All (λ m. has_alike_keys m ≡ false) list.now }
-    requires one { has_alike_keys topology.now ≡ false }
+    requires keys_differ { has_alike_keys topology.now ≡ false }
     ensures { result ≡ true → list_any (same_topology topology.now) list.now ≡ true }
 {
     place < list.len() && same_topology(topology, &list[place])
@@ -126,7 +126,7 @@ fn is_at(list: &[Map], place: usize, topology: &Map) -> bool
 
 fn is_among(list: &[Map], topology: &Map) -> bool
     requires list { All (λ m. has_alike_keys m ≡ false) list.now }
-    requires one { has_alike_keys topology.now ≡ false }
+    requires keys_differ { has_alike_keys topology.now ≡ false }
     ensures { result ≡ list_any (same_topology topology.now) list.now }
 {
     for candidate in list {

@@ -5,7 +5,7 @@ use Rattle.std.specs.Io.KnownBytes.{Consumes}
 use Rattle.std.proofs.KnownBytes.{Consumes-trans}
 use Rattle.std.proofs.lemmas.List.{take_all}
 use Rattle.envelope.specs.Envelope.{ReplyBytes, IsReply, reply}
-use Rattle.envelope.specs.declared.kind.Kind.TheVariants.{Replies}
+use Rattle.envelope.specs.declared.kind.FrameKind.TheVariants.{Replies}
 use Rattle.envelope.specs.declared.limits.TheConstants.{MAX_REPLY_BYTES}
 use Rattle.envelope.specs.declared.reply_fault.ReplyFault.{ReplyFault}
 use Rattle.envelope.specs.facts.Breaking.{nil_unbroken}

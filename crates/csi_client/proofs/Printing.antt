@@ -15,7 +15,7 @@ use Rattle.envelope.specs.declared.reply_fault.ReplyWhy.TheVariants.{EndOfInput}
 use Rattle.frames_core.specs.Framer.{ReplyFramerState, IsReplyCutShort, IsReplyFaultOf, reply_cut_short, reply_start}
 use Rattle.frames_core.specs.Feeding.{ReplyFed}
 use Rattle.frames_core.specs.facts.Feeding.{all_of, fault_of, fed_count, known_break, not_at_end, some_fed, taken_of}
-use Rattle.envelope.specs.declared.kind.Kind.TheVariants.{Replies}
+use Rattle.envelope.specs.declared.kind.FrameKind.TheVariants.{Replies}
 use Rattle.envelope.specs.Faults.{reply_part, reply_place}
 use Rattle.envelope.specs.Replies.{reply_part_of}
 use Rattle.envelope.specs.ReplyStream.{IsUnfinished}
@@ -44,7 +44,7 @@ or_false false = refl
 refusal_push : (rs : List ReplyBytes) (r : ReplyBytes) → has_refusal (rs ++ r ∷ []) ≡ (has_refusal rs || is_refusal r)
 refusal_push rs r = list_any-append is_refusal rs (r ∷ []) ∙ ap (λ (b : Bool). has_refusal rs || b) (or_false (is_refusal r))
 
--- ---- what was written of what was read
+-- ---- the output for the input read so far
 
 re_read : (method : Option Method) (read : List ℕ) (a b : Option (List ℕ)) (rs : List ReplyBytes) (rest last : List ℕ) → Wrote method read a b rs rest last → (more left : List ℕ) → more ≡ frames rs ++ left → Wrote method more a b rs left last
 re_read method read a b rs rest last w more left e = record {
@@ -74,14 +74,14 @@ wrote_push method read a b c rs rest r lines w good k j more left e =
 
 -- ---- one feed
 
--- what was read is the frames, then what is held, and then what is not fed yet
+-- the input read so far is the frames, then the held bytes, then the bytes not fed yet
 split : (method : Option Method) (read : List ℕ) (old new : ReplyFramerState) (rest : List ℕ) (n : ℕ) (a b : Option (List ℕ)) (refused : Bool) → (h : Live method read old a b refused) → ReplyFed old new rest n → read ++ rest ≡ frames h.replies ++ (new.held ++ drop n rest)
 split method read old new rest n a b refused h f = all_of Replies reply_part reply_place read (frames h.replies) old new rest n h.wrote.shown.whole f
 
 split_taken : (method : Option Method) (read : List ℕ) (old new : ReplyFramerState) (rest : List ℕ) (n : ℕ) (a b : Option (List ℕ)) (refused : Bool) → (h : Live method read old a b refused) → ReplyFed old new rest n → read ++ take n rest ≡ frames h.replies ++ new.held
 split_taken method read old new rest n a b refused h f = taken_of Replies reply_part reply_place read (frames h.replies) old new rest n h.wrote.shown.whole f
 
--- what was read before this piece is replies and what may yet become one
+-- the input before this piece is replies and a prefix of a reply
 prompt_in : (method : Option Method) (read piece : List ℕ) (s : ReplyFramerState) (a b : Option (List ℕ)) (refused : Bool) → Live method read s a b refused → length piece ≤ 4096 → IsPrompt (read ++ piece)
 prompt_in method read piece s a b refused h one = record {
   before = read;
@@ -178,7 +178,8 @@ live_start method s a e open_ = subst (λ (x : ReplyFramerState). Live method []
 pub read_failed : (method : Option Method) (read : List ℕ) (AtEnd : Type 0) (s : ReplyFramerState) (a b : Option (List ℕ)) (refused : Bool) → Live method read s a b refused → Ended method read AtEnd a b ReadFailed
 read_failed method read AtEnd s a b refused h = (h.replies, s.held, h.wrote, h.unfinished)
 
--- what does not ask for the end of the input holds wherever it is, and so does what was shown to be there
+-- a fact that does not mention the end of the input holds at any offset, and so does a fact shown at this
+-- offset
 pub ended_at : (method : Option Method) (read : List ℕ) (Was AtEnd : Type 0) (a b : Option (List ℕ)) (end : ShowEnd) → (Was → AtEnd) → Ended method read Was a b end → Ended method read AtEnd a b end
 ended_at method read Was AtEnd a b (Done refused) f h = (h.0, h.1, h.2, f h.3)
 ended_at method read Was AtEnd a b (Malformed x) f h = (h.0, h.1, h.2, h.3, (λ e. f (h.4 e)), h.5)

@@ -14,8 +14,8 @@ is_end why.BadFlag = false
 is_end why.BadBodyLength = false
 is_end why.EndOfInput = true
 
--- An exchange of which it is open whether the server took the call: the connection failed, or ended before
--- its reply was whole.
+-- An exchange in doubt: the connection failed, or ended before its reply was whole, so the server may have
+-- taken the call.
 abbrev pub is_unanswered : Received → Bool
 is_unanswered (Reply r) = false
 is_unanswered Nothing = true
@@ -34,7 +34,7 @@ unanswered_count r = one_if (is_unanswered r)
 abbrev pub answered_count : Received → ℕ
 answered_count r = one_if (not (is_unanswered r))
 
--- So many exchanges with the frame were made, in order, and each was unanswered.
+-- `n` exchanges with the frame were made, in order, and each was unanswered.
 abbrev pub AreUnanswered : {L : Type 0} → (L → L → List ℕ → Received → Type 0) → L → L → List ℕ → ℕ → Type 0
 AreUnanswered exchanged first now frame zero = now ≡ first
 AreUnanswered {L} exchanged first now frame (suc n) =

@@ -38,7 +38,7 @@ pub record Live (method : Option Method) (read : List ℕ) (s : ReplyFramerState
   pub unknown : s.fault ≡ None
   pub unfinished : IsUnfinished s.held
 
--- one step over bytes that come after what was read
+-- one step over the bytes after the input already read
 abbrev pub Steps : Option Method → List ℕ → List ℕ → ReplyFramerState → Option (List ℕ) → Option (List ℕ) → Bool → Shown → Type 0
 Steps method read rest s held holds refused (Fed n) = Live method (read ++ take n rest) s held holds refused
 Steps method read rest s held holds refused (Faulty f) = Ended method (read ++ rest) ⊥ held holds (Malformed f)

@@ -19,13 +19,12 @@ reply_of r = record { status = r.status; text = r.text.items; body = r.body.item
 abbrev pub HasFault : List ℕ → Type 0 → ReplyFault → Type 0
 HasFault bytes AtEnd f = FaultAt bytes f.why f.at × (f.why ≡ EndOfInput → AtEnd)
 
--- The bytes begin with this reply, and after it are fewer than a piece has: no piece is read after the one
--- in which it ends.
+-- The bytes begin with this reply, and fewer bytes than a piece follow it: no piece is read after the
+-- reply's last.
 abbrev pub BeginsWith : List ℕ → ReplyBytes → Type 0
 BeginsWith read r = (more : List ℕ) × IsReply r × (read ≡ reply r ++ more) × (length more < PIECE_BYTES)
 
--- No piece is read after the one in which it shows what the bytes are: those before their last piece may yet
--- become a reply.
+-- No piece is read once the bytes are decided: without their last piece they are a prefix of a reply.
 pub record IsPrompt (read : List ℕ) : Type 0 where
   pub before : List ℕ
   pub piece : List ℕ
@@ -33,8 +32,8 @@ pub record IsPrompt (read : List ℕ) : Type 0 where
   pub unfinished : IsUnfinished before
   pub one : length piece ≤ PIECE_BYTES
 
--- They may yet become a reply, of which at least one byte is missing: each read gave some, so no more reads
--- were made than the longest has bytes.
+-- They are a proper prefix of a reply. Each read gave at least one byte, so there were at most as many
+-- reads as the longest reply has bytes.
 abbrev pub FallsShort : List ℕ → Type 0
 FallsShort read = IsUnfinished read × (length read < MAX_REPLY_BYTES)
 
@@ -46,7 +45,7 @@ Comes read AtEnd (Malformed f) = HasFault read AtEnd f × IsPrompt read
 Comes read AtEnd Failed = FallsShort read
 Comes read AtEnd NoMemory = (read ≡ []) ⊎ ((r : ReplyBytes) × BeginsWith read r)
 
--- What is read of the reader, and what comes of it.
+-- The bytes read from the reader, and the result.
 abbrev pub Receives : Option (List ℕ) → Option (List ℕ) → Received → Type 0
 Receives unread left received = (read : List ℕ) × Consumes unread left read × Comes read (IsAtEnd left) received
 
@@ -57,7 +56,7 @@ pub record IsGathering (read : List ℕ) (s : ReplyFramerState) : Type 0 where
   pub unknown : s.fault ≡ None
   pub short : FallsShort read
 
--- A framer that has taken of what was read all that it needs: a reply, or all up to a fault.
+-- A framer that has taken all that it needs from the input: a reply, or the bytes up to a fault.
 pub record Gathered (read : List ℕ) (AtEnd : Type 0) (s : ReplyFramerState) : Type 0 where
   pub rest : List ℕ
   pub whole : read ≡ s.held ++ rest

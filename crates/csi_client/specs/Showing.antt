@@ -1,4 +1,4 @@
--- What is shown of a stream of replies, by the way the run ends.
+-- The output for a stream of replies, by the end of the run.
 use Rattle.std.specs.Prelude.{ℕ, ◌≡◌, ◌==◌, ◌⊎◌, ◌<◌, ◌≤◌, not, Bool, List, [], ◌∷◌, ◌++◌, length, All, Option, Some, Err, IsOk}
 use Rattle.std.specs.Io.KnownBytes.{Appends, Consumes, IsAtEnd}
 use Rattle.std.specs.List.{flat_map, list_any}
@@ -60,20 +60,20 @@ has_refusal replies = list_any is_refusal replies
 abbrev pub frames : List ReplyBytes → List ℕ
 frames replies = flat_map reply replies
 
--- What was read is the frames of these replies, all shown in these lines, and then a rest.
+-- The input read so far is the frames of these replies, all shown in these lines, and then a rest.
 pub record Shown (method : Option Method) (read : List ℕ) (replies : List ReplyBytes) (rest lines : List ℕ) : Type 0 where
   pub whole : read ≡ frames replies ++ rest
   pub each : All IsReply replies
   pub shown : AreShown method replies lines
 
--- The lines of the replies of what was read were written, and no others.
+-- The lines of the replies read so far were written, and no others.
 pub record Wrote (method : Option Method) (read : List ℕ) (held holds : Option (List ℕ)) (replies : List ReplyBytes) (rest last : List ℕ) : Type 0 where
   pub lines : List ℕ
   pub shown : Shown method read replies rest lines
   pub written : Appends held holds (lines ++ last)
 
--- No piece is read after the one in which a fault shows: before the last piece there are replies, and then
--- what may yet become one.
+-- No piece is read after a fault is known: the input before the last piece is replies and then a prefix of
+-- a reply.
 pub record IsPrompt (read : List ℕ) : Type 0 where
   pub before : List ℕ
   pub piece : List ℕ
@@ -85,8 +85,7 @@ pub record IsPrompt (read : List ℕ) : Type 0 where
   pub parts : before ≡ frames replies ++ rest
   pub unfinished : IsUnfinished rest
 
--- The rest begins with this reply, the last one that is looked at, and no piece is read after the one in
--- which it ends.
+-- The rest begins with this reply, the last one looked at, and no piece is read after the reply's last.
 abbrev pub IsLast : List ℕ → ReplyBytes → Type 0
 IsLast rest r = (more : List ℕ) × IsReply r × (rest ≡ reply r ++ more) × (length more < PIECE_BYTES)
 

@@ -9,14 +9,14 @@ use envelope::ReplyWhy;
 
 /// Connections to a server, one for each exchange.
 pub trait Line {
-    // How many exchanges were made.
+    // The exchanges made so far.
     ghost exchanges: { Self → ℕ };
 
-    // How many of them were unanswered.
+    // The exchanges without an answer so far.
     ghost unanswered: { Self → ℕ };
 
-    // What one exchange does to it: before and after, for a frame and what came. Nothing else says so, so who
-    // promises it has sent that frame.
+    // The effect of one exchange: the line before and after it, the frame and the received reply. Only
+    // this relation mentions the frame, so a line that promises it has sent the frame.
     ghost exchanged: { Self → Self → List ℕ → Received → Type 0 };
 
     /// Sends the frame of a call on a new connection, and waits for its reply. Where the connection
@@ -43,18 +43,18 @@ pub fn is_unanswered(received: &Received) -> bool
     }
 }
 
-/// What a line counts.
+/// The counts of a line's exchanges.
 #[derive(Clone, Copy, Debug)]
 pub struct Exchanges {
-    /// How many exchanges were made.
+    /// The exchanges made, answered or not.
     pub made: u64,
-    /// How many of them were unanswered.
+    /// The exchanges that had no answer.
     pub unanswered: u64,
     ghost within: { unanswered ≤ made },
 }
 
 impl Exchanges {
-    /// None so far.
+    /// The counts before the first exchange.
     pub fn none() -> Exchanges
         ensures made { result.made ≡ 0 }
         ensures unanswered { result.unanswered ≡ 0 }

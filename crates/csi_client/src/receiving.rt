@@ -57,10 +57,10 @@ impl ReceivedReply {
     }
 }
 
-/// What came of waiting for the reply to a call.
+/// The outcome of a wait for the reply to a call.
 #[derive(Debug, Drop)]
 pub enum Received {
-    /// The first reply.
+    /// The first reply of the connection.
     Reply(ReceivedReply),
     /// The input ended before its first byte.
     Nothing,
@@ -72,7 +72,7 @@ pub enum Received {
     NoMemory,
 }
 
-// Whether nothing more is taken: a reply is whole, or a fault is known.
+// Whether the framer takes no more bytes: a reply is whole, or a fault is known.
 fn is_settled(framer: &ReplyFramer) -> bool
     ensures settled { IsTrue result → IsReplySettled framer.now }
     ensures open { (result ≡ false) → (framer.now.fault ≡ None) × IsUnfinished framer.now.held }

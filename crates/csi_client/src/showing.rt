@@ -51,7 +51,7 @@ pub(crate) enum Halt {
     NoMemory,
 }
 
-// What came of showing some bytes.
+// The outcome of showing one piece of the input.
 #[derive(Clone, Copy)]
 pub(crate) enum Shown {
     Fed(usize),
@@ -136,7 +136,7 @@ impl Printer {
     ) -> Shown
         requires room { framer.old.past + length framer.old.held + length rest.now < 2 ^ 63 }
         requires some { 0 < length rest.now }
-        requires one { length rest.now ≤ PIECE_BYTES }
+        requires within_piece { length rest.now ≤ PIECE_BYTES }
         requires ready { IsReady framer.old }
         ensures method { self.new.method ≡ self.old.method }
         ensures steps { (read : List ℕ) (held : Option (List ℕ))
@@ -170,7 +170,7 @@ impl Printer {
         writer: &mut W,
     ) -> Shown
         requires room { framer.old.past + length framer.old.held + length piece.now < 2 ^ 63 }
-        requires one { length piece.now ≤ PIECE_BYTES }
+        requires within_piece { length piece.now ≤ PIECE_BYTES }
         requires ready { IsReady framer.old }
         ensures method { self.new.method ≡ self.old.method }
         ensures steps { (read : List ℕ) (held : Option (List ℕ))

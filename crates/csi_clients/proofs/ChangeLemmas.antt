@@ -33,7 +33,7 @@ use Rattle.csi_keeper.specs.declared.volume.Attachment.{Attachment}
 use Rattle.csi_keeper.specs.declared.volume.Volume.{Volume}
 use Rattle.csi_keeper.specs.facts.Finite.{none_some, same_some, gone, put_there}
 use Rattle.csi_keeper.specs.facts.Orders.{place_total, place_exact}
-use Rattle.csi_machine.specs.calls.Capacity.{capacity_of, served, greatest_size, tell_capacity}
+use Rattle.csi_machine.specs.calls.Capacity.{capacity_of, served, greatest_size, report_capacity}
 use Rattle.csi_machine.specs.calls.Create.{create_named, made, place, place_in, is_compatible}
 use Rattle.csi_machine.specs.calls.Delete.{delete_found, delete_volume}
 use Rattle.csi_machine.specs.calls.Listing.{list_after, start_of}
@@ -53,7 +53,7 @@ use Rattle.csi_rules.specs.Size.{size, whole}
 use Rattle.csi_rules.specs.Topology.{terms}
 use Rattle.csi_clients.proofs.RowLemmas.{found_at, none_rows}
 
--- the change of a request, and the State in which it is made
+-- the change of a request, and the State before it
 pub data Does (s : State) (q : Request) (c : Change) : Type 0 where
   Adds : (r : CreateVolume) (v : Volume) → q ≡ request.Create r → c ≡ AddVolume v → v.number ≡ s.next → v.name ≡ r.name → Does s q c
   Removes : (r : DeleteVolume) (n : ℕ) (v : Volume) → q ≡ request.Delete r → c ≡ RemoveVolume n → number_of_id r.volume_id ≡ Some n → fin.get s.volumes n ≡ Some v → attached s n ≡ [] → Does s q c
@@ -74,7 +74,7 @@ list_still config s most None = refl
 list_still config s most (Some n) = refl
 
 capacity_still : (config : Config) (rs : List Room) (r : GetCapacity) → (capacity_of config rs r).change ≡ None
-capacity_still config rs r = elim (list_all is_supported r.capabilities) as (λ b. (cond b (tell_capacity (sum_by free (served rs r.topology)) (greatest_size config (served rs r.topology))) (tell_capacity 0 0)).change ≡ None) [ true ↦ refl | false ↦ refl ]
+capacity_still config rs r = elim (list_all is_supported r.capabilities) as (λ b. (cond b (report_capacity (sum_by free (served rs r.topology)) (greatest_size config (served rs r.topology))) (report_capacity 0 0)).change ≡ None) [ true ↦ refl | false ↦ refl ]
 
 -- ---- each request
 
@@ -232,7 +232,7 @@ does config s (request.Modify r) c inv e = modifies config s c r e
 
 -- ---- a change changes the State
 
--- what was put is there
+-- an inserted value is there
 modified_there : (s : State) (n : ℕ) (m : TextMap) (v : Volume) → fin.get s.volumes n ≡ Some v → fin.get (changed s (SetMutable n m)).volumes n ≡ Some (with_mutable m v)
 modified_there s n m v e =
     ap (λ (o : Option Volume). fin.get (mutable_set s.volumes n m o) n) e

@@ -5,7 +5,7 @@ use Rattle.csi_config.specs.declared.config.Config.{Config}
 use Rattle.csi_keeper.specs.State.{State}
 use Rattle.csi_machine.specs.Retry.{Marked, Unanswered, Answered, IsDue, Leaves}
 use Rattle.csi_machine.specs.Step.{step}
-use Rattle.csi_machine.specs.Verdicts.{Told}
+use Rattle.csi_machine.specs.Verdicts.{Report}
 use Rattle.csi_clients.specs.Clients.{Client, ClientTry, start, tries_made, AreSeparate, IsUnsettled, clients_after, LeaveEachOtherAlone, LeavesFirstAlone}
 use Rattle.csi_clients.specs.Histories.{heard_of}
 use Rattle.csi_clients.specs.Examples.{two, try_by, last_try_by, AreTwo, second_hears, given_up, given_up_refused, IsGivenUp}
@@ -81,19 +81,19 @@ module _ (config : Config) (s : State) (r q : Request) where
   is_settled false b m = elim m as (λ _. ⊥) [ inl o ↦ absurd (cc (o)) | inr o ↦ absurd (cc (o)) ]
 
   -- what each client hears in one session, and in two
-  hears : (told : Told) (a b : Bool) → cond b (told ∷ []) [] ≡ (cond {A = List Told} a [] [] ++ (cond b (told ∷ []) [] ++ [])) ++ []
-  hears told true true = refl
-  hears told true false = refl
-  hears told false true = refl
-  hears told false false = refl
+  hears : (reported : Report) (a b : Bool) → cond b (reported ∷ []) [] ≡ (cond {A = List Report} a [] [] ++ (cond b (reported ∷ []) [] ++ [])) ++ []
+  hears reported true true = refl
+  hears reported true false = refl
+  hears reported false true = refl
+  hears reported false false = refl
 
-  hears_nothing : (told : Told) (a b : Bool) → cond b (told ∷ []) [] ≡ (cond {A = List Told} a [] [] ++ []) ++ cond b (told ∷ []) []
-  hears_nothing told true b = refl
-  hears_nothing told false b = refl
+  hears_nothing : (reported : Report) (a b : Bool) → cond b (reported ∷ []) [] ≡ (cond {A = List Report} a [] [] ++ []) ++ cond b (reported ∷ []) []
+  hears_nothing reported true b = refl
+  hears_nothing reported false b = refl
 
-  hears_then : (told : Told) (b : Bool) → cond b (told ∷ []) [] ≡ (cond b (told ∷ []) [] ++ []) ++ []
-  hears_then told true = refl
-  hears_then told false = refl
+  hears_then : (reported : Report) (b : Bool) → cond b (reported ∷ []) [] ≡ (cond b (reported ∷ []) [] ++ []) ++ []
+  hears_then reported true = refl
+  hears_then reported false = refl
 
   pub lost : IsGivenUp config s (step config s r).1 r q (given_up r q)
   lost =
@@ -107,7 +107,7 @@ module _ (config : Config) (s : State) (r q : Request) where
 
   refused_then : (u : State) → Leaves config s (tries_made (last_try_by 0 r Marked ∷ [])) u → IsGivenUp config s u r q (given_up_refused r q)
   refused_then u leaves =
-      let told = (step config u q).0 in
+      let reported = (step config u q).0 in
       let first : AreSeparate config s (start (two r q)) (last_try_by 0 r Marked ∷ []) = (
         (refl, refl, λ d far m. elim m as (λ _. LeavesFirstAlone s r (two r q d)) [ inl o ↦ absurd (cc (o)) | inr o ↦ absurd (cc (o)) ]),
         tt,
@@ -117,11 +117,11 @@ module _ (config : Config) (s : State) (r q : Request) where
         tt,
       ) in (
         u,
-        second_hears told,
+        second_hears reported,
         first,
         leaves,
-        λ c. hears_nothing told (c == 0) (c == 1),
-        ((step config u q).1, λ c. [], second, inl refl, λ c. hears_then told (c == 1), (λ c. refl, refl)),
+        λ c. hears_nothing reported (c == 0) (c == 1),
+        ((step config u q).1, λ c. [], second, inl refl, λ c. hears_then reported (c == 1), (λ c. refl, refl)),
       )
     where
       after_stop : (a b : Bool) → IsUnsettled (cond a (gone r) (idle r q a b)) false → ⊥

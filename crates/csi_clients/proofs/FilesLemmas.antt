@@ -9,7 +9,7 @@ use Rattle.csi_types.specs.declared.requests.Request.{Request}
 use Rattle.csi_config.specs.declared.config.Config.{Config}
 use Rattle.csi_keeper.specs.Invariant.{IsInvariant}
 use Rattle.csi_keeper.specs.State.{State}
-use Rattle.csi_machine.specs.Verdicts.{Told}
+use Rattle.csi_machine.specs.Verdicts.{Report}
 use Rattle.csi_files.specs.Files.{HasState}
 use Rattle.csi_files.specs.Lives.{GoesOn, IsLifeOfFiles}
 use Rattle.csi_files.specs.Starting.{MayStart}
@@ -41,7 +41,7 @@ lived config (session ∷ sessions) was last s cs may invariant all_separate (ne
 
 pub lives_are_linearizable : (config : Config)
     → ((s t : State) (todo : ℕ → List Request) (sessions : List (List ClientExchange)) (heard : ℕ → List ReplyBytes) → IsInvariant config s → ((c : ℕ) → AllByRecursion (λ r. checked r ≡ None) (todo c))
-    → IsHistoryOfCalls config s (start todo) sessions heard t → (hears : ℕ → List Told) × AreReplies heard hears × IsLinearizable config s todo (tries_of_sessions sessions) hears t)
+    → IsHistoryOfCalls config s (start todo) sessions heard t → (hears : ℕ → List Report) × AreReplies heard hears × IsLinearizable config s todo (tries_of_sessions sessions) hears t)
     → LivesAreLinearizable config
 lives_are_linearizable config law was last s todo sessions may invariant passed all_separate life =
     ∥∥₁_map (lived config sessions was last s (start todo) may invariant all_separate life) (λ it.

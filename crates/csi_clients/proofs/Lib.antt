@@ -2,6 +2,7 @@ mod AloneLemmas
 mod CallsLemmas
 mod ChangeLemmas
 mod ClientLemmas
+mod DoneLemmas
 mod ExampleLemmas
 mod FilesLemmas
 mod GuessedIdLemmas

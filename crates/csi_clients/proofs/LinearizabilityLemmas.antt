@@ -1,75 +1,24 @@
 -- Histories of separate tries are linearizable. A request takes effect at the first try that the machine
--- answers with a body, or at the end of its session if a stop left the change of a refused try; one that only
--- reads, and one that is refused, at its answer.
+-- answers with a body, or at the end of its session if a stop left the change of a refused try. A request
+-- that only reads takes effect at its answer, and so does a refused one.
 use Rattle.std.proofs.Common.{◌≡◌, ◌≢◌, ◌∙◌, ◌⊎◌, inl, inr, ap, ap₂, sym, subst, subst₂, cond, refl, ℕ, ◌==◌, List, [], ◌∷◌, ◌++◌, append_assoc, append-nil, Bool, true, false, Option, Some, None, eq-eqb, eqb-true}
 use Rattle.std.specs.List.{AllByRecursion}
 use Rattle.csi_types.specs.Checks.{checked}
-use Rattle.csi_types.specs.declared.reason.Reason.{Reason}
 use Rattle.csi_types.specs.declared.requests.Request.{Request}
 use Rattle.csi_config.specs.declared.config.Config.{Config}
 use Rattle.csi_keeper.specs.Invariant.{IsInvariant}
 use Rattle.csi_keeper.specs.State.{State}
-use Rattle.csi_keeper.specs.declared.change.Change.{Change}
 use Rattle.csi_keeper.specs.facts.Finite.{none_some, same_some}
 use Rattle.csi_machine.specs.Plan.{after}
-use Rattle.csi_machine.specs.Retry.{Ending, Marked, Down, Unanswered, Answered, Try, moved_by, after_try, state_after, told_by, IsOfFirst, IsOfAnother, without_first}
-use Rattle.csi_machine.specs.Step.{is_read, moved, plan, step}
-use Rattle.csi_machine.specs.Verdicts.{Told, Says, Denies, reported_of}
-use Rattle.csi_clients.specs.Objects.{LeavesAlone}
+use Rattle.csi_machine.specs.Retry.{Ending, Marked, Down, Unanswered, Answered, Try, moved_by, after_try, state_after, reported_by, IsOfFirst, IsOfAnother, without_first}
+use Rattle.csi_machine.specs.Step.{is_read, moved, step}
+use Rattle.csi_machine.specs.Verdicts.{Report, Says, Denies}
 use Rattle.csi_clients.specs.Clients.{Client, Clients, ClientTry, Refusals, start, tries_made, client_after, gone_if, with_client, is_refused, refusals_after, IsUnsettled, clients_after_try, clients_after, LeaveEachOtherAlone, LeavesFirstAlone, IsSeparate, AreSeparateFrom}
 use Rattle.csi_clients.specs.Histories.{heard_if, heard_by, heard_of, IsHistory, all_client_tries, AreAnswered}
 use Rattle.csi_clients.specs.Linearizability.{Operation, requests_of, answers_in, after_operations, IsInvoked, IsToCome, KeepsRealTimeIn, KeepsRealTime, IsLeftOver, IsLinearizable, IsLinearizableInFull}
-use Rattle.csi_clients.proofs.ChangeLemmas.{plan_still}
 use Rattle.csi_clients.proofs.ClientLemmas.{set, set_here, set_there, by_client, set_same, AreStill, Left, kept, left_of}
 use Rattle.csi_clients.proofs.StaysLemmas.{Keep}
-
--- a request that is taken again is answered the same, and moves nothing
-abbrev pub Again : Config → Type 0
-Again config = (s : State) (r : Request) → IsInvariant config s → checked r ≡ None → step config (step config s r).1 r ≡ step config s r
-
--- what a request has done stays done, where another leaves its object alone
-abbrev pub Stays : Config → Type 0
-Stays config = (s : State) (q r : Request) (body : List ℕ) → IsInvariant config s → checked q ≡ None → LeavesAlone s q r → step config s r ≡ (Says body, s)
-    → step config (step config s q).1 r ≡ (Says body, (step config s q).1)
-
-moved_none : (s : State) (o : Option Change) (told : Told) → o ≡ None → moved s (after s o) told ≡ s
-moved_none s o (Says body) e = ap (after s) e
-moved_none s o (Denies reason) e = refl
-
-read_stays : (config : Config) (s : State) (r : Request) → is_read r ≡ true → (step config s r).1 ≡ s
-read_stays config s r e = moved_none s (plan config s r).change (reported_of (plan config s r).outcome) (plan_still config s r e)
-
-denied_stays : (config : Config) (s : State) (r : Request) (why : Reason) → (step config s r).0 ≡ Denies why → (step config s r).1 ≡ s
-denied_stays config s r why e = ap (λ (w : Told). moved s (after s (plan config s r).change) w) e
-
--- ---- where a client is
-
-abbrev operation : ℕ → Request → Operation
-operation c r = record { client = c; request = r }
-
--- the body of the request that took effect and was not answered yet, by client
-abbrev Status : Type 0
-Status = ℕ → Option (List ℕ)
-
-abbrev owed : Option (List ℕ) → List Request → List Request
-owed None rs = rs
-owed (Some body) rs = without_first rs
-
-abbrev said : Option (List ℕ) → List Told
-said None = []
-said (Some body) = Says body ∷ []
-
-abbrev IsDoneFirst : Config → State → List Request → List ℕ → Type 0
-IsDoneFirst config x [] body = ⊥
-IsDoneFirst config x (r ∷ rs) body = (is_read r ≡ false) × (step config x r ≡ (Says body, x))
-
--- a client that is gone asks nothing again, so of its request nothing is needed
-abbrev IsDoneOf : Config → State → Client → List ℕ → Type 0
-IsDoneOf config x k body = ((k.is_open ≡ true) × IsDoneFirst config x k.rest body) ⊎ ((k.is_gone ≡ true) × (first : Request) × (k.rest ≡ first ∷ without_first k.rest))
-
-heard_none : (b : Bool) → heard_if b [] ≡ []
-heard_none true = refl
-heard_none false = refl
+use Rattle.csi_clients.proofs.DoneLemmas.{Again, Stays, read_stays, denied_stays, operation, Status, owed, said, IsDoneFirst, IsDoneOf, heard_none}
 
 module _ (config : Config) where
   record Holds (x : State) (cs : Clients) (st : Status) : Type 0 where
@@ -77,19 +26,19 @@ module _ (config : Config) where
     pub passed : (c : ℕ) → AllByRecursion (λ r. checked r ≡ None) (cs c).rest
     pub done : (c : ℕ) (body : List ℕ) → st c ≡ Some body → IsDoneOf config x (cs c) body
 
-  -- what is not taken, and what is not heard, in the end
+  -- requests that are never taken, and replies that are never heard
   record Unfinished : Type 0 where
     pub left : ℕ → List Request
-    pub unheard : ℕ → List Told
+    pub unheard : ℕ → List Report
 
   -- from here on the requests that are owed are taken once each
-  record Goes (x : State) (cs : Clients) (st : Status) (z : Unfinished) (heard : ℕ → List Told) (t : State) (order : List Operation) : Type 0 where
+  record Goes (x : State) (cs : Clients) (st : Status) (z : Unfinished) (heard : ℕ → List Report) (t : State) (order : List Operation) : Type 0 where
     pub each : (c : ℕ) → requests_of c order ++ z.left c ≡ owed (st c) (cs c).rest
-    pub told : (c : ℕ) → heard c ++ z.unheard c ≡ said (st c) ++ answers_in config x c order
+    pub reported : (c : ℕ) → heard c ++ z.unheard c ≡ said (st c) ++ answers_in config x c order
     pub last : t ≡ after_operations config x order
 
   -- and the order keeps the real-time order of the tries to come, in this session and in later ones
-  record Ends (x : State) (cs : Clients) (refusals : Refusals) (st : Status) (heard : ℕ → List Told) (t : State) (ts : List ClientTry) (sessions : List (List ClientTry)) : Type 0 where
+  record Ends (x : State) (cs : Clients) (refusals : Refusals) (st : Status) (heard : ℕ → List Report) (t : State) (ts : List ClientTry) (sessions : List (List ClientTry)) : Type 0 where
     pub order : List Operation
     pub unfinished : Unfinished
     pub goes : Goes x cs st unfinished heard t order
@@ -101,7 +50,7 @@ module _ (config : Config) where
     pub over : (c : ℕ) → (cs c).is_gone ≡ true → refusals c ≡ false → requests_of c order ≡ []
 
   -- before a session
-  record Begins (x : State) (cs : Clients) (st : Status) (heard : ℕ → List Told) (t : State) (sessions : List (List ClientTry)) : Type 0 where
+  record Begins (x : State) (cs : Clients) (st : Status) (heard : ℕ → List Report) (t : State) (sessions : List (List ClientTry)) : Type 0 where
     pub order : List Operation
     pub unfinished : Unfinished
     pub goes : Goes x cs st unfinished heard t order
@@ -109,8 +58,8 @@ module _ (config : Config) where
     pub ends : (c : ℕ) → IsLeftOver (clients_after cs (all_client_tries sessions) c) (unfinished.left c) (unfinished.unheard c)
     pub over : (c : ℕ) → (cs c).is_gone ≡ true → requests_of c order ≡ []
 
-  goes_as : (x : State) (cs : Clients) (st : Status) (z : Unfinished) (h k : ℕ → List Told) (t : State) (order : List Operation) → ((c : ℕ) → k c ≡ h c) → Goes x cs st z h t order → Goes x cs st z k t order
-  goes_as x cs st z h k t order e g = record { each = g.each; told = λ c. ap (λ (l : List Told). l ++ z.unheard c) (e c) ∙ g.told c; last = g.last }
+  goes_as : (x : State) (cs : Clients) (st : Status) (z : Unfinished) (h k : ℕ → List Report) (t : State) (order : List Operation) → ((c : ℕ) → k c ≡ h c) → Goes x cs st z h t order → Goes x cs st z k t order
+  goes_as x cs st z h k t order e g = record { each = g.each; reported = λ c. ap (λ (l : List Report). l ++ z.unheard c) (e c) ∙ g.reported c; last = g.last }
 
   -- the first of them
   first_of : (x : State) (rs : List Request) (body : List ℕ) → IsDoneFirst config x rs body → (first : Request) × (rs ≡ first ∷ without_first rs)
@@ -123,8 +72,8 @@ module _ (config : Config) where
     | inr g ↦ (inr g.0, g.1, g.2)
   ]
 
-  -- what is to come of each client
-  to_come : (x : State) (cs : Clients) (st : Status) (z : Unfinished) (heard : ℕ → List Told) (t : State) (order : List Operation) → Holds x cs st → Goes x cs st z heard t order → (c : ℕ) → IsToCome (cs c) (requests_of c order ++ z.left c)
+  -- the rest of each client's history
+  to_come : (x : State) (cs : Clients) (st : Status) (z : Unfinished) (heard : ℕ → List Report) (t : State) (order : List Operation) → Holds x cs st → Goes x cs st z heard t order → (c : ℕ) → IsToCome (cs c) (requests_of c order ++ z.left c)
   to_come x cs st z heard t order h g c = by_status (st c) refl
     where
       by_status : (o : Option (List ℕ)) → st c ≡ o → IsToCome (cs c) (requests_of c order ++ z.left c)
@@ -134,7 +83,7 @@ module _ (config : Config) where
           inr (one.0, one.1, one.2 ∙ ap (λ (rs : List Request). one.1 ∷ rs) (sym (g.each c ∙ ap (λ (o : Option (List ℕ)). owed o (cs c).rest) at)))
 
   -- the end of a session
-  at_end : (x : State) (cs : Clients) (refusals : Refusals) (st : Status) (heard : ℕ → List Told) (t : State) (sessions : List (List ClientTry)) → Holds x cs st → Begins x cs st heard t sessions → Ends x cs refusals st heard t [] sessions
+  at_end : (x : State) (cs : Clients) (refusals : Refusals) (st : Status) (heard : ℕ → List Report) (t : State) (sessions : List (List ClientTry)) → Holds x cs st → Begins x cs st heard t sessions → Ends x cs refusals st heard t [] sessions
   at_end x cs refusals st heard t sessions h g = record {
     order = g.order;
     unfinished = g.unfinished;
@@ -147,17 +96,17 @@ module _ (config : Config) where
   }
 
   -- what a try does
-  record Went (o : Option ℕ) (x : State) (cs : Clients) (st : Status) (y : State) (ds : Clients) (part : ℕ → List Told) : Type 0 where
+  record Went (o : Option ℕ) (x : State) (cs : Clients) (st : Status) (y : State) (ds : Clients) (part : ℕ → List Report) : Type 0 where
     pub to : Status
     pub holds : Holds y ds to
     -- of another client nothing changes
     pub others : (d : ℕ) → (o ≡ Some d → ⊥) → to d ≡ st d
     pub taken : List Operation
     pub mine : (d : ℕ) → (o ≡ Some d → ⊥) → (order : List Operation) → requests_of d (taken ++ order) ≡ requests_of d order
-    pub goes : (z : Unfinished) (heard : ℕ → List Told) (t : State) (order : List Operation) → Goes y ds to z heard t order → Goes x cs st z (λ c. part c ++ heard c) t (taken ++ order)
+    pub goes : (z : Unfinished) (heard : ℕ → List Report) (t : State) (order : List Operation) → Goes y ds to z heard t order → Goes x cs st z (λ c. part c ++ heard c) t (taken ++ order)
 
   -- a client that made no try takes nothing by it
-  over_taken : (o : Option ℕ) (x : State) (cs : Clients) (st : Status) (y : State) (ds : Clients) (part : ℕ → List Told) (w : Went o x cs st y ds part) (order : List Operation) (a : ℕ) → (o ≡ Some a → ⊥)
+  over_taken : (o : Option ℕ) (x : State) (cs : Clients) (st : Status) (y : State) (ds : Clients) (part : ℕ → List Report) (w : Went o x cs st y ds part) (order : List Operation) (a : ℕ) → (o ≡ Some a → ⊥)
       → requests_of a order ≡ [] → requests_of a (w.taken ++ order) ≡ []
   over_taken o x cs st y ds part w order a far none = w.mine a far order ∙ none
 
@@ -187,10 +136,10 @@ module _ (config : Config) where
           (λ d far e. subst (λ (z : Client). IsDoneOf config x z body) (sym (set_there cs c k d far)) (h.done d body e)) d;
     }
 
-    quiet_goes : (z : Unfinished) (heard : ℕ → List Told) (t : State) (order : List Operation) → Goes x (with_client cs c k) st z heard t order → Goes x cs st z (λ d. heard_if (d == c) [] ++ heard d) t order
+    quiet_goes : (z : Unfinished) (heard : ℕ → List Report) (t : State) (order : List Operation) → Goes x (with_client cs c k) st z heard t order → Goes x cs st z (λ d. heard_if (d == c) [] ++ heard d) t order
     quiet_goes z heard t order g = record {
       each = λ d. g.each d ∙ ap (owed (st d)) (rest_same d);
-      told = λ d. ap (λ l. (l ++ heard d) ++ z.unheard d) (heard_none (d == c)) ∙ g.told d;
+      reported = λ d. ap (λ l. (l ++ heard d) ++ z.unheard d) (heard_none (d == c)) ∙ g.reported d;
       last = g.last;
     }
 
@@ -200,10 +149,10 @@ module _ (config : Config) where
   module _ (keep : Keep config) (again : Again config) (stay : Stays config) where
     -- ---- a request that takes effect
 
-    record Takes (x : State) (cs : Clients) (st : Status) (c : ℕ) (r : Request) (k : Client) (v : Option (List ℕ)) (l : List Told) : Type 0 where
+    record Takes (x : State) (cs : Clients) (st : Status) (c : ℕ) (r : Request) (k : Client) (v : Option (List ℕ)) (l : List Report) : Type 0 where
       pub open_ : st c ≡ None
       pub rest : r ∷ owed v k.rest ≡ (cs c).rest
-      pub told : l ++ said v ≡ (step config x r).0 ∷ []
+      pub reported : l ++ said v ≡ (step config x r).0 ∷ []
       pub passed : AllByRecursion (λ r. checked r ≡ None) k.rest
       pub done : (body : List ℕ) → v ≡ Some body → IsDoneOf config (step config x r).1 k body
 
@@ -214,7 +163,7 @@ module _ (config : Config) where
     first_stays x r inv passed [] body apart done = absurd done
     first_stays x r inv passed (q ∷ qs) body apart done = (done.0, stay x r q body inv passed (apart.0 done.0) done.1)
 
-    takes : (x : State) (cs : Clients) (st : Status) (c : ℕ) (r : Request) (k : Client) (v : Option (List ℕ)) (l : List Told) → Holds x cs st
+    takes : (x : State) (cs : Clients) (st : Status) (c : ℕ) (r : Request) (k : Client) (v : Option (List ℕ)) (l : List Report) → Holds x cs st
         → ((d : ℕ) → d ≢ c → (cs d).is_open ≡ true → LeavesFirstAlone x r (cs d).rest) → Takes x cs st c r k v l
         → Went (Some c) x cs st (step config x r).1 (with_client cs c k) (λ d. heard_if (d == c) l)
     takes x cs st c r k v l h apart t =
@@ -247,18 +196,18 @@ module _ (config : Config) where
                 (λ d far. ap (λ (qs : List Request). qs ++ z.left d) (set_there {A = List Request} (λ (_ : ℕ). requests_of d order) c (r ∷ requests_of d order) d far)
                 ∙ g.each d
                 ∙ ap₂ (λ (w : Option (List ℕ)) (n : Client). owed w n.rest) (set_there st c v d far) (set_there cs c k d far));
-            told = by_client (λ d. (heard_if (d == c) l ++ heard d) ++ z.unheard d ≡ said (st d) ++ (heard_if (d == c) ((step config x r).0 ∷ []) ++ answers_in config y d order)) c
+            reported = by_client (λ d. (heard_if (d == c) l ++ heard d) ++ z.unheard d ≡ said (st d) ++ (heard_if (d == c) ((step config x r).0 ∷ []) ++ answers_in config y d order)) c
                 (ap (λ b. (heard_if b l ++ heard c) ++ z.unheard c) (eq-eqb c c refl)
                 ∙ append_assoc l (heard c) (z.unheard c)
-                ∙ ap (λ m. l ++ m) (g.told c ∙ ap (λ (w : Option (List ℕ)). said w ++ answers_in config y c order) (set_here st c v))
+                ∙ ap (λ m. l ++ m) (g.reported c ∙ ap (λ (w : Option (List ℕ)). said w ++ answers_in config y c order) (set_here st c v))
                 ∙ sym (append_assoc l (said v) (answers_in config y c order))
-                ∙ ap (λ m. m ++ answers_in config y c order) t.told
+                ∙ ap (λ m. m ++ answers_in config y c order) t.reported
                 ∙ sym (ap (λ (w : Option (List ℕ)). said w ++ (heard_if (c == c) ((step config x r).0 ∷ []) ++ answers_in config y c order)) t.open_
                 ∙ ap (λ b. heard_if b ((step config x r).0 ∷ []) ++ answers_in config y c order) (eq-eqb c c refl)))
-                (λ d far. ap (λ m. (m ++ heard d) ++ z.unheard d) (set_there {A = List Told} (λ (_ : ℕ). []) c l d far)
-                ∙ g.told d
+                (λ d far. ap (λ m. (m ++ heard d) ++ z.unheard d) (set_there {A = List Report} (λ (_ : ℕ). []) c l d far)
+                ∙ g.reported d
                 ∙ ap (λ (w : Option (List ℕ)). said w ++ answers_in config y d order) (set_there st c v d far)
-                ∙ sym (ap (λ m. said (st d) ++ (m ++ answers_in config y d order)) (set_there {A = List Told} (λ (_ : ℕ). []) c ((step config x r).0 ∷ []) d far)));
+                ∙ sym (ap (λ m. said (st d) ++ (m ++ answers_in config y d order)) (set_there {A = List Report} (λ (_ : ℕ). []) c ((step config x r).0 ∷ []) d far)));
             last = g.last;
           };
         }
@@ -289,12 +238,12 @@ module _ (config : Config) where
                 ∙ ap₂ (λ (w : Option (List ℕ)) (n : Client). owed w n.rest) (set_here st c None) (set_here cs c k)
                 ∙ ap (λ (w : Option (List ℕ)). owed w (cs c).rest) (sym at))
                 (λ d far. g.each d ∙ ap₂ (λ (w : Option (List ℕ)) (n : Client). owed w n.rest) (set_there st c None d far) (set_there cs c k d far));
-            told = by_client (λ d. (heard_if (d == c) (Says body ∷ []) ++ heard d) ++ z.unheard d ≡ said (st d) ++ answers_in config x d order) c
+            reported = by_client (λ d. (heard_if (d == c) (Says body ∷ []) ++ heard d) ++ z.unheard d ≡ said (st d) ++ answers_in config x d order) c
                 (ap (λ b. (heard_if b (Says body ∷ []) ++ heard c) ++ z.unheard c) (eq-eqb c c refl)
-                ∙ ap (λ m. Says body ∷ m) (g.told c ∙ ap (λ (w : Option (List ℕ)). said w ++ answers_in config x c order) (set_here st c None))
+                ∙ ap (λ m. Says body ∷ m) (g.reported c ∙ ap (λ (w : Option (List ℕ)). said w ++ answers_in config x c order) (set_here st c None))
                 ∙ ap (λ (w : Option (List ℕ)). said w ++ answers_in config x c order) (sym at))
-                (λ d far. ap (λ m. (m ++ heard d) ++ z.unheard d) (set_there {A = List Told} (λ (_ : ℕ). []) c (Says body ∷ []) d far)
-                ∙ g.told d
+                (λ d far. ap (λ m. (m ++ heard d) ++ z.unheard d) (set_there {A = List Report} (λ (_ : ℕ). []) c (Says body ∷ []) d far)
+                ∙ g.reported d
                 ∙ ap (λ (w : Option (List ℕ)). said w ++ answers_in config x d order) (set_there st c None d far));
             last = g.last;
           };
@@ -340,27 +289,27 @@ module _ (config : Config) where
           still e = subst (λ (y : State). Went (Some c) x cs st y (with_client cs c (gone_if is_last (client_after (cs c) Unanswered))) (λ d. heard_if (d == c) [])) (sym e)
               (quietly x cs st c (gone_if is_last (client_after (cs c) Unanswered)) refl (λ o. is_started is_last (cs c).is_gone) (still_gone is_last (cs c).is_gone) h)
 
-          by_told : st c ≡ None → is_read r ≡ false → (w : Told) → (step config x r).0 ≡ w
+          by_reported : st c ≡ None → is_read r ≡ false → (w : Report) → (step config x r).0 ≡ w
               → Went (Some c) x cs st (step config x r).1 (with_client cs c (gone_if is_last (client_after (cs c) Unanswered))) (λ d. heard_if (d == c) [])
-          by_told none changes (Denies why) e = still (denied_stays config x r why e)
-          by_told none changes (Says body) e = takes x cs st c r (gone_if is_last (client_after (cs c) Unanswered)) (Some body) [] h apart (record {
+          by_reported none changes (Denies why) e = still (denied_stays config x r why e)
+          by_reported none changes (Says body) e = takes x cs st c r (gone_if is_last (client_after (cs c) Unanswered)) (Some body) [] h apart (record {
             open_ = none;
             rest = ap (λ (qs : List Request). r ∷ without_first qs) is ∙ sym is;
-            told = ap (λ (w : Told). w ∷ []) (sym e);
+            reported = ap (λ (w : Report). w ∷ []) (sym e);
             passed = h.passed c;
             done = λ b f. done_of is_last (cs c).is_gone (step config x r).1 (cs c).rest b
                 (subst (λ (qs : List Request). IsDoneFirst config (step config x r).1 qs b) (sym is)
-                (changes, again x r h.inv (first_passed x cs st c r rs h (sym is)) ∙ ap (λ (w : Told). (w, (step config x r).1)) (e ∙ ap Says (same_some body b f))));
+                (changes, again x r h.inv (first_passed x cs st c r rs h (sym is)) ∙ ap (λ (w : Report). (w, (step config x r).1)) (e ∙ ap Says (same_some body b f))));
           })
 
           -- a request that only reads takes effect at its answer
           by_read : st c ≡ None → (b : Bool) → is_read r ≡ b → Went (Some c) x cs st (step config x r).1 (with_client cs c (gone_if is_last (client_after (cs c) Unanswered))) (λ d. heard_if (d == c) [])
           by_read none true e = still (read_stays config x r e)
-          by_read none false e = by_told none e (step config x r).0 refl
+          by_read none false e = by_reported none e (step config x r).0 refl
 
           by_status : (o : Option (List ℕ)) → st c ≡ o → Went (Some c) x cs st (step config x r).1 (with_client cs c (gone_if is_last (client_after (cs c) Unanswered))) (λ d. heard_if (d == c) [])
           by_status None at = by_read at (is_read r) refl
-          by_status (Some body) at = still (ap (λ (w : Told × State). w.1) (is_done x cs st c r rs body h stays is at))
+          by_status (Some body) at = still (ap (λ (w : Report × State). w.1) (is_done x cs st c r rs body h stays is at))
 
       own_answered : Went (Some c) x cs st (step config x r).1 (with_client cs c (gone_if is_last (client_after (cs c) Answered))) (λ d. heard_if (d == c) ((step config x r).0 ∷ []))
       own_answered = by_status (st c) refl
@@ -369,15 +318,15 @@ module _ (config : Config) where
           by_status None at = takes x cs st c r (gone_if is_last (client_after (cs c) Answered)) None ((step config x r).0 ∷ []) h apart (record {
             open_ = at;
             rest = ap (λ (qs : List Request). r ∷ without_first qs) is ∙ sym is;
-            told = refl;
+            reported = refl;
             passed = subst (λ (qs : List Request). AllByRecursion (λ r. checked r ≡ None) (without_first qs)) (sym is) (subst (λ (qs : List Request). AllByRecursion (λ r. checked r ≡ None) qs) is (h.passed c)).1;
             done = λ b f. absurd (none_some b f);
           })
           by_status (Some body) at =
               let done = is_done x cs st c r rs body h stays is at in
-              subst (λ (w : Told × State). Went (Some c) x cs st w.1 (with_client cs c (gone_if is_last (client_after (cs c) Answered))) (λ d. heard_if (d == c) (w.0 ∷ []))) (sym done) (answers_before is_last x cs st c r rs body h is at)
+              subst (λ (w : Report × State). Went (Some c) x cs st w.1 (with_client cs c (gone_if is_last (client_after (cs c) Answered))) (λ d. heard_if (d == c) (w.0 ∷ []))) (sym done) (answers_before is_last x cs st c r rs body h is at)
 
-      own : (e : Ending) → Went (Some c) x cs st (moved_by config x r e) (with_client cs c (gone_if is_last (client_after (cs c) e))) (λ d. heard_if (d == c) (told_by config x r e))
+      own : (e : Ending) → Went (Some c) x cs st (moved_by config x r e) (with_client cs c (gone_if is_last (client_after (cs c) e))) (λ d. heard_if (d == c) (reported_by config x r e))
       own Marked = quietly x cs st c (gone_if is_last (client_after (cs c) Marked)) refl (λ o. is_started is_last (cs c).is_gone) (still_gone is_last (cs c).is_gone) h
       own Down = quietly x cs st c (gone_if is_last (client_after (cs c) Down)) refl (still_started is_last (cs c).is_open (cs c).is_gone) (still_gone is_last (cs c).is_gone) h
       own Unanswered = own_unanswered
@@ -399,23 +348,23 @@ module _ (config : Config) where
         subst (λ (y : State). Went None x cs st y cs (λ d. [])) (sym (passed_by x t separate)) (record { to = st; holds = h; others = λ d far. refl; taken = []; mine = λ d far order. refl; goes = λ z heard u order g. g })
     one x cs refusals st (Some c) t is_last h separate = by_rest (cs c).rest refl separate.1
       where
-        by_rest : (qs : List Request) → (cs c).rest ≡ qs → IsOfFirst qs t → Went (Some c) x cs st (after_try config x t) (with_client cs c (gone_if is_last (client_after (cs c) t.end))) (λ d. heard_if (d == c) (told_by config x t.request t.end))
+        by_rest : (qs : List Request) → (cs c).rest ≡ qs → IsOfFirst qs t → Went (Some c) x cs st (after_try config x t) (with_client cs c (gone_if is_last (client_after (cs c) t.end))) (λ d. heard_if (d == c) (reported_by config x t.request t.end))
         by_rest [] is first = absurd first
         by_rest (r ∷ rs) is first =
-            subst (λ (q : Request). Went (Some c) x cs st (moved_by config x q t.end) (with_client cs c (gone_if is_last (client_after (cs c) t.end))) (λ d. heard_if (d == c) (told_by config x q t.end))) (sym first)
+            subst (λ (q : Request). Went (Some c) x cs st (moved_by config x q t.end) (with_client cs c (gone_if is_last (client_after (cs c) t.end))) (λ d. heard_if (d == c) (reported_by config x q t.end))) (sym first)
             (own is_last x cs st c r rs h separate.0 is (λ d far open_. subst (λ (q : Request). LeavesFirstAlone x q (cs d).rest) first (separate.2 d far (inl open_))) t.end)
 
     -- ---- a session
 
     -- the history after a session
-    abbrev GoOn : State → Clients → (ℕ → List Told) → State → List (List ClientTry) → Type 0
+    abbrev GoOn : State → Clients → (ℕ → List Report) → State → List (List ClientTry) → Type 0
     GoOn u cs later t more = (to : Status) → Holds u cs to → Begins u cs to later t more
 
-    abbrev Session : State → Clients → Refusals → Status → List ClientTry → (ℕ → List Told) → State → List (List ClientTry) → Type 0
+    abbrev Session : State → Clients → Refusals → Status → List ClientTry → (ℕ → List Report) → State → List (List ClientTry) → Type 0
     Session x cs refusals st ts later t more = Ends x cs refusals st (λ c. heard_of config x c ts ++ later c) t ts more
 
     -- a try and those after it
-    abbrev From : State → Clients → Refusals → Status → Option ℕ → Try → Bool → List ClientTry → (ℕ → List Told) → State → List (List ClientTry) → Type 0
+    abbrev From : State → Clients → Refusals → Status → Option ℕ → Try → Bool → List ClientTry → (ℕ → List Report) → State → List (List ClientTry) → Type 0
     From x cs refusals st o f is_last ts later t more =
         Ends x cs refusals st (λ c. (heard_by config x c o f ++ heard_of config (after_try config x f) c ts) ++ later c) t (record { client = o; made = f; is_last = is_last } ∷ ts) more
 
@@ -442,12 +391,12 @@ module _ (config : Config) where
         let far = not_its cs refusals x o f c separate gone in
         over c (ap (λ (z : Client). z.is_gone) (same_client cs o f.end is_last c far) ∙ gone) (same_refusal refusals o f.end c far ∙ sure)
 
-    then_ : (x : State) (cs : Clients) (refusals : Refusals) (st : Status) (o : Option ℕ) (f : Try) (is_last : Bool) (ts : List ClientTry) (later : ℕ → List Told) (t : State) (more : List (List ClientTry)) → Holds x cs st
+    then_ : (x : State) (cs : Clients) (refusals : Refusals) (st : Status) (o : Option ℕ) (f : Try) (is_last : Bool) (ts : List ClientTry) (later : ℕ → List Report) (t : State) (more : List (List ClientTry)) → Holds x cs st
         → IsSeparate x cs refusals o f → (w : Went o x cs st (after_try config x f) (clients_after_try cs o f.end is_last) (λ d. heard_by config x d o f))
         → Session (after_try config x f) (clients_after_try cs o f.end is_last) (refusals_after refusals o f.end) w.to ts later t more → From x cs refusals st o f is_last ts later t more
     then_ x cs refusals st o f is_last ts later t more h separate w g =
         let y = after_try config x f in
-        let heard : ℕ → List Told = λ c. (heard_by config x c o f ++ heard_of config y c ts) ++ later c in
+        let heard : ℕ → List Report = λ c. (heard_by config x c o f ++ heard_of config y c ts) ++ later c in
         let goes : Goes x cs st g.unfinished heard t (w.taken ++ g.order) =
         goes_as x cs st g.unfinished (λ c. heard_by config x c o f ++ (heard_of config y c ts ++ later c)) heard t (w.taken ++ g.order)
         (λ c. append_assoc (heard_by config x c o f) (heard_of config y c ts) (later c))
@@ -467,11 +416,11 @@ module _ (config : Config) where
 
     -- a try that takes no effect, and those after it
     quiet_then : (x : State) (cs : Clients) (refusals : Refusals) (st : Status) (c : ℕ) (f : Try) (is_last : Bool) → (gone_if is_last (client_after (cs c) f.end)).rest ≡ (cs c).rest
-        → (IsInvoked (cs c) → IsInvoked (gone_if is_last (client_after (cs c) f.end))) → ((cs c).is_gone ≡ true → (gone_if is_last (client_after (cs c) f.end)).is_gone ≡ true) → (ts : List ClientTry) (later : ℕ → List Told) (t : State) (more : List (List ClientTry))
+        → (IsInvoked (cs c) → IsInvoked (gone_if is_last (client_after (cs c) f.end))) → ((cs c).is_gone ≡ true → (gone_if is_last (client_after (cs c) f.end)).is_gone ≡ true) → (ts : List ClientTry) (later : ℕ → List Report) (t : State) (more : List (List ClientTry))
         → Holds x cs st → IsSeparate x cs refusals (Some c) f → Session x (with_client cs c (gone_if is_last (client_after (cs c) f.end))) (refusals_after refusals (Some c) f.end) st ts later t more
         → Ends x cs refusals st (λ d. (heard_if (d == c) [] ++ heard_of config x d ts) ++ later d) t (record { client = Some c; made = f; is_last = is_last } ∷ ts) more
     quiet_then x cs refusals st c f is_last rest opened gone ts later t more h separate g =
-        let heard : ℕ → List Told = λ d. (heard_if (d == c) [] ++ heard_of config x d ts) ++ later d in
+        let heard : ℕ → List Report = λ d. (heard_if (d == c) [] ++ heard_of config x d ts) ++ later d in
         let goes : Goes x cs st g.unfinished heard t g.order =
         goes_as x cs st g.unfinished (λ d. heard_if (d == c) [] ++ (heard_of config x d ts ++ later d)) heard t g.order
         (λ d. append_assoc (heard_if (d == c) []) (heard_of config x d ts) (later d))
@@ -534,7 +483,7 @@ module _ (config : Config) where
           | inr b ↦ absurd (cc (b))
         ]
 
-    module _ (u t : State) (later : ℕ → List Told) (rest_of : List (List ClientTry)) where
+    module _ (u t : State) (later : ℕ → List Report) (rest_of : List (List ClientTry)) where
       -- a session that leaves the State after its tries
       calm : (ts : List ClientTry) (x : State) (cs : Clients) (refusals : Refusals) (st : Status) → Holds x cs st → AreSeparateFrom config x cs refusals ts → u ≡ state_after config x (tries_made ts)
           → GoOn u (clients_after cs ts) later t rest_of → Session x cs refusals st ts later t rest_of
@@ -676,17 +625,17 @@ module _ (config : Config) where
             | inr g ↦ let one = first_of y (cs c).rest body done in inr (g, one.0, one.1)
           ]
 
-          by_told : is_read r ≡ false → (w : Told) → (step config x r).0 ≡ w → Ends x cs refusals st later t [] rest_of
-          by_told changes (Denies why) e = settles (is ∙ denied_stays config x r why e)
-          by_told changes (Says body) e =
+          by_reported : is_read r ≡ false → (w : Report) → (step config x r).0 ≡ w → Ends x cs refusals st later t [] rest_of
+          by_reported changes (Denies why) e = settles (is ∙ denied_stays config x r why e)
+          by_reported changes (Says body) e =
               let w = takes x cs st c r (cs c) (Some body) [] h (λ a far o. d.apart a far (inl o)) (record {
                 open_ = d.unmade;
                 rest = ap (λ (qs : List Request). r ∷ without_first qs) d.is ∙ sym d.is;
-                told = ap (λ (z : Told). z ∷ []) (sym e);
+                reported = ap (λ (z : Report). z ∷ []) (sym e);
                 passed = h.passed c;
                 done = λ b f. either (step config x r).1 b d.started
                     (subst (λ (qs : List Request). IsDoneFirst config (step config x r).1 qs b) (sym d.is)
-                    (changes, again x r h.inv (first_passed x cs st c r rs h (sym d.is)) ∙ ap (λ (z : Told). (z, (step config x r).1)) (e ∙ ap Says (same_some body b f))));
+                    (changes, again x r h.inv (first_passed x cs st c r rs h (sym d.is)) ∙ ap (λ (z : Report). (z, (step config x r).1)) (e ∙ ap Says (same_some body b f))));
               }) in
               let at_u : Holds u cs w.to = subst₂ (λ (y : State) (ds : Clients). Holds y ds w.to) (sym is) same w.holds in
               let g : Begins u cs w.to later t rest_of = k w.to at_u in
@@ -708,7 +657,7 @@ module _ (config : Config) where
 
           by_read : (b : Bool) → is_read r ≡ b → Ends x cs refusals st later t [] rest_of
           by_read true e = settles (is ∙ read_stays config x r e)
-          by_read false e = by_told e (step config x r).0 refl
+          by_read false e = by_reported e (step config x r).0 refl
       due (f ∷ ts) x cs refusals st c r rs h all_separate still is d k =
           due_one ts x cs refusals st c r rs h still.1 is d (λ ds new to h1 more d1 k1. due ts x ds new to c r rs h1 more still.1 is d1 k1) f.client f.made.request f.made.end f.is_last all_separate.0 all_separate.1 still.0 k
 
@@ -734,7 +683,7 @@ module _ (config : Config) where
               → AreSeparateFrom config x (with_client cs c (gone_if is_last (client_after (cs c) Marked))) (refusals_after refusals (Some c) Marked) ts → AreStill config x (tries_made ts) → u ≡ (step config x q).1
               → GoOn u (clients_after (with_client cs c (gone_if is_last (client_after (cs c) Marked))) ts) later t rest_of → From x cs refusals st (Some c) (record { request = q; end = Marked }) is_last ts later t rest_of
           by_status c q r rs is_last is first (Some body) at separate more still due_ on =
-              settled (Some c) q is_last separate more still (due_ ∙ ap (λ (p : Request). (step config x p).1) first ∙ ap (λ (w : Told × State). w.1) (is_done x cs st c r rs body h separate.0 is at)) on
+              settled (Some c) q is_last separate more still (due_ ∙ ap (λ (p : Request). (step config x p).1) first ∙ ap (λ (w : Report × State). w.1) (is_done x cs st c r rs body h separate.0 is at)) on
           by_status c q r rs is_last is first None at separate more still due_ on =
               let n = gone_if is_last (client_after (cs c) Marked) in
               let opened : IsInvoked n = is_started is_last (cs c).is_gone in
@@ -768,10 +717,10 @@ module _ (config : Config) where
 
     -- ---- a history
 
-    history : (sessions : List (List ClientTry)) (x : State) (cs : Clients) (st : Status) (heard : ℕ → List Told) (t : State) → Holds x cs st → IsHistory config x cs sessions heard t → Begins x cs st heard t sessions
+    history : (sessions : List (List ClientTry)) (x : State) (cs : Clients) (st : Status) (heard : ℕ → List Report) (t : State) → Holds x cs st → IsHistory config x cs sessions heard t → Begins x cs st heard t sessions
     history [] x cs st heard t h l =
         let z : Unfinished = record { left = λ c. owed (st c) (cs c).rest; unheard = λ c. said (st c) } in
-        let goes : Goes x cs st z heard t [] = record { each = λ c. refl; told = λ c. ap (λ (m : List Told). m ++ said (st c)) (l.0 c) ∙ sym (append-nil (said (st c))); last = l.1 } in
+        let goes : Goes x cs st z heard t [] = record { each = λ c. refl; reported = λ c. ap (λ (m : List Report). m ++ said (st c)) (l.0 c) ∙ sym (append-nil (said (st c))); last = l.1 } in
         record {
           order = [];
           unfinished = z;
@@ -797,7 +746,7 @@ module _ (config : Config) where
           over = λ c gone. g.over c gone refl;
         }
 
-    pub begun : (s t : State) (todo : ℕ → List Request) (sessions : List (List ClientTry)) (heard : ℕ → List Told) → IsInvariant config s
+    pub begun : (s t : State) (todo : ℕ → List Request) (sessions : List (List ClientTry)) (heard : ℕ → List Report) → IsInvariant config s
         → ((c : ℕ) → AllByRecursion (λ r. checked r ≡ None) (todo c)) → IsHistory config s (start todo) sessions heard t → IsLinearizable config s todo sessions heard t
     begun s t todo sessions heard inv passed l =
         let g = history sessions s (start todo) (λ c. None) heard t (record { inv = inv; passed = passed; done = λ c body e. absurd (none_some body e) }) l in
@@ -807,19 +756,19 @@ module _ (config : Config) where
           each = g.goes.each;
           real_time = g.real_time;
           unheard = g.unfinished.unheard;
-          answers = g.goes.told;
+          answers = g.goes.reported;
           ends = g.ends;
           last = g.goes.last;
         }
 
 -- a complete history leaves nothing
-none_left : (k : Client) (left : List Request) (unheard : List Told) → k.rest ≡ [] → IsLeftOver k left unheard → (left ≡ []) × (unheard ≡ [])
+none_left : (k : Client) (left : List Request) (unheard : List Report) → k.rest ≡ [] → IsLeftOver k left unheard → (left ≡ []) × (unheard ≡ [])
 none_left k left unheard done ends = elim ends as (λ _. (left ≡ []) × (unheard ≡ [])) [
   | inl a ↦ (a.0 ∙ done, a.1)
   | inr b ↦ let e : b.1 ∷ left ≡ [] = sym b.2 ∙ done in absurd (cc (e))
 ]
 
-pub finished : (config : Config) (s t : State) (todo : ℕ → List Request) (sessions : List (List ClientTry)) (heard : ℕ → List Told) → AreAnswered (start todo) sessions → IsLinearizable config s todo sessions heard t
+pub finished : (config : Config) (s t : State) (todo : ℕ → List Request) (sessions : List (List ClientTry)) (heard : ℕ → List Report) → AreAnswered (start todo) sessions → IsLinearizable config s todo sessions heard t
     → IsLinearizableInFull config s todo sessions heard t
 finished config s t todo sessions heard answered o =
     let none : (c : ℕ) → (o.left c ≡ []) × (o.unheard c ≡ []) = λ c. none_left (clients_after (start todo) (all_client_tries sessions) c) (o.left c) (o.unheard c) (answered c) (o.ends c) in
@@ -828,6 +777,6 @@ finished config s t todo sessions heard answered o =
       order = o.order;
       each = λ c. sym (append-nil (requests_of c o.order)) ∙ ap (λ (l : List Request). requests_of c o.order ++ l) (sym (none c).0) ∙ o.each c;
       real_time = subst (λ (k : ℕ → List Request). KeepsRealTime k (start todo) sessions o.order) empty o.real_time;
-      answers = λ c. sym (append-nil (heard c)) ∙ ap (λ (l : List Told). heard c ++ l) (sym (none c).1) ∙ o.answers c;
+      answers = λ c. sym (append-nil (heard c)) ∙ ap (λ (l : List Report). heard c ++ l) (sym (none c).1) ∙ o.answers c;
       last = o.last;
     }

@@ -37,7 +37,7 @@ use Rattle.csi_machine.specs.Response.{publication}
 use Rattle.csi_machine.specs.Retry.{after_once}
 use Rattle.csi_machine.specs.Step.{is_read, moved, plan, step}
 use Rattle.csi_machine.specs.Validate.{validate_found}
-use Rattle.csi_machine.specs.Verdicts.{Told, Says, Denies, reported_of}
+use Rattle.csi_machine.specs.Verdicts.{Report, Says, Denies, reported_of}
 use Rattle.csi_rules.specs.Finding.{numbered, volume_at}
 use Rattle.csi_rules.specs.Ids.{number_of_id}
 use Rattle.csi_clients.specs.OtherVolumes.{IsOfOtherVolume, IsOfOtherId, IsOfOtherName, AreOfOtherVolumes, IsPlannedAsBefore}
@@ -242,15 +242,15 @@ module _ (config : Config) where
       by_request (request.Modify r) away = of_id r.volume_id away
 
   step_untouched : (s : State) (q r : Request) → IsInvariant config s → IsInvariant config (step config s q).1 → IsOfOtherVolume s q r → IsUntouched s (step config s q).1 r
-  step_untouched s q r inv later away = by_told (reported_of (plan config s q).outcome) later
+  step_untouched s q r inv later away = by_reported (reported_of (plan config s q).outcome) later
     where
       by_change : (o : Option Change) → (plan config s q).change ≡ o → IsInvariant config (after s o) → IsUntouched s (after s o) r
       by_change None e i = untouched_itself s r
       by_change (Some c) e i = changed_by s q c inv i e r away
 
-      by_told : (w : Told) → IsInvariant config (moved s (after s (plan config s q).change) w) → IsUntouched s (moved s (after s (plan config s q).change) w) r
-      by_told (Denies why) i = untouched_itself s r
-      by_told (Says b) i = by_change (plan config s q).change refl i
+      by_reported : (w : Report) → IsInvariant config (moved s (after s (plan config s q).change) w) → IsUntouched s (moved s (after s (plan config s q).change) w) r
+      by_reported (Denies why) i = untouched_itself s r
+      by_reported (Says b) i = by_change (plan config s q).change refl i
 
   untouched : Keep config → (qs : List Request) (s : State) (r : Request) → IsInvariant config s → AllByRecursion (λ q. checked q ≡ None) qs → AreOfOtherVolumes config s qs r → IsUntouched s (after_once config s qs) r
   untouched keep [] s r inv passed away = untouched_itself s r

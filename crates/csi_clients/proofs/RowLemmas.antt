@@ -44,7 +44,7 @@ Row = AttachmentKey × Attachment
 abbrev first_of_rows : (Attachment → Bool) → ℕ → List Row → Option Attachment
 first_of_rows p n es = find p (map (λ e. e.1) (filter (λ e. e.0.0 == n) es))
 
--- none of them passes
+-- no item passes
 none_among : (es : List Row) (n : ℕ) (p : Attachment → Bool) → AllByRecursion (λ e. e.0.0 ≡ n → p e.1 ≡ false) es → first_of_rows p n es ≡ None
 none_among [] n p h = refl
 none_among (e ∷ es) n p h = go (none_among es n p h.1) (e.0.0 == n) refl
@@ -67,7 +67,7 @@ one_among (e ∷ es) n p a x h f = go (one_among es n p a x h.1) (e.0.0 == n) re
     go more true t k = by_test more (eqb-true _ _ t) (p e.1) refl k
     go more false t k = more k
 
--- no attachment of the volume passes if none is found
+-- no attachment of the volume passes if the search finds nothing
 none_at : (es : List Row) (p : Attachment → Bool) (n : ℕ) (d : Text) (a : Attachment) → first_of_rows p n es ≡ None → fin.find attachment_key_cmp (n, d) es ≡ Some a → p a ≡ false
 none_at [] p n d a none f = absurd (none_some a f)
 none_at (r ∷ es) p n d a none f = go (eq_by_cmp attachment_key_cmp (n, d) r.0) refl (r.0.0 == n) refl f none (none_at es p n d a)

@@ -51,7 +51,7 @@ use Rattle.csi_machine.specs.Response.{publication}
 use Rattle.csi_machine.specs.Retry.{after_once}
 use Rattle.csi_machine.specs.Step.{is_read, moved, plan, step}
 use Rattle.csi_machine.specs.Validate.{validate, validate_found, validate_volume}
-use Rattle.csi_machine.specs.Verdicts.{Told, Says, Denies, reported_of}
+use Rattle.csi_machine.specs.Verdicts.{Report, Says, Denies, reported_of}
 use Rattle.csi_rules.specs.Choice.{Room, rooms, choice, count}
 use Rattle.csi_rules.specs.Finding.{numbered, volume_at}
 use Rattle.csi_rules.specs.Ids.{number_of_id}
@@ -613,7 +613,7 @@ module _ (laws : AreLaws) (config : Config) (s : State) (q : Request) (c : Chang
 pub record IsDone (config : Config) (s : State) (r : Request) (body : List ℕ) : Type 0 where
   pub reply : Response
   pub by : plan config s r ≡ respond reply
-  pub told : reported_of (Ok reply) ≡ Says body
+  pub reported : reported_of (Ok reply) ≡ Says body
 
 abbrev planned : Result Response Reason → Option Change → Plan
 planned o c = record { outcome = o; change = c }
@@ -621,16 +621,16 @@ planned o c = record { outcome = o; change = c }
 pub done_step : (config : Config) (s : State) (r : Request) (body : List ℕ) → IsDone config s r body → step config s r ≡ (Says body, s)
 done_step config s r body d =
     ap (λ (p : Plan). (reported_of p.outcome, moved s (after s p.change) (reported_of p.outcome))) d.by
-    ∙ ap (λ (w : Told). (w, moved s s w)) d.told
+    ∙ ap (λ (w : Report). (w, moved s s w)) d.reported
 
 pub step_done : AreLaws → (config : Config) (s : State) (r : Request) (body : List ℕ) → IsInvariant config s → step config s r ≡ (Says body, s) → IsDone config s r body
-step_done laws config s r body inv e = by_outcome (plan config s r).outcome refl told
+step_done laws config s r body inv e = by_outcome (plan config s r).outcome refl reported
   where
-    told : reported_of (plan config s r).outcome ≡ Says body
-    told = ap (λ (x : Told × State). x.0) e
+    reported : reported_of (plan config s r).outcome ≡ Says body
+    reported = ap (λ (x : Report × State). x.0) e
 
     still : moved s (after s (plan config s r).change) (Says body) ≡ s
-    still = ap (λ (w : Told). moved s (after s (plan config s r).change) w) (sym told) ∙ ap (λ (x : Told × State). x.1) e
+    still = ap (λ (w : Report). moved s (after s (plan config s r).change) w) (sym reported) ∙ ap (λ (x : Report × State). x.1) e
 
     no_change : (o : Option Change) → (plan config s r).change ≡ o → o ≡ None
     no_change None f = refl
@@ -638,12 +638,12 @@ step_done laws config s r body inv e = by_outcome (plan config s r).outcome refl
 
     by_outcome : (o : Result Response Reason) → (plan config s r).outcome ≡ o → reported_of o ≡ Says body → IsDone config s r body
     by_outcome (Err why) f h = absurd (cc (h))
-    by_outcome (Ok x) f h = record { reply = x; by = ap₂ planned f (no_change (plan config s r).change refl); told = h }
+    by_outcome (Ok x) f h = record { reply = x; by = ap₂ planned f (no_change (plan config s r).change refl); reported = h }
 
 -- a request leaves the object of another one alone: what this one has done stays done
 pub stays_one : AreLaws → (config : Config) (s : State) (q r : Request) (body : List ℕ) → IsInvariant config s → IsInvariant config (step config s q).1 → LeavesAlone s q r → IsDone config s r body
     → IsDone config (step config s q).1 r body
-stays_one laws config s q r body inv later alone d = record { reply = d.reply; by = by_told (reported_of (plan config s q).outcome) later; told = d.told }
+stays_one laws config s q r body inv later alone d = record { reply = d.reply; by = by_reported (reported_of (plan config s q).outcome) later; reported = d.reported }
   where
     by_change : (o : Option Change) → (plan config s q).change ≡ o → IsInvariant config (after s o) → plan config (after s o) r ≡ respond d.reply
     by_change None e i = d.by
@@ -651,9 +651,9 @@ stays_one laws config s q r body inv later alone d = record { reply = d.reply; b
         let made = does config s q c inv e in
         plan_stays laws config s r c d.reply inv i (is_free config s q c inv made) (keeps_by laws config s q c r e made alone) d.by
 
-    by_told : (w : Told) → IsInvariant config (moved s (after s (plan config s q).change) w) → plan config (moved s (after s (plan config s q).change) w) r ≡ respond d.reply
-    by_told (Denies why) i = d.by
-    by_told (Says b) i = by_change (plan config s q).change refl i
+    by_reported : (w : Report) → IsInvariant config (moved s (after s (plan config s q).change) w) → plan config (moved s (after s (plan config s q).change) w) r ≡ respond d.reply
+    by_reported (Denies why) i = d.by
+    by_reported (Says b) i = by_change (plan config s q).change refl i
 
 -- ---- several requests
 abbrev pub Keep : Config → Type 0

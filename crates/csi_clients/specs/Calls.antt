@@ -6,9 +6,9 @@ use Rattle.envelope.specs.Envelope.{ReplyBytes}
 use Rattle.csi_config.specs.declared.config.Config.{Config}
 use Rattle.csi_keeper.specs.State.{State}
 use Rattle.csi_machine.specs.Retry.{Try}
-use Rattle.csi_machine.specs.Verdicts.{Told}
+use Rattle.csi_machine.specs.Verdicts.{Report}
 use Rattle.csi_server.specs.Machine.{step as call_step}
-use Rattle.csi_server.specs.Requests.{told}
+use Rattle.csi_server.specs.Requests.{reported}
 use Rattle.csi_server.specs.Tries.{Exchange, asked, events_of, heard_by, tries_in, IsLeft}
 use Rattle.csi_server.specs.Volumes.{volumes}
 use Rattle.csi_clients.specs.Clients.{Clients, ClientTry, clients_after, AreSeparate}
@@ -60,5 +60,5 @@ abbrev pub tries_of_sessions : List (List ClientExchange) → Sessions
 tries_of_sessions sessions = map client_tries_of sessions
 
 -- each client hears the replies that say these answers
-abbrev pub AreReplies : (ℕ → List ReplyBytes) → (ℕ → List Told) → Type 0
-AreReplies heard answers = (c : ℕ) → heard c ≡ map told (answers c)
+abbrev pub AreReplies : (ℕ → List ReplyBytes) → (ℕ → List Report) → Type 0
+AreReplies heard answers = (c : ℕ) → heard c ≡ map reported (answers c)

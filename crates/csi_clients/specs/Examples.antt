@@ -6,7 +6,7 @@ use Rattle.csi_config.specs.declared.config.Config.{Config}
 use Rattle.csi_keeper.specs.State.{State}
 use Rattle.csi_machine.specs.Retry.{Ending, Marked, Unanswered, Answered}
 use Rattle.csi_machine.specs.Step.{step}
-use Rattle.csi_machine.specs.Verdicts.{Told}
+use Rattle.csi_machine.specs.Verdicts.{Report}
 use Rattle.csi_clients.specs.Clients.{ClientTry, start}
 use Rattle.csi_clients.specs.Histories.{Sessions, IsHistory, AreAnswered}
 
@@ -31,7 +31,7 @@ two_sessions r q = (try_by 0 r Unanswered ∷ try_by 1 q Answered ∷ []) ∷ (t
 -- end.
 abbrev pub AreTwo : Config → State → Request → Request → Type 0
 AreTwo config s r q =
-    (heard : ℕ → List Told)
+    (heard : ℕ → List Report)
     × (t : State)
     × IsHistory config s (start (two r q)) (two_sessions r q) heard t
     × AreAnswered (start (two r q)) (two_sessions r q)
@@ -39,8 +39,8 @@ AreTwo config s r q =
 -- ---- a client that gives up
 
 -- the second client hears this answer, and no other client hears any
-abbrev pub second_hears : Told → ℕ → List Told
-second_hears told c = if c == 1 then told ∷ [] else []
+abbrev pub second_hears : Report → ℕ → List Report
+second_hears reported c = if c == 1 then reported ∷ [] else []
 
 -- The first client's answer is lost, and the client gives up. Then the second client is answered.
 abbrev pub given_up : Request → Request → Sessions

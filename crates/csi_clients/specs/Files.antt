@@ -8,7 +8,7 @@ use Rattle.csi_types.specs.declared.requests.Request.{Request}
 use Rattle.csi_config.specs.declared.config.Config.{Config}
 use Rattle.csi_keeper.specs.Invariant.{IsInvariant}
 use Rattle.csi_keeper.specs.State.{State}
-use Rattle.csi_machine.specs.Verdicts.{Told}
+use Rattle.csi_machine.specs.Verdicts.{Report}
 use Rattle.csi_server.specs.Tries.{events_of, IsLeft}
 use Rattle.csi_files.specs.Lives.{GoesOn, IsLifeOfFiles}
 use Rattle.csi_files.specs.Starting.{MayStart}
@@ -28,7 +28,7 @@ AreSeparateOverStops config s cs (session ∷ sessions) =
 pub record IsLinearizableLife (config : Config) (was last : Image) (s : State) (todo : ℕ → List Request) (sessions : List (List ClientExchange)) : Type 0 where
   pub left : State
   pub heard : ℕ → List ReplyBytes
-  pub answers : ℕ → List Told
+  pub answers : ℕ → List Report
   pub goes : GoesOn was last s left
   pub history : IsHistoryOfCalls config s (start todo) sessions heard left
   pub replies : AreReplies heard answers

@@ -7,7 +7,7 @@ use Rattle.csi_types.specs.declared.requests.Request.{Request}
 use Rattle.csi_config.specs.declared.config.Config.{Config}
 use Rattle.csi_keeper.specs.State.{State}
 use Rattle.csi_machine.specs.Step.{step}
-use Rattle.csi_machine.specs.Verdicts.{Told}
+use Rattle.csi_machine.specs.Verdicts.{Report}
 use Rattle.csi_clients.specs.Clients.{Client, Clients, ClientTry, Refusals, start, clients_after, clients_after_try, refusals_after}
 use Rattle.csi_clients.specs.Histories.{Sessions, heard_if, all_client_tries}
 
@@ -24,7 +24,7 @@ requests_of c [] = []
 requests_of c (o ∷ os) = if c == o.client then o.request ∷ requests_of c os else requests_of c os
 
 -- what a client is answered if the operations are taken once each, in order
-abbrev pub answers_in : Config → State → ℕ → List Operation → List Told
+abbrev pub answers_in : Config → State → ℕ → List Operation → List Report
 answers_in config s c [] = []
 answers_in config s c (o ∷ os) =
     heard_if (c == o.client) ((step config s o.request).0 ∷ []) ++ answers_in config (step config s o.request).1 c os
@@ -74,31 +74,32 @@ KeepsRealTime left cs (tries ∷ sessions) order =
 
 -- A client in the end: either no request that it still asks for is taken, and it heard all answers; or the
 -- first is taken, and its answer is not heard.
-abbrev pub IsLeftOver : Client → List Request → List Told → Type 0
+abbrev pub IsLeftOver : Client → List Request → List Report → Type 0
 IsLeftOver k left unheard =
     ((left ≡ k.rest) × (unheard ≡ []))
-    ⊎ (IsInvoked k × (first : Request) × (k.rest ≡ first ∷ left) × (answer : Told) × (unheard ≡ answer ∷ []))
+    ⊎ (IsInvoked k × (first : Request) × (k.rest ≡ first ∷ left) × (answer : Report) × (unheard ≡ answer ∷ []))
 
 -- A history is linearizable: there is an order of operations, Herlihy and Wing's sequential history. In it
 -- the requests of each client have the order of the client, and it keeps the real-time order. If each
 -- operation is taken once in this order, each client hears the answers to its operations, and the State in
 -- the end is the State after them. The order has all operations that were answered and, of each client, at
 -- most one more, which was invoked and not answered.
-pub record IsLinearizable (config : Config) (s : State) (todo : ℕ → List Request) (sessions : Sessions) (heard : ℕ → List Told) (t : State) : Type 0 where
+pub record IsLinearizable (config : Config) (s : State) (todo : ℕ → List Request) (sessions : Sessions) (heard : ℕ → List Report) (t : State) : Type 0 where
   pub order : List Operation
   -- the requests that are not taken
   pub left : ℕ → List Request
   pub each : (c : ℕ) → requests_of c order ++ left c ≡ todo c
   pub real_time : KeepsRealTime left (start todo) sessions order
   -- the answers to operations that are taken and were not answered
-  pub unheard : ℕ → List Told
+  pub unheard : ℕ → List Report
   pub answers : (c : ℕ) → heard c ++ unheard c ≡ answers_in config s c order
   pub ends : (c : ℕ) → IsLeftOver (clients_after (start todo) (all_client_tries sessions) c) (left c) (unheard c)
   pub last : t ≡ after_operations config s order
 
 -- A complete history is linearizable: the order has each request of each client, and each client hears each
 -- answer.
-pub record IsLinearizableInFull (config : Config) (s : State) (todo : ℕ → List Request) (sessions : Sessions) (heard : ℕ → List Told) (t : State) : Type 0 where
+pub record IsLinearizableInFull (config : Config) (s : State) (todo : ℕ → List Request) (sessions : Sessions) (heard : ℕ
+    → List Report) (t : State) : Type 0 where
   pub order : List Operation
   pub each : (c : ℕ) → requests_of c order ≡ todo c
   pub real_time : KeepsRealTime (λ c. []) (start todo) sessions order

@@ -13,10 +13,10 @@ ghost use Rattle.csi_keeper.specs.State.{State, changed};
 ghost use Rattle.csi_keeper.specs.declared.change.Change.{Change};
 ghost use Rattle.csi_keeper.specs.declared.change.Change.TheVariants.{RemoveVolume};
 ghost use Rattle.csi_machine.specs.Plan.{make, respond};
-ghost use Rattle.csi_machine.specs.Retry.{AreTriesOf, IsLife, Try, after_once, all_tries, told_once};
+ghost use Rattle.csi_machine.specs.Retry.{AreTriesOf, IsLife, Try, after_once, all_tries, reported_once};
 ghost use Rattle.csi_machine.specs.Step.{step};
-ghost use Rattle.csi_machine.specs.Verdicts.{Told};
-ghost use Rattle.csi_machine.specs.Verdicts.Told.{Says};
+ghost use Rattle.csi_machine.specs.Verdicts.{Report};
+ghost use Rattle.csi_machine.specs.Verdicts.Report.{Says};
 ghost use Rattle.csi_machine.specs.calls.Create.{create};
 ghost use Rattle.csi_machine.specs.calls.Delete.{delete};
 ghost use Rattle.csi_rules.specs.Ids.{number_of_id};
@@ -115,12 +115,12 @@ pub fn made_later(config: &Config)
 /// at most one request that was tried and not answered. If all are answered it has all of them.
 pub fn linearizable(config: &Config)
     ensures begun { (s t : State) (todo : ℕ → List Request) (sessions : Sessions)
-        (heard : ℕ → List Told) → IsInvariant config.now s
+        (heard : ℕ → List Report) → IsInvariant config.now s
         → ((c : ℕ) → AllByRecursion (λ r. checked r ≡ None) (todo c))
         → IsHistory config.now s (start todo) sessions heard t
         → IsLinearizable config.now s todo sessions heard t }
     ensures finished { (s t : State) (todo : ℕ → List Request) (sessions : Sessions)
-        (heard : ℕ → List Told) → IsInvariant config.now s
+        (heard : ℕ → List Report) → IsInvariant config.now s
         → ((c : ℕ) → AllByRecursion (λ r. checked r ≡ None) (todo c))
         → IsHistory config.now s (start todo) sessions heard t
         → AreAnswered (start todo) sessions
@@ -160,11 +160,11 @@ pub fn gives_up(config: &Config)
 /// The law of one client among others that only read, `csi_machine::laws::retry`, is an instance of
 /// [`linearizable`]: a single client, and tries without a client.
 pub fn retry_alone(config: &Config)
-    ensures { (s t : State) (requests : List Request) (sessions : List (List Try)) (told : List Told)
+    ensures { (s t : State) (requests : List Request) (sessions : List (List Try)) (reported : List Report)
         → IsInvariant config.now s
         → AllByRecursion (λ r. checked r ≡ None) requests → AreTriesOf requests (all_tries sessions)
-        → IsLife config.now s sessions told t
-        → (told ≡ told_once config.now s requests) × (t ≡ after_once config.now s requests) }
+        → IsLife config.now s sessions reported t
+        → (reported ≡ reported_once config.now s requests) × (t ≡ after_once config.now s requests) }
 {
     linearizable(config);
 }
@@ -186,14 +186,14 @@ pub fn linearizable_calls<K: Keeper>(config: &Config)
         (heard : ℕ → List ReplyBytes) → IsInvariant config.now s
         → ((c : ℕ) → AllByRecursion (λ r. checked r ≡ None) (todo c))
         → IsHistoryOfCalls config.now s (start todo) sessions heard t
-        → (answers : ℕ → List Told) × AreReplies heard answers
+        → (answers : ℕ → List Report) × AreReplies heard answers
         × IsLinearizable config.now s todo (tries_of_sessions sessions) answers t }
     ensures finished { (s t : State) (todo : ℕ → List Request) (sessions : List (List ClientExchange))
         (heard : ℕ → List ReplyBytes) → IsInvariant config.now s
         → ((c : ℕ) → AllByRecursion (λ r. checked r ≡ None) (todo c))
         → IsHistoryOfCalls config.now s (start todo) sessions heard t
         → AreAnswered (start todo) (tries_of_sessions sessions)
-        → (answers : ℕ → List Told) × AreReplies heard answers
+        → (answers : ℕ → List Report) × AreReplies heard answers
         × IsLinearizableInFull config.now s todo (tries_of_sessions sessions) answers t }
 {
     linearizable(config);

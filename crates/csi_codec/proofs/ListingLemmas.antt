@@ -128,7 +128,7 @@ pub is_short : (e : ListedEntry) (len : ℕ) → len ≡ length (size_bytes (cas
     → 1 ≤ length e.prefix.now → len < 122 → IsShort e
 is_short e len counted named low = record { named = named; low = omega (arith, counted, short_length e, low) }
 
--- what was appended, where there was room for it
+-- the appended bytes, if there was room for them
 pub extended : {A E : Type 0} (r : Result A E) (new old more : List ℕ) → new ≡ (if is_ok r then old ++ more else old) → OnOk r (new ≡ old ++ more)
 extended (Ok x) new old more is = is
 extended (Err e) new old more is = tt

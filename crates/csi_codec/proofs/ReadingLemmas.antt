@@ -27,7 +27,7 @@ use Rattle.pbmessage.specs.facts.Offsets.{Stops, not_both, refused, same_offset}
 abbrev Answers : Bool → Type 0 → Type 0
 Answers b P = (b ≡ true → P) × (P → b ≡ true)
 
--- good fields were read, and after them stands no good field
+-- good fields were read, and no good field follows
 record Scanned (good : WireField → Type 0) (bytes : List ℕ) (s : Scan) : Type 0 where
   pub reads : Reads s.0 bytes s.1
   pub each : AllByRecursion good s.0
@@ -57,7 +57,7 @@ scan_is l good test decides (suc k) bytes le = by (λ rest le. scan_is l good te
     by others (Ok x) is = goes_on others x.0 x.1 is (test x.0) refl
     by others (Err w) is = ended good bytes (λ e mid other g. absurd (let c : Err w ≡ Ok (e, mid) = sym is ∙ other in cc))
 
--- ---- what was scanned
+-- ---- the bytes already scanned
 
 are_all : FieldLaws → (good : WireField → Type 0) (bytes : List ℕ) (s : Scan) → Scanned good bytes s → is_whole s ≡ true → AreFields s.0 bytes
 are_all l good bytes s is e = read_are l s.0 bytes (ends_at s.0 bytes s.1 (nil_from_length s.1 (eqb-true _ _ e)) is.reads)
@@ -140,7 +140,7 @@ message_read {V} l schema of bytes = by (scan_is l good (passes_field (passes sc
     by : {s : Scan} → Scanned good bytes s → Reading schema of bytes (value_or_offset of (length bytes) s)
     by {s} is = from s is (is_whole s) refl
 
--- what decoding answers is what is read
+-- decoding returns the value that the bytes mean
 pub decodes : {V : Type 0} → FieldLaws → (schema : Schema) (of : Views → V) (bytes : List ℕ) (r : Result V DecodeFault) → IfOk r (Means (GoodField (Good schema)) (value_of of) bytes) → IfErr r (Refuses (GoodField (Good schema)) bytes) → Decodes (read_message schema of bytes) r
 decodes {V} l schema of bytes r ok err = by r ok err (read_message schema of bytes) (message_read l schema of bytes)
   where
@@ -155,7 +155,7 @@ decodes {V} l schema of bytes r ok err = by r ok err (read_message schema of byt
     by (Err fault.NoMemory) u some (Ok w) is = refl
     by (Err fault.NoMemory) u some (Err k) is = absurd (is.1 some)
 
--- a CreateVolumeRequest by itself is read as the request that it is
+-- a CreateVolumeRequest alone is read as itself
 pub creates : FieldLaws → (bytes : List ℕ) (r : Result CreateVolume DecodeFault) → IfOk r (Means (GoodField (Good create_schema)) (value_of create_in) bytes) → IfErr r (Refuses (GoodField (Good create_schema)) bytes)
     → Decodes (read_message (request_schema method.CreateVolume) (request_in method.CreateVolume) bytes) (as_create r)
 creates l bytes (Ok message) means u = decodes l (request_schema method.CreateVolume) (request_in method.CreateVolume) bytes (Ok (request.Create message))

@@ -1,6 +1,5 @@
--- What the bytes of a message mean, as a function: its fields are read from the left for as long as they are
--- good. A law ties it to the relations of `Methods`, which speak of what bytes encode and of no order of
--- reading.
+-- The meaning of a message's bytes, as a function: its fields are read from the left while they are good.
+-- A law ties it to the relations of `Methods`, which say what bytes encode and fix no order of reading.
 use Rattle.std.specs.Prelude.{◌≡◌, ℕ, zero, suc, ◌-◌, Bool, true, List, [], ◌∷◌, length, Result, Ok, Err, MatchResult, ◌==◌, if◌then◌else◌}
 use Rattle.std.specs.Option.{option_map_or}
 use Rattle.std.specs.Result.{IsOk}
@@ -30,7 +29,7 @@ abbrev pub scan_from : (WireField → Bool) → (List ℕ → Scan) → List ℕ
 scan_from passes others bytes (Ok x) = if passes x.0 then (x.0 ∷ (others x.1).0, (others x.1).1) else ([], bytes)
 scan_from passes others bytes (Err why) = ([], bytes)
 
--- at most so many fields
+-- the scan of at most `k` fields
 unfoldable pub scan : (WireField → Bool) → ℕ → List ℕ → Scan
 scan passes zero bytes = ([], bytes)
 scan passes (suc k) bytes = scan_from passes (λ rest. scan passes k rest) bytes (field_at bytes)
@@ -59,7 +58,7 @@ value_or_offset of len s = if is_whole s then Ok (value_of of s.0) else Err (len
 unfoldable pub read_message : {V : Type 0} → Schema → (Views → V) → List ℕ → Result V ℕ
 read_message schema of bytes = value_or_offset of (length bytes) (scan (passes_field (passes schema)) (length bytes) bytes)
 
--- the request of this method that the bytes mean, or otherwise the offset at which they are refused
+-- the request of this method that the bytes mean, or the offset of their first fault
 unfoldable pub read_request : Method → List ℕ → Result Request ℕ
 read_request m bytes = read_message (request_schema m) (request_in m) bytes
 
@@ -74,7 +73,8 @@ IsRead m bytes r = MatchResult r (MeansRequest m bytes) (IsNoRequest m bytes)
 abbrev pub IsReadResponse : Method → List ℕ → Result Response ℕ → Type 0
 IsReadResponse m bytes r = MatchResult r (MeansResponse m bytes) (IsNoResponse m bytes)
 
--- What decoding answers, by what is read: want of memory comes only where the bytes mean a value.
+-- The result of decoding, from the meaning of the bytes: want of memory is reported only for bytes that
+-- mean a value.
 abbrev pub Decodes : {V : Type 0} → Result V ℕ → Result V DecodeFault → Type 0
 Decodes read (Ok v) = read ≡ Ok v
 Decodes read (Err (fault.Malformed at)) = read ≡ Err at

@@ -20,13 +20,13 @@ use std::alloc::AllocError;
 pub struct CreatedVolume<'a> {
     /// The size in bytes, `capacity_bytes`.
     pub bytes: i64,
-    /// How the volume's id begins.
+    /// The part of the volume's id before its number.
     pub prefix: &'a str,
-    /// How it ends.
+    /// The rest of the volume's id.
     pub suffix: &'a str,
     /// The one key of its context, `volume_context`.
     pub key: &'a str,
-    /// What the context has under that key.
+    /// The value of that key in the volume's context.
     pub value: &'a str,
     /// The segments of its topology, `accessible_topology`; where there are none it has no topology.
     pub segments: &'a Map,

@@ -104,7 +104,7 @@ pub fn rising()
     ensures responses { (r : Response) → IsTrue (rises (canon_response r)) }
 {}
 
-/// The same for each message in another one: encodings are made of these alone.
+/// The same law for each message inside another one. All encodings are made of these.
 pub fn rising_within()
     ensures ranges { (r : CapacityRange) → IsTrue (rises (canon_range r)) }
     ensures mounts { (m : Mount) → IsTrue (rises (canon_mount m)) }

@@ -48,11 +48,11 @@ impl Written<Csi> for PlacedVolume<'_> {
 pub struct ListedEntry<'a> {
     /// The size in bytes, `capacity_bytes`.
     pub bytes: i64,
-    /// How the volume's id begins. It ends with the number.
+    /// The part of the volume's id before its number.
     pub prefix: &'a str,
-    /// The volume's number.
+    /// The volume's number, in decimal at the end of its id.
     pub number: u64,
-    /// What its pool gives it.
+    /// The context and the topology of the volume's pool, encoded.
     pub placement: &'a Placement,
     /// The nodes that it is published at.
     pub nodes: &'a Items<Text>,

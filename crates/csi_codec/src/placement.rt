@@ -13,13 +13,13 @@ use std::alloc::{AllocError, Global};
 // The status of a volume that is published nowhere: field 2 of its entry, without nodes.
 const NO_NODES: [u8; 2] = [18, 0];
 
-/// What is answered alike of each volume of a pool, with its encoding: a listing of many volumes encodes it
-/// once (CSI specification, `Volume`, its fields `volume_context` and `accessible_topology`).
+/// The context and the topology that all volumes of a pool share, with their encoding: a listing encodes
+/// them once a pool (CSI specification, `Volume`, its fields `volume_context` and `accessible_topology`).
 #[derive(Drop)]
 pub struct Placement {
     context: Map,
     topology: Items<Map>,
-    // Its encoding, and after that how an entry of a listing ends that has no nodes.
+    // The encoding, followed by the end of a listing's entry without nodes.
     ending: Vec<u8>,
     ghost spelled: { ending.items ≡ placement_bytes context topology ++ no_nodes },
     ghost fitting: { FitsMap context × FitsTerms topology } by { Prim.hlevel props },
@@ -45,7 +45,7 @@ impl Placement {
         })
     }
 
-    /// Its encoding.
+    /// The encoded fields, as part of `Volume`.
     #[inline(always)]
     pub(crate) fn as_bytes(&self) -> &[u8]
         ensures value { result.now ≡ placement_bytes self.now.context self.now.topology }
@@ -54,7 +54,7 @@ impl Placement {
         &self.ending[..len]
     }
 
-    /// Its encoding, and after that how an entry of a listing ends that has no nodes.
+    /// The encoded fields, followed by the end of a listing's entry without nodes.
     #[inline(always)]
     pub(crate) fn ending(&self) -> &[u8]
         ensures value { result.now ≡ placement_bytes self.now.context self.now.topology ++ no_nodes }

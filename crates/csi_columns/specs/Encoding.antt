@@ -30,8 +30,7 @@ create_with capabilities parameters mutable = request.Create (record {
 abbrev pub with_caps : List CapKey → Request
 with_caps keys = create_with (map capability_of keys) empty empty
 
--- the parameters of a volume, and next to them its mutable ones: where it has none of these the field is
--- absent
+-- the parameters of a volume, and its mutable ones: without mutable parameters the field is absent
 abbrev pub with_params : TextMap → TextMap → Request
 with_params params mutable = create_with [] params mutable
 
@@ -52,6 +51,6 @@ FitParams params mutable = FitsRequest (with_params params mutable)
 abbrev pub AreKnown : List CapKey → Type 0
 AreKnown keys = AllByRecursion (λ key. is_known_mode (Some (pos key.mode)) ≡ true) keys
 
--- what is written of a request is read as it
+-- the encoding of a request is read as that request
 abbrev pub ReadsBack : Type 0
 ReadsBack = (r : Request) → FitsRequest r → read_request (request_method r) (request_bytes r) ≡ Ok r

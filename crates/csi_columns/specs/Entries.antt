@@ -17,6 +17,6 @@ volume_entry e = number_value e.0 ∷ Text e.1.name ∷ number_value e.1.bytes �
 abbrev pub attachment_entry : AttachmentKey × Attachment → Row
 attachment_entry e = number_value e.0.0 ∷ Text e.0.1 ∷ Blob (caps_bytes (e.1.cap ∷ [])) ∷ bool_value e.1.readonly ∷ []
 
--- what is shown of an attachment among those of its volume: node, cap, readonly
+-- the columns shown for an attachment of a volume: node, cap, readonly
 abbrev pub node_entry : AttachmentKey × Attachment → Row
 node_entry e = Text e.0.1 ∷ Blob (caps_bytes (e.1.cap ∷ [])) ∷ bool_value e.1.readonly ∷ []

@@ -20,15 +20,15 @@ use std::alloc::{AllocError, Global};
 const KEY_BYTES: usize = 16;
 
 // The package of messages that are written from borrowed parts, without a copy.
-struct Lent;
+struct Borrowed;
 
 // `VolumeCapability.MountVolume` of a file system's type alone.
 #[derive(Drop)]
-struct LentMount<'a> {
+struct BorrowedMount<'a> {
     fs_type: &'a Text,
 }
 
-impl Written<Lent> for LentMount<'_> {
+impl Written<Borrowed> for BorrowedMount<'_> {
     ghost use Rattle.std.specs.Prelude.{[]};
     ghost use Rattle.csi_codec.specs.messages.Capability.{canon_mount, FitsMount};
 
@@ -51,17 +51,17 @@ fn put_kind(out: &mut Vec<u8>, kind: &Kind) -> Result<(), AllocError>
 {
     match kind {
         Kind::Block => put_presence(out, 1, true),
-        Kind::Mount(fs_type) => put_message(out, 2, &LentMount { fs_type }),
+        Kind::Mount(fs_type) => put_message(out, 2, &BorrowedMount { fs_type }),
     }
 }
 
 // `VolumeCapability` of a key.
 #[derive(Drop)]
-struct LentKey<'a> {
+struct BorrowedKey<'a> {
     key: &'a CapKey,
 }
 
-impl Written<Lent> for LentKey<'_> {
+impl Written<Borrowed> for BorrowedKey<'_> {
     ghost use Rattle.csi_codec.specs.messages.Capability.{canon_capability, FitsCapability};
     ghost use Rattle.csi_keeper.specs.Capability.{capability_of};
 
@@ -82,7 +82,7 @@ fn put_keys(out: &mut Vec<u8>, keys: &[CapKey]) -> Result<(), AllocError>
     ensures fits { OnOk result (FitCaps keys.now) }
 {
     for key in keys {
-        put_message(out, 3, &LentKey { key })?;
+        put_message(out, 3, &BorrowedKey { key })?;
     }
     Ok(())
 }

@@ -1,4 +1,4 @@
--- What a configuration has, as it has none of the faults.
+-- Facts of a configuration without faults.
 use Rattle.std.proofs.Common.{◌≡◌, ◌∙◌, ◌⊎◌, inl, inr, ap, sym, subst, cond, arith, refl, ℕ, suc, ◌==◌, ◌+◌, ◌≤◌, ◌<◌, List, [], ◌∷◌, length, take, sum_by, Bool, true, false, ◌&&◌, ◌||◌, not, nat_lt, nat_le, position, Option, Some, None, option_map}
 use Rattle.std.specs.List.{list_any, enumerate_from, position_from}
 use Rattle.std.specs.Option.{option_or}
@@ -79,7 +79,7 @@ unnumbered {A} p n (x ∷ xs) e = go (unnumbered p (n + 1) xs) (p x) e
     go next true h = absurd (cc)
     go next false h = next h
 
--- of two that are in a list no two of which meet a test: they are one, or don't meet it
+-- two items of a list in which no two items meet a test: they are the same item, or do not meet the test
 pub apart : {A : Type 0} (test : A → A → Bool) (xs : List A) (x y : A) → some_two test xs ≡ false → Has xs x → Has xs y → (x ≡ y) ⊎ ((test x y ≡ false) ⊎ (test y x ≡ false))
 apart test [] x y e h k = absurd h
 apart test (z ∷ zs) x y e h k =
@@ -103,7 +103,7 @@ same_on a b e = (bytes_decides a b).1 e
 abbrev pub Pairs : Type 0 → Type 0
 Pairs A = (test : A → A → Bool) (xs : List A) → list_any (λ p. list_any (λ x. test x p.1) (take p.0 xs)) (enumerate_from 0 xs) ≡ some_two test xs
 
--- no two of a list have one name where none has that of an earlier one
+-- no two items of a list share a name if no item has the name of an earlier item
 named_apart : {A : Type 0} → Pairs A → (name : A → List ℕ) (xs : List A) → list_any (λ e. list_any (λ x. same_text (name x) (name e.1)) (take e.0 xs)) (enumerate_from 0 xs) ≡ false → (x y : A) → Has xs x → Has xs y → name x ≡ name y → x ≡ y
 named_apart pairs name xs off x y h k e =
     let two : some_two (λ x y. same_text (name x) (name y)) xs ≡ false = sym (pairs (λ x y. same_text (name x) (name y)) xs) ∙ off in
@@ -118,7 +118,7 @@ pools_apart pairs pools off = named_apart pairs (λ (p : Pool). p.name) pools (n
 pub nodes_apart : Pairs Node → (nodes : List Node) → place_broken breaks_node NodeRule.IdTwice nodes ≡ None → (m n : Node) → Has nodes m → Has nodes n → m.id ≡ n.id → m ≡ n
 nodes_apart pairs nodes off = named_apart pairs (λ (n : Node). n.id) nodes (nowhere (λ e. breaks_node NodeRule.IdTwice (take e.0 nodes) e.1) (enumerate_from 0 nodes) off)
 
--- a rule that does not look at what is earlier is broken by none
+-- if no place is found for a test, no item meets it
 pub each_passes : {A : Type 0} (p : A → Bool) (xs : List A) → position (λ e. p e.1) (enumerate_from 0 xs) ≡ None → (x : A) → Has xs x → p x ≡ false
 each_passes p xs off x h = any_off p xs x (unnumbered p 0 xs (nowhere (λ e. p e.1) (enumerate_from 0 xs) off)) h
 

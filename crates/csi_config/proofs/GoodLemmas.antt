@@ -1,4 +1,4 @@
--- The rules of the table, each of which a configuration keeps.
+-- The rules of the table: a good configuration keeps each.
 use Rattle.std.proofs.Common.{◌≡◌, ◌||◌, true, false, nat_lt, List, [], length, None, get_or, map}
 use Rattle.csi_types.specs.Names.{is_empty, longer_than}
 use Rattle.csi_types.specs.declared.limits.TheConstants.{MAX_TEXT_BYTES, MAX_POOLS, MAX_NODES, MAX_POOL_BYTES}

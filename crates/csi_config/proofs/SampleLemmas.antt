@@ -1,4 +1,4 @@
--- The sample has none of the faults.
+-- The sample configuration has no fault.
 use Rattle.std.proofs.Common.{◌≡◌, ◌∙◌, ℕ, List, [], ◌∷◌, length, codes, refl, sym, ap, None, arith}
 use Rattle.std.specs.Cmp.Lexicographic.{slice_cmp, nat_list_cmp_total}
 use Rattle.std.specs.FinMap.{entries, len, empty, insert, put, entries-insert, len-entries, len-empty}

@@ -68,8 +68,7 @@ is_bad_id id = is_empty id || longer_than MAX_NODE_ID_BYTES id || list_any is_ba
 abbrev pub all_bytes : List Pool → ℕ
 all_bytes pools = sum_by (λ p. p.bytes) pools
 
--- the place of the first item that breaks a rule, of a kind for which it is known when one does after some
--- earlier ones
+-- the place of the first item that breaks a rule, where the rule looks at the item and the earlier ones
 abbrev pub place_broken : {T R : Type 0} → (R → List T → T → Bool) → R → List T → Option ℕ
 place_broken breaks rule items = position (λ e. breaks rule (take e.0 items) e.1) (enumerate_from 0 items)
 

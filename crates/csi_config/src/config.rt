@@ -20,7 +20,7 @@ pub struct Config {
     pub sizes: Sizes,
     /// The pools, in the order in which they are tried.
     pub pools: Items<Pool>,
-    /// The nodes.
+    /// The nodes that volumes can be published at, at most 64.
     pub nodes: Items<Node>,
     ghost faultless: { fault_of plugin sizes pools nodes ≡ None },
 }
@@ -90,7 +90,7 @@ impl Config {
         self.pools.as_slice()
     }
 
-    /// The nodes.
+    /// The nodes, in the order of the configuration.
     pub fn nodes(&self) -> &[Node]
         ensures { result.now ≡ self.now.nodes }
     {

@@ -3,7 +3,7 @@
 use csi_types::Text;
 use thiserror::Error;
 
-/// What is wrong with the sizes of volumes.
+/// A broken rule of the two sizes of volumes.
 #[derive(Clone, Copy, Debug, Error)]
 pub enum SizeRule {
     /// The default size is 0 or no multiple of 1 MiB.
@@ -20,7 +20,7 @@ pub enum SizeRule {
     Limit,
 }
 
-/// What is wrong with a pool.
+/// A broken rule of a pool.
 #[derive(Clone, Copy, Debug, Error)]
 pub enum PoolRule {
     /// The name is not 1 to 63 ASCII letters, digits, `-`, `_` and `.`.
@@ -49,7 +49,7 @@ pub enum PoolRule {
     KeysAlike,
 }
 
-/// What is wrong with a node.
+/// A broken rule of a node.
 #[derive(Clone, Copy, Debug, Error)]
 pub enum NodeRule {
     /// The id is not 1 to 256 bytes, or has one below 0x20 or 0x7F.
@@ -70,7 +70,7 @@ pub enum ConfigFault {
     /// letter or digit.
     #[error("plugin name {name}: it is not 1 to 63 ASCII letters, digits, '-' and '.', the first and the last a letter or digit")]
     PluginName {
-        /// The name.
+        /// The plugin's name, as it was given.
         name: Text,
     },
     /// The plugin's version is empty or has more than 128 bytes.
@@ -91,9 +91,9 @@ pub enum ConfigFault {
     /// A pool breaks a rule.
     #[error("pool {name}: {rule}")]
     Pool {
-        /// The pool's name.
+        /// The pool's name, or its number if the name is not read.
         name: Text,
-        /// The rule.
+        /// The first rule that the pool breaks.
         rule: PoolRule,
     },
     /// There are more than 64 nodes.
@@ -102,9 +102,9 @@ pub enum ConfigFault {
     /// A node breaks a rule.
     #[error("node {id}: {rule}")]
     Node {
-        /// The node's id.
+        /// The node's id, or its number if the id is not read.
         id: Text,
-        /// The rule.
+        /// The first rule that the node breaks.
         rule: NodeRule,
     },
 }

@@ -39,7 +39,7 @@ pub fn sizes_whole(config: &Config)
 #[inline(always)]
 pub fn pools_named(config: &Config)
     ensures positive { 0 < length config.now.pools }
-    ensures few { length config.now.pools ≤ MAX_POOLS }
+    ensures bounded { length config.now.pools ≤ MAX_POOLS }
     ensures names { (p : Pool) → Has config.now.pools p → is_pool_name p.name ≡ true }
 {}
 
@@ -62,14 +62,14 @@ pub fn pool_bytes_whole(config: &Config)
 /// Each pool has at most 8 segments, and no two keys that are equal when their ASCII letters are folded.
 #[inline(always)]
 pub fn pool_keys_differ(config: &Config)
-    ensures few { (p : Pool) → Has config.now.pools p → len p.segments ≤ MAX_SEGMENTS }
+    ensures bounded { (p : Pool) → Has config.now.pools p → len p.segments ≤ MAX_SEGMENTS }
     ensures differ { (p : Pool) → Has config.now.pools p → has_alike_keys p.segments ≡ false }
 {}
 
 /// There are at most 64 nodes, and no two have one id.
 #[inline(always)]
 pub fn node_ids_differ(config: &Config)
-    ensures few { length config.now.nodes ≤ MAX_NODES }
+    ensures bounded { length config.now.nodes ≤ MAX_NODES }
     ensures differ { (m n : Node) → Has config.now.nodes m → Has config.now.nodes n → m.id ≡ n.id → m ≡ n }
 {
     pairs::<Node>();
@@ -79,5 +79,5 @@ pub fn node_ids_differ(config: &Config)
 #[inline(always)]
 pub fn node_volumes_few(config: &Config)
     ensures positive { (n : Node) → Has config.now.nodes n → 0 < n.max_volumes }
-    ensures few { (n : Node) → Has config.now.nodes n → n.max_volumes ≤ MAX_VOLUMES }
+    ensures bounded { (n : Node) → Has config.now.nodes n → n.max_volumes ≤ MAX_VOLUMES }
 {}

@@ -15,7 +15,7 @@ use csi_types::{MAX_NODE_ID_BYTES, MAX_NODES, MAX_VOLUMES, Text};
 pub struct Node {
     /// Its id: 1 to 256 bytes, none below 0x20 or 0x7F.
     pub id: Text,
-    /// How many volumes can be published there at once: 1 to 100,000.
+    /// The most volumes published there at once: 1 to 100,000.
     pub max_volumes: u64,
 }
 
@@ -38,7 +38,7 @@ fn is_bad_id(id: &[u8]) -> bool
     id.is_empty() || id.len() > MAX_NODE_ID_BYTES || has_bad_byte(id)
 }
 
-// Whether one of the first `count` nodes has the id.
+// Whether a node among the first `count` has the id.
 fn has_id_before(nodes: &[Node], count: usize, id: &Text) -> bool
     ensures { result ≡ list_any (λ n. same_text n.id id.now) (take count nodes.now) }
 {

@@ -20,7 +20,7 @@ use csi_types::{
 pub struct Pool {
     /// Its name: 1 to 63 ASCII letters, digits, `-`, `_` and `.`.
     pub name: Text,
-    /// How many bytes it has: a positive multiple of 1 MiB, and at most 2^62 in all pools together.
+    /// The size in bytes: a positive multiple of 1 MiB, and at most 2^62 in all pools together.
     pub bytes: u64,
     /// The topology from which its volumes are reached, at most 8 segments; without any they are
     /// reached from everywhere (CSI specification, 'CreateVolume', `Topology`). Keys have 1 to 128
@@ -47,7 +47,7 @@ fn is_pool_name(name: &[u8]) -> bool
     !name.is_empty() && name.len() <= MAX_NAME_BYTES && are_pool_bytes(name)
 }
 
-// Whether one of the first `count` pools has the name.
+// Whether a pool among the first `count` has the name.
 fn is_named_before(pools: &[Pool], count: usize, name: &Text) -> bool
     ensures { result ≡ list_any (λ p. same_text p.name name.now) (take count pools.now) }
 {

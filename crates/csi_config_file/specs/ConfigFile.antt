@@ -25,7 +25,7 @@ IsOfDocument ms (Err (Key section key rule)) = parts_in ms ≡ Err (Key section 
 IsOfDocument ms (Err (Fault f)) = IsOkAnd (parts_in ms) (λ p. fault_of p.plugin p.sizes p.pools p.nodes ≡ Some f)
 IsOfDocument ms (Err NoMemory) = ⊤
 
--- the same of bytes that may be a document of TOML's grammar
+-- the result for bytes that may be a document of TOML's grammar
 abbrev pub IsOfParsed : Option Members → Result Config ConfigError → Type 0
 IsOfParsed None r = ⊥
 IsOfParsed (Some ms) r = IsOfDocument ms r

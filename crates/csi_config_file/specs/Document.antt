@@ -29,11 +29,11 @@ key_text key.Node = codes "node"
 key_text key.Id = codes "id"
 key_text key.MaxVolumes = codes "max_volumes"
 
--- what is read of a document, or its first fault
+-- the configuration of a document, or its first fault
 abbrev pub Read : Type 0 → Type 0
 Read X = Result X ConfigError
 
--- what is read by what was read before
+-- the rest of a configuration, from the part read before
 abbrev pub bind : {X Y : Type 0} → Read X → (X → Read Y) → Read Y
 bind (Ok x) f = f x
 bind (Err e) f = Err e
@@ -94,11 +94,11 @@ pool_at n d = bind (table_in key.Pool d) (pool_in (section.Pool n))
 abbrev pub node_at : ℕ → Data → Read Node
 node_at n d = bind (table_in key.Node d) (node_in (section.Node n))
 
--- the pools, of which there must be an array, by their numbers from 1
+-- the pools, a required array, numbered from 1
 abbrev pub pools_in : Members → Read (List Pool)
 pools_in ms = bind (value_at section.Top ms key.Pool) (λ d. bind (array_in key.Pool d) (each pool_at 1))
 
--- the nodes, of which there may be an array
+-- the nodes, an optional array
 abbrev pub nodes_in : Option Data → Read (List Node)
 nodes_in None = Ok []
 nodes_in (Some d) = bind (array_in key.Node d) (each node_at 1)

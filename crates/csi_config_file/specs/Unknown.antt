@@ -25,7 +25,7 @@ place_of u = (u.section, string_bytes u.key)
 abbrev pub is_known : List Key → List ℕ → Bool
 is_known known k = list_any (λ one. bytes_eq (key_text one) k) known
 
--- those of a table that are none of these
+-- the keys of a table that are not in this list
 abbrev pub unknown_of : Section → List Key → Members → List KeyPlace
 unknown_of s known no_members = []
 unknown_of s known (member k d ms) = if is_known known k then unknown_of s known ms else ((s, k) ∷ unknown_of s known ms)
@@ -34,24 +34,24 @@ abbrev pub of_table : Section → Option Members → List KeyPlace
 of_table s None = []
 of_table s (Some ms) = unknown_of s (known_in s) ms
 
--- those of the tables of an array, by their numbers
+-- the unknown keys in the tables of an array, by number
 abbrev pub of_tables : (ℕ → Section) → ℕ → Items → List KeyPlace
 of_tables place n no_items = []
 of_tables place n (item d ds) = of_table (place n) (as_table d) ++ of_tables place (suc n) ds
 
--- the same of what may be an array
+-- the unknown keys in a value that may be an array
 abbrev pub of_array : (ℕ → Section) → Option Items → List KeyPlace
 of_array place None = []
 of_array place (Some ds) = of_tables place 1 ds
 
--- those of the top, of the pools and of the nodes
+-- the unknown keys at the top, in the pools and in the nodes
 abbrev pub unknown_in : Members → List KeyPlace
 unknown_in ms =
     unknown_of section.Top (known_in section.Top) ms
     ++ (of_array section.Pool (option_and_then as_array (get_member (key_text key.Pool) ms))
     ++ of_array section.Node (option_and_then as_array (get_member (key_text key.Node) ms)))
 
--- what is no document has none
+-- bytes that are no document have no unknown keys
 abbrev pub unknown_if : Option Members → List KeyPlace
 unknown_if None = []
 unknown_if (Some ms) = unknown_in ms

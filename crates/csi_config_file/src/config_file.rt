@@ -22,7 +22,7 @@ use toml::{Table, Value};
 /// A part of the document.
 #[derive(Clone, Copy, Debug)]
 pub enum Section {
-    /// Its top.
+    /// The keys before the first section.
     Top,
     /// A table of the array `pool`, by its number from 1.
     Pool(usize),
@@ -45,19 +45,19 @@ impl fmt::Display for Section {
 pub enum Key {
     /// The plugin's name, and the name of a pool.
     Name,
-    /// The plugin's version.
+    /// `vendor_version`, the plugin's version.
     VendorVersion,
     /// The size of a volume for which none is asked.
     DefaultBytes,
     /// The greatest size of a volume.
     GreatestBytes,
-    /// The pools.
+    /// `[[pool]]`, the array of pools.
     Pool,
-    /// How many bytes a pool has.
+    /// `bytes`, the size of a pool.
     Bytes,
     /// The topology of a pool.
     Segments,
-    /// The nodes.
+    /// `[[node]]`, the array of nodes.
     Node,
     /// The id of a node.
     Id,
@@ -66,7 +66,7 @@ pub enum Key {
 }
 
 impl Key {
-    // How it is written.
+    // The key as it is written in the file.
     pub(crate) fn text(self) -> &'static str
         ensures { result.now ≡ key_text self }
     {
@@ -91,10 +91,10 @@ impl fmt::Display for Key {
     }
 }
 
-/// What is wrong with a key.
+/// A fault of one key.
 #[derive(Clone, Copy, Debug, Error)]
 pub enum KeyRule {
-    /// It is missing.
+    /// A required key is missing.
     #[error("is missing")]
     Missing,
     /// Its value is no text.
@@ -125,9 +125,9 @@ pub enum ConfigError {
     Key {
         /// Where the key is.
         section: Section,
-        /// The key.
+        /// The key, which the file has or lacks.
         key: Key,
-        /// What is wrong with it.
+        /// The rule that the key or its value breaks.
         rule: KeyRule,
     },
     /// The parts make no configuration.

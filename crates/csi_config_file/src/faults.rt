@@ -14,12 +14,12 @@ const FAULTLESS_SIZES: Sizes = Sizes {
     greatest_bytes: GRANULE_BYTES,
 };
 
-// What a fault calls a pool or a node whose name or id is not read: its number, as in its section.
+// The number of a pool or node, as a name for faults if its name or id is not read.
 fn number_text(alloc: Global, number: usize) -> Result<Text, AllocError> {
     Ok(Text::from_string(format!(in alloc; "{number}")?))
 }
 
-// What was found so far.
+// The faults found so far.
 #[derive(Drop)]
 struct Faults {
     alloc: Global,
@@ -32,7 +32,7 @@ impl Faults {
         Ok(())
     }
 
-    // What was read, if it has no fault; its fault is added.
+    // The value that was read, or `None` after its fault was added.
     fn keep<T: Drop>(&mut self, read: Result<T, ConfigError>) -> Result<Option<T>, AllocError> {
         match read {
             Ok(part) => Ok(Some(part)),

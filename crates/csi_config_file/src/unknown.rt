@@ -33,9 +33,9 @@ fn known_in(section: Section) -> &'static [Key]
 /// A key that is not known, which reading a configuration passes over. Its `Display` says where it is.
 #[derive(Debug, Drop)]
 pub struct UnknownKey {
-    /// Where it is.
+    /// The section that has the key.
     pub section: Section,
-    /// The key.
+    /// The key as the file has it.
     pub key: String,
 }
 

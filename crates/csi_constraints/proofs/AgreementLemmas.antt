@@ -22,7 +22,7 @@ use Rattle.csi_constraints.specs.Scans.{with_owner}
 use Rattle.csi_columns.specs.Encoding.{caps_bytes, FitCaps, ReadsBack}
 use Rattle.csi_columns.specs.Entries.{attachment_entry}
 use Rattle.csi_constraints.specs.Agreement.{AttachmentAgrees, OwnerAgrees, PairAgrees, VolumeAgrees}
-use Rattle.csi_constraints.specs.Apart.{are_beside}
+use Rattle.csi_constraints.specs.Apart.{can_coexist}
 use Rattle.csi_constraints.specs.Coded.{key_at}
 use Rattle.csi_constraints.specs.Coding.{key_in, keys_in}
 use Rattle.csi_constraints.specs.Joins.{attached, attached_at, attached_with}
@@ -30,9 +30,9 @@ use Rattle.csi_constraints.specs.Values.{are_some_and, is_some_and}
 use Rattle.csi_constraints.specs.Volumes.{is_name}
 use Rattle.csi_constraints.proofs.CodingLemmas.{cap_pass, caps_pass, each_back, key_in-caps_bytes, keys_in-caps_bytes, params_pass}
 
-some_told : {X : Type 0} (o : Option X) (b : Bool) → is_some o ≡ b → Decides b (IsSome o)
-some_told None b e = (λ h. e ∙ h, λ h. sym e ∙ h)
-some_told (Some x) b e = (λ h. refl, λ h. sym e)
+some_reported : {X : Type 0} (o : Option X) (b : Bool) → is_some o ≡ b → Decides b (IsSome o)
+some_reported None b e = (λ h. e ∙ h, λ h. sym e ∙ h)
+some_reported (Some x) b e = (λ h. refl, λ h. sym e)
 
 same_found : {X : Type 0} (test : X → Bool) (xs : List X) → is_some (find test xs) ≡ list_any test xs
 same_found test [] = refl
@@ -44,7 +44,7 @@ same_found test (x ∷ xs) = go (test x) (same_found test xs)
 
 -- a search finds something exactly where one of the list passes
 found_any : {X : Type 0} (test : X → Bool) (xs : List X) → Decides (list_any test xs) (IsSome (find test xs))
-found_any test xs = some_told (find test xs) (list_any test xs) (same_found test xs)
+found_any test xs = some_reported (find test xs) (list_any test xs) (same_found test xs)
 
 given : (n next : ℕ) → Decides (nat_le 1 n && nat_lt n next) ((1 ≤ n) × (n < next))
 given n next = (λ h. (grind (arith, nat_tests), grind (arith, nat_tests)), λ h. grind (arith, nat_tests))
@@ -109,7 +109,7 @@ not_equal m n far = go (int_eq (pos m) (pos n)) refl
 pub pair_agrees : ReadsBack → (e f : AttachmentKey × Attachment) → PairAgrees e f
 pair_agrees back e f = record {
   beside = λ same fit good other fine.
-      ap (λ b. b && not (are_beside (attached_at 2 3 (attachment_entry e)) (attached_at 2 3 (attachment_entry f)))) ((Decides-int_eq (pos e.0.0) (pos f.0.0)).1 (ap pos same))
-      ∙ ap₂ (λ x y. not (are_beside x y)) (one_attached back e.1.cap e.1.readonly fit good) (one_attached back f.1.cap f.1.readonly other fine);
-  other = λ far. ap (λ b. b && not (are_beside (attached_at 2 3 (attachment_entry e)) (attached_at 2 3 (attachment_entry f)))) (not_equal e.0.0 f.0.0 far);
+      ap (λ b. b && not (can_coexist (attached_at 2 3 (attachment_entry e)) (attached_at 2 3 (attachment_entry f)))) ((Decides-int_eq (pos e.0.0) (pos f.0.0)).1 (ap pos same))
+      ∙ ap₂ (λ x y. not (can_coexist x y)) (one_attached back e.1.cap e.1.readonly fit good) (one_attached back f.1.cap f.1.readonly other fine);
+  other = λ far. ap (λ b. b && not (can_coexist (attached_at 2 3 (attachment_entry e)) (attached_at 2 3 (attachment_entry f)))) (not_equal e.0.0 f.0.0 far);
 }

@@ -15,7 +15,7 @@ use Rattle.csi_keeper.specs.Coexistence.{coexist, is_shared}
 use Rattle.csi_keeper.specs.declared.volume.Attachment.{Attachment}
 use Rattle.csi_constraints.specs.Folds.{as_integer}
 use Rattle.csi_constraints.specs.facts.Fronts.{ascending_front}
-use Rattle.csi_constraints.specs.Apart.{admits, apart_named, are_apart, are_beside, falls, first_apart, is_written, last_attachment_at, covers, AreCovered, DoNotFall, IsLed, Leads}
+use Rattle.csi_constraints.specs.Apart.{admits, apart_named, are_apart, can_coexist, falls, first_apart, is_written, last_attachment_at, covers, AreCovered, DoNotFall, IsLed, Leads}
 use Rattle.csi_constraints.specs.Joins.{attached_at}
 use Rattle.csi_constraints.specs.Named.{name_of}
 use Rattle.csi_constraints.specs.Values.{are_some_and, is_some_and}
@@ -66,16 +66,16 @@ unflipped : (b : Bool) → not b ≡ false → b ≡ true
 unflipped true e = refl
 unflipped false e = sym e
 
--- one that is written represents those that can coexist with it
-written_leads : (a b : Option Attachment) → are_beside a b ≡ true → is_written a ≡ true → Leads a b
+-- a volume with a writer represents the attachments that can coexist with it
+written_leads : (a b : Option Attachment) → can_coexist a b ≡ true → is_written a ≡ true → Leads a b
 written_leads None b e w c h = absurd (cc)
 written_leads (Some x) None e w c h = absurd (cc)
 written_leads (Some x) (Some y) e w None h = absurd (cc)
 written_leads (Some x) (Some y) e w (Some z) h =
     coexist_more x y z (same_mode x y e) (λ r. or_later y.readonly z.readonly (or_second x.readonly z.readonly (flipped x.readonly w) r)) h
 
--- and any represents one that is only read
-read_led : (a b : Option Attachment) → are_beside a b ≡ true → is_written a ≡ false → Leads b a
+-- and any attachment represents a read-only one
+read_led : (a b : Option Attachment) → can_coexist a b ≡ true → is_written a ≡ false → Leads b a
 read_led None b e w c h = absurd (cc)
 read_led (Some x) None e w c h = absurd (cc)
 read_led (Some x) (Some y) e w None h = absurd (cc)
@@ -126,7 +126,7 @@ or_chosen (Some x) false r = refl
 named-push : (rows : List Row) (r : Row) → apart_named (rows ++ r ∷ []) ≡ option_or (apart_named rows) (cond (list_any (λ e. are_apart e r) rows) (Some (name_of 0 1 r)) None)
 named-push rows r = ap (option_map (name_of 0 1)) (first_apart-push [] rows r) ∙ or_chosen (first_apart [] rows) (list_any (λ e. are_apart e r) rows) r
 
--- what was found stays
+-- a found row stays
 pub still_apart : (rows : List Row) (r : Row) (found : Option RowName) → is_some found ≡ true → found ≡ apart_named rows → found ≡ apart_named (rows ++ r ∷ [])
 still_apart rows r None some is = absurd (cc)
 still_apart rows r (Some name) some is = ap (λ o. option_or o (cond (list_any (λ e. are_apart e r) rows) (Some (name_of 0 1 r)) None)) is ∙ sym (named-push rows r)
@@ -166,8 +166,8 @@ none_given test (Some x) = refl
 -- a row without a number is apart from none
 pub no_number : (rows : List Row) (r : Row) → as_integer (column r 0) ≡ None → list_any (λ e. are_apart e r) rows ≡ false
 no_number rows r none = none_of (λ e. are_apart e r) rows (all_from (λ e. are_apart e r ≡ false) rows (λ e has.
-    ap (λ o. are_some_and int_eq (as_integer (column e 0)) o && not (are_beside (attached_at 2 3 e) (attached_at 2 3 r))) none
-    ∙ ap (λ b. b && not (are_beside (attached_at 2 3 e) (attached_at 2 3 r))) (none_given int_eq (as_integer (column e 0)))))
+    ap (λ o. are_some_and int_eq (as_integer (column e 0)) o && not (can_coexist (attached_at 2 3 e) (attached_at 2 3 r))) none
+    ∙ ap (λ b. b && not (can_coexist (attached_at 2 3 e) (attached_at 2 3 r))) (none_given int_eq (as_integer (column e 0)))))
 
 -- and what represents those so far does
 pub led_without : (last : Option LastAttachment) (rows : List Row) (r : Row) → as_integer (column r 0) ≡ None → AreCovered last rows → AreCovered last (rows ++ r ∷ [])
@@ -185,7 +185,7 @@ led_without (Some l) rows r none led = record {
     no_some n e = absurd (cc)
 
 module _ (rows : List Row) (r : Row) (next : LastAttachment) (number : as_integer (column r 0) ≡ Some next.number) (says : attached_at 2 3 r ≡ next.attachment) (order : AllByRecursion (λ e. falls e r ≡ false) rows) where
-  -- where the last volume is not that of the row, none before it is
+  -- if the last volume is not the row's, no earlier one is
   earlier : (l : LastAttachment) → IsLed l rows → int_eq l.number next.number ≡ false → (e : Row) → Has rows e → as_integer (column e 0) ≡ Some next.number → ⊥
   earlier l led other e has is =
       let high : int_lt next.number l.number ≡ false =
@@ -194,10 +194,10 @@ module _ (rows : List Row) (r : Row) (next : LastAttachment) (number : as_intege
       ap (is_some_and (int_lt l.number)) (sym is) ∙ all_has (λ r. is_some_and (int_lt l.number) (as_integer (column r 0)) ≡ false) rows e led.last has in
       true≢false (sym (neither_way l.number next.number low high) ∙ other)
 
-  apart_by : (e : Row) (o : Option ℤ) (b : Bool) → as_integer (column e 0) ≡ o → are_some_and int_eq o (Some next.number) ≡ b → are_apart e r ≡ (b && not (are_beside (attached_at 2 3 e) next.attachment))
+  apart_by : (e : Row) (o : Option ℤ) (b : Bool) → as_integer (column e 0) ≡ o → are_some_and int_eq o (Some next.number) ≡ b → are_apart e r ≡ (b && not (can_coexist (attached_at 2 3 e) next.attachment))
   apart_by e o b is test =
-      ap₂ (λ x y. are_some_and int_eq x y && not (are_beside (attached_at 2 3 e) (attached_at 2 3 r))) is number
-      ∙ ap₂ (λ x y. x && not (are_beside (attached_at 2 3 e) y)) test says
+      ap₂ (λ x y. are_some_and int_eq x y && not (can_coexist (attached_at 2 3 e) (attached_at 2 3 r))) is number
+      ∙ ap₂ (λ x y. x && not (can_coexist (attached_at 2 3 e) y)) test says
 
   far_each : (last : Option LastAttachment) → AreCovered last rows → admits last next ≡ true → (e : Row) → Has rows e → are_apart e r ≡ false
   far_each None led fine e has = apart_by e None false (all_has (λ x. as_integer (column x 0) ≡ None) rows e led has) refl
@@ -205,7 +205,7 @@ module _ (rows : List Row) (r : Row) (next : LastAttachment) (number : as_intege
     where
       same : (k : ℤ) → as_integer (column e 0) ≡ Some k → int_eq l.number next.number ≡ true → int_eq k next.number ≡ true → are_apart e r ≡ false
       same k is one two =
-          let beside : are_beside l.attachment next.attachment ≡ true = or_second (not (int_eq l.number next.number)) _ (ap not one) fine in
+          let beside : can_coexist l.attachment next.attachment ≡ true = or_second (not (int_eq l.number next.number)) _ (ap not one) fine in
           let number : k ≡ l.number = equal_is k next.number two ∙ sym (equal_is l.number next.number one) in
           let leads = all_has (λ r. as_integer (column r 0) ≡ Some l.number → Leads l.attachment (attached_at 2 3 r)) rows e led.leads has (is ∙ ap Some number) in
           apart_by e (Some k) true is two ∙ ap not (leads next.attachment beside)
@@ -219,7 +219,7 @@ module _ (rows : List Row) (r : Row) (next : LastAttachment) (number : as_intege
       go None is b one = apart_by e None false is refl
       go (Some k) is b one = by_number k is b one (int_eq k next.number) refl
 
-  -- what is admitted is apart from none
+  -- an admitted row conflicts with no other
   pub far_from_all : (last : Option LastAttachment) → AreCovered last rows → admits last next ≡ true → list_any (λ e. are_apart e r) rows ≡ false
   far_from_all last led fine = none_of (λ e. are_apart e r) rows (all_from (λ e. are_apart e r ≡ false) rows (far_each last led fine))
 
@@ -227,18 +227,18 @@ module _ (rows : List Row) (r : Row) (next : LastAttachment) (number : as_intege
   neither_is true b e = (refl, e)
   neither_is false b e = absurd (true≢false e)
 
-  -- and what is not is apart from one
+  -- and a row that is not admitted conflicts with some other
   pub apart_from_one : (last : Option LastAttachment) → AreCovered last rows → admits last next ≡ false → list_any (λ e. are_apart e r) rows ≡ true
   apart_from_one None led not_fine = absurd (true≢false not_fine)
   apart_from_one (Some l) led not_fine =
-      let parts = neither_is (int_eq l.number next.number) (are_beside l.attachment next.attachment) not_fine in
+      let parts = neither_is (int_eq l.number next.number) (can_coexist l.attachment next.attachment) not_fine in
       some_from (λ e. are_apart e r) rows led.row led.has
-      (apart_by led.row (Some l.number) true led.of parts.0 ∙ ap not (ap (λ a. are_beside a next.attachment) led.is ∙ parts.1))
+      (apart_by led.row (Some l.number) true led.of parts.0 ∙ ap not (ap (λ a. can_coexist a next.attachment) led.is ∙ parts.1))
 
   -- ---- what represents one row more
 
   leads_itself : Leads next.attachment (attached_at 2 3 r)
-  leads_itself c h = ap (λ a. are_beside a c) says ∙ h
+  leads_itself c h = ap (λ a. can_coexist a c) says ∙ h
 
   not_below : is_some_and (int_lt next.number) (as_integer (column r 0)) ≡ false
   not_below = ap (is_some_and (int_lt next.number)) number ∙ not_itself next.number next.number (is_equal next.number next.number refl)
@@ -261,7 +261,7 @@ module _ (rows : List Row) (r : Row) (next : LastAttachment) (number : as_intege
     is = says;
   }
 
-  -- the row itself, where what stood for those so far does not stay
+  -- the row itself, if the representative of the earlier rows does not stay
   pub led_next : (last : Option LastAttachment) → AreCovered last rows → admits last next ≡ true → covers last next ≡ false → IsLed next (rows ++ r ∷ [])
   led_next None led fine ends = leading (all_weaker (λ e. as_integer (column e 0) ≡ None) _ (λ e none is. absurd (no_some next.number (sym none ∙ is))) rows led)
     where
@@ -272,27 +272,28 @@ module _ (rows : List Row) (r : Row) (next : LastAttachment) (number : as_intege
       go : (e : Row) → Has rows e → as_integer (column e 0) ≡ Some next.number → (b : Bool) → int_eq l.number next.number ≡ b → Leads next.attachment (attached_at 2 3 e)
       go e has is false one = absurd (earlier l led one e has is)
       go e has is true one = λ c h.
-          let beside : are_beside l.attachment next.attachment ≡ true = or_second (not (int_eq l.number next.number)) _ (ap not one) fine in
+          let beside : can_coexist l.attachment next.attachment ≡ true = or_second (not (int_eq l.number next.number)) _ (ap not one) fine in
           let read : is_written l.attachment ≡ false = ap (λ b. b && is_written l.attachment) (sym one) ∙ ends in
           let leads = all_has (λ r. as_integer (column r 0) ≡ Some l.number → Leads l.attachment (attached_at 2 3 r)) rows e led.leads has (is ∙ ap Some (sym (equal_is l.number next.number one))) in
           leads c (read_led l.attachment next.attachment beside read c h)
 
-  -- or what stood for those so far
+  -- or the representative of the earlier rows
   pub led_still : (last : Option LastAttachment) → AreCovered last rows → admits last next ≡ true → covers last next ≡ true → AreCovered last (rows ++ r ∷ [])
   led_still None led fine ends = absurd (true≢false (sym ends))
   led_still (Some l) led fine ends =
       let parts = and_parts (int_eq l.number next.number) (is_written l.attachment) ends in
-      let beside : are_beside l.attachment next.attachment ≡ true = or_second (not (int_eq l.number next.number)) _ (ap not parts.0) fine in
+      let beside : can_coexist l.attachment next.attachment ≡ true = or_second (not (int_eq l.number next.number)) _ (ap not parts.0) fine in
       record {
         last = all-append _ rows (r ∷ []) led.last (ap (is_some_and (int_lt l.number)) number ∙ not_itself l.number next.number parts.0, tt);
-        leads = all-append _ rows (r ∷ []) led.leads (λ is c h. ap (λ a. are_beside a c) says ∙ written_leads l.attachment next.attachment beside parts.1 c h, tt);
+        leads = all-append _ rows (r ∷ []) led.leads (λ is c h. ap (λ a. can_coexist a c) says ∙ written_leads l.attachment next.attachment beside parts.1 c h, tt);
         row = led.row;
         has = has_left rows (r ∷ []) led.row led.has;
         of = led.of;
         is = led.is;
       }
 
--- a row that is led and admitted is apart from none, and it or what stood so far stands on
+-- a row that has a representative and is admitted conflicts with no earlier row, and it or the old
+-- representative remains
 pub goes_on : (rows : List Row) (r : Row) (next : LastAttachment) (found : Option RowName) (last : Option LastAttachment) → DoNotFall (rows ++ r ∷ []) → (DoNotFall rows → (found ≡ apart_named rows) × (found ≡ None → AreCovered last rows))
     → last_attachment_at r ≡ Some next → found ≡ None → admits last next ≡ true → (b : Bool) → covers last next ≡ b → (found ≡ apart_named (rows ++ r ∷ [])) × (found ≡ None → AreCovered (cond b last (Some next)) (rows ++ r ∷ []))
 goes_on rows r next found last order so led none fine b stands =

@@ -1,4 +1,4 @@
--- What is read of the canonical bytes of keys and of parameters.
+-- Reading the canonical bytes of keys and of parameters.
 use Rattle.std.proofs.Common.{◌≡◌, ◌∙◌, refl, sym, ap, subst, ℕ, ◌≤◌, pos, nat_le, bytes_eq, List, [], ◌∷◌, map, length, Bool, true, false, not, cond, ◌&&◌, ◌||◌, ◌==◌, Option, Some, None, Result, Ok, Err, arith}
 use Rattle.std.specs.Bool.{Decides}
 use Rattle.std.specs.FinMap.{empty, empty_of_len, len, len-empty}
@@ -30,7 +30,7 @@ use Rattle.csi_constraints.proofs.OrderLemmas.{both, ordered_rise, parts, rise-o
 
 -- ---- keys and capabilities
 
--- a key with a known mode is that of its capability
+-- a key with a known mode is its capability's key
 key_known : (k : CapKey) → is_known_mode (Some (pos k.mode)) ≡ true → key_of (capability_of k) ≡ Some k
 key_known k e = ap (λ b. key_with (access_of k.kind) (cond b (Some k.mode) None)) e ∙ go k.kind refl
   where
@@ -60,7 +60,7 @@ each_same (k ∷ ks) js e = go (each_same ks) (key_of (capability_of k)) refl (e
         let same : j ∷ is ≡ js = cc in
         sym same ∙ ap (λ x. x ∷ is) (some_key (is_known_mode (Some (pos k.mode))) k j first) ∙ ap (λ xs. k ∷ xs) (more is rest)
 
--- ---- what is read
+-- ---- reading
 
 -- ---- what canonical bytes say
 
@@ -85,7 +85,7 @@ params_in-params_bytes back m n fit =
     ap (λ r. if_passes (λ ms. bytes_eq (params_bytes ms.0 ms.1) (params_bytes m n)) (option_map (λ v. (v.parameters, v.mutable)) (created r))) (back (with_params m n) fit)
     ∙ ap (λ b. cond b (Some (m, n)) None) (itself (params_bytes m n))
 
--- those of one supported key say it
+-- the bytes of one supported key mean that key
 pub key_in-caps_bytes : ReadsBack → (k : CapKey) → FitCaps (k ∷ []) → is_supported_key k ≡ true → key_in (caps_bytes (k ∷ [])) ≡ Some k
 key_in-caps_bytes back k fit good =
     ap (option_and_then only) (keys_in-caps_bytes back (k ∷ []) fit ∙ each_back (k ∷ []) (both (is_supported_key k) true good refl))
@@ -120,7 +120,7 @@ caps_pass back ks fit = (
 few : (n most : ℕ) → Decides (nat_le n most) (n ≤ most)
 few n most = (λ h. grind (arith, nat_tests), λ h. grind (arith, nat_tests))
 
--- none that are mutable, where the format has none
+-- no mutable parameters, if the format has none
 unmodified : (format : ℕ) (n : TextMap) → Decides (not (format == FIRST_FORMAT) || len n == 0) (format ≡ FIRST_FORMAT → n ≡ empty)
 unmodified format n = (
   λ h is. empty_of_len n (grind (arith, nat_tests, is, h)),

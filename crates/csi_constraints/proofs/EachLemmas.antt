@@ -36,13 +36,13 @@ module _ {P : Type 0} (Moved : P → P → Type 0) (initial items : List P) (at 
   pub kept_above : ((k : ℕ) (d : P) → at ≤ k → get_or items k d ≡ get_or initial k d) → (k : ℕ) (d : P) → at + 1 ≤ k → get_or (set items at new) k d ≡ get_or initial k d
   kept_above after k d above = get_or-set_other items at k new d (λ e. absurd (omega (arith, above, e))) ∙ after k d (omega (arith, above))
 
--- what is so of the one at a place
+-- a fact of the item at a place
 pub has_at : {X : Type 0} (P : X → Type 0) (xs : List X) (i : ℕ) (d : X) → i < length xs → P (get_or xs i d) → HasSome P xs
 has_at P [] i d low h = absurd (omega (arith, low))
 has_at P (x ∷ xs) zero d low h = inl h
 has_at P (x ∷ xs) (suc i) d low h = inr (has_at P xs i d (omega (arith, low)) h)
 
--- of a list of which the rest is as it was
+-- for a list with an unchanged rest
 pub asks_at : {X : Type 0} (P : X → Type 0) (initial items : List X) (at : ℕ) → at < length items → length items ≡ length initial → ((k : ℕ) (d : X) → at ≤ k → get_or items k d ≡ get_or initial k d)
     → (d : X) → P (get_or items at d) → HasSome P initial
 asks_at P initial items at low len same d h = has_at P initial at d (omega (arith, low, len)) (subst P (same at d (omega arith)) h)

@@ -22,7 +22,7 @@ module _ (number text : ℕ) (test : Row → Bool) (first : Option RowName) (row
       go true = refl
       go false = refl
 
-  -- what was found stays
+  -- a found row stays
   pub found_stays : (found : Option RowName) → is_some found ≡ true → found ≡ named_out number text test first rows → found ≡ named_out number text test first (rows ++ row ∷ [])
   found_stays None some is = absurd (cc)
   found_stays (Some name) some is = ap (λ o. option_or o (name_if number text test row)) is ∙ sym one_more

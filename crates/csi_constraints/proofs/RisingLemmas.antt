@@ -64,7 +64,7 @@ not_less m n h below =
     go true e = absurd cc
     go false e = absurd cc
 
--- what is above the last of values that rise is above them all
+-- a value above the last of rising values is above them all
 above_all : (values : List Value) (last : Option ℤ) (n : ℤ) → IsLast values last → is_above last n ≡ true → IsAscending Below values → AllByRecursion (λ v. Below v (Int n)) values
 above_all values None n none above up = subst (AllByRecursion (λ v. Below v (Int n))) (sym none) tt
 above_all values (Some m) n ends above up =

@@ -57,13 +57,13 @@ pub record AttachmentAgrees (config : Config) (rowid : Value) (e : AttachmentKey
 abbrev pub owned_entry : AttachmentKey × Attachment → List CapKey → Row
 owned_entry e «keys» = attachment_entry e ++ Blob (caps_bytes «keys») ∷ []
 
--- an attachment with a volume, both of which have capabilities that pass; and one with none
+-- an attachment and its volume, both with capabilities that pass; and an attachment without a volume
 pub record OwnerAgrees (e : AttachmentKey × Attachment) («keys» : List CapKey) : Type 0 where
   pub owned : FitCaps (e.1.cap ∷ []) → is_supported_key e.1.cap ≡ true → FitCaps «keys» → AreKeys «keys»
       → is_owned (owned_entry e «keys») ≡ has_key «keys» (Some e.1.cap)
   pub unowned : (row : Row) → is_owned (with_owner row []) ≡ false
 
--- the rows of two attachments, both of which have a capability that passes
+-- the rows of two attachments, both with a capability that passes
 pub record PairAgrees (e f : AttachmentKey × Attachment) : Type 0 where
   -- of one volume
   pub beside : e.0.0 ≡ f.0.0 → FitCaps (e.1.cap ∷ []) → is_supported_key e.1.cap ≡ true → FitCaps (f.1.cap ∷ []) → is_supported_key f.1.cap ≡ true

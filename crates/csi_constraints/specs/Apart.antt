@@ -23,12 +23,12 @@ abbrev pub are_of_one : Row → Row → Bool
 are_of_one a b = are_some_and int_eq (as_integer (column a 0)) (as_integer (column b 0))
 
 -- there are two attachments, and they can exist at two nodes
-abbrev pub are_beside : Option Attachment → Option Attachment → Bool
-are_beside a b = are_some_and coexist a b
+abbrev pub can_coexist : Option Attachment → Option Attachment → Bool
+can_coexist a b = are_some_and coexist a b
 
 -- two rows are of one volume, and cannot exist at two nodes
 abbrev pub are_apart : Row → Row → Bool
-are_apart a b = are_of_one a b && not (are_beside (attached_at 2 3 a) (attached_at 2 3 b))
+are_apart a b = are_of_one a b && not (can_coexist (attached_at 2 3 a) (attached_at 2 3 b))
 
 -- no two rows are apart
 abbrev pub NoneApart : List Row → Type 0
@@ -43,13 +43,13 @@ first_apart earlier (r ∷ rows) = if list_any (λ e. are_apart e r) earlier the
 abbrev pub apart_named : List Row → Option RowName
 apart_named rows = option_map (name_of 0 1) (first_apart [] rows)
 
--- ---- one that represents all of its volume
+-- ---- a row that represents all attachments of its volume
 
--- the number of the later row is below that of the earlier one
+-- the number of the later row is below the earlier one's
 abbrev pub falls : Row → Row → Bool
 falls a b = are_some_and (λ m n. int_lt n m) (as_integer (column a 0)) (as_integer (column b 0))
 
--- the numbers do not fall, so that those of one volume come in order
+-- the numbers do not fall, so the rows of one volume are adjacent
 abbrev pub DoNotFall : List Row → Type 0
 DoNotFall rows = IsAscending (λ a b. falls a b ≡ false) rows
 
@@ -60,21 +60,21 @@ last_attachment_at r = option_map (λ n. record { number = n; attachment = attac
 -- the next one can coexist with all of its volume
 abbrev pub admits : Option LastAttachment → LastAttachment → Bool
 admits None next = true
-admits (Some led) next = not (int_eq led.number next.number) || are_beside led.attachment next.attachment
+admits (Some led) next = not (int_eq led.number next.number) || can_coexist led.attachment next.attachment
 
 abbrev pub is_written : Option Attachment → Bool
 is_written a = is_some_and (λ x. not x.readonly) a
 
--- it represents the next one too: one that is written does, of the same volume
+-- it represents the next row too, if both are of the same volume and it is written
 abbrev pub covers : Option LastAttachment → LastAttachment → Bool
 covers None next = false
 covers (Some led) next = int_eq led.number next.number && is_written led.attachment
 
 -- what can coexist with the one can coexist with the other
 abbrev pub Leads : Option Attachment → Option Attachment → Type 0
-Leads a b = (c : Option Attachment) → are_beside a c ≡ true → are_beside b c ≡ true
+Leads a b = (c : Option Attachment) → can_coexist a c ≡ true → can_coexist b c ≡ true
 
--- it is of the last volume of the rows, is that of a row, and represents each of its volume
+-- it belongs to the last volume of the rows, is one of the rows, and represents each row of its volume
 pub record IsLed (led : LastAttachment) (rows : List Row) : Type 0 where
   pub last : AllByRecursion (λ r. is_some_and (int_lt led.number) (as_integer (column r 0)) ≡ false) rows
   pub leads : AllByRecursion (λ r. as_integer (column r 0) ≡ Some led.number → Leads led.attachment (attached_at 2 3 r)) rows
@@ -83,7 +83,7 @@ pub record IsLed (led : LastAttachment) (rows : List Row) : Type 0 where
   pub of : as_integer (column row 0) ≡ Some led.number
   pub is : attached_at 2 3 row ≡ led.attachment
 
--- and there is none only where no row has a number
+-- and it is absent only if no row has a number
 abbrev pub AreCovered : Option LastAttachment → List Row → Type 0
 AreCovered None rows = AllByRecursion (λ r. as_integer (column r 0) ≡ None) rows
 AreCovered (Some led) rows = IsLed led rows

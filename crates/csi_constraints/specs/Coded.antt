@@ -30,8 +30,8 @@ params_at at row = option_and_then params_in (as_blob (column row at))
 abbrev pub has_caps : Row → Bool
 has_caps row = is_some_and are_keys (keys_at 4 row)
 
--- params says parameters and mutable parameters, each of at most 4,096 bytes; under format 1 none that are
--- mutable
+-- params encodes parameters and mutable parameters, each of at most 4,096 bytes; format 1 has no mutable
+-- ones
 abbrev pub has_params : ℕ → Row → Bool
 has_params format row = is_some_and (are_params format) (params_at 5 row)
 

@@ -20,7 +20,7 @@ use Rattle.csi_sql.specs.declared.formats.TheConstants.{FIRST_FORMAT}
 use Rattle.csi_columns.specs.Encoding.{caps_bytes, params_bytes}
 use Rattle.csi_constraints.specs.Values.{if_passes}
 
--- ---- what is read
+-- ---- reading
 
 abbrev pub created : Result Request ℕ → Option message.CreateVolume
 created (Ok (Create v)) = Some v
@@ -62,7 +62,7 @@ key_in bytes = option_and_then only (keys_in bytes)
 abbrev pub params_in : List ℕ → Option (TextMap × TextMap)
 params_in bytes = if_passes (λ ms. bytes_eq (params_bytes ms.0 ms.1) bytes) (option_map (λ v. (v.parameters, v.mutable)) (message_in bytes))
 
--- ---- the constraints of what is said
+-- ---- constraints on the values
 
 abbrev pub is_before : CapKey → CapKey → Bool
 is_before a b = is_lt (key_cmp a b)
@@ -80,6 +80,6 @@ are_keys ks = not (is_empty ks) && rise ks && list_all is_supported_key ks
 abbrev pub is_small : TextMap → Bool
 is_small m = nat_le (map_bytes m) MAX_MAP_BYTES
 
--- parameters and mutable parameters, each of at most 4,096 bytes; format 1 has none that are mutable
+-- parameters and mutable parameters, each of at most 4,096 bytes; format 1 has no mutable ones
 abbrev pub are_params : ℕ → TextMap × TextMap → Bool
 are_params format ms = is_small ms.0 && is_small ms.1 && (not (format == FIRST_FORMAT) || len ms.1 == 0)

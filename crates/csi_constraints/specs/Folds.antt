@@ -25,7 +25,7 @@ HasSome P (x ∷ xs) = P x ⊎ HasSome P xs
 
 -- ---- sums
 
--- the number in a column, and 0 where there is none
+-- the number in a column, and 0 for NULL
 abbrev pub number_in : ℕ → Row → ℕ
 number_in at row = unwrap_or (as_number (column row at)) 0
 
@@ -52,7 +52,7 @@ SumsText first rows now =
     (now.column ≡ first.column) × (now.text ≡ first.text) × (now.weight ≡ first.weight)
     × (first.sum < 2 ^ 64 → now.sum ≡ sum_after first.column first.text.items first.weight first.sum rows)
 
--- what a count has become: that of the rows more, or 2^64 - 1 where it is more
+-- a count after more rows: the sum, or 2^64 - 1 if the sum is greater
 abbrev pub CountsRows : RowCount → List Row → RowCount → Type 0
 CountsRows first rows now = first.rows < 2 ^ 64 → now.rows ≡ min (first.rows + length rows) (2 ^ 64 - 1)
 
@@ -85,7 +85,7 @@ abbrev pub IsLast : List Value → Option ℤ → Type 0
 IsLast values None = values ≡ []
 IsLast values (Some n) = (front : List Value) × (values ≡ front ++ Int n ∷ [])
 
--- a test of the rise that was good or not, and what it is after the rows
+-- the outcome of a test of rising numbers, before and after the rows
 pub record Rises (at : ℕ) (was : Bool) (last : Option ℤ) (rows : List Row) (good : Bool) (next : Option ℤ) : Type 0 where
   pub good_is : IsTrue good ↔ (IsTrue was × IsRising at last rows)
   pub last_is : IsTrue good → IsLast (values_from at last rows) next

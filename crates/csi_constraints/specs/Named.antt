@@ -15,7 +15,7 @@ use Rattle.csi_constraints.specs.declared.named.RowName.{RowName}
 abbrev pub name_of : ℕ → ℕ → Row → RowName
 name_of number text row = record { number = as_integer (column row number); text = if_passes is_utf8 (as_text (column row text)) }
 
--- that of a row, if it does not pass a test
+-- the name of a row, if it does not pass a test
 abbrev pub name_if : ℕ → ℕ → (Row → Bool) → Row → Option RowName
 name_if number text test row = if test row then None else Some (name_of number text row)
 
@@ -23,12 +23,11 @@ name_if number text test row = if test row then None else Some (name_of number t
 abbrev pub first_out : (Row → Bool) → List Row → Option Row
 first_out test rows = find (λ r. not (test r)) rows
 
--- the name that was there, or that of the first row that does not pass
+-- the earlier name, or the name of the first row that does not pass
 abbrev pub named_out : ℕ → ℕ → (Row → Bool) → Option RowName → List Row → Option RowName
 named_out number text test found rows = option_or found (option_map (name_of number text) (first_out test rows))
 
--- what the search for a broken constraint has become over rows, by the rows that pass and what is known of
--- one that does
+-- the result of the search for a broken constraint over rows: the rows pass, or one that does not is named
 pub record FindsBroken {T : Type 0} (accepts : T → Row → Bool) (knows : T → Row → Type 0) (first : FirstBroken T) (rows : List Row)
     (now : FirstBroken T) : Type 0 where
   pub test : now.test ≡ first.test

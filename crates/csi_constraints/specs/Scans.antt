@@ -22,7 +22,7 @@ keyed_attachment r = column r 0 ∷ seen_attachment r
 
 -- ---- each attachment with its volume
 
--- the volume is that of the attachment
+-- the volume is the attachment's
 abbrev pub owns : Row → Row → Bool
 owns attachment volume = is_same (column volume 0) (column attachment 1)
 
@@ -30,6 +30,6 @@ owns attachment volume = is_same (column volume 0) (column attachment 1)
 abbrev pub with_owner : Row → Row → Row
 with_owner attachment volume = column attachment 1 ∷ column attachment 2 ∷ column attachment 3 ∷ column attachment 4 ∷ column volume 5 ∷ []
 
--- each attachment with each volume that is its own, or with NULL where there is none
+-- each attachment with its volumes, or with NULL if it has no volume
 abbrev pub owners : List Row → List Row → List Row
 owners attachments volumes = flat_map (λ r. map (with_owner r) (or_nulls (filter (owns r) volumes))) attachments

@@ -4,7 +4,7 @@ ghost use Rattle.std.specs.Prelude.{◌≡◌, None, IfOk, IsSome, OnErr};
 ghost use Rattle.sqlite.specs.Order.{column};
 ghost use Rattle.csi_constraints.specs.Folds.{as_integer};
 ghost use Rattle.csi_sql.specs.Folding.{FailsForMemory};
-ghost use Rattle.csi_constraints.specs.Apart.{AreCovered, DoNotFall, admits, apart_named, are_beside, is_written, last_attachment_at, covers};
+ghost use Rattle.csi_constraints.specs.Apart.{AreCovered, DoNotFall, admits, apart_named, can_coexist, is_written, last_attachment_at, covers};
 ghost use Rattle.csi_constraints.specs.facts.Starts.{none_covered};
 
 use crate::cells::integer_at;
@@ -38,8 +38,8 @@ fn last_attachment_at(alloc: Global, row: &Row) -> Result<Option<LastAttachment>
     Ok(Some(LastAttachment { number, attachment }))
 }
 
-fn are_beside(one: &Option<Attachment>, other: &Option<Attachment>) -> bool
-    ensures { result ≡ are_beside one.now other.now }
+fn can_coexist(one: &Option<Attachment>, other: &Option<Attachment>) -> bool
+    ensures { result ≡ can_coexist one.now other.now }
 {
     match (one, other) {
         (Some(one), Some(other)) => coexist(one, other),
@@ -61,7 +61,7 @@ fn admits(last: &Option<LastAttachment>, next: &LastAttachment) -> bool
     ensures { result ≡ admits last.now next.now }
 {
     match last {
-        Some(led) => { led.number != next.number || are_beside(&led.attachment, &next.attachment) }
+        Some(led) => { led.number != next.number || can_coexist(&led.attachment, &next.attachment) }
         None => true,
     }
 }
@@ -83,9 +83,9 @@ fn covers(last: &Option<LastAttachment>, next: &LastAttachment) -> bool
 /// coexist with it can coexist with those that are only read.
 #[derive(Drop)]
 pub struct FirstApart {
-    /// What holds the capabilities while they are looked at, and the text of the row.
+    /// The allocator of the capabilities that are read, and of the row's text.
     pub alloc: Global,
-    /// What represents the last volume; `None` where no row had a number so far. It begins as `None`.
+    /// The representative of the last volume; `None` while no row had a number. It begins as `None`.
     pub last: Option<LastAttachment>,
     /// The first row that breaks the constraint; `None` where none has so far. It begins as `None`.
     pub found: Option<RowName>,

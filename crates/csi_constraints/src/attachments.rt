@@ -29,7 +29,7 @@ fn is_node(nodes: &[Node], id: &[u8]) -> bool
 /// The node of an attachment is one of the configuration.
 #[derive(Clone, Copy)]
 pub struct IsAtNode<'a> {
-    /// The configuration.
+    /// The configuration whose nodes are allowed.
     pub config: &'a Config,
 }
 

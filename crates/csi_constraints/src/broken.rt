@@ -44,10 +44,10 @@ pub enum AttachmentConstraint {
     Node,
     /// It can coexist with each other attachment of its volume.
     #[error("the volume is attached at another node too, and the two cannot have it together")]
-    Beside,
+    Coexist,
 }
 
-/// Which constraint stored rows break. Its `Display` names the row.
+/// A constraint that stored rows break. Its `Display` names the row.
 #[derive(Debug, Drop, Error)]
 pub enum BrokenConstraint {
     /// The next number is not 1 to 2^62.
@@ -58,13 +58,13 @@ pub enum BrokenConstraint {
     Volume {
         /// The volume's number, as it is in the row.
         number: i64,
-        /// The constraint.
+        /// The first constraint, in the order of the table, that the row breaks.
         constraint: VolumeConstraint,
     },
     /// The volumes of a pool together are larger than it.
     #[error("pool {name}: its volumes have more bytes than it has")]
     Pool {
-        /// The pool's name.
+        /// The name of the pool with too many bytes.
         name: Text,
     },
     /// An attachment breaks a constraint.
@@ -72,15 +72,15 @@ pub enum BrokenConstraint {
     Attachment {
         /// The volume's number, as it is in the row.
         number: i64,
-        /// The node's id.
+        /// The node's id in the row.
         node: Text,
-        /// The constraint.
+        /// The first constraint, in the order of the table, that the row breaks.
         constraint: AttachmentConstraint,
     },
     /// A node has more attachments than it can.
     #[error("node {id}: more volumes are attached there than it can have")]
     Node {
-        /// The node's id.
+        /// The id of the node with too many volumes.
         id: Text,
     },
     /// There are more than 100,000 volumes.

@@ -54,7 +54,7 @@ fn params_at(alloc: Global, row: &Row, at: usize) -> Result<Option<(Map, Map)>, 
 /// `caps` of a volume is the canonical bytes of capabilities: at least one, in order, each supported.
 #[derive(Clone, Copy)]
 pub struct HasCaps {
-    /// What holds the capabilities while they are looked at.
+    /// The allocator of the capabilities that are read.
     pub alloc: Global,
 }
 
@@ -77,7 +77,7 @@ impl RowTrial for HasCaps {
 /// 4,096 bytes. Tables of format 1 have none that are mutable.
 #[derive(Clone, Copy)]
 pub struct HasParams {
-    /// What holds the parameters while they are looked at.
+    /// The allocator of the parameters that are read.
     pub alloc: Global,
     /// The format of the tables, as `meta` has it.
     pub format: u32,
@@ -101,7 +101,7 @@ impl RowTrial for HasParams {
 /// `cap` of an attachment is the canonical bytes of one capability, which is supported.
 #[derive(Clone, Copy)]
 pub struct HasCap {
-    /// What holds the capability while it is looked at.
+    /// The allocator of the capability that is read.
     pub alloc: Global,
 }
 

@@ -6,7 +6,7 @@ ghost use Rattle.csi_constraints.specs.facts.Starts.{counts_none};
 use csi_sql::Fold;
 use sqlite::{Error, Row};
 
-/// How many rows there are.
+/// A fold that counts rows.
 #[derive(Drop)]
 pub struct RowCount {
     /// The rows so far, or 2^64 - 1 where there are more. It begins as 0.

@@ -16,12 +16,12 @@ use csi_types::Text;
 use sqlite::{Error, Row};
 use std::alloc::{AllocError, Global};
 
-/// What a row is named by.
+/// The name of a row: the number and the text in two of its columns.
 #[derive(Drop)]
 pub struct RowName {
-    /// Its number; `None` where there is no integer.
+    /// The integer in the first of the two columns; `None` if the column has none.
     pub number: Option<i64>,
-    /// Its text; `None` where there is no text in UTF-8.
+    /// The UTF-8 text in the second column; `None` if the column has none.
     pub text: Option<Text>,
 }
 
@@ -55,9 +55,9 @@ pub(crate) fn name_at(
 /// The first row that breaks a constraint.
 #[derive(Drop)]
 pub struct FirstBroken<T> {
-    /// What holds the text of the row.
+    /// The allocator of the row's text.
     pub alloc: Global,
-    /// The constraint.
+    /// The constraint that each row is tried against.
     pub test: T,
     /// The column of the number, counted from 0.
     pub number: usize,
@@ -108,7 +108,7 @@ impl<T: RowTrial> Fold for FirstBroken<T> {
 /// A test that takes no memory, as one that may.
 #[derive(Drop)]
 pub struct InfallibleTest<T> {
-    /// The test.
+    /// The test that each row is tried against.
     pub test: T,
 }
 

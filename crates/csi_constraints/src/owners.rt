@@ -31,7 +31,7 @@ pub struct KnownCaps {
 }
 
 impl KnownCaps {
-    // Whether they have a key.
+    // Whether the volume has a key among its own.
     fn have(&self, key: &CapKey) -> bool
         ensures { result ≡ is_some_and (λ caps. has_key caps (Some key.now)) self.now.caps }
     {
@@ -48,7 +48,7 @@ impl KnownCaps {
 /// volume, where its attachments follow one another.
 #[derive(Drop)]
 pub struct FirstUnowned {
-    /// What holds the capabilities.
+    /// The allocator of the capabilities that are read.
     pub alloc: Global,
     /// The caps that were read last; `None` where none were so far. It begins as `None`.
     pub last: Option<KnownCaps>,
@@ -56,7 +56,7 @@ pub struct FirstUnowned {
     pub found: Option<RowName>,
 }
 
-// Whether these are the bytes that were read last.
+// Whether the bytes equal the last ones read, so that they need not be read again.
 fn are_last(last: &Option<KnownCaps>, bytes: &[u8]) -> bool
     ensures { result ≡ are_last last.now bytes.now }
 {

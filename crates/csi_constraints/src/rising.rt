@@ -20,7 +20,7 @@ fn is_above_last(last: Option<i64>, integer: i64) -> bool
     }
 }
 
-/// Whether each row has an integer in a column, and each is above those before it.
+/// A fold that tests whether each row has an integer in a column, above the earlier rows'.
 #[derive(Drop)]
 pub struct Rising {
     /// The column, counted from 0.

@@ -18,7 +18,7 @@ use sqlite::{Alter, Error};
 ///
 /// Where the rows cannot be read, and what the fold answers.
 pub fn scan_meta<S: Alter, F: Fold>(conn: &mut IdleConnection<S>, fold: &mut F) -> Result<(), Error>
-    requires ours { HasCleanDisk (state S.Store conn.old) → conn.old.schema ≡ our_schema }
+    requires has_schema { HasCleanDisk (state S.Store conn.old) → conn.old.schema ≡ our_schema }
     ensures { FoldsOver S.Store conn.old conn.new F.folds fold.old fold.new
         (IsPermutation (map seen_meta ((state S.Store conn.old).now.trees 0)))
         (HasTooMany S.Store conn.old) result }
@@ -35,7 +35,7 @@ pub fn scan_volumes<S: Alter, F: Fold>(
     conn: &mut IdleConnection<S>,
     fold: &mut F,
 ) -> Result<(), Error>
-    requires ours { HasCleanDisk (state S.Store conn.old) → conn.old.schema ≡ our_schema }
+    requires has_schema { HasCleanDisk (state S.Store conn.old) → conn.old.schema ≡ our_schema }
     ensures { FoldsOver S.Store conn.old conn.new F.folds fold.old fold.new
         (IsInOrder (map seen_volume ((state S.Store conn.old).now.trees 1)))
         (HasTooMany S.Store conn.old) result }
@@ -57,7 +57,7 @@ pub fn scan_attachments<S: Alter, F: Fold>(
     conn: &mut IdleConnection<S>,
     fold: &mut F,
 ) -> Result<(), Error>
-    requires ours { HasCleanDisk (state S.Store conn.old) → conn.old.schema ≡ our_schema }
+    requires has_schema { HasCleanDisk (state S.Store conn.old) → conn.old.schema ≡ our_schema }
     ensures { FoldsOver S.Store conn.old conn.new F.folds fold.old fold.new
         (IsInOrder (map keyed_attachment ((state S.Store conn.old).now.trees 3)))
         (HasTooMany S.Store conn.old) result }
@@ -79,7 +79,7 @@ pub fn scan_owners<S: Alter, F: Fold>(
     conn: &mut IdleConnection<S>,
     fold: &mut F,
 ) -> Result<(), Error>
-    requires ours { HasCleanDisk (state S.Store conn.old) → conn.old.schema ≡ our_schema }
+    requires has_schema { HasCleanDisk (state S.Store conn.old) → conn.old.schema ≡ our_schema }
     ensures { FoldsOver S.Store conn.old conn.new F.folds fold.old fold.new
         (IsInOrder (owners ((state S.Store conn.old).now.trees 3) ((state S.Store conn.old).now.trees 1)))
         (HasTooMany S.Store conn.old) result }
@@ -101,7 +101,7 @@ pub fn scan_places<S: Alter, F: Fold>(
     conn: &mut IdleConnection<S>,
     fold: &mut F,
 ) -> Result<(), Error>
-    requires ours { HasCleanDisk (state S.Store conn.old) → conn.old.schema ≡ our_schema }
+    requires has_schema { HasCleanDisk (state S.Store conn.old) → conn.old.schema ≡ our_schema }
     ensures { FoldsOver S.Store conn.old conn.new F.folds fold.old fold.new
         (IsInOrder (map seen_attachment ((state S.Store conn.old).now.trees 3)))
         (HasTooMany S.Store conn.old) result }

@@ -11,10 +11,10 @@ use csi_sql::values::{number_at, text_at};
 use sqlite::{Error, Row};
 use std::cmp::Ordering;
 
-/// What a row adds to a sum.
+/// The amount that a row adds to a sum.
 #[derive(Clone, Copy)]
 pub enum Weight {
-    /// One, so that the sum counts the rows.
+    /// One for each row, so the sum is the count.
     One,
     /// The number in this column, counted from 0; nothing where there is none.
     Number(usize),
@@ -51,7 +51,7 @@ pub struct TextSum {
     pub column: usize,
     /// The text. A row with another one, or with none, adds nothing.
     pub text: Vec<u8>,
-    /// What a row of the text adds.
+    /// The amount that a row with the text adds.
     pub weight: Weight,
     /// The sum so far, or 2^64 - 1 where it is more.
     pub sum: u64,

@@ -21,7 +21,7 @@ pub trait RowTrial {
     /// Whether a row passes.
     ghost accepts: { Self → Values → Bool };
 
-    /// What is known of a row that passes.
+    /// A fact of each row that passes.
     ghost knows: { Self → Values → Type 0 };
 
     /// Where it asks for memory to look at a row.

@@ -13,7 +13,7 @@ use sqlite::Row;
 /// The number of a volume is at least 1, and below the next number.
 #[derive(Clone, Copy)]
 pub struct IsNumbered {
-    /// The next number.
+    /// The next number of meta: every volume's number is below it.
     pub next: u64,
 }
 
@@ -76,7 +76,7 @@ fn is_pool(pools: &[Pool], name: &[u8]) -> bool
 /// The pool of a volume is one of the configuration.
 #[derive(Clone, Copy)]
 pub struct IsInPools<'a> {
-    /// The configuration.
+    /// The configuration whose pools are allowed.
     pub config: &'a Config,
 }
 

@@ -1,4 +1,4 @@
--- A disk that was truthful to the end of a run told it from its opening on.
+-- A disk that was truthful at the end of a run was truthful from its opening on.
 use Rattle.std.proofs.Common.{◌≡◌, Bool, subst, arith}
 use Rattle.sqlite_disk.specs.declared.Disk.{Ghosts}
 use Rattle.sqlite_disk.specs.declared.Files.{Files}

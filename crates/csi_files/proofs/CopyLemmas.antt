@@ -1,4 +1,4 @@
--- From the pages of a log to what files stand for once it was copied.
+-- From the pages of a log to the contents of the files after the log was copied.
 use Rattle.std.proofs.Common.{◌≡◌, ◌∙◌, ℕ, List, Option, Some, length, [], IsTrue, inl, inr, refl, sym, ap, ap₂, subst, arith}
 use Rattle.std.proofs.lemmas.Bool.{cases_eq}
 use Rattle.sqlite_disk.specs.declared.Disk.{Ghosts}
@@ -105,7 +105,7 @@ module _ {D : Type 0} (g : Ghosts D) (before mid : Files D) (log : OnlyReads g b
       honest : AreClean g after.log after.db → AreClean g mid.log mid.db
       honest clean = subst (λ (p : D × D). AreClean g p.0 p.1) same (leaves.clean clean)
 
--- where the WAL is passed over, the database file alone stands for what both stand for
+-- if the WAL is ignored, the database file alone has the contents of both
 pub stands_alone : (size : ℕ) (image : Image) (pages : _) → IsIgnored image.log → Recovers size image pages → Recovers size (record image { log = [] }) pages
 stands_alone size image pages ignored was =
     let found = was.found in

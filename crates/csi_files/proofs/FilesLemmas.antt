@@ -81,7 +81,7 @@ one_state_of one db s t (inl a) (inr b) = absurd (not_none (sym a.0 ∙ b.0))
 one_state_of one db s t (inr a) (inl b) = absurd (not_none (sym b.0 ∙ a.0))
 one_state_of one db s t (inr a) (inr b) = a.1 ∙ sym b.1
 
--- the State of a database is that of its trees
+-- a database has the State of its trees
 in_trees : (db : Database) (s : State) → IsSound db.schema db.trees → IsStateOf db s → IsStateIn db.trees s
 in_trees db s sound (inl it) = inl it.1
 in_trees db s sound (inr it) = inr (subst (λ q. IsSound q db.trees) it.0 sound, it.1)
@@ -434,7 +434,7 @@ module _ {D : Type 0} (g : Ghosts D) (config : Config) (conn : Held (FileStore D
   blank_asked is_existing (NotCopied fault) back h = tt
 
 module _ {D : Type 0} (g : Ghosts D) (P : RunReport → Type 0) where
-  -- what is so of a run is so of it after the files were closed or given up
+  -- a fact of a run still holds after the files were closed or given up
   pub all_served : (served : RunReport) (conn : Held (FileStore D g)) → P served → (r : Result (Closed D) (RunFailure D g)) → IfOk r (IsFinished g served conn) → IfErr r (IsUnfinished g served conn) → AllServed g P r
   all_served served conn so (Ok outcome) it none = subst P (sym it.same) so
   all_served served conn so (Err (NoFiles error)) none h = absurd h
@@ -444,7 +444,7 @@ module _ {D : Type 0} (g : Ghosts D) (P : RunReport → Type 0) where
   all_served served conn so (Err (NotClosed outcome error now)) none h = subst P (sym h.0) so
 
 module _ {D : Type 0} (g : Ghosts D) (is_existing : Bool) where
-  -- new tables were made only where none had to exist
+  -- new tables were made only if tables were not required to exist
   pub asked : (served : RunReport) (conn : Held (FileStore D g)) → (IsTrue is_existing → served.is_new ≡ false) → (r : Result (Closed D) (RunFailure D g)) → IfOk r (IsFinished g served conn)
       → IfErr r (IsUnfinished g served conn) → IsAsked g is_existing r
   asked served conn so (Ok outcome) it none = λ e. ap (λ (s : RunReport). s.is_new) it.same ∙ so e
@@ -455,7 +455,7 @@ module _ {D : Type 0} (g : Ghosts D) (is_existing : Bool) where
   asked served conn so (Err (NotClosed outcome error now)) none h = λ e. ap (λ (s : RunReport). s.is_new) h.0 ∙ so e
 
 module _ {D : Type 0} (g : Ghosts D) (config : Config) (was : Image) (bytes : Streams) (None : Error → Leftover D g → Type 0) where
-  -- what is said where the files are open is said where they are opened first
+  -- a statement over open files holds from their opening on
   pub not_opened_too : (e : RunFailure D g) → IsNotServed g config was bytes (λ _ _. ⊥) e → IsNotServed g config was bytes None e
   not_opened_too (NoFiles error) h = absurd h
   not_opened_too (NotOpened error rest) h = absurd h

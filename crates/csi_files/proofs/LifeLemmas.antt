@@ -26,10 +26,10 @@ use Rattle.csi_config.specs.declared.config.Config.{Config}
 use Rattle.csi_keeper.specs.Invariant.{IsInvariant}
 use Rattle.csi_keeper.specs.State.{State}
 use Rattle.csi_machine.specs.Numbers.{NumbersRise}
-use Rattle.csi_machine.specs.Retry.{AreTriesOf, after_once, all_tries, told_once}
+use Rattle.csi_machine.specs.Retry.{AreTriesOf, after_once, all_tries, reported_once}
 use Rattle.csi_machine.specs.facts.Numbers.{numbers_go_on, numbers_stay}
 use Rattle.csi_server.specs.Machine.{Event, state_after}
-use Rattle.csi_server.specs.Requests.{told}
+use Rattle.csi_server.specs.Requests.{reported}
 use Rattle.csi_server.specs.Tries.{Exchange, IsLifeOfCalls, events_of, heard_of, tries_of}
 use Rattle.csi_server.specs.Volumes.{IsPending, volumes}
 use Rattle.csi_files.specs.Files.{HasState}
@@ -68,10 +68,10 @@ lived config (session ∷ sessions) was last s may invariant (next, run, more) =
       goes = record { may = rest.goes.may; has = λ has. rest.goes.has (found.1.has has) };
     }))
 
--- and what the law of calls says of the sessions is so of the files
+-- and the law of calls over the sessions holds of the files
 pub lives_once : (config : Config)
     → ((s t : State) (requests : List Request) (sessions : List (List Exchange)) (heard : List ReplyBytes) → IsInvariant config s → AreTriesOf requests (all_tries (map tries_of sessions)) → IsLifeOfCalls config s sessions heard t
-    → (heard ≡ map told (told_once config s requests)) × (t ≡ after_once config s requests))
+    → (heard ≡ map reported (reported_once config s requests)) × (t ≡ after_once config s requests))
     → LivesOnce config
 lives_once config retry was last s requests sessions may invariant tries life =
     ∥∥₁_map (lived config sessions was last s may invariant life) (λ it.
@@ -166,7 +166,7 @@ runs_go_on g stays config = (closed_go_on g config, are_runs g stays config)
 
 -- ---- files at a path
 
--- a file of which nothing was asked yet
+-- a file before its first call
 settled_only : (start : List ℕ) (mixes : Bool) (key : ℕ) (history : List CallEvent) (c : List ℕ) → history ≡ settled key ∷ []
     → MayLeave mixes (replay start history).seen (replay start history).synced (replay start history).steps c → c ≡ (replay start history).seen
 settled_only start mixes key history c is (inl same) = same

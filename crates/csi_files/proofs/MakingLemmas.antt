@@ -61,7 +61,7 @@ module _ {D : Type 0} (g : Ghosts D) (old new : Pool D g) (before after : Files 
           crash = λ left may. left_out g old before from left (untouched none left (left_in g new after (sym to) left clean may));
         }
 
-    -- whatever came of it
+    -- for every outcome
     pub not_created : CreatesAtMostNew old new → IsNotCreated g before after
     not_created crash = record {
       clean = clean_kept;
@@ -144,12 +144,12 @@ module _ {D : Type 0} (g : Ghosts D) (before mid : Files D) (log : OnlyReads g b
     crash = λ clean whole left may. elim (it.crash clean (λ torn. whole (subst IsTorn same_image torn)) left may) [ inl was ↦ inl (looked_at.crash left was) | inr other ↦ inr other ];
   }
 
--- a page that is being made is distinguished by its log from one that an earlier release was stopped in
+-- the log distinguishes a page that is being made from a page that a stop of an earlier release left
 pub not_torn : (image : Image) → IsUnmade image → ¬ IsTorn image
 not_torn image (inl empty) torn = omega (arith, empty, torn.1.some)
 not_torn image (inr blank) torn = elim blank.1.1 [ inl short ↦ omega (arith, short, torn.1.some) | inr begun ↦ omega (arith, begun.0, torn.0) ]
 
--- from a file that was cleared, if it was torn, to what is made of it
+-- from a file, cleared if it was torn, to the file made from it
 module _ {D : Type 0} (g : Ghosts D) (before mid : Files D) (clean : AreClean g mid.log mid.db → AreClean g before.log before.db)
     (whole : AreClean g mid.log mid.db → ¬ IsTorn (image_of g before) → AreAsBefore g before mid) where
   kept_both : (after : Files D) → (AreClean g after.log after.db → AreClean g mid.log mid.db) → (AreClean g after.log after.db → ¬ IsUnmade (image_of g mid) → AreAsBefore g mid after)
@@ -184,7 +184,7 @@ module _ {D : Type 0} (g : Ghosts D) (before mid : Files D) (clean : AreClean g 
   pub not_cleared : IsNotLaidOut g before mid
   not_cleared = record { clean = clean; kept = λ now none. whole now (λ torn. none (inr torn)); crash = λ now none left may. inl ((whole now none).crash left may) }
 
--- what was read from the front on is the whole file, if it is as long
+-- bytes read from the start are the whole file, if the lengths are equal
 pub whole_file : (file bytes : List ℕ) → Holds file 0 bytes → length bytes ≡ length file → bytes ≡ file
 whole_file file bytes held same = ext_get_or 0 bytes file same (λ i below. let at : 0 + i ≡ i = omega arith in sym (held.each i below) ∙ ap (slice_index file) at)
 
@@ -192,7 +192,7 @@ sealed_page : length (sealed (first_page 1024)) ≡ 1024
 unfolding sealed first_page
 sealed_page = refl
 
--- files longer than a page have a database, or none that is to be made
+-- files longer than a page have a database, or no database may be made in them
 pub larger_kept : (image : Image) → IsLarger image → ¬ IsToMake image
 larger_kept image larger (inr torn) = omega (arith, larger, torn.1.fits)
 larger_kept image larger (inl (inl empty)) = omega (arith, larger, empty)

@@ -57,7 +57,7 @@ unmade_holds_none image db unmade (size, allowed, held) =
     let few : reserved size ≤ 8 = grind arith in
     not_blank size image held.pages held.found (omega (arith, allowed.0)) held.ours.file.sound 1024 (omega arith) unmade
 
--- where there is no log, the database file has a page at least
+-- without a log, the database file has at least one page
 one_page_long : (size : ℕ) (image : Image) (pages : PageMap) (found : Adopts size image pages) → 504 ≤ size → IsIgnored image.log → stored_size size ≤ length image.db
 one_page_long size image pages found large ignored =
     let whole = stored_size size in
@@ -70,8 +70,8 @@ one_page_long size image pages found large ignored =
     let inside = part_within image.db 0 whole (omega arith) (ap length front ∙ found.whole.sized 1 page is) in
     omega (arith, inside)
 
--- nor does a first page that was torn: bytes of 0 name no size of a page, and its own bytes one that they do
--- not reach
+-- nor does a torn first page: zero bytes name no page size, and its own bytes name a size that is longer
+-- than they are
 pub torn_holds_none : (image : Image) (db : Trees) → IsTorn image → HoldsDatabase image db → ⊥
 torn_holds_none image db (none, bytes) (size, allowed, held) =
     let few : reserved size ≤ 8 = grind arith in

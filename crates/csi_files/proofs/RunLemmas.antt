@@ -21,7 +21,7 @@ use Rattle.sqlite.specs.Store.{Ghosts}
 use Rattle.csi_files.specs.Adopted.{IsUncopied, ServesFrom, ServesWith, with_counts}
 use Rattle.csi_files.specs.Serving.{events_of}
 
--- What is so of a run from the State s, through the models old and new, is so through the models first and
+-- A fact of a run from the State s through the models old and new also holds through the models first and
 -- last.
 pub record Carries {S : Type 0} (old new first last : Model S) (s : S) : Type 0 where
   pub refused : (first.refusals ≡ old.refusals) × (last.refusals ≡ new.refusals)
@@ -103,7 +103,7 @@ counted_from config first mid last served bytes quiet up none it = record {
   );
 }
 
--- a keeper of which nothing was asked
+-- a keeper before its first call
 still : (m : Model State) → IsQuiet m m
 still m = record {
   clean = omega arith;
@@ -119,13 +119,13 @@ pub counted_fresh : (config : Config) (first last : Model State) (served : RunRe
 counted_fresh config first last served bytes none up it =
     counted_from config first first last served bytes (still first) up (λ z s has invariant. none) it
 
--- a run over a keeper that was read for a copy, for which there was no memory
+-- a run over a keeper that was read for a copy, which memory refused
 pub counted_uncopied : (config : Config) (first mid last : Model State) (served : RunReport) (bytes : Streams) → first.refusals ≡ 0 → first.is_down ≡ false
     → IsQuiet first mid → IsWhy first mid fault.NoMemory → ServesWith config mid last served bytes → ServesFrom config first last served bytes
 counted_uncopied config first mid last served bytes none up quiet why it =
     counted_from config first mid last served bytes quiet up (λ z s has invariant. why.count z config s has invariant ∙ none) it
 
--- a run over the file of tables, of which no copy was made
+-- a run over the file of tables, without a copy
 pub file_serves : {S : Type 0} (g : Ghosts S) (config : Config) (first mid last : Tables S) (report : RunReport) (bytes : Streams) → (tables_model g first).refusals ≡ 0
     → (tables_model g first).is_down ≡ false → {P Q : Type 0} → (P × (mid ≡ first)) ⊎ (Q × IsUncopied g first mid fault.NoMemory)
     → ServesWith config (tables_model g mid) (tables_model g last) report bytes → ServesFrom config (tables_model g first) (tables_model g last) report bytes

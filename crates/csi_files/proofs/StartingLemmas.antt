@@ -1,4 +1,4 @@
--- Files in which a database is made start as the first State.
+-- Files with a newly made database start as the first State.
 use Rattle.std.proofs.Common.{◌⊎◌, ◌≡◌, List, IsTrue, inl, inr, refl, sym, subst}
 use Rattle.std.proofs.Math.Logic.{∥∥₁_elim, ∥∥₁_map}
 use Rattle.sqlite_disk.specs.declared.Disk.{Ghosts}
@@ -37,8 +37,8 @@ no_database image db holds wanted = ∥∥₁_elim holds (λ x y. absurd x) (λ 
 pub no_state : (image : Image) (s : State) → HasState image s → ¬ IsToMake image
 no_state image s has = no_database image has.db (∥∥₁_map has.holds (database_of image has.db))
 
--- a run over the files in which a database was made says whether one was, and whether the one that they had
--- was without tables
+-- a run over files after a possible making of a database reports whether one was made, and whether the
+-- earlier database was without tables
 says_start : (config : Config) (before after : Image) (served : RunReport) → ShowsLaidOut before after → SaysNew after served → WasTaken config after → SaysStart config before served
 says_start config before after served shows says taken = record {
   taken = λ db held sound. taken db (subst (λ (i : Image). ∥ HoldsDatabase i db.trees ∥₁) (sym (shows.kept (no_database before db.trees held))) held) sound;
@@ -76,7 +76,7 @@ module _ {D : Type 0} (g : Ghosts D) (before after : Files D) where
       ]
     ])
 
-  -- a run over the files in which it was made is one from what they would have started as
+  -- a run over the files after the making is a run from the State that they would have started as
   pub started : (config : Config) (bytes : Streams) (closed : Closed D) → IsLaidOut g before after → (AreClean g closed.files.log closed.files.db → AreClean g after.log after.db)
       → Serves (volumes config) (image_model (image_of g after) closed.report.is_new) (seen config (files_model g closed.files closed.report.refusals closed.report.is_down)) bytes.unread bytes.left bytes.held bytes.holds closed.report.end
       → Serves (volumes config) (start_model (image_of g before) closed.report.is_new) (seen config (files_model g closed.files closed.report.refusals closed.report.is_down)) bytes.unread bytes.left bytes.held bytes.holds closed.report.end

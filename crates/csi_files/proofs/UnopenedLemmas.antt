@@ -50,9 +50,9 @@ none_resealed : (other : ℕ) (numbers : List ℕ) (stored : Pages) → ((n : �
 unfolding resealed
 none_resealed other numbers stored is = fun_ext λ n. elim (cases_Bool (is_among numbers n)) [ inl among ↦ rw among (still other (stored n) (is n)) | inr apart ↦ rw apart refl ]
 
--- ---- what stands for a database, as an opening says it of pages with the size that the files name
+-- ---- a database as an opening describes it: pages of the size that the files name
 
--- the size that the opening took has a sum only if that of the database has
+-- the sum over pages of the opening's size exists only if the database's does
 same_sums : (other size : ℕ) (image : Image) (db : Trees) → IsPageSize (stored_size size) → stored_size other ≡ stored_size size → (IsTrue (is_summed other) → SaysSums (stored_size other) image)
     → HoldsAt size image db → (other ≡ size) ⊎ (other % 16 ≢ 8)
 same_sums other size image db allowed same says held =

@@ -20,9 +20,9 @@ use Rattle.csi_config.specs.declared.config.Config.{Config}
 use Rattle.csi_keeper.specs.Invariant.{IsInvariant}
 use Rattle.csi_keeper.specs.State.{State}
 use Rattle.csi_machine.specs.Numbers.{NumbersRise}
-use Rattle.csi_machine.specs.Retry.{AreTriesOf, after_once, all_tries, told_once}
+use Rattle.csi_machine.specs.Retry.{AreTriesOf, after_once, all_tries, reported_once}
 use Rattle.csi_server.specs.Machine.{Event}
-use Rattle.csi_server.specs.Requests.{told}
+use Rattle.csi_server.specs.Requests.{reported}
 use Rattle.csi_server.specs.Tries.{Exchange, IsLifeOfCalls, events_of, tries_of}
 use Rattle.csi_server.specs.Volumes.{volumes}
 use Rattle.csi_files.specs.Files.{HasState}
@@ -62,9 +62,9 @@ LivesOnce config =
     → AreTriesOf requests (all_tries (map tries_of sessions))
     → IsLifeOfFiles config was sessions last
     → ∥ (GoesOn was last s (after_once config s requests)
-    × IsLifeOfCalls config s sessions (map told (told_once config s requests)) (after_once config s requests)) ∥₁
+    × IsLifeOfCalls config s sessions (map reported (reported_once config s requests)) (after_once config s requests)) ∥₁
 
--- After any calls the files start a run as a State in which the numbers of volumes only rose.
+-- After any calls the files start a run as a State, and the numbers of volumes only rose.
 abbrev pub NumbersOnce : Config → Type 0
 NumbersOnce config =
     (was last : Image) (s : State) (sessions : List (List Exchange)) → MayStart was s → IsInvariant config s

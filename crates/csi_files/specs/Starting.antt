@@ -116,8 +116,8 @@ module _ {D : Type 0} (g : disk.Ghosts D) where
   abbrev pub IsNotMade : Files D → Error → Leftover D g → Type 0
   IsNotMade before error rest = IsLeftUnmade before error rest ⊎ ((laid : Files D) × IsLaidOut g before laid × IsNotOpened g laid error rest)
 
-  -- Why files were not closed, over files in which a database was made if they held none, and the contents of
-  -- the files after that.
+  -- Why files were not closed, and their contents after that. A database was made in them first if they
+  -- held none.
   pub record IsNotStarted (config : Config) (before : Files D) (bytes : Streams) (e : RunFailure D g) : Type 0 where
     pub was : Image
     pub shows : EndsClean e → ShowsLaidOut (image_of g before) was

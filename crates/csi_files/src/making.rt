@@ -22,12 +22,12 @@ use std::io::{self, ErrorKind};
 // them, and most rows have a few hundred bytes: SQLite's own choice, 4,096, is four times as much to write.
 const PAGE_BYTES: usize = 1024;
 
-/// How many bytes a WAL has at least that has a change: its header, and the least frame, which is a header of
-/// its own and a page of 512 bytes.
+/// The least bytes of a WAL with a change: its header, and the least frame, which is a header of its own
+/// and a page of 512 bytes.
 pub const WAL_WITH_FRAME_BYTES: usize = 32 + 24 + 512;
 
-// How the first page began that earlier releases wrote, which a stop could tear: its header, and a leaf of no
-// cells. All other bytes are 0.
+// The first bytes of a first page as earlier releases wrote it, which a stop could tear: its header, and a
+// leaf of no cells. All other bytes are 0.
 const HEAD: [u8; 108] = *b"SQLite format 3\0\
     \x04\x00\x02\x02\x00\x40\x20\x20\0\0\0\0\0\0\0\x01\
     \0\0\0\0\0\0\0\0\0\0\0\0\0\0\0\x04\
@@ -110,7 +110,7 @@ fn make<D: Disk>(alloc: Global, pair: Files<D>, seed: u64) -> Result<Files<D>, (
 enum Lengths {
     // The database file is longer than a page.
     Larger,
-    // It is empty, and its WAL may have changes.
+    // The file is empty, and its WAL may have changes.
     Emptied,
     // Neither.
     Short,
@@ -150,7 +150,7 @@ fn page_byte(at: usize) -> u8
     if at < HEAD.len() { HEAD[at] } else { 0 }
 }
 
-// Whether that page begins with these bytes.
+// Whether a new first page begins with these bytes.
 fn begins_page(bytes: &[u8]) -> bool
     ensures { IsTrue result ↔ BeginsPage bytes.now }
 {

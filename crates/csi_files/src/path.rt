@@ -34,7 +34,7 @@ pub struct FilesAt<'a, S> {
     /// The path of the database file. Its WAL is next to it. SQLite does not take `:memory:` or a URI for a
     /// file: neither is opened.
     pub path: &'a str,
-    /// What the files hold. The clauses of a run hold for any bytes.
+    /// The contents of the files before the run. The clauses of a run hold for any bytes.
     pub start: S,
     /// The most pages of the database file that are kept in memory, of 1,024 bytes each. An opening looks
     /// each row up in an index, in no order of pages: it reads a page again for nearly each row if fewer are
@@ -42,7 +42,7 @@ pub struct FilesAt<'a, S> {
     pub cache_pages: usize,
 }
 
-// How SQLite names why the operating system did not give the files.
+// SQLite's error for files that the operating system did not give.
 fn open_error(cause: OpenError) -> Error
     ensures { result ≡ open_error cause }
 {

@@ -69,10 +69,10 @@ const STEP_BYTES: usize = 1 << 18;
 struct Reserve {
     alloc: Global,
     blocks: Vec<Vec<u8>>,
-    // How many bytes the next opening takes.
+    // The bytes that the next opening takes.
     wanted: usize,
-    // Whether blocks are held for them. They are not while a copy of the volumes is in memory: it is dropped
-    // before the next opening, and takes more than that.
+    // Whether blocks are held for the next opening. They are not while a copy of the volumes is in memory:
+    // it is dropped before the next opening, and takes more than that.
     is_held: bool,
 }
 
@@ -172,7 +172,7 @@ fn volume_bytes(volume: &Volume) -> usize
         .saturating_add(map_bytes(&volume.mutable))
 }
 
-// How many bytes more an opening takes after a change.
+// The bytes that a change adds to the next opening.
 fn bytes_of(change: &Change) -> usize
     ensures { result ≡ up_to_u64 (change_bytes change.now) }
 {
@@ -198,7 +198,7 @@ pub(crate) struct Reserved<'a, S: Alter, O> {
     tables: Tables<S>,
     reserve: Reserve,
     observer: &'a O,
-    // How many bytes the next opening takes when the observer is asked again.
+    // The size of the next opening, in bytes, at which the observer is asked again.
     asks_at: usize,
 }
 
@@ -242,14 +242,14 @@ impl<'a, S: Alter, O: Observer> Reserved<'a, S, O> {
         }
     }
 
-    /// Whether each further call is answered `Down`.
+    /// Whether every further call is answered `Down`.
     pub(crate) fn is_down(&self) -> bool
         ensures { result ≡ is_down S.Store self.now.tables }
     {
         self.tables.is_down()
     }
 
-    /// The tables.
+    /// The tables, without the held memory.
     pub(crate) fn into_tables(self) -> Tables<S>
         ensures { result ≡ self.entry.tables }
     {

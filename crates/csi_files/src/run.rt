@@ -36,12 +36,12 @@ pub trait Observer {
     fn has_room(&self, opening: usize) -> bool;
 }
 
-/// How calls are served over tables.
+/// Options of a run over tables.
 #[derive(Clone, Copy)]
 pub struct RunOptions {
     /// Whether a database without a table is refused. Otherwise it gets new ones.
     pub is_existing: bool,
-    /// Whether each read is answered from the file. Otherwise the volumes are copied into memory, and reads
+    /// Whether reads are answered from the file. Otherwise the volumes are copied into memory, and reads
     /// are answered from there.
     pub is_low_memory: bool,
     /// The bytes of memory that an opening of the tables takes, since it reads each table whole. While reads
@@ -58,22 +58,22 @@ pub struct Run<'a, O> {
     pub alloc: Global,
     /// The configuration under which tables are adopted and calls are answered.
     pub config: &'a Config,
-    /// How the calls are served.
+    /// The options of the run.
     pub options: RunOptions,
     /// Is told the steps of the run.
     pub observer: &'a O,
 }
 
-/// What a run of calls came to.
+/// The report of a run of calls.
 #[derive(Clone, Copy)]
 pub struct RunReport {
-    /// How the run ended.
+    /// The end of the run, as the server reports it.
     pub end: RunEnd,
-    /// How many of its calls the store refused, up to the greatest `u64`.
+    /// The number of calls that the store refused, up to the greatest `u64`.
     pub refusals: u64,
     /// Whether the store was down at the end: it answered no call any more.
     pub is_down: bool,
-    /// Whether each read was answered from a copy of the volumes in memory, and not from the file.
+    /// Whether reads were answered from a copy of the volumes in memory, and not from the file.
     pub is_copied: bool,
     /// Whether the database had no table, so that new ones were made.
     pub is_new: bool,
@@ -82,7 +82,7 @@ pub struct RunReport {
 /// Files that were closed after calls.
 #[derive(Drop)]
 pub struct Closed<D: Disk> {
-    /// What the run came to.
+    /// The report of the run.
     pub report: RunReport,
     /// The files. All that was committed is in the database file, also without its WAL.
     pub files: Files<D>,
@@ -91,11 +91,11 @@ pub struct Closed<D: Disk> {
 /// Why no calls were served over a database that was opened.
 #[derive(Drop)]
 pub enum Refusal {
-    /// It has no table, and was required to have some.
+    /// The database has no table, and tables were required.
     Blank,
-    /// Its tables were not adopted.
+    /// The tables were not adopted, for this fault.
     NotAdopted(AdoptFault),
-    /// It refused a read while the volumes were copied into memory.
+    /// The store refused a read while the volumes were copied into memory.
     NotCopied(StoreFault),
 }
 

@@ -21,7 +21,7 @@ use sqlite_trees::error::StoreError;
 use std::alloc::Global;
 use std::io::{Read, Write};
 
-// How SQLite names why no database was made, where the disk failed with this fault, if it did.
+// SQLite's error code for a database that was not made, from the disk's fault if the disk failed.
 fn code_of(why: NotLaidOut, fault: StoreError) -> ErrorCode
     ensures { result ≡ code_of why fault }
 {

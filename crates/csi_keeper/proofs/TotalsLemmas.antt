@@ -35,6 +35,6 @@ same_set es fs k q h = total_set es fs k (total_at es k) q h ∙ go (same_text k
     go true e = ap (total_at es) ((bytes_decides k q).0 e)
     go false e = refl
 
--- what was put under a pool stands there
+-- a total put under a pool is stored there
 pub is_set : (es fs : List (Text × Total)) (k : Text) (t : Total) → ((q : Text) → lookup (is_at (text_cmp q)) fs ≡ cond (is_at (text_cmp k) q) (Some t) (lookup (is_at (text_cmp q)) es)) → lookup (is_at (text_cmp k)) fs ≡ Some t
 is_set es fs k t h = h k ∙ ap (λ o. cond (is_eq o) (Some t) (lookup (is_at (text_cmp k)) es)) (tied_itself nat_list_cmp_total k)

@@ -23,8 +23,8 @@ module _ (old new : Model State) where
     pub down : new.is_down ≡ old.is_down
 
   -- the answer to a read holds for each State that the keeper may have
-  abbrev pub Tells : (State → Type 0) → Type 0
-  Tells P = new.doubt ≡ 0 → (s : State) → old.holds s → P s
+  abbrev pub Reports : (State → Type 0) → Type 0
+  Reports P = new.doubt ≡ 0 → (s : State) → old.holds s → P s
 
   -- the change is made, every survivor is the State, and the keeper goes on
   pub record Makes (change : Change) : Type 0 where
@@ -51,7 +51,7 @@ Changes old new change (Err Down) = IsQuiet old new
 -- A read: its answer holds for each State, nothing moves, a refusal is counted, and `Down` is answered
 -- exactly if the keeper is down.
 pub record Reads {X : Type 0} (old new : Model State) (result : Result X StoreFault) (IsSo : State → X → Type 0) : Type 0 where
-  pub value : IfOk result (λ x. Tells old new (λ s. IsSo s x))
+  pub value : IfOk result (λ x. Reports old new (λ s. IsSo s x))
   pub quiet : IsQuiet old new
   pub count : new.refusals ≡ count_after old.refusals result
   pub down : (result ≡ Err Down) ↔ IsTrue old.is_down

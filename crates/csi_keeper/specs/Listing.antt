@@ -12,8 +12,8 @@ abbrev pub listed_at : Volume → List Text → Listed
 listed_at v nodes = record { number = v.number; bytes = v.bytes; pool = v.pool; nodes = nodes }
 
 -- the entry of a borrowed row
-abbrev pub row_told : ListedRow → Listed
-row_told row = record { number = row.number; bytes = row.bytes; pool = row.pool.now; nodes = row.nodes.now }
+abbrev pub row_reported : ListedRow → Listed
+row_reported row = record { number = row.number; bytes = row.bytes; pool = row.pool.now; nodes = row.nodes.now }
 
 -- the entries of volumes and the nodes of each
 abbrev pub listed_each : List Volume → List (List Text) → List Listed

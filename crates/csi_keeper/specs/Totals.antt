@@ -39,8 +39,8 @@ abbrev pub HasRoom : Total → ℕ → Type 0
 HasRoom t bytes = (t.volumes + 1 < 2 ^ 64) × (t.bytes + bytes < 2 ^ 128)
 
 -- as a u64
-abbrev pub told : Total → Usage
-told t = record { volumes = up_to_u64 t.volumes; bytes = up_to_u64 t.bytes }
+abbrev pub reported : Total → Usage
+reported t = record { volumes = up_to_u64 t.volumes; bytes = up_to_u64 t.bytes }
 
 -- the pool has an entry, so its total is set without memory
 abbrev pub IsReserved : Totals → Text → Type 0

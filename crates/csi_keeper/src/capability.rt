@@ -4,12 +4,12 @@ ghost use Rattle.std.specs.Prelude.{◌≡◌, Some, IfOk};
 ghost use Rattle.csi_keeper.specs.Capability.{kind_cmp, mode_of, key_with, key_of, access_of, capability_of, is_supported_key, same_kind, same_key, wider_mode, wider_key, is_key, has_same, has_key};
 
 use csi_types::{
-    Access, Boxed, Capability, Items, Mount, Text, is_known_mode, writes_beside_others,
+    Access, Boxed, Capability, Items, Mount, Text, is_known_mode, is_multi_node_writer,
 };
 use std::alloc::{AllocError, Global};
 use std::cmp::Ordering;
 
-/// How a volume is offered (CSI 1.x, `VolumeCapability.access_type`).
+/// The way that a volume is offered (CSI 1.x, `VolumeCapability.access_type`).
 #[derive(Debug, Drop)]
 pub enum Kind {
     /// A raw block device (`BlockVolume`).
@@ -26,7 +26,7 @@ pub enum Kind {
 /// mode.
 #[derive(Debug, Drop)]
 pub struct CapKey {
-    /// Block or mount.
+    /// The access type: block, or mount with a file system type.
     pub kind: Kind,
     /// The number of the access mode (CSI 1.x, `VolumeCapability.AccessMode.Mode`), one of those known.
     pub mode: u8,
@@ -172,7 +172,7 @@ pub fn supported(key: &CapKey) -> bool
     let mode = Some(i32::from(key.mode));
     match key.kind {
         Kind::Block => is_known_mode(mode),
-        Kind::Mount(_) => is_known_mode(mode) && !writes_beside_others(mode),
+        Kind::Mount(_) => is_known_mode(mode) && !is_multi_node_writer(mode),
     }
 }
 

@@ -62,10 +62,10 @@ impl Change {
     }
 }
 
-/// How many volumes a pool has, and the sum of their bytes.
+/// The count of a pool's volumes, and the sum of their bytes.
 #[derive(Clone, Copy, Debug)]
 pub struct Usage {
-    /// How many volumes there are.
+    /// The number of volumes in the pool.
     pub volumes: u64,
     /// The sum of their bytes, or the greatest `u64` where that is smaller.
     pub bytes: u64,
@@ -76,7 +76,7 @@ pub struct Usage {
 pub enum StoreFault {
     /// Memory was refused.
     NoMemory,
-    /// What the keeper is over, as a file, refused the call.
+    /// The store below the keeper, such as a file, refused the call.
     Refused,
     /// The keeper is down: it answers nothing until it is opened again.
     Down,

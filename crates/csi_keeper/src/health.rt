@@ -18,14 +18,14 @@ use crate::change::StoreFault;
 /// ```
 #[derive(Drop)]
 pub struct Health {
-    /// How many calls were answered `Refused` or `Down`, up to the greatest `u64`.
+    /// The number of calls answered `Refused` or `Down`, up to the greatest `u64`.
     pub refusals: u64,
     /// Each further call is answered `Down`.
     pub is_down: bool,
 }
 
 impl Health {
-    /// Of a keeper that refused no call and is not down.
+    /// The health of a keeper before its first call.
     pub fn new() -> Health
         ensures fresh { result.refusals ≡ 0 }
         ensures up { result.is_down ≡ false }

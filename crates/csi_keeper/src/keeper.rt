@@ -37,11 +37,11 @@ use std::alloc::Global;
 /// holds is a State at all: new keepers have one, each change keeps one, and over a file with rows
 /// `csi_adoption::adopt` shows it.
 pub trait Keeper {
-    // What contracts see of it.
+    // The State, the survivors and the counts of the keeper, as contracts see them.
     ghost model: { Self → Model State };
 
-    /// How many calls were answered `Refused` or `Down` since the keeper was opened, up to the
-    /// greatest `u64`. It costs O(1), and is answered also while the keeper is down.
+    /// The number of calls answered `Refused` or `Down` since the keeper was opened, up to the greatest
+    /// `u64`. It costs O(1), and is answered also while the keeper is down.
     fn refusals(&self) -> u64
         ensures { result ≡ (model self.now).refusals };
 
@@ -85,8 +85,8 @@ pub trait Keeper {
     fn attached_at(&mut self, alloc: Global, node: &str) -> Result<Items<u64>, StoreFault>
         ensures { Reads (model self.old) (model self.new) result (λ s xs. xs ≡ attached_at s node.now) };
 
-    /// How many volumes are attached at a node: the count of what `attached_at` lists. It costs no more than
-    /// `attached_at`, and less where a keeper has the count at hand.
+    /// The number of volumes attached at a node: the count of the list of `attached_at`. It costs no more
+    /// than `attached_at`, and less if a keeper has the count at hand.
     fn count_at(&mut self, alloc: Global, node: &Text) -> Result<u64, StoreFault>
         ensures { Reads (model self.old) (model self.new) result (λ s n. n ≡ count_at s node.now) }
     {
@@ -99,9 +99,9 @@ pub trait Keeper {
     fn sizes_in(&mut self, alloc: Global, pool: &str) -> Result<Items<u64>, StoreFault>
         ensures { Reads (model self.old) (model self.new) result (λ s xs. xs ≡ sizes s pool.now) };
 
-    /// How many volumes a pool has, and the sum of their bytes, each up to the greatest `u64`: the
-    /// count and the sum of what `sizes_in` lists. A keeper has them at hand, so that a create costs
-    /// no more where a pool has many volumes.
+    /// The number of a pool's volumes and the sum of their bytes, each up to the greatest `u64`: the count
+    /// and the sum of the list of `sizes_in`. A keeper has them at hand, so a create costs no more in a
+    /// pool with many volumes.
     fn used_in(&mut self, pool: &Text) -> Result<Usage, StoreFault>
         ensures { Reads (model self.old) (model self.new) result (λ s u. u ≡ used s pool.now) };
 

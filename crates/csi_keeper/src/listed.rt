@@ -1,16 +1,16 @@
 //! What a listing says of volumes.
 
 ghost use Rattle.std.specs.Prelude.{◌≡◌, IfOk};
-ghost use Rattle.csi_keeper.specs.Listing.{listed_at, listed_each, row_told};
+ghost use Rattle.csi_keeper.specs.Listing.{listed_at, listed_each, row_reported};
 
 use crate::volume::Volume;
 use csi_types::{Items, Text};
 use std::alloc::{AllocError, Global};
 
-/// What a listing says of a volume (CSI 1.x, `ListVolumesResponse.Entry`).
+/// The part of a volume that a listing shows (CSI 1.x, `ListVolumesResponse.Entry`).
 #[derive(Drop)]
 pub struct Listed {
-    /// The number.
+    /// The volume's number.
     pub number: u64,
     /// The size in bytes.
     pub bytes: u64,
@@ -21,10 +21,10 @@ pub struct Listed {
 }
 
 impl Listed {
-    /// The same, by reference.
+    /// The same fields, borrowed.
     #[inline(always)]
     pub fn lent(&self) -> ListedRow<'_>
-        ensures { row_told result ≡ self.now }
+        ensures { row_reported result ≡ self.now }
     {
         ListedRow {
             number: self.number,
@@ -35,10 +35,10 @@ impl Listed {
     }
 }
 
-/// What a listing says of a volume, borrowed: the fields of [`Listed`].
+/// The part of a volume that a listing shows, borrowed: the fields of [`Listed`].
 #[derive(Drop)]
 pub struct ListedRow<'a> {
-    /// The number.
+    /// The volume's number.
     pub number: u64,
     /// The size in bytes.
     pub bytes: u64,
@@ -64,7 +64,7 @@ pub struct PageWithNodes {
 /// Where memory was refused.
 #[inline(always)]
 pub fn listed_at(alloc: Global, volume: &Volume, nodes: Items<Text>) -> Result<Listed, AllocError>
-    ensures { IfOk result (λ told. told ≡ listed_at volume.now nodes) }
+    ensures { IfOk result (λ reported. reported ≡ listed_at volume.now nodes) }
 {
     Ok(Listed {
         number: volume.number,
@@ -84,7 +84,7 @@ pub fn listed_each(
     volumes: &[Volume],
     nodes: Items<Items<Text>>,
 ) -> Result<Items<Listed>, AllocError>
-    ensures { IfOk result (λ told. told ≡ listed_each volumes.now nodes) }
+    ensures { IfOk result (λ reported. reported ≡ listed_each volumes.now nodes) }
 {
     let mut rest = nodes.into_vec().into_iter();
     let mut listed = Items::with_room(alloc, volumes.len())?;

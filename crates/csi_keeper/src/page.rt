@@ -1,8 +1,8 @@
 //! The volumes of a page, in order.
 
 ghost use Rattle.std.specs.Prelude.{◌++◌, ◌∷◌, [], List, OnOk};
-ghost use Rattle.csi_keeper.specs.Listing.{row_told};
-ghost use Rattle.csi_keeper.specs.declared.listed.Listed.{Listed as Told};
+ghost use Rattle.csi_keeper.specs.Listing.{row_reported};
+ghost use Rattle.csi_keeper.specs.declared.listed.Listed.{Listed as Report};
 
 use crate::listed::{Listed, ListedRow};
 use std::alloc::AllocError;
@@ -10,9 +10,9 @@ use std::alloc::AllocError;
 /// A fold over the entries of a listing, one by one in order.
 pub trait PageFold {
     /// The fold after the entries of volumes, in their order.
-    ghost folds: { Self → List Told → Self → Type 0 };
+    ghost folds: { Self → List Report → Self → Type 0 };
 
-    /// What stays of a fold also where it fails.
+    /// A relation that a fold keeps even if it fails.
     ghost keeps: { Self → Self → Type 0 };
 
     /// Takes the entry of the next volume.
@@ -21,8 +21,8 @@ pub trait PageFold {
     ///
     /// Where memory was refused.
     fn add(&mut self, row: &ListedRow<'_>) -> Result<(), AllocError>
-        ensures folded { OnOk result ((first : Self) (rows : List Told) → folds first rows self.old
-            → folds first (rows ++ row_told row.now ∷ []) self.new) }
+        ensures folded { OnOk result ((first : Self) (rows : List Report) → folds first rows self.old
+            → folds first (rows ++ row_reported row.now ∷ []) self.new) }
         ensures kept { (first : Self) → keeps first self.old → keeps first self.new };
 
     /// A fold over no volume does not change.

@@ -2,7 +2,7 @@
 
 ghost use Rattle.std.specs.Prelude.{◌≡◌, ◌↔◌, List, ℕ, false, IsTrue, OnOk, OnErr, if◌then◌else◌};
 ghost use Rattle.csi_types.specs.Maps.{same_text};
-ghost use Rattle.csi_keeper.specs.Totals.{total_of, told, more, less, zero_total, HasRoom, IsReserved};
+ghost use Rattle.csi_keeper.specs.Totals.{total_of, reported, more, less, zero_total, HasRoom, IsReserved};
 
 use crate::change::Usage;
 use csi_types::Text;
@@ -12,7 +12,7 @@ use std::collections::BTreeMap;
 /// The number of a pool's volumes, and the sum of their bytes.
 #[derive(Clone, Copy, Debug)]
 pub struct Total {
-    /// How many volumes there are.
+    /// The number of volumes counted.
     pub volumes: u64,
     /// The sum of their bytes.
     pub bytes: u128,
@@ -49,9 +49,9 @@ impl Totals {
         }
     }
 
-    /// How many volumes a pool has, and the sum of their bytes, up to the greatest `u64`.
+    /// The number of a pool's volumes and the sum of their bytes, each up to the greatest `u64`.
     pub fn usage(&self, pool: &Text) -> Usage
-        ensures { result ≡ told (total_of self.now pool.now) }
+        ensures { result ≡ reported (total_of self.now pool.now) }
     {
         let total = self.get(pool);
         Usage {
@@ -95,8 +95,8 @@ impl Totals {
         Ok(())
     }
 
-    /// Whether one volume more of this many bytes can be counted in a pool: it has fewer than
-    /// 2^64 - 1 volumes, and the sum stays below 2^128.
+    /// Whether one more volume of this many bytes can be counted in a pool: it has fewer than 2^64 - 1
+    /// volumes, and the sum stays below 2^128.
     pub fn has_room(&self, pool: &Text, bytes: u64) -> bool
         ensures { IsTrue result ↔ HasRoom (total_of self.now pool.now) bytes }
     {

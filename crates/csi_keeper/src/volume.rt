@@ -14,7 +14,7 @@ pub struct Volume {
     pub bytes: u64,
     /// The name of the pool that it takes its bytes from.
     pub pool: Text,
-    /// What it may be used as, in the order of keys and without doubles.
+    /// The uses that the volume was made for: capability keys in order, without doubles.
     pub caps: Items<CapKey>,
     /// The parameters that it was created with (`CreateVolumeRequest.parameters`).
     pub params: Map,
@@ -28,7 +28,7 @@ pub struct Volume {
 pub struct Attachment {
     /// The id of the node, at most 256 bytes.
     pub node: Text,
-    /// What the volume is used as there.
+    /// The use of the volume at the node: one of the volume's capability keys.
     pub cap: CapKey,
     /// Whether it is only read there.
     pub readonly: bool,

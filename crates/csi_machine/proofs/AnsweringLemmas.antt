@@ -26,17 +26,17 @@ use Rattle.csi_machine.specs.Answering.{Answered, Carries, IsOfAll, Performs, st
 use Rattle.csi_keeper.specs.Capability.{have_keys}
 use Rattle.csi_rules.specs.Choice.{Room, rooms, free}
 use Rattle.csi_machine.specs.Configured.{IsConfigured}
-use Rattle.csi_rules.specs.Down.{TellsDown}
+use Rattle.csi_rules.specs.Down.{ReportsDown}
 use Rattle.csi_rules.specs.Ids.{number_of_id}
 use Rattle.csi_keeper.specs.Invariant.{IsInvariant}
-use Rattle.csi_keeper.specs.Keeper.{IsQuiet, Tells, count_after}
+use Rattle.csi_keeper.specs.Keeper.{IsQuiet, Reports, count_after}
 use Rattle.csi_keeper.specs.Model.{Model}
 use Rattle.csi_machine.specs.Plan.{after, refuse}
 use Rattle.csi_rules.specs.Size.{whole}
 use Rattle.csi_keeper.specs.State.{State, Allows}
 use Rattle.csi_machine.specs.Step.{is_of_plugin, is_read, NamesNone, plan, limited, limited_by, settled_plan, moved, step}
-use Rattle.csi_machine.specs.Verdicts.{Told, Says, Denies, reported_of, Appended, IsReported, verdict_of}
-use Rattle.csi_machine.specs.calls.Capacity.{capacity_of, served, greatest_size, tell_capacity}
+use Rattle.csi_machine.specs.Verdicts.{Report, Says, Denies, reported_of, Appended, IsReported, verdict_of}
+use Rattle.csi_machine.specs.calls.Capacity.{capacity_of, served, greatest_size, report_capacity}
 use Rattle.csi_machine.specs.calls.Listing.{list_after, start_of}
 use Rattle.csi_machine.specs.Modify.{modify}
 use Rattle.csi_machine.specs.calls.Publish.{publish}
@@ -65,12 +65,12 @@ left_of : (p q : Plan) (s t : State) (Old : Type 0) → p ≡ q → Old ⊎ (IsS
 left_of p q s t Old e = subst (λ (x : Plan). Old ⊎ (IsSome p.change × (t ≡ after s p.change)) → Old ⊎ (IsSome x.change × (t ≡ after s x.change))) e (λ h. h)
 
 pub carried : (config : Config) (plan : State → Plan) (a b c : Model State) (p : Plan) (x y : List ℕ) (result : Result Verdict StoreFault) → IsSound config plan
-    → IsQuiet a b → Tells a b (λ s. p ≡ plan s) → (a.is_down ≡ true → (s : State) → p ≡ plan s) → Carries p b c result
+    → IsQuiet a b → Reports a b (λ s. p ≡ plan s) → (a.is_down ≡ true → (s : State) → p ≡ plan s) → Carries p b c result
     → b.refusals ≡ a.refusals → OnOk result (y ≡ x ++ body_of p.outcome) → OnErr result (y ≡ x) → OnOk result (length (body_of p.outcome) ≤ MAX_BODY_BYTES)
     → Answered config plan a c x y result
-carried config plan a b c p x y (Err e) sound q tells alone k before ok err small =
+carried config plan a b c p x y (Err e) sound q reports alone k before ok err small =
     let mid : c.doubt ≡ 0 → b.doubt ≡ 0 = λ d. omega (arith, k.clean) in
-    let may : (d : c.doubt ≡ 0) (s : State) → a.holds s → IsInvariant config s → IfSome p.change (Allows s) = λ d s h inv. subst (λ (x : Plan). IfSome x.change (Allows s)) (sym (tells (mid d) s h)) (sound.allows s inv) in
+    let may : (d : c.doubt ≡ 0) (s : State) → a.holds s → IsInvariant config s → IfSome p.change (Allows s) = λ d s h inv. subst (λ (x : Plan). IfSome x.change (Allows s)) (sym (reports (mid d) s h)) (sound.allows s inv) in
     record {
       clean = omega (arith, q.clean, k.clean);
       verdict = tt;
@@ -78,10 +78,10 @@ carried config plan a b c p x y (Err e) sound q tells alone k before ok err smal
       state = tt;
       kept = tt;
       settled = tt;
-      quiet = λ d s h inv none. quiet_then q (k.quiet (ap (λ (x : Plan). x.change) (tells (mid d) s h) ∙ none));
+      quiet = λ d s h inv none. quiet_then q (k.quiet (ap (λ (x : Plan). x.change) (reports (mid d) s h) ∙ none));
       count = subst (λ n. c.refusals ≡ count_after {X = Verdict} n (Err e)) before k.count;
       same = λ d s h inv. k.same d s (q.state (mid d) s h) (may d s h inv);
-      crash = λ d s h inv t u. left_of p (plan s) s t (a.survivors t) (tells (mid d) s h) (elim (k.crash d s (q.state (mid d) s h) (may d s h inv) t u) as (λ _. a.survivors t ⊎ (IsSome p.change × (t ≡ after s p.change))) [
+      crash = λ d s h inv t u. left_of p (plan s) s t (a.survivors t) (reports (mid d) s h) (elim (k.crash d s (q.state (mid d) s h) (may d s h inv) t u) as (λ _. a.survivors t ⊎ (IsSome p.change × (t ≡ after s p.change))) [
         | inl v ↦ inl (q.crash (mid d) t v)
         | inr e ↦ inr e
       ]);
@@ -90,25 +90,25 @@ carried config plan a b c p x y (Err e) sound q tells alone k before ok err smal
       ties = λ d s h inv t. k.ties d s (q.state (mid d) s h) (may d s h inv) (q.ties (mid d) t);
       down = record { down = λ is. sym q.down ∙ k.down.down is; refused = λ is. sym q.down ∙ k.down.refused is; unasked = λ is. tt };
     }
-carried config plan a b c p x y (Ok v) sound q tells alone k before ok err small =
+carried config plan a b c p x y (Ok v) sound q reports alone k before ok err small =
     let mid : c.doubt ≡ 0 → b.doubt ≡ 0 = λ d. omega (arith, k.clean) in
-    let may : (d : c.doubt ≡ 0) (s : State) → a.holds s → IsInvariant config s → IfSome p.change (Allows s) = λ d s h inv. subst (λ (x : Plan). IfSome x.change (Allows s)) (sym (tells (mid d) s h)) (sound.allows s inv) in
+    let may : (d : c.doubt ≡ 0) (s : State) → a.holds s → IsInvariant config s → IfSome p.change (Allows s) = λ d s h inv. subst (λ (x : Plan). IfSome x.change (Allows s)) (sym (reports (mid d) s h)) (sound.allows s inv) in
     record {
       clean = omega (arith, q.clean, k.clean);
-      verdict = λ d s h inv. (k.verdict ∙ ap (λ (x : Plan). verdict_of x.outcome) (tells (mid d) s h), ok ∙ ap (λ (w : Plan). x ++ body_of w.outcome) (tells (mid d) s h));
+      verdict = λ d s h inv. (k.verdict ∙ ap (λ (x : Plan). verdict_of x.outcome) (reports (mid d) s h), ok ∙ ap (λ (w : Plan). x ++ body_of w.outcome) (reports (mid d) s h));
       appended = appended_by x y p.outcome v k.verdict ok small;
-      state = λ d s h inv. subst (λ (x : Plan). c.holds (after s x.change)) (tells (mid d) s h) (k.state d s (q.state (mid d) s h) (may d s h inv));
+      state = λ d s h inv. subst (λ (x : Plan). c.holds (after s x.change)) (reports (mid d) s h) (k.state d s (q.state (mid d) s h) (may d s h inv));
       kept = λ s inv. sound.keeps s inv;
       same = tt;
       count = k.count ∙ before;
-      crash = λ d s h inv t u. left_of p (plan s) s t (a.survivors t) (tells (mid d) s h) (elim (k.crash d s (q.state (mid d) s h) (may d s h inv) t u) as (λ _. a.survivors t ⊎ (IsSome p.change × (t ≡ after s p.change))) [
+      crash = λ d s h inv t u. left_of p (plan s) s t (a.survivors t) (reports (mid d) s h) (elim (k.crash d s (q.state (mid d) s h) (may d s h inv) t u) as (λ _. a.survivors t ⊎ (IsSome p.change × (t ≡ after s p.change))) [
         | inl v ↦ inl (q.crash (mid d) t v)
         | inr e ↦ inr e
       ]);
       idle = λ is d t u. q.crash (mid d) t (k.idle is d t u);
       stays = λ is. k.stays (q.down ∙ is);
-      settled = λ d s h inv some t u. k.settled d s (q.state (mid d) s h) (may d s h inv) (subst (λ (x : Plan). IsSome x.change) (sym (tells (mid d) s h)) some) t u ∙ ap (λ (x : Plan). after s x.change) (tells (mid d) s h);
-      quiet = λ d s h inv none. quiet_then q (k.quiet (ap (λ (x : Plan). x.change) (tells (mid d) s h) ∙ none));
+      settled = λ d s h inv some t u. k.settled d s (q.state (mid d) s h) (may d s h inv) (subst (λ (x : Plan). IsSome x.change) (sym (reports (mid d) s h)) some) t u ∙ ap (λ (x : Plan). after s x.change) (reports (mid d) s h);
+      quiet = λ d s h inv none. quiet_then q (k.quiet (ap (λ (x : Plan). x.change) (reports (mid d) s h) ∙ none));
       ties = λ d s h inv t. k.ties d s (q.state (mid d) s h) (may d s h inv) (q.ties (mid d) t);
       down = record {
         down = λ is. absurd (cc);
@@ -157,7 +157,7 @@ moved_by s p (Ok r) = go (nat_le (length (response_bytes r)) MAX_BODY_BYTES)
 pub moved_is : (config : Config) (s : State) (r : Request) → after s (settled_plan config s r).change ≡ (step config s r).1
 moved_is config s r = moved_by s (plan config s r) (plan config s r).outcome
 
-said : Result Response Reason → Told
+said : Result Response Reason → Report
 said (Ok r) = Says (response_bytes r)
 said (Err q) = Denies q
 
@@ -173,12 +173,12 @@ said_by p (Ok r) e = go (nat_le (length (response_bytes r)) MAX_BODY_BYTES)
 said_is : (config : Config) (s : State) (r : Request) → (step config s r).0 ≡ said (settled_plan config s r).outcome
 said_is config s r = said_by (plan config s r) (plan config s r).outcome refl
 
-told_by : (o : Result Response Reason) (w : Told) (v : Verdict) (x y : List ℕ) → w ≡ said o → v ≡ verdict_of o → y ≡ x ++ body_of o → IsReported {E = StoreFault} w x y (Ok v)
+reported_by : (o : Result Response Reason) (w : Report) (v : Verdict) (x y : List ℕ) → w ≡ said o → v ≡ verdict_of o → y ≡ x ++ body_of o → IsReported {E = StoreFault} w x y (Ok v)
 unfolding said
-told_by (Ok r) w verdict.Done x y e f b = (response_bytes r, e, b)
-told_by (Ok r) w (verdict.Refused q) x y e f b = absurd (cc)
-told_by (Err q) w verdict.Done x y e f b = absurd (cc)
-told_by (Err q) w (verdict.Refused t) x y e f b = e ∙ ap Denies (sym (same t q f))
+reported_by (Ok r) w verdict.Done x y e f b = (response_bytes r, e, b)
+reported_by (Ok r) w (verdict.Refused q) x y e f b = absurd (cc)
+reported_by (Err q) w verdict.Done x y e f b = absurd (cc)
+reported_by (Err q) w (verdict.Refused t) x y e f b = e ∙ ap Denies (sym (same t q f))
   where
     same : (a b : _) → verdict.Refused a ≡ verdict.Refused b → a ≡ b
     same a b h = cc
@@ -188,10 +188,10 @@ leaves_by : (old new : State → Type 0) (s : State) (c : Option Change) → ((u
 leaves_by old new s None crash settled = inl (refl, λ u k. elim (crash u k) as (λ _. old u) [ inl o ↦ o | inr n ↦ absurd (cc (n.0)) ])
 leaves_by old new s (Some c) crash settled = inr (settled refl)
 
-tells : (config : Config) (r : Request) (a b : Model State) (x y : List ℕ) (result : Result Verdict StoreFault) → Answered config (λ s. settled_plan config s r) a b x y result
+reports : (config : Config) (r : Request) (a b : Model State) (x y : List ℕ) (result : Result Verdict StoreFault) → Answered config (λ s. settled_plan config s r) a b x y result
     → Promises config a b (λ s. IsReported (step config s r).0 x y result)
-tells config r a b x y (Err e) did d s h inv = tt
-tells config r a b x y (Ok v) did d s h inv = let is = did.verdict d s h inv in told_by (settled_plan config s r).outcome (step config s r).0 v x y (said_is config s r) is.0 is.1
+reports config r a b x y (Err e) did d s h inv = tt
+reports config r a b x y (Ok v) did d s h inv = let is = did.verdict d s h inv in reported_by (settled_plan config s r).outcome (step config s r).0 v x y (said_is config s r) is.0 is.1
 
 state : (config : Config) (r : Request) (a b : Model State) (x y : List ℕ) (result : Result Verdict StoreFault) → Answered config (λ s. settled_plan config s r) a b x y result
     → Promises config a b (λ s. b.holds (state_after s (step config s r).1 result))
@@ -213,23 +213,23 @@ left config r a b x y (Ok w) did d s h inv =
 
 -- over a keeper that is down
 alone : (config : Config) (r : Request) (a b : Model State) (x y : List ℕ) (result : Result Verdict StoreFault) → Answered config (λ s. settled_plan config s r) a b x y result
-    → TellsDown (a.is_down) (IsOfAll config r x y) result
+    → ReportsDown (a.is_down) (IsOfAll config r x y) result
 alone config r a b x y (Err e) did = record { down = did.down.down; refused = did.down.refused; unasked = λ is. tt }
 alone config r a b x y (Ok v) did = record {
   down = did.down.down;
   refused = did.down.refused;
   unasked = λ is s.
       let so = did.down.unasked is s in
-      (told_by (settled_plan config s r).outcome (step config s r).0 v x y (said_is config s r) so.0 so.1, sym (moved_is config s r) ∙ ap (after s) so.2);
+      (reported_by (settled_plan config s r).outcome (step config s r).0 v x y (said_is config s r) so.0 so.1, sym (moved_is config s r) ∙ ap (after s) so.2);
 }
 
--- what is answered by the plan of a request performs it
+-- the answer by a request's plan performs the request
 pub performed : (config : Config) (r : Request) (a b : Model State) (x y : List ℕ) (result : Result Verdict StoreFault) → (IsTrue (is_of_plugin r) → IsQuiet a b × IfErr result (λ e. e ≡ NoMemory))
     → (NamesNone r → IsQuiet a b × IfErr result (λ e. e ≡ NoMemory)) → Answered config (λ s. settled_plan config s r) a b x y result → Performs config r a b x y result
 performed config r a b x y result unasked unnamed did = record {
   clean = did.clean;
   appended = did.appended;
-  told = tells config r a b x y result did;
+  reported = reports config r a b x y result did;
   state = state config r a b x y result did;
   counted = did.count;
   left = left config r a b x y result did;
@@ -241,8 +241,8 @@ performed config r a b x y result unasked unnamed did = record {
   stays = did.stays;
 }
 
--- What is answered by reads alone, and changes nothing, performs a request.
-still_moved : (s : State) (w : Told) → moved s s w ≡ s
+-- An answer from reads alone, without a change, performs a request.
+still_moved : (s : State) (w : Report) → moved s s w ≡ s
 still_moved s (Says body) = refl
 still_moved s (Denies reason) = refl
 
@@ -255,7 +255,7 @@ pub fault_performed : {X : Type 0} {IsSo : State → X → Type 0} (config : Con
 fault_performed config r a b x y e asks names found appended = record {
   clean = found.quiet.clean;
   appended = appended;
-  told = λ d s h inv. tt;
+  reported = λ d s h inv. tt;
   state = λ d s h inv. found.quiet.state d s h;
   counted = found.count;
   left = λ d s h inv. still_left e s _ (found.quiet.crash d);
@@ -282,7 +282,7 @@ still_performed config r a b x y (Err e) asks names still found appended = fault
 still_performed config r a b x y (Ok v) asks names still found appended = record {
   clean = found.quiet.clean;
   appended = appended;
-  told = λ d s h inv. found.value d s h;
+  reported = λ d s h inv. found.value d s h;
   state = λ d s h inv. subst b.holds (sym (still_step config s r (still s))) (found.quiet.state d s h);
   counted = found.count;
   left = λ d s h inv. inl (still_step config s r (still s), found.quiet.crash d);
@@ -306,7 +306,7 @@ list_still config s most None = refl
 list_still config s most (Some n) = refl
 
 capacity_still : (config : Config) (rs : List Room) (r : GetCapacity) → (capacity_of config rs r).change ≡ None
-capacity_still config rs r = elim (list_all is_supported r.capabilities) as (λ b. (cond b (tell_capacity (sum_by free (served rs r.topology)) (greatest_size config (served rs r.topology))) (tell_capacity 0 0)).change ≡ None) [ true ↦ refl | false ↦ refl ]
+capacity_still config rs r = elim (list_all is_supported r.capabilities) as (λ b. (cond b (report_capacity (sum_by free (served rs r.topology)) (greatest_size config (served rs r.topology))) (report_capacity 0 0)).change ≡ None) [ true ↦ refl | false ↦ refl ]
 
 -- the plan of a request whose method changes nothing has no change
 pub plan_still : (config : Config) (s : State) (r : Request) → is_read r ≡ true → (plan config s r).change ≡ None

@@ -1,4 +1,4 @@
--- What is free in some pools is at most what is free in all.
+-- The free bytes of some pools are at most the free bytes of all pools.
 use Rattle.std.proofs.Common.{◌≡◌, arith, cond, ℕ, ◌≤◌, ◌<◌, ◌^◌, List, [], ◌∷◌, map, sum_by, true, false, Option, ap}
 use Rattle.std.proofs.lemmas.List.Sums.{sum_by-cons}
 use Rattle.csi_types.specs.Maps.{TextMap}
@@ -28,9 +28,9 @@ free_le (r ∷ rs) = omega (arith, sum_by-cons free (room_value r) (map room_val
 pub rooms_fit : (config : Config) (rs : List code.Room) → all_bytes config.pools ≤ 2 ^ 62 → map (λ r. r.pool.now) rs ≡ config.pools → sum_by free (map room_value rs) ≤ 2 ^ 62
 rooms_fit config rs few e = let le = free_le rs in let same = ap (sum_by (λ (p : Pool). p.bytes)) e in omega (arith, few, le, same)
 
--- what is free in the pools that serve a topology is reported as it is
+-- the free bytes in the pools that serve a topology are reported unchanged
 pub sum_small : (rs : List Room) (t : Option TextMap) (n : ℕ) → sum_by free rs ≤ 2 ^ 62 → n ≡ up_to_u64 (sum_by free (served rs t)) → n ≤ 2 ^ 62
 sum_small rs t n h e = let le = served_le rs t in omega (arith, h, e, le)
 
-pub served_told : (rs : List Room) (t : Option TextMap) → sum_by free rs ≤ 2 ^ 62 → up_to_u64 (sum_by free (served rs t)) ≡ sum_by free (served rs t)
-served_told rs t h = served_fits rs t (omega (arith, h))
+pub served_reported : (rs : List Room) (t : Option TextMap) → sum_by free rs ≤ 2 ^ 62 → up_to_u64 (sum_by free (served rs t)) ≡ sum_by free (served rs t)
+served_reported rs t h = served_fits rs t (omega (arith, h))

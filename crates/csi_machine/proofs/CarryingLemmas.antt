@@ -85,7 +85,7 @@ module _ {X : Type 0} (p : Plan) (change : Change) (a b : Model State) (has : p.
   by_fault Refused did = refused did
   by_fault Down did = was_down did
 
-  -- the change was refused, and so is what is answered
+  -- the change was refused, and so is the call
   pub not_carried : (made : Result X StoreFault) (result : Result Verdict StoreFault) (e : StoreFault) → made ≡ Err e → result ≡ Err e → Applies a b change made → Carries p a b result
   not_carried made result e f is did =
       subst (λ (r : Result Verdict StoreFault). Carries p a b r) (sym is) (by_fault e (subst (λ (m : Result X StoreFault). Applies a b change m) f did))

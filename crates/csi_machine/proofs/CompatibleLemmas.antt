@@ -1,4 +1,4 @@
--- A volume is as the request asks for which it was made.
+-- A volume is compatible with the request that made it.
 use Rattle.std.proofs.Common.{◌≡◌, ◌∙◌, ◌⊎◌, inl, inr, ap, subst, cond, arith, refl, ℕ, ◌+◌, ◌-◌, ◌≤◌, ◌==◌, min, nat_lt, nat_le, List, [], ◌∷◌, map, find, Bool, true, false, not, ◌&&◌, ◌||◌, Option, Some, None}
 use Rattle.std.specs.List.{list_any, filter_map, cons_option}
 use Rattle.std.specs.Option.{option_to_list}

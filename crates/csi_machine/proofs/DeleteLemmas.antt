@@ -23,7 +23,7 @@ use Rattle.csi_keeper.specs.facts.Sums.{taken_sum}
 abbrev Row : Type 0
 Row = AttachmentKey × Attachment
 
--- an attachment that stands is among those of its volume
+-- an existing attachment is among its volume's attachments
 among : (es : List Row) (n : ℕ) (node : Text) (a : Attachment) → fin.find attachment_key_cmp (n, node) es ≡ Some a → map (λ e. e.1) (filter (λ e. e.0.0 == n) es) ≡ [] → ⊥
 among [] n node a f e = none_some a f
 among (r ∷ es) n node a f e = go (eq_by_cmp attachment_key_cmp (n, node) r.0) refl (r.0.0 == n) refl f e (among es n node a)

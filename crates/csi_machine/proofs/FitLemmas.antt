@@ -1,4 +1,4 @@
--- A volume that was made is reported in a reply: what is written of it is far shorter than a body may be.
+-- A new volume is reported in a reply: its entry is far shorter than the longest body.
 use Rattle.std.proofs.Common.{◌≡◌, ◌∙◌, ap, sym, subst, cond, arith, refl, ℕ, zero, suc, ◌+◌, ◌*◌, ◌/◌, ◌%◌, ◌==◌, ◌<◌, ◌≤◌, ◌^◌, nat_lt, nat_le, List, [], ◌∷◌, ◌++◌, length, map, take, codes, Bool, true, false, ◌&&◌, ◌||◌, Option, Some, None, option_map, inl, inr}
 use Rattle.std.specs.Cmp.Lexicographic.{slice_cmp}
 use Rattle.std.specs.FinMap as fin
@@ -176,7 +176,7 @@ second_off : (a b : Bool) → (a || b) ≡ false → b ≡ false
 second_off true b h = absurd (cc)
 second_off false b h = h
 
--- a rule that no pool breaks, by whatever stands before it
+-- if no place is found for a test, no pool meets it
 nowhere : (test : Pool → Bool) (n : ℕ) (ps : List Pool) → position_from (λ e. test e.1) n (enumerate_from n ps) ≡ None → (p : Pool) → Has ps p → test p ≡ false
 nowhere test n [] off p h = absurd h
 nowhere test n (q ∷ ps) off p h = go (λ rest off. nowhere test (n + 1) ps off p rest) (test q) refl off
@@ -222,7 +222,7 @@ name_short name e =
     let most : length name ≤ MAX_NAME_BYTES = leb-true (length name) MAX_NAME_BYTES inner.1 in
     omega (arith, most)
 
--- what is reported of a volume in a pool of the configuration fits into a reply
+-- the entry of a volume in a pool of the configuration fits into a reply
 pub made_fits : (config : Config) → ((p : Pool) → Has config.pools p → is_pool_name p.name ≡ true) → ((p : Pool) → Has config.pools p → fin.len p.segments ≤ MAX_SEGMENTS)
     → (p : Pool) → Has config.pools p → (v : Volume) → v.pool ≡ p.name → v.number < 2 ^ 62 → length (response_bytes (response.Create (Some (info_at p.segments v)))) ≤ MAX_BODY_BYTES
 made_fits config names few p h v is number =

@@ -81,7 +81,7 @@ modified n own given c e = go (nat_lt MAX_MAP_BYTES (map_bytes (laid_over own gi
 some_there : (o : Option Volume) (v : Volume) → o ≡ Some v → IsSome o
 some_there o v e = subst IsSome (sym e) refl
 
--- what is modified is allowed, and keeps the invariant
+-- a modification is allowed, and keeps the invariant
 pub modify_fits : (config : Config) (r : Modify) (s : State) (c : Change) → IsInvariant config s → (modify s r).change ≡ Some c → IsFit config s c
 modify_fits config r s c inv e = by_number (number_of_id r.volume_id) e
   where
@@ -97,8 +97,8 @@ modify_fits config r s c inv e = by_number (number_of_id r.volume_id) e
 
 -- It is done with when it is asked again.
 
--- what is laid over a map has its values there, and laid over once more it changes nothing; a map has its own
--- values
+-- an overlaid map has the overlay's values, and the same overlay changes nothing the second time; a map
+-- has its own values
 pub record AreLaid : Type 0 where
   pub given : (m given : TextMap) → has_each (laid_over m given) given ≡ true
   pub again : (m given : TextMap) → laid_over (laid_over m given) given ≡ laid_over m given
@@ -111,7 +111,7 @@ modified_there s n m v e =
     ∙ fin.get-insert nat_cmp_total s.volumes n (with_mutable m v) n
     ∙ ap (λ b. cond b (Some (with_mutable m v)) (fin.get s.volumes n)) (ap is_eq (tied_itself nat_cmp_total n))
 
--- the plan for a volume that has what was laid over
+-- the plan for a volume that has the overlay already
 done_with : AreLaid → (n : ℕ) (own given : TextMap) → nat_lt MAX_MAP_BYTES (map_bytes (laid_over own given)) ≡ false → modify_own n (laid_over own given) given ≡ respond response.Modify
 done_with laws n own given small =
     let laid = laid_over own given in
@@ -129,16 +129,16 @@ quiet_by n own given c e = go (nat_lt MAX_MAP_BYTES (map_bytes (laid_over own gi
     go false true k = absurd (none_some c k)
     go false false k = refl
 
--- what is answered, without a change
-abbrev pub told_still : Result Response Reason → Plan
-told_still o = record { outcome = o; change = None }
+-- an answer without a change
+abbrev pub reported_still : Result Response Reason → Plan
+reported_still o = record { outcome = o; change = None }
 
 -- the plan after a change is the same, and makes none
-pub modify_quiet : AreLaid → (r : Modify) (s : State) (c : Change) → (modify s r).change ≡ Some c → modify (changed s c) r ≡ told_still (modify s r).outcome
+pub modify_quiet : AreLaid → (r : Modify) (s : State) (c : Change) → (modify s r).change ≡ Some c → modify (changed s c) r ≡ reported_still (modify s r).outcome
 modify_quiet laws r s c e = by_number (number_of_id r.volume_id) e
   where
     by_volume : (n : ℕ) (o : Option Volume) → fin.get s.volumes n ≡ o → (modify_found r (numbered n o)).change ≡ Some c
-        → modify_found r (numbered n (fin.get (changed s c).volumes n)) ≡ told_still (modify_found r (numbered n o)).outcome
+        → modify_found r (numbered n (fin.get (changed s c).volumes n)) ≡ reported_still (modify_found r (numbered n o)).outcome
     by_volume n None there h = absurd (none_some c h)
     by_volume n (Some v) there h =
         let m = modified n v.mutable r.mutable c h in
@@ -146,8 +146,8 @@ modify_quiet laws r s c e = by_number (number_of_id r.volume_id) e
         let now : modify_found r (numbered n (fin.get (changed s (SetMutable n laid)).volumes n)) ≡ respond response.Modify =
         ap (λ (o : Option Volume). modify_found r (numbered n o)) (modified_there s n laid v there) ∙ done_with laws n v.mutable r.mutable m.small in
         subst (λ (d : Change). modify_found r (numbered n (fin.get (changed s d).volumes n)) ≡ respond response.Modify) (sym m.is) now
-        ∙ ap told_still (sym (quiet_by n v.mutable r.mutable c h))
+        ∙ ap reported_still (sym (quiet_by n v.mutable r.mutable c h))
 
-    by_number : (o : Option ℕ) → (modify_found r (volume_at s o)).change ≡ Some c → modify_found r (volume_at (changed s c) o) ≡ told_still (modify_found r (volume_at s o)).outcome
+    by_number : (o : Option ℕ) → (modify_found r (volume_at s o)).change ≡ Some c → modify_found r (volume_at (changed s c) o) ≡ reported_still (modify_found r (volume_at s o)).outcome
     by_number None h = absurd (none_some c h)
     by_number (Some n) h = by_volume n (fin.get s.volumes n) refl h

@@ -11,12 +11,12 @@ use Rattle.csi_keeper.specs.facts.Finite.{both}
 use Rattle.csi_keeper.specs.facts.Orders.{less_is}
 use Rattle.csi_machine.specs.calls.Listing.{entries_for, listed, last_of}
 
--- a moment at which a page is asked for: the State, and how many entries are asked for
+-- the moment of a request for a page: the State, and the number of entries that it asks for
 abbrev pub Moment : Type 0
 Moment = State × ℕ
 
--- the volumes of the pages, of which the first begins after a number, and each other after the last volume of
--- the page before
+-- the volumes of the pages: the first page begins after a number, and each other page after the last
+-- volume of the page before
 abbrev pub walked : ℕ → List Moment → List (List Volume)
 walked after [] = []
 walked after (m ∷ ms) = listed m.0 after m.1 ∷ walked (last_of after (listed m.0 after m.1)) ms
@@ -26,7 +26,7 @@ abbrev pub Rises : ℕ → List Volume → Type 0
 Rises n [] = Unit {0}
 Rises n (v ∷ vs) = (n < v.number) × Rises v.number vs
 
--- each volume of the moments stands under its number
+-- each volume of the moments exists under its number
 abbrev pub AreNumbered : List Moment → Type 0
 AreNumbered ms = AllByRecursion (λ m. AllByRecursion (λ e. e.1.number ≡ e.0) (fin.entries m.0.volumes)) ms
 
@@ -39,11 +39,11 @@ abbrev pub Lists : ℕ → List Volume → Type 0
 Lists n [] = ⊥
 Lists n (v ∷ vs) = (v.number ≡ n) ⊎ Lists n vs
 
--- a volume of the number stands at each moment
+-- a volume of the number exists at each moment
 abbrev pub Stands : ℕ → List Moment → Type 0
 Stands n ms = AllByRecursion (λ m. (v : Volume) × (fin.get m.0.volumes n ≡ Some v)) ms
 
--- the last page is the one after which nothing stands
+-- no volume comes after the last page
 abbrev pub Ends : ℕ → List Moment → Type 0
 Ends after [] = ⊥
 Ends after (m ∷ []) = beyond m.0 (last_of after (listed m.0 after m.1)) ≡ []
@@ -87,7 +87,7 @@ rises_beyond n (e ∷ es) s i =
       | inr b ↦ subst (λ b. Rises n (map (λ e. e.1) (cond b (e ∷ filter (λ e. nat_lt n e.0) es) (filter (λ e. nat_lt n e.0) es)))) (sym b.0) (rises_beyond n es two.1 i.1)
     ]
 
--- over the whole walk the numbers rise, so none is listed twice
+-- over the whole walk the numbers rise, so no volume is listed twice
 pub walked_rises : (after : ℕ) (ms : List Moment) → AreNumbered ms → Rises after (joined (walked after ms))
 walked_rises after [] h = tt
 walked_rises after (m ∷ ms) h =
@@ -138,7 +138,7 @@ up_or_after a b = elim (leb_tells a b) as (λ _. (a ≤ b) ⊎ (b < a)) [ inl x 
 lists_beyond : (s : State) (after n : ℕ) (v : Volume) → IsNumbered (fin.entries s.volumes) → after < n → fin.get s.volumes n ≡ Some v → Lists n (beyond s after)
 lists_beyond s after n v i h g = lists_filter after n (fin.entries s.volumes) v i h (sym (fin.get-entries s.volumes n) ∙ g)
 
--- what stands from the first page to the last is listed
+-- a volume that exists from the first page to the last is listed
 pub walked_lists : (after n : ℕ) (ms : List Moment) → AreNumbered ms → Stands n ms → after < n → Ends after ms → Lists n (joined (walked after ms))
 walked_lists after n [] i st h e = absurd e
 walked_lists after n (m ∷ []) i st h e =

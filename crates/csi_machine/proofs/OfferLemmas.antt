@@ -32,14 +32,14 @@ use Rattle.csi_machine.specs.Offer.{term_of, exactly, AsksFor, IsNew}
 use Rattle.csi_rules.specs.Info.{info_at}
 use Rattle.csi_machine.specs.Plan.{after, refuse}
 use Rattle.csi_machine.specs.declared.plan.Plan.{Plan}
-use Rattle.csi_machine.specs.Verdicts.{Told, Says, Denies, reported_of}
+use Rattle.csi_machine.specs.Verdicts.{Report, Says, Denies, reported_of}
 use Rattle.envelope.specs.declared.limits.TheConstants.{MAX_BODY_BYTES}
 use Rattle.csi_rules.specs.Size.{size, within, requested_bytes, rounded_up, rounded_down}
 use Rattle.csi_keeper.specs.State.{State, changed, used, sizes}
 use Rattle.csi_keeper.specs.declared.change.Change.TheVariants.{AddVolume}
 use Rattle.csi_keeper.specs.Texts.{Text}
 use Rattle.csi_rules.specs.Topology.{serves, terms}
-use Rattle.csi_machine.specs.calls.Capacity.{capacity, served, is_served, greatest, greatest_size, tell_capacity}
+use Rattle.csi_machine.specs.calls.Capacity.{capacity, served, is_served, greatest, greatest_size, report_capacity}
 use Rattle.csi_machine.specs.Step.{moved, step}
 use Rattle.csi_machine.specs.calls.Create.{create, create_named, made, place, place_in}
 use Rattle.csi_machine.proofs.FitLemmas.{made_fits}
@@ -48,7 +48,7 @@ use Rattle.csi_machine.proofs.CreateLemmas.{chosen, has_map}
 use Rattle.csi_keeper.specs.facts.Finite.{all_entries, none_listed}
 use Rattle.csi_keeper.specs.facts.Sums.{in_order, total_cons}
 
--- What is free is a multiple of 1 MiB.
+-- The free bytes are a multiple of 1 MiB.
 
 abbrev IsTimes : ℕ → Type 0
 IsTimes n = (k : ℕ) × (n ≡ k * GRANULE_BYTES)
@@ -151,7 +151,7 @@ has_place rs t n h le none =
     no_map None e = refl
     no_map (Some r) e = absurd (cc)
 
--- none is chosen for a term that is one of those for which none is
+-- no pool is chosen for a term in a list if no pool is chosen for any term of the list
 none_of : (rs : List Room) (ts : List TextMap) (t : TextMap) (n : ℕ) → Has ts t → choice rs ts n ≡ None → choice rs (t ∷ []) n ≡ None
 none_of rs [] t n h e = absurd h
 none_of rs (u ∷ ts) t n h e = go (none_of rs ts t n) (choice rs (u ∷ []) n) refl (sym (choice_cons rs u ts n) ∙ e)
@@ -164,32 +164,32 @@ under : (a b : ℕ) → b < a → nat_le a b ≡ false
 under a b h = elim (leb_tells a b) as (λ _. nat_le a b ≡ false) [ inl x ↦ absurd (omega (arith, h, x.1)) | inr x ↦ x.0 ]
 
 -- the maximum that is reported
-told : (config : Config) (rs : List Room) (g : GetCapacity) (available n : ℕ) → (b : Bool)
-    → cond b (tell_capacity (sum_by free (served rs g.topology)) (greatest_size config (served rs g.topology))) (tell_capacity 0 0) ≡ tell_capacity available n → 0 < n
+reported : (config : Config) (rs : List Room) (g : GetCapacity) (available n : ℕ) → (b : Bool)
+    → cond b (report_capacity (sum_by free (served rs g.topology)) (greatest_size config (served rs g.topology))) (report_capacity 0 0) ≡ report_capacity available n → 0 < n
     → n ≡ greatest_size config (served rs g.topology)
-told config rs g available n true e h = sym (same (sum_by free (served rs g.topology)) (greatest_size config (served rs g.topology)) available n (ap (λ p. p.outcome) e))
+reported config rs g available n true e h = sym (same (sum_by free (served rs g.topology)) (greatest_size config (served rs g.topology)) available n (ap (λ p. p.outcome) e))
   where
-    same : (a b c d : ℕ) → (tell_capacity a b).outcome ≡ (tell_capacity c d).outcome → b ≡ d
+    same : (a b c d : ℕ) → (report_capacity a b).outcome ≡ (report_capacity c d).outcome → b ≡ d
     same a b c d e = cc
-told config rs g available n false e h = absurd (none available n (ap (λ p. p.outcome) e) h)
+reported config rs g available n false e h = absurd (none available n (ap (λ p. p.outcome) e) h)
   where
-    none : (c d : ℕ) → (tell_capacity 0 0).outcome ≡ (tell_capacity c d).outcome → 0 < d → ⊥
+    none : (c d : ℕ) → (report_capacity 0 0).outcome ≡ (report_capacity c d).outcome → 0 < d → ⊥
     none c d e h = let z : ◌≡◌ {A = ℕ} 0 d = cc in omega (arith, z, h)
 
 -- a maximum that GetCapacity says is a multiple of 1 MiB, within the greatest size, and no more than is free
 -- where the topology is served
-told_fits : (config : Config) → IsConfigured config → (s : State) (g : GetCapacity) (available n : ℕ) → IsInvariant config s → capacity config s g ≡ tell_capacity available n → 0 < n
+reported_fits : (config : Config) → IsConfigured config → (s : State) (g : GetCapacity) (available n : ℕ) → IsInvariant config s → capacity config s g ≡ report_capacity available n → 0 < n
     → IsTimes n × (n ≤ config.sizes.greatest_bytes) × (n ≤ greatest (map free (served (rooms config s) (Some (term_of g.topology)))))
-told_fits config good s g available n inv e h =
+reported_fits config good s g available n inv e h =
     let rs = rooms config s in
-    let is : n ≡ greatest_size config (served rs g.topology) = told config rs g available n (list_all is_supported g.capabilities) e h in
+    let is : n ≡ greatest_size config (served rs g.topology) = reported config rs g available n (list_all is_supported g.capabilities) e h in
     let same = ap (λ (xs : List Room). greatest (map free xs)) (served_as rs g.topology) in (
       subst IsTimes (sym is) (times_min config.sizes.greatest_bytes (greatest (map free (served rs g.topology))) (times_of _ good.greatest) (times_most rs g.topology 0 (0, omega arith) (all_rooms s config.pools (times_free config s good inv)))),
       omega (arith, is),
       omega (arith, is, same),
     )
 
--- what is chosen is a pool of the configuration
+-- the choice is a pool of the configuration
 of_config : (config : Config) (s : State) (ts : List TextMap) (n : ℕ) (p : Pool) → choice (rooms config s) ts n ≡ Some p → Has config.pools p
 of_config config s ts n p f =
     let one = chosen (rooms config s) ts n p f in
@@ -198,20 +198,20 @@ of_config config s ts n p f =
     subst (Has config.pools) same from.1
 
 -- a pool is chosen for the maximum that GetCapacity says, under the topology that it was asked for
-pub offers : (config : Config) → IsConfigured config → (s : State) (g : GetCapacity) (available n : ℕ) → IsInvariant config s → capacity config s g ≡ tell_capacity available n → 0 < n
+pub offers : (config : Config) → IsConfigured config → (s : State) (g : GetCapacity) (available n : ℕ) → IsInvariant config s → capacity config s g ≡ report_capacity available n → 0 < n
     → (pool : Pool) × Has config.pools pool × (choice (rooms config s) (term_of g.topology ∷ []) n ≡ Some pool)
 offers config good s g available n inv e h = go (choice (rooms config s) (term_of g.topology ∷ []) n) refl
   where
     go : (o : Option Pool) → choice (rooms config s) (term_of g.topology ∷ []) n ≡ o → (pool : Pool) × Has config.pools pool × (choice (rooms config s) (term_of g.topology ∷ []) n ≡ Some pool)
-    go None f = absurd (has_place (rooms config s) (term_of g.topology) n h (told_fits config good s g available n inv e h).2 f)
+    go None f = absurd (has_place (rooms config s) (term_of g.topology) n h (reported_fits config good s g available n inv e h).2 f)
     go (Some p) f = (p, of_config config s (term_of g.topology ∷ []) n p f, f)
 
 -- a volume of the maximum that GetCapacity says is made, where its topology is one of the terms
 pub offered : (config : Config) → IsConfigured config → (s : State) (g : GetCapacity) (available n : ℕ) (r : CreateVolume) → IsInvariant config s
-    → capacity config s g ≡ tell_capacity available n → 0 < n → AsksFor config r g.topology n → IsNew config s r.name
+    → capacity config s g ≡ report_capacity available n → 0 < n → AsksFor config r g.topology n → IsNew config s r.name
     → (pool : Pool) × Has config.pools pool × (create config s r ≡ place_in r s.next n (Some pool))
 offered config good s g available n r inv e h asks new =
-    let fit = told_fits config good s g available n inv e h in
+    let fit = reported_fits config good s g available n inv e h in
     go fit.2 asks.sized (choice (rooms config s) (terms r.topology) n) refl
   where
     go : n ≤ greatest (map free (served (rooms config s) (Some (term_of g.topology)))) → size config.sizes r.range ≡ Some n → (o : Option Pool) → choice (rooms config s) (terms r.topology) n ≡ o
@@ -228,11 +228,11 @@ offered config good s g available n r inv e h asks new =
     )
 
 -- a range that has it as both of its limits asks for it
-pub asked_exactly : (config : Config) → IsConfigured config → (s : State) (g : GetCapacity) (available n : ℕ) → IsInvariant config s → capacity config s g ≡ tell_capacity available n → 0 < n → size config.sizes (Some (exactly n)) ≡ Some n
-asked_exactly config good s g available n inv e h = let fit = told_fits config good s g available n inv e h in size_exact config.sizes n h fit.0 fit.1
+pub asked_exactly : (config : Config) → IsConfigured config → (s : State) (g : GetCapacity) (available n : ℕ) → IsInvariant config s → capacity config s g ≡ report_capacity available n → 0 < n → size config.sizes (Some (exactly n)) ≡ Some n
+asked_exactly config good s g available n inv e h = let fit = reported_fits config good s g available n inv e h in size_exact config.sizes n h fit.0 fit.1
 
-abbrev told_after : State → State → Told → Told × State
-told_after s t w = (w, moved s t w)
+abbrev reported_after : State → State → Report → Report × State
+reported_after s t w = (w, moved s t w)
 
 -- the step of a create whose plan makes a volume, and whose body fits into a reply
 stepped : (config : Config) (s : State) (r : CreateVolume) (n : ℕ) (pool : Pool) → create config s r ≡ place_in r s.next n (Some pool) → length (response_bytes (response.Create (Some (info_at pool.segments (made r s.next n pool))))) ≤ MAX_BODY_BYTES
@@ -241,12 +241,12 @@ stepped config s r n pool is fits =
     let v = made r s.next n pool in
     let body = response_bytes (response.Create (Some (info_at pool.segments v))) in
     let held : nat_le (length body) MAX_BODY_BYTES ≡ true = le-leb (length body) MAX_BODY_BYTES fits in
-    ap (λ (p : Plan). told_after s (after s p.change) (reported_of p.outcome)) is
-    ∙ ap (λ b. told_after s (changed s (AddVolume v)) (cond b (Says body) (Denies ReplyTooLarge))) held
+    ap (λ (p : Plan). reported_after s (after s p.change) (reported_of p.outcome)) is
+    ∙ ap (λ b. reported_after s (changed s (AddVolume v)) (cond b (Says body) (Denies ReplyTooLarge))) held
 
 -- and so what GetCapacity offers is answered
 pub answered : (config : Config) → IsConfigured config → ((p : Pool) → Has config.pools p → is_pool_name p.name ≡ true) → ((p : Pool) → Has config.pools p → fin.len p.segments ≤ MAX_SEGMENTS)
-    → (s : State) (g : GetCapacity) (available n : ℕ) (r : CreateVolume) → IsInvariant config s → capacity config s g ≡ tell_capacity available n → 0 < n → AsksFor config r g.topology n → IsNew config s r.name
+    → (s : State) (g : GetCapacity) (available n : ℕ) (r : CreateVolume) → IsInvariant config s → capacity config s g ≡ report_capacity available n → 0 < n → AsksFor config r g.topology n → IsNew config s r.name
     → (pool : Pool) × Has config.pools pool × (step config s (Create r) ≡ (Says (response_bytes (response.Create (Some (info_at pool.segments (made r s.next n pool))))), changed s (AddVolume (made r s.next n pool))))
 answered config good names few s g available n r inv e h asks new =
     let it = offered config good s g available n r inv e h asks new in

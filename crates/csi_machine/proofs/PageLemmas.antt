@@ -27,7 +27,7 @@ use Rattle.csi_machine.specs.declared.places.PoolPlacement.{PoolPlacement}
 use Rattle.csi_machine.specs.Places.{ArePlaced, IsPlaced, entry_at, last_row}
 use Rattle.csi_machine.specs.Pages.{HasWritten, IsPage, is_any, token_when}
 use Rattle.csi_machine.specs.declared.page.Page.{Page}
-use Rattle.csi_machine.specs.Verdicts.{IsReported, Told, reported_of, within}
+use Rattle.csi_machine.specs.Verdicts.{IsReported, Report, reported_of, within}
 use Rattle.csi_machine.specs.calls.Listing.{entries_for, last_of, list_after, list_volumes, listed, start_of, token_for, entry_of}
 
 last_push : (after : ℕ) (rows : List Listed) (row : Listed) → last_row after (rows ++ row ∷ []) ≡ row.number
@@ -68,7 +68,7 @@ found_here name [] i d low is = absurd (omega (arith, low))
 found_here name (p ∷ places) zero d low is = ap (λ b. cond b (Some p) (find (λ p. same_text p.pool name) places)) ((bytes_decides p.pool name).1 is)
 found_here name (p ∷ places) (suc i) d low is = found_here name places i d (omega (arith, low)) is
 
--- what follows of what is so after a success
+-- a consequence of a fact after a success
 pub then_ok : {X E : Type 0} {A B : Type 0} (r : Result X E) → (A → B) → OnOk r A → OnOk r B
 then_ok (Ok x) f a = f a
 then_ok (Err e) f a = a
@@ -123,19 +123,19 @@ pub page_finds : (most count : ℕ) (a b c : Model State) (first now : Page) (is
 page_finds most count a b c first now is_more new many one two is =
     found_then (read_found one) (read_found two) (λ s wrote x more none. page_written s most count first now is_more new many (wrote (subst (ArePlaced first.config.now) (sym none) tt)) more is)
 
--- what is reported does not stand on how a call may fail
-told_as : (E F : Type 0) (told : Told) (x y : List ℕ) (v : Verdict) → IsReported {E = E} told x y (Ok v) → IsReported {E = F} told x y (Ok v)
-told_as E F told x y verdict.Done h = h
-told_as E F told x y (verdict.Refused reason) h = h
+-- the result does not depend on how a call may fail
+reported_as : (E F : Type 0) (reported : Report) (x y : List ℕ) (v : Verdict) → IsReported {E = E} reported x y (Ok v) → IsReported {E = F} reported x y (Ok v)
+reported_as E F reported x y verdict.Done h = h
+reported_as E F reported x y (verdict.Refused reason) h = h
 
--- what is reported by the body of a page, after what stood before it
-pub page_told : (config : Config) (s : State) (most after from : ℕ) (old body new : List ℕ) (v : Verdict) → from ≡ length old → IsPage config s after most old body
+-- the entries that the body of a page adds after the earlier bytes
+pub page_reported : (config : Config) (s : State) (most after from : ℕ) (old body new : List ℕ) (v : Verdict) → from ≡ length old → IsPage config s after most old body
     → IsReported {E = AllocError} (within (drop from body)) (take from body) new (Ok v) → IsReported {E = StoreFault} (reported_of (list_after config s most (Some after)).outcome) old new (Ok v)
-page_told config s most after from old body new v at is told =
+page_reported config s most after from old body new v at is reported =
     let page = response_bytes (response.List (map (entry_of config s) (listed s after most)) (token_for (last_of after (listed s after most)) (beyond s (last_of after (listed s after most))))) in
     let front : take from body ≡ old = ap₂ (λ (n : ℕ) (bs : List ℕ). take n bs) at is ∙ take-append_seam old page in
     let back : drop from body ≡ page = ap₂ (λ (n : ℕ) (bs : List ℕ). drop n bs) at is ∙ drop-append_seam old page in
-    told_as AllocError StoreFault _ _ _ v (subst (λ (bs : List ℕ). IsReported {E = AllocError} (within bs) old new (Ok v)) back (subst (λ (bs : List ℕ). IsReported {E = AllocError} (within (drop from body)) bs new (Ok v)) front told))
+    reported_as AllocError StoreFault _ _ _ v (subst (λ (bs : List ℕ). IsReported {E = AllocError} (within bs) old new (Ok v)) back (subst (λ (bs : List ℕ). IsReported {E = AllocError} (within (drop from body)) bs new (Ok v)) front reported))
 
 -- a page, after the read of the next number
 pub page_then : (config : Config) (r : ListVolumes) (most after next : ℕ) (a b c : Model State) (x y : List ℕ) (result : Result Verdict StoreFault)
@@ -143,5 +143,5 @@ pub page_then : (config : Config) (r : ListVolumes) (most after next : ℕ) (a b
     → Finds b c result (λ s v. IsReported {E = StoreFault} (reported_of (list_after config s most (Some after)).outcome) x y (Ok v))
     → Finds a c result (λ s v. IsReported {E = StoreFault} (reported_of (list_volumes config s r).outcome) x y (Ok v))
 page_then config r most after next a b c x y result read from most_is found =
-    found_then (read_found read) found (λ s is v told.
-    subst (λ (w : Told). IsReported {E = StoreFault} w x y (Ok v)) (ap₂ (λ m o. reported_of (list_after config s m o).outcome) most_is (from ∙ ap (λ n. start_of n r.token) is)) told)
+    found_then (read_found read) found (λ s is v reported.
+    subst (λ (w : Report). IsReported {E = StoreFault} w x y (Ok v)) (ap₂ (λ m o. reported_of (list_after config s m o).outcome) most_is (from ∙ ap (λ n. start_of n r.token) is)) reported)

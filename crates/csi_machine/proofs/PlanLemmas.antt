@@ -1,4 +1,4 @@
--- A plan by which each State may be changed, and which keeps the invariant.
+-- A plan that may change each State, and that keeps the invariant.
 use Rattle.std.proofs.Common.{◌≡◌, Option, Some, None, IfSome, refl}
 use Rattle.csi_config.specs.declared.config.Config.{Config}
 use Rattle.csi_keeper.specs.declared.change.Change.{Change}

@@ -1,4 +1,4 @@
--- Attachments that are taken away are allowed to be, and what is left keeps the invariant.
+-- The removal of attachments is allowed, and the rest keeps the invariant.
 use Rattle.std.proofs.Common.{◌≡◌, ◌∙◌, ap, sym, subst, cond, arith, ℕ, ◌≤◌, ◌==◌, List, [], ◌∷◌, length, filter, find, Bool, true, false, not, Option, Some, None}
 use Rattle.std.specs.FinMap as fin
 use Rattle.std.proofs.lemmas.List.{length-map}
@@ -64,7 +64,7 @@ detach_all_keeps config s n inv =
 abbrev IsFit : Config → State → Change → Type 0
 IsFit config s c = Allows s c × IsInvariant config (changed s c)
 
--- what is unpublished is allowed, and keeps the invariant
+-- an unpublish is allowed, and keeps the invariant
 pub unpublish_fits : (config : Config) (r : Unpublish) (s : State) (c : Change) → IsInvariant config s → (unpublish s r).change ≡ Some c → IsFit config s c
 unpublish_fits config r s c inv e = by_number (number_of_id r.volume_id) e
   where

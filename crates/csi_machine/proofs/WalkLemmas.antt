@@ -27,8 +27,8 @@ use Rattle.csi_machine.specs.Plan.{after}
 use Rattle.csi_keeper.specs.State.{State, beyond}
 use Rattle.csi_machine.specs.Step.{plan, step, moved}
 use Rattle.csi_keeper.specs.Texts.{Text}
-use Rattle.csi_machine.specs.Verdicts.{Told, Says, Denies, reported_of}
-use Rattle.csi_machine.specs.Walk.{Call, Next, Other, Page, asked_with, shown, listing_told, with_page, next_token, pages, AreRead, AreChecked, GoOn, End, AreOfVolumes, Stood, id_in, listed_ids, AreApart}
+use Rattle.csi_machine.specs.Verdicts.{Report, Says, Denies, reported_of}
+use Rattle.csi_machine.specs.Walk.{Call, Next, Other, Page, asked_with, shown, listing_reported, with_page, next_token, pages, AreRead, AreChecked, GoOn, End, AreOfVolumes, Stood, id_in, listed_ids, AreApart}
 use Rattle.csi_machine.specs.calls.Listing.{given, start_of, entries_for, listed, last_of, token_for, entry_of, list_after}
 use Rattle.csi_keeper.specs.facts.Finite.{all_entries}
 use Rattle.csi_rules.specs.facts.Ids.{number_of_decimal, id_named, below_on}
@@ -97,7 +97,7 @@ module _ (config : Config) where
   abbrev page_shown : State → ℕ → ℕ → Bool → Option (List Entry × Text)
   page_shown s after most b = cond b (Some (entries_after s after most, token_after s after most)) None
 
-  -- what stands has a number that was given
+  -- an existing volume has a number that was given
   numbers : (s : State) → IsInvariant config s → AllByRecursion (λ e. (e.1.number ≡ e.0) × (1 ≤ e.0) × (e.0 < s.next)) (fin.entries s.volumes)
   numbers s inv =
       all_entries nat_cmp_total fin.nat_cmp-IsAntisymmetric (λ n (v : Volume). (v.number ≡ n) × (1 ≤ n) × (n < s.next)) s.volumes
@@ -106,11 +106,11 @@ module _ (config : Config) where
   given_numbers : (s : State) → IsInvariant config s → AllByRecursion (λ e. (1 ≤ e.1.number) × (e.1.number < s.next)) (fin.entries s.volumes)
   given_numbers s inv = all_each (λ e h. let a = h.0 in let b = h.1 in let d = h.2 in (omega (arith, a, b), omega (arith, a, d))) (fin.entries s.volumes) (numbers s inv)
 
-  -- where something stands beyond a number, the number is one that was given
+  -- if a volume has a greater number, the number was given
   abbrev IsReported : State → ℕ → Type 0
   IsReported s last = (beyond s last ≡ []) ⊎ ((token_for last (beyond s last) ≡ decimal last) × (1 ≤ last) × (last < s.next))
 
-  -- so the token of a page is one that is read
+  -- so the token of a page is read
   token_at : (s : State) (after most : ℕ) → IsInvariant config s → IsReported s (last_after s after most)
   token_at s after most inv = by_page (listed s after most) refl
     where
@@ -157,7 +157,7 @@ module _ (config : Config) where
   still s most None = refl
   still s most (Some n) = refl
 
-  unmoved : (s : State) (told : Told) → moved s s told ≡ s
+  unmoved : (s : State) (reported : Report) → moved s s reported ≡ s
   unmoved s (Says body) = refl
   unmoved s (Denies reason) = refl
 
@@ -168,9 +168,9 @@ module _ (config : Config) where
 
   shown_is : (s : State) (token : Text) (after most : ℕ) → start_of s.next token ≡ Some after → shown config s (asked_with token most) ≡ page_shown s after most (fits s after most)
   shown_is s token after most e =
-      ap (λ o. listing_told (list_after config s most o).outcome (reported_of (list_after config s most o).outcome)) e ∙ by (fits s after most)
+      ap (λ o. listing_reported (list_after config s most o).outcome (reported_of (list_after config s most o).outcome)) e ∙ by (fits s after most)
     where
-      by : (b : Bool) → listing_told (Ok (reply_after s after most)) (cond b (Says (response_bytes (reply_after s after most))) (Denies ReplyTooLarge)) ≡ page_shown s after most b
+      by : (b : Bool) → listing_reported (Ok (reply_after s after most)) (cond b (Says (response_bytes (reply_after s after most))) (Denies ReplyTooLarge)) ≡ page_shown s after most b
       by true = refl
       by false = refl
 
@@ -192,7 +192,7 @@ module _ (config : Config) where
   next_after s (Some (DetachAll n)) = omega arith
   next_after s (Some (SetMutable n m)) = omega arith
 
-  next_moved : (s t : State) (told : Told) → s.next ≤ t.next → s.next ≤ (moved s t told).next
+  next_moved : (s t : State) (reported : Report) → s.next ≤ t.next → s.next ≤ (moved s t reported).next
   next_moved s t (Says body) h = h
   next_moved s t (Denies reason) h = omega arith
 
@@ -225,7 +225,7 @@ module _ (config : Config) where
       ]
       by more false = more token at is
 
-  -- Pages by the moments at which they were asked for
+  -- Pages by the moments of their requests
 
   abbrev shown_pages : ℕ → List Moment → List Page
   shown_pages n [] = []
@@ -267,7 +267,7 @@ module _ (config : Config) where
   traced : Keep → (calls : List Call) (s : State) → IsInvariant config s → AreChecked calls → GoOn (pages config s [] calls) → Trace 0 (pages config s [] calls)
   traced keep calls s inv c g = trace keep calls s [] 0 inv (inl (refl, refl)) c g
 
-  -- What stood
+  -- Volumes that existed
 
   shown_any : (s : State) (token : Text) (most : ℕ) → (shown config s (asked_with token most) ≡ None) ⊎ ((n : ℕ) × (shown config s (asked_with token most) ≡ Some (entries_after s n most, token_after s n most)))
   shown_any s token most = by (start_of s.next token) refl
@@ -277,7 +277,7 @@ module _ (config : Config) where
       shows n false = inl refl
 
       by : (o : Option ℕ) → start_of s.next token ≡ o → (shown config s (asked_with token most) ≡ None) ⊎ ((n : ℕ) × (shown config s (asked_with token most) ≡ Some (entries_after s n most, token_after s n most)))
-      by None e = inl (ap (λ o. listing_told (list_after config s most o).outcome (reported_of (list_after config s most o).outcome)) e)
+      by None e = inl (ap (λ o. listing_reported (list_after config s most o).outcome (reported_of (list_after config s most o).outcome)) e)
       by (Some n) e = elim (shows n (fits s n most)) as (λ _. (shown config s (asked_with token most) ≡ None) ⊎ ((n : ℕ) × (shown config s (asked_with token most) ≡ Some (entries_after s n most, token_after s n most)))) [
         | inl x ↦ inl (shown_is s token n most e ∙ x)
         | inr x ↦ inr (n, shown_is s token n most e ∙ x)
@@ -303,7 +303,7 @@ module _ (config : Config) where
         | inr x ↦ subst (λ (o : Option (List Entry × Text)). AllByRecursion (AreOfVolumes config) (with_page s o ps)) (sym x.1) (of_volumes s x.0 most, more)
       ]
 
-  -- What is listed
+  -- Listed volumes
 
   abbrev id_of : Volume → Text
   id_of v = id v.number

@@ -12,7 +12,7 @@ use Rattle.csi_machine.specs.declared.plan.Plan.{Plan}
 use Rattle.csi_keeper.specs.Invariant.{IsInvariant}
 use Rattle.csi_keeper.specs.Keeper.{IsQuiet, count_after}
 use Rattle.csi_keeper.specs.Model.{Model}
-use Rattle.csi_rules.specs.Down.{TellsDown}
+use Rattle.csi_rules.specs.Down.{ReportsDown}
 use Rattle.csi_machine.specs.Plan.{after}
 use Rattle.csi_keeper.specs.State.{State, Allows}
 use Rattle.csi_machine.specs.Step.{step, settled_plan, is_of_plugin, NamesNone}
@@ -63,7 +63,7 @@ pub record Answered (config : Config) (plan : State → Plan) (old new : Model S
   pub quiet : Promises config old new (λ s. (plan s).change ≡ None → IsQuiet old new)
   pub ties : Promises config old new (λ s. old.tied → new.tied)
   -- a keeper that is down allows only answers that hold for each State
-  pub down : TellsDown old.is_down (λ v. (s : State) → (v ≡ verdict_of (plan s).outcome) × (now ≡ out ++ body_of (plan s).outcome)
+  pub down : ReportsDown old.is_down (λ v. (s : State) → (v ≡ verdict_of (plan s).outcome) × (now ≡ out ++ body_of (plan s).outcome)
       × ((plan s).change ≡ None)) result
   pub stays : old.is_down ≡ true → new.is_down ≡ true
 
@@ -85,7 +85,7 @@ pub record Carries (plan : Plan) (old new : Model State) (result : Result Verdic
   pub quiet : plan.change ≡ None → IsQuiet old new
   pub alone : plan.change ≡ None → IfErr result (λ e. e ≡ NoMemory)
   pub ties : Allowed plan old new (λ s. old.tied → new.tied)
-  pub down : TellsDown old.is_down (λ v. plan.change ≡ None) result
+  pub down : ReportsDown old.is_down (λ v. plan.change ≡ None) result
   pub stays : old.is_down ≡ true → new.is_down ≡ true
 
 -- A request is performed: its body is appended, the report and the State after it are the result of one step
@@ -93,7 +93,7 @@ pub record Carries (plan : Plan) (old new : Model State) (result : Result Verdic
 pub record Performs (config : Config) (request : Request) (old new : Model State) (out now : List ℕ) (result : Result Verdict StoreFault) : Type 0 where
   pub clean : old.doubt ≤ new.doubt
   pub appended : Appended out now result
-  pub told : Promises config old new (λ s. IsReported (step config s request).0 out now result)
+  pub reported : Promises config old new (λ s. IsReported (step config s request).0 out now result)
   pub state : Promises config old new (λ s. new.holds (state_after s (step config s request).1 result))
   pub counted : new.refusals ≡ count_after old.refusals result
   pub left : Promises config old new (λ s. Leaves old.survivors new.survivors s (step config s request).1 result)
@@ -104,5 +104,5 @@ pub record Performs (config : Config) (request : Request) (old new : Model State
   -- and so is a request about a volume that is named by no volume's id
   pub unnamed : NamesNone request → IsQuiet old new × IfErr result (λ e. e ≡ NoMemory)
   pub ties : Promises config old new (λ s. old.tied → new.tied)
-  pub down : TellsDown old.is_down (IsOfAll config request out now) result
+  pub down : ReportsDown old.is_down (IsOfAll config request out now) result
   pub stays : old.is_down ≡ true → new.is_down ≡ true

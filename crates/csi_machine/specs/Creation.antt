@@ -10,5 +10,5 @@ use Rattle.csi_machine.specs.Plan.{refuse, respond, make}
 
 abbrev pub plan_of : Creation → Plan
 plan_of (creation.Refused reason) = refuse reason
-plan_of (creation.Standing v segments) = respond (response.Create (Some (info_at segments.now v)))
+plan_of (creation.Existing v segments) = respond (response.Create (Some (info_at segments.now v)))
 plan_of (creation.Made v segments) = make (response.Create (Some (info_at segments.now v))) (AddVolume v)

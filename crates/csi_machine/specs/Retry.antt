@@ -6,7 +6,7 @@ use Rattle.csi_types.specs.declared.requests.Request.{Request}
 use Rattle.csi_config.specs.declared.config.Config.{Config}
 use Rattle.csi_keeper.specs.State.{State}
 use Rattle.csi_machine.specs.Step.{is_read, step}
-use Rattle.csi_machine.specs.Verdicts.{Told}
+use Rattle.csi_machine.specs.Verdicts.{Report}
 
 -- how a try ends: marked, that is refused inside, for memory or by the store; refused since the store is
 -- down, which does nothing; or done, and the client is answered or is not
@@ -38,16 +38,16 @@ abbrev pub state_after : Config → State → List Try → State
 state_after config s [] = s
 state_after config s (t ∷ ts) = state_after config (after_try config s t) ts
 
-abbrev pub told_by : Config → State → Request → Ending → List Told
-told_by config s r Marked = []
-told_by config s r Down = []
-told_by config s r Unanswered = []
-told_by config s r Answered = (step config s r).0 ∷ []
+abbrev pub reported_by : Config → State → Request → Ending → List Report
+reported_by config s r Marked = []
+reported_by config s r Down = []
+reported_by config s r Unanswered = []
+reported_by config s r Answered = (step config s r).0 ∷ []
 
 -- what the client is answered, in order
-abbrev pub reported_of : Config → State → List Try → List Told
+abbrev pub reported_of : Config → State → List Try → List Report
 reported_of config s [] = []
-reported_of config s (t ∷ ts) = told_by config s t.request t.end ++ reported_of config (after_try config s t) ts
+reported_of config s (t ∷ ts) = reported_by config s t.request t.end ++ reported_of config (after_try config s t) ts
 
 -- The States that a stop may leave of a session with a marked try: the State that this try would have made,
 -- if no later try moved the State.
@@ -66,10 +66,10 @@ Leaves config s tries t = (t ≡ state_after config s tries) ⊎ IsDue config s 
 
 -- A life: sessions, each begun from what the one before it left; what the client was answered in all of them,
 -- and what the last one left.
-abbrev pub IsLife : Config → State → List (List Try) → List Told → State → Type 0
-IsLife config s [] told t = (told ≡ []) × (t ≡ s)
-IsLife config s (tries ∷ sessions) told t =
-    (u : State) × (rest : List Told) × Leaves config s tries u × (told ≡ reported_of config s tries ++ rest) × IsLife config u sessions rest t
+abbrev pub IsLife : Config → State → List (List Try) → List Report → State → Type 0
+IsLife config s [] reported t = (reported ≡ []) × (t ≡ s)
+IsLife config s (tries ∷ sessions) reported t =
+    (u : State) × (rest : List Report) × Leaves config s tries u × (reported ≡ reported_of config s tries ++ rest) × IsLife config u sessions rest t
 
 -- ---- a client, and others that change nothing
 
@@ -106,9 +106,9 @@ AreTriesOf rs (t ∷ ts) = (IsOfFirst rs t × AreTriesOf (still_open rs t.end) t
 -- ---- the requests taken once each
 
 -- what each is answered
-abbrev pub told_once : Config → State → List Request → List Told
-told_once config s [] = []
-told_once config s (r ∷ rs) = (step config s r).0 ∷ told_once config (step config s r).1 rs
+abbrev pub reported_once : Config → State → List Request → List Report
+reported_once config s [] = []
+reported_once config s (r ∷ rs) = (step config s r).0 ∷ reported_once config (step config s r).1 rs
 
 -- the State after them
 abbrev pub after_once : Config → State → List Request → State

@@ -23,7 +23,7 @@ use Rattle.csi_machine.specs.calls.Unpublish.{unpublish}
 use Rattle.csi_machine.specs.Validate.{validate}
 use Rattle.csi_machine.specs.Plan.{refuse, after}
 use Rattle.csi_keeper.specs.State.{State}
-use Rattle.csi_machine.specs.Verdicts.{Told, Says, Denies, reported_of}
+use Rattle.csi_machine.specs.Verdicts.{Report, Says, Denies, reported_of}
 
 -- by the request's method
 abbrev pub plan : Config → State → Request → Plan
@@ -101,13 +101,13 @@ NamesNone (request.Capacity r) = ⊥
 NamesNone (request.Modify r) = number_of_id r.volume_id ≡ None
 
 -- a refusal keeps the State
-abbrev pub moved : {S : Type 0} → S → S → Told → S
+abbrev pub moved : {S : Type 0} → S → S → Report → S
 moved s t (Says body) = t
 moved s t (Denies reason) = s
 
 -- one request: the body of its response, or the reason of its refusal, and the State after it; a body that no
 -- reply holds is refused
-abbrev pub step : Config → State → Request → Told × State
+abbrev pub step : Config → State → Request → Report × State
 step config s r = (reported_of (plan config s r).outcome, moved s (after s (plan config s r).change) (reported_of (plan config s r).outcome))
 
 -- The same as a plan: one whose body no reply holds is a refusal.

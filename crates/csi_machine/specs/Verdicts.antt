@@ -9,15 +9,15 @@ use Rattle.csi_machine.specs.declared.body.Verdict.{Verdict}
 use Rattle.csi_machine.specs.declared.body.Verdict.TheVariants as verdict
 
 -- a body that a reply holds, or the reason of a refusal
-pub data Told : Type 0 where
-  Says : List ℕ → Told
-  Denies : Reason → Told
+pub data Report : Type 0 where
+  Says : List ℕ → Report
+  Denies : Reason → Report
 
 -- a body that a reply can't hold is refused
-abbrev pub within : List ℕ → Told
+abbrev pub within : List ℕ → Report
 within body = if nat_le (length body) MAX_BODY_BYTES then Says body else Denies ReplyTooLarge
 
-abbrev pub reported_of : Result Response Reason → Told
+abbrev pub reported_of : Result Response Reason → Report
 reported_of (Ok r) = within (response_bytes r)
 reported_of (Err reason) = Denies reason
 
@@ -33,7 +33,7 @@ Appended old new (Ok (verdict.Refused reason)) = new ≡ old
 Appended old new (Err e) = new ≡ old
 
 -- the result is the report; a call that fails reports nothing
-abbrev pub IsReported : {E : Type 0} → Told → List ℕ → List ℕ → Result Verdict E → Type 0
-IsReported told old new (Ok verdict.Done) = (body : List ℕ) × (told ≡ Says body) × (new ≡ old ++ body)
-IsReported told old new (Ok (verdict.Refused reason)) = told ≡ Denies reason
-IsReported told old new (Err e) = Unit {0}
+abbrev pub IsReported : {E : Type 0} → Report → List ℕ → List ℕ → Result Verdict E → Type 0
+IsReported reported old new (Ok verdict.Done) = (body : List ℕ) × (reported ≡ Says body) × (new ≡ old ++ body)
+IsReported reported old new (Ok (verdict.Refused reason)) = reported ≡ Denies reason
+IsReported reported old new (Err e) = Unit {0}

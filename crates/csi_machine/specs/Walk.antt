@@ -18,7 +18,7 @@ use Rattle.csi_machine.specs.calls.Listing.{entry_of}
 use Rattle.csi_keeper.specs.State.{State}
 use Rattle.csi_machine.specs.Step.{plan, step}
 use Rattle.csi_keeper.specs.Texts.{Text}
-use Rattle.csi_machine.specs.Verdicts.{Told, Says, Denies}
+use Rattle.csi_machine.specs.Verdicts.{Report, Says, Denies}
 
 -- a call of a walk: its next page, with this number of entries, or any other request
 pub data Call : Type 0 where
@@ -34,9 +34,9 @@ abbrev pub listing_in : Result Response Reason → Option (List Entry × Text)
 listing_in (Ok r) = listing_of r
 listing_in (Err reason) = None
 
-abbrev pub listing_told : Result Response Reason → Told → Option (List Entry × Text)
-listing_told o (Says body) = listing_in o
-listing_told o (Denies reason) = None
+abbrev pub listing_reported : Result Response Reason → Report → Option (List Entry × Text)
+listing_reported o (Says body) = listing_in o
+listing_reported o (Denies reason) = None
 
 -- the page that begins after a token
 abbrev pub asked_with : Text → ℕ → Request
@@ -44,7 +44,7 @@ asked_with token most = request.List (record { max_entries = pos most; token = t
 
 -- what a page shows, if it is not refused
 abbrev pub shown : Config → State → Request → Option (List Entry × Text)
-shown config s r = listing_told (plan config s r).outcome (step config s r).0
+shown config s r = listing_reported (plan config s r).outcome (step config s r).0
 
 -- a page of a walk: the State at it, its entries, and the token of the next page, which is empty after the
 -- last page

@@ -80,8 +80,8 @@ fn append_creation<K: Keeper>(
     ensures { Performs config.now (Create request.now) (K.model keeper.old)
         (K.model keeper.new) out.old.items out.new.items result }
 {
-    let nowhere = Map::new(alloc);
-    let creation = create(alloc, config, &nowhere, keeper, request)?;
+    let no_segments = Map::new(alloc);
+    let creation = create(alloc, config, &no_segments, keeper, request)?;
     finish(alloc, keeper, creation, out)
 }
 

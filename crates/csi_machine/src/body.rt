@@ -10,12 +10,12 @@ use csi_types::{Reason, Response};
 use envelope::MAX_BODY_BYTES;
 use std::alloc::AllocError;
 
-/// How a request is answered.
+/// The answer to a request.
 #[derive(Clone, Copy, Debug)]
 pub enum Verdict {
-    /// It is done, and the body of its response is written.
+    /// The request is done, and the body of its response is written.
     Done,
-    /// It is refused.
+    /// The request is refused, for this reason.
     Refused(Reason),
 }
 

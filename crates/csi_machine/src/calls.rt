@@ -40,8 +40,8 @@ pub(crate) fn plan_of<K: Keeper>(
         (λ s p. p ≡ plan config.now s request.now) }
     ensures unnamed { NamesNone request.now → IfErr result (λ e. e ≡ NoMemory) }
     ensures done { NamesNone request.now → IfOk result (λ p. p.change ≡ None) }
-    ensures unasked { IsTrue (is_of_plugin request.now) → IfErr result (λ e. e ≡ NoMemory) }
-    ensures still { IsTrue (is_of_plugin request.now) → IfOk result (λ p. p.change ≡ None) }
+    ensures asks_nothing { IsTrue (is_of_plugin request.now) → IfErr result (λ e. e ≡ NoMemory) }
+    ensures changes_nothing { IsTrue (is_of_plugin request.now) → IfOk result (λ p. p.change ≡ None) }
 {
     match request {
         Request::PluginInfo => Ok(plan_plugin_info(alloc, config)?),

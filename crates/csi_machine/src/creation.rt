@@ -19,10 +19,10 @@ use std::alloc::{AllocError, Global};
 /// The outcome of a create. Next to a volume are the segments of its pool.
 #[derive(Drop)]
 pub(crate) enum Creation<'a> {
-    /// It is refused.
+    /// The create is refused, for this reason.
     Refused(Reason),
     /// The volume exists, as the request asks.
-    Standing(Volume, &'a Map),
+    Existing(Volume, &'a Map),
     /// The volume is made.
     Made(Volume, &'a Map),
 }
@@ -55,7 +55,7 @@ impl Outcome for Creation<'_> {
     fn append(&self, out: &mut Vec<u8>) -> Result<Verdict, AllocError> {
         match self {
             Creation::Refused(reason) => Ok(Verdict::Refused(*reason)),
-            Creation::Standing(volume, segments) | Creation::Made(volume, segments) => {
+            Creation::Existing(volume, segments) | Creation::Made(volume, segments) => {
                 append_created(volume, segments, out)
             }
         }
@@ -65,7 +65,7 @@ impl Outcome for Creation<'_> {
     fn carry_out<K: Keeper>(self, alloc: Global, keeper: &mut K) -> Result<Verdict, StoreFault> {
         match self {
             Creation::Refused(reason) => Ok(Verdict::Refused(reason)),
-            Creation::Standing(..) => Ok(Verdict::Done),
+            Creation::Existing(..) => Ok(Verdict::Done),
             Creation::Made(volume, _) => {
                 keeper.apply_owned(alloc, Change::AddVolume(volume))?;
                 Ok(Verdict::Done)

@@ -13,14 +13,14 @@ ghost use Rattle.std.specs.List.{AllByRecursion};
 ghost use Rattle.csi_rules.specs.Choice.{choice, rooms};
 ghost use Rattle.csi_machine.specs.Numbers.{NumbersRise};
 ghost use Rattle.csi_machine.specs.Offer.{AsksFor, IsNew, exactly, term_of};
-ghost use Rattle.csi_machine.specs.calls.Capacity.{capacity, tell_capacity};
+ghost use Rattle.csi_machine.specs.calls.Capacity.{capacity, report_capacity};
 ghost use Rattle.csi_machine.specs.calls.Create.{create, made, place_in};
-ghost use Rattle.csi_machine.specs.Retry.{Try, IsLife, AreTriesOf, all_tries, told_once, after_once, Marked, Unanswered, IsLifeOfTwo, IsLifeWithAnother};
+ghost use Rattle.csi_machine.specs.Retry.{Try, IsLife, AreTriesOf, all_tries, reported_once, after_once, Marked, Unanswered, IsLifeOfTwo, IsLifeWithAnother};
 ghost use Rattle.csi_machine.specs.Step.{is_read, step};
 ghost use Rattle.csi_rules.specs.Info.{info_at};
 ghost use Rattle.csi_rules.specs.Size.{size};
-ghost use Rattle.csi_machine.specs.Verdicts.{Told};
-ghost use Rattle.csi_machine.specs.Verdicts.Told.{Says};
+ghost use Rattle.csi_machine.specs.Verdicts.{Report};
+ghost use Rattle.csi_machine.specs.Verdicts.Report.{Says};
 ghost use Rattle.csi_codec.specs.Methods.{response_bytes};
 ghost use Rattle.csi_config.specs.declared.pools.Pool.{Pool};
 ghost use Rattle.csi_types.specs.declared.requests.CreateVolume.{CreateVolume};
@@ -105,20 +105,20 @@ pub fn walk(config: &Config)
 #[inline(always)]
 pub fn room(config: &Config)
     ensures chosen { (s : State) (g : GetCapacity) (available n : ℕ) → IsInvariant config.now s
-        → capacity config.now s g ≡ tell_capacity available n → 0 < n
+        → capacity config.now s g ≡ report_capacity available n → 0 < n
         → (pool : Pool) × Has config.now.pools pool
         × (choice (rooms config.now s) (term_of g.topology ∷ []) n ≡ Some pool) }
     ensures made { (s : State) (g : GetCapacity) (available n : ℕ) (r : CreateVolume)
         → IsInvariant config.now s
-        → capacity config.now s g ≡ tell_capacity available n → 0 < n → AsksFor config.now r g.topology n
+        → capacity config.now s g ≡ report_capacity available n → 0 < n → AsksFor config.now r g.topology n
         → IsNew config.now s r.name → (pool : Pool)
         × Has config.now.pools pool × (create config.now s r ≡ place_in r s.next n (Some pool)) }
     ensures exact { (s : State) (g : GetCapacity) (available n : ℕ) → IsInvariant config.now s
-        → capacity config.now s g ≡ tell_capacity available n → 0 < n
+        → capacity config.now s g ≡ report_capacity available n → 0 < n
         → size config.now.sizes (Some (exactly n)) ≡ Some n }
     ensures answered { (s : State) (g : GetCapacity) (available n : ℕ) (r : CreateVolume)
         → IsInvariant config.now s
-        → capacity config.now s g ≡ tell_capacity available n → 0 < n → AsksFor config.now r g.topology n
+        → capacity config.now s g ≡ report_capacity available n → 0 < n → AsksFor config.now r g.topology n
         → IsNew config.now s r.name → (pool : Pool)
         × Has config.now.pools pool × (step config.now s (Create r)
         ≡ (
@@ -159,11 +159,11 @@ pub fn repeat(config: &Config)
 /// State of the requests taken once each.
 #[inline(always)]
 pub fn retry(config: &Config)
-    ensures { (s t : State) (requests : List Request) (sessions : List (List Try)) (told : List Told)
+    ensures { (s t : State) (requests : List Request) (sessions : List (List Try)) (reported : List Report)
         → IsInvariant config.now s
         → AllByRecursion (λ r. checked r ≡ None) requests → AreTriesOf requests (all_tries sessions)
-        → IsLife config.now s sessions told t
-        → (told ≡ told_once config.now s requests) × (t ≡ after_once config.now s requests) }
+        → IsLife config.now s sessions reported t
+        → (reported ≡ reported_once config.now s requests) × (t ≡ after_once config.now s requests) }
 {
     configured(config);
     equal_topologies();

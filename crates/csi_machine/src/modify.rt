@@ -54,7 +54,7 @@ fn modify_own(alloc: Global, number: u64, own: &Map, given: &Map) -> Result<Plan
 pub(crate) fn plan_modify<K: Keeper>(alloc: Global, keeper: &mut K, request: &Modify) -> Planning
     ensures bounded { IfOk result (λ p. IfSome p.change IsBounded) }
     ensures finds { Finds (K.model keeper.old) (K.model keeper.new) result (λ s p. p ≡ modify s request.now) }
-    ensures unasked { number_of_id request.now.volume_id ≡ None → (keeper.new ≡ keeper.old)
+    ensures asks_nothing { number_of_id request.now.volume_id ≡ None → (keeper.new ≡ keeper.old)
         × (result ≡ Ok (refuse VolumeNotFound)) }
 {
     let Some((number, volume)) = volume_of(alloc, keeper, &request.volume_id)? else {

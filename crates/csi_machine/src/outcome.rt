@@ -14,7 +14,7 @@ use std::alloc::{AllocError, Global};
 
 /// The outcome of a request, in a plan.
 pub(crate) trait Outcome: Drop {
-    /// The plan.
+    /// The plan as a value, for contracts.
     ghost plan: { Self → AnyPlan };
 
     /// Appends the body of the plan's response. A body that no reply holds is a refusal, and then the plan

@@ -5,7 +5,7 @@ ghost use Rattle.pbmessage.specs.Kept.{Keeps};
 ghost use Rattle.csi_codec.specs.Methods.{response_bytes};
 ghost use Rattle.csi_types.specs.declared.responses.Response.TheVariants as response;
 ghost use Rattle.csi_config.specs.declared.config.Config.{Config as AnyConfig};
-ghost use Rattle.csi_keeper.specs.Listing.{row_told};
+ghost use Rattle.csi_keeper.specs.Listing.{row_reported};
 ghost use Rattle.csi_machine.specs.Places.{ArePlaced, IsPlaced, entry_at};
 
 use crate::places::{PoolPlacement, placement_named, placement_of};
@@ -24,7 +24,7 @@ fn put_placed(
     ensures ok { OnOk result ((config : AnyConfig) → IsPlaced config place.now
         → place.now.pool ≡ row.now.pool.now
         → out.new.items ≡ out.old.items ++ response_bytes
-        (response.List (entry_at config (row_told row.now) ∷ []) [])) }
+        (response.List (entry_at config (row_reported row.now) ∷ []) [])) }
     ensures kept { Keeps out.old.items out.new.items }
 {
     let entry = ListedEntry {
@@ -47,7 +47,8 @@ fn put_first(
     out: &mut Vec<u8>,
 ) -> Result<(), AllocError>
     ensures ok { OnOk result (out.new.items
-        ≡ out.old.items ++ response_bytes (response.List (entry_at config.now (row_told row.now) ∷ []) [])) }
+        ≡ out.old.items
+        ++ response_bytes (response.List (entry_at config.now (row_reported row.now) ∷ []) [])) }
     ensures placed { ArePlaced config.now places.old.items
         → OnOk result (ArePlaced config.now places.new.items) }
     ensures kept { Keeps out.old.items out.new.items }
@@ -69,7 +70,7 @@ fn put_row(
 ) -> Result<(), AllocError>
     ensures ok { ArePlaced config.now places.old.items
         → OnOk result (out.new.items ≡ out.old.items
-        ++ response_bytes (response.List (entry_at config.now (row_told row.now) ∷ []) [])) }
+        ++ response_bytes (response.List (entry_at config.now (row_reported row.now) ∷ []) [])) }
     ensures placed { ArePlaced config.now places.old.items
         → OnOk result (ArePlaced config.now places.new.items) }
     ensures kept { Keeps out.old.items out.new.items }
@@ -85,7 +86,7 @@ fn put_row(
 pub(crate) struct Page<'a> {
     pub(crate) alloc: Global,
     pub(crate) config: &'a Config,
-    /// What the pools of its volumes give them.
+    /// The context and topology of each pool met so far, encoded.
     pub(crate) places: Vec<PoolPlacement>,
     /// The number of its last volume, or the one after which it begins.
     pub(crate) last: u64,
@@ -120,14 +121,14 @@ impl PageFold for Page<'_> {
     }
 }
 
-/// Whether there is a volume.
+/// A fold that finds out whether there is a volume.
 #[derive(Drop)]
-pub(crate) struct Presence {
-    /// It begins as `false`.
+pub(crate) struct AnyVolume {
+    /// Whether a volume was met. It begins as `false`.
     pub(crate) is_any: bool,
 }
 
-impl PageFold for Presence {
+impl PageFold for AnyVolume {
     ghost use Rattle.std.specs.Prelude.{refl, ◌||◌};
     ghost use Rattle.csi_machine.specs.Pages.{is_any};
 

@@ -18,7 +18,7 @@ pub(crate) struct PoolPlacement {
     pub(crate) placement: Placement,
 }
 
-/// What the configuration has answered alike of each volume of a pool.
+/// The context and topology that the configuration gives to every volume of a pool.
 pub(crate) fn placement_of(
     alloc: Global,
     config: &Config,
@@ -27,9 +27,9 @@ pub(crate) fn placement_of(
     ensures pool { IfOk result (λ place. place.pool ≡ pool.now) }
     ensures placed { IfOk result (λ place. IsPlaced config.now place) }
 {
-    let nowhere = Map::new(alloc);
+    let no_segments = Map::new(alloc);
     let context = context_of(alloc, pool)?;
-    let topology = topology_of(alloc, segments_at(config, pool, &nowhere))?;
+    let topology = topology_of(alloc, segments_at(config, pool, &no_segments))?;
     Ok(PoolPlacement {
         pool: copy_text(alloc, pool.as_str())?,
         placement: Placement::new(alloc, context, topology)?,

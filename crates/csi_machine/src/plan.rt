@@ -13,11 +13,11 @@ use std::alloc::{AllocError, Global};
 /// A plan, or why none was made: what the keeper answered, or want of memory.
 pub(crate) type Planning = Result<Plan, StoreFault>;
 
-/// What a request is answered, and the change that is made before it is.
+/// The answer to a request, and the change that is made before it.
 pub struct Plan {
     /// The response, or the reason of a refusal, which changes nothing.
     pub outcome: Result<PlannedResponse, Reason>,
-    /// What changes, if anything.
+    /// The change to make, or `None` if the request changes nothing.
     pub change: Option<Boxed<Change>>,
 }
 
@@ -42,7 +42,7 @@ fn verdict_of(outcome: &Result<PlannedResponse, Reason>) -> Verdict
 }
 
 impl Plan {
-    /// Its verdict, and its change.
+    /// The verdict and the change, by value.
     pub fn into_parts(self) -> (Verdict, Option<Boxed<Change>>)
         ensures { result ≡ (verdict_of self.outcome, self.change) }
     {

@@ -21,11 +21,12 @@ pub(crate) trait Planned {
     /// The requests about a volume whose id is the id of no volume. They need no State.
     ghost names_none: { Self → Type 0 };
 
-    /// Its plan, by reads of the keeper alone; none where no State is needed.
+    /// The plan of the request, by reads of the keeper alone. Requests that need no State read nothing.
     fn plan<K: Keeper>(&self, alloc: Global, config: &Config, keeper: &mut K) -> Planning
         ensures bounded { IfOk result (λ p. IfSome p.change IsBounded) }
-        ensures unasked { names_none self.now → (keeper.new ≡ keeper.old) × IfErr result (λ e. e ≡ NoMemory) }
-        ensures still { names_none self.now → IfOk result (λ p. p.change ≡ None) }
+        ensures asks_nothing { names_none self.now
+            → (keeper.new ≡ keeper.old) × IfErr result (λ e. e ≡ NoMemory) }
+        ensures changes_nothing { names_none self.now → IfOk result (λ p. p.change ≡ None) }
         ensures finds { Finds (K.model keeper.old) (K.model keeper.new) result
             (λ s p. p ≡ planned config.now s self.now) };
 }

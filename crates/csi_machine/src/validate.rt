@@ -108,7 +108,7 @@ pub(crate) fn plan_validate<K: Keeper>(
     ensures bounded { IfOk result (λ p. IfSome p.change IsBounded) }
     ensures finds { Finds (K.model keeper.old) (K.model keeper.new) result
         (λ s p. p ≡ validate s request.now) }
-    ensures unasked { number_of_id request.now.volume_id ≡ None → (keeper.new ≡ keeper.old)
+    ensures asks_nothing { number_of_id request.now.volume_id ≡ None → (keeper.new ≡ keeper.old)
         × (result ≡ Ok (refuse VolumeNotFound)) }
 {
     let Some((_, volume)) = volume_of(alloc, keeper, &request.volume_id)? else {

@@ -73,7 +73,7 @@ found_at n (e ∷ es) q = go (found_at n es q) (e.0.0 == n) refl (same q e.0) re
         none (among q (keys_at n es)) refl at ∙ sym (ap (λ b. cond (not b) (Some e.1) None) at)
     go more false x false y = more
 
--- what is left when each place of a number is taken away
+-- the places left after each place of a number is removed
 pub each_detached : (es : List (AttachmentKey × Attachment)) (ps : List AttachmentKey) (n : ℕ) → fin.entries (places_of es) ≡ es
     → ps ≡ map (λ e. e.0) (filter (λ e. e.0.0 == n) (entries_between attachment_key_cmp (Included (n, [])) (place_end n) es))
     → removed_each (places_of es) ps ≡ fin.retain_keys (places_of es) (λ p. not (p.0 == n))

@@ -93,14 +93,14 @@ gone_past all es fs n e is low o = record {
 
 -- The nodes of a number
 
-one_told : (n : ℕ) (e : Row) (es : List Row) → (if e.0.0 == n then e.1.node ∷ [] else []) ++ nodes_at n es ≡ nodes_at n (e ∷ es)
-one_told n e es = elim (e.0.0 == n) as (λ b. (if b then e.1.node ∷ [] else []) ++ nodes_at n es ≡ map (λ (a : Attachment). a.node) (map (λ (e : Row). e.1) (cond b (e ∷ rows_at n es) (rows_at n es)))) [ true ↦ refl | false ↦ refl ]
+one_reported : (n : ℕ) (e : Row) (es : List Row) → (if e.0.0 == n then e.1.node ∷ [] else []) ++ nodes_at n es ≡ nodes_at n (e ∷ es)
+one_reported n e es = elim (e.0.0 == n) as (λ b. (if b then e.1.node ∷ [] else []) ++ nodes_at n es ≡ map (λ (a : Attachment). a.node) (map (λ (e : Row). e.1) (cond b (e ∷ rows_at n es) (rows_at n es)))) [ true ↦ refl | false ↦ refl ]
 
-pub told_more : (n : ℕ) (e : Row) (es fs : List Row) (nodes pushed told : List Text) → es ≡ e ∷ fs → pushed ≡ nodes ++ (if e.0.0 == n then e.1.node ∷ [] else []) → nodes ++ nodes_at n es ≡ told → pushed ++ nodes_at n fs ≡ told
-told_more n e es fs nodes pushed told is push so_far =
+pub reported_more : (n : ℕ) (e : Row) (es fs : List Row) (nodes pushed reported : List Text) → es ≡ e ∷ fs → pushed ≡ nodes ++ (if e.0.0 == n then e.1.node ∷ [] else []) → nodes ++ nodes_at n es ≡ reported → pushed ++ nodes_at n fs ≡ reported
+reported_more n e es fs nodes pushed reported is push so_far =
     ap (λ xs. xs ++ nodes_at n fs) push ∙ append_assoc nodes (if e.0.0 == n then e.1.node ∷ [] else []) (nodes_at n fs)
-    ∙ ap (λ xs. nodes ++ xs) (one_told n e fs) ∙ ap (λ xs. nodes ++ nodes_at n xs) (sym is) ∙ so_far
+    ∙ ap (λ xs. nodes ++ xs) (one_reported n e fs) ∙ ap (λ xs. nodes ++ nodes_at n xs) (sym is) ∙ so_far
 
-pub told_all : (all es : List Row) (n : ℕ) (nodes told : List Text) → BeginsAbove n es → AreAhead all es n → nodes ++ nodes_at n es ≡ told → nodes ≡ told
-told_all all es n nodes told above o so_far =
+pub reported_all : (all es : List Row) (n : ℕ) (nodes reported : List Text) → BeginsAbove n es → AreAhead all es n → nodes ++ nodes_at n es ≡ reported → nodes ≡ reported
+reported_all all es n nodes reported above o so_far =
     sym (append-nil nodes) ∙ ap (λ xs. nodes ++ map (λ (a : Attachment). a.node) (map (λ (e : Row). e.1) xs)) (sym (none_left n es above o.rise)) ∙ so_far

@@ -42,7 +42,7 @@ pub record HasSameNames (old new : Names) : Type 0 where
   pub hashes : (h : ℕ) → at_hash new h ≡ at_hash old h
   pub texts : (q : Text) → at_text new q ≡ at_text old q
 
--- an index in which a name got a number
+-- an index after a name got a number
 pub record IsNamed (name : Text) (n : ℕ) (old new : Names) : Type 0 where
   pub listed : Lists new name n
   pub others : (q : Text) (m : ℕ) → (q ≡ name → ⊥) → Lists old q m → Lists new q m
@@ -54,7 +54,7 @@ pub record IsHashDropped (hash n : ℕ) (old new : List (ℕ × ℕ)) : Type 0 w
   pub left : (h m : ℕ) → lookup (is_at (nat_cmp h)) new ≡ Some m → (lookup (is_at (nat_cmp h)) old ≡ Some m) × (h ≡ hash → m ≡ n → ⊥)
   pub others : (h m : ℕ) → (m ≡ n → ⊥) → lookup (is_at (nat_cmp h)) old ≡ Some m → lookup (is_at (nat_cmp h)) new ≡ Some m
 
--- an index from which a name and its number were removed
+-- an index after a name and its number were removed
 pub record IsUnnamed (name : Text) (n : ℕ) (old new : Names) : Type 0 where
   pub others : (q : Text) (m : ℕ) → (q ≡ name → ⊥) → (m ≡ n → ⊥) → Lists old q m → Lists new q m
   pub hashes : (h m : ℕ) → at_hash new h ≡ Some m → (at_hash old h ≡ Some m) × (h ≡ name_hash name → m ≡ n → ⊥)

@@ -76,7 +76,7 @@ IsSpotSet p b old new = (q : Spot) → has_spot new q ≡ (if is_at (spot_cmp p)
 abbrev pub HasNoEmpty : Nodes → Type 0
 HasNoEmpty nodes = (node : Text) (numbers : BTreeSet ℕ) → lookup (is_at (text_cmp node)) nodes ≡ Some numbers → numbers.keys ≢ []
 
--- the index of nodes has a spot exactly where an attachment is, and no node where none is
+-- the index of nodes has a spot for exactly the attachments, and no node without one
 pub record AreSpotted (es : List (AttachmentKey × Attachment)) (nodes : Nodes) : Type 0 where
   pub found : (q : Spot) → has_spot nodes q ≡ is_some (get (places_of es) (q.1, q.0))
   pub no_empty : HasNoEmpty nodes

@@ -26,7 +26,7 @@ put_back (Some p) es = deref_pair p ∷ es
 abbrev pub ahead : Walk → List Row
 ahead w = put_back w.next w.rest
 
--- what is ahead where a number was passed rises, and has all attachments of each greater number
+-- the items after a passed number rise, and include all attachments of each greater number
 pub record AreAhead (all es : List Row) (passed : ℕ) : Type 0 where
   pub rise : IsStrictlySortedBy attachment_key_cmp (keys_of es)
   pub whole : (n : ℕ) → passed < n → rows_at n (entries (places_of all)) ≡ rows_at n es

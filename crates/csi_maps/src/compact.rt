@@ -9,7 +9,7 @@ use std::marker::Model;
 /// A map of texts, which takes two words, and no other memory where it has no entries.
 #[derive(Drop)]
 pub struct CompactMap {
-    // None where there are no entries.
+    // The entries; `None` for an empty map, which then owns no memory.
     map: Option<Boxed<Map>>,
 }
 

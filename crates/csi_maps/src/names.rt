@@ -20,8 +20,8 @@ use csi_types::{Text, copy_text};
 use std::alloc::{AllocError, Global};
 use std::collections::BTreeMap;
 
-/// Which volume has a name: the index of names. It holds numbers by the hashes of names, and names only where
-/// two have one hash.
+/// The index of names, which finds the volume of a name. It holds numbers by the hashes of names, and the
+/// names themselves only if two share a hash.
 #[derive(Drop)]
 pub struct Names {
     // The number of a volume, by the hash of its name. Most names have a hash of their own.

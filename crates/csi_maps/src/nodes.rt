@@ -77,7 +77,7 @@ pub fn numbers_at(
     }
 }
 
-/// How many volumes are attached at a node: 0 where the index does not have the node.
+/// The number of volumes attached at a node: 0 for a node that the index does not have.
 pub fn count_at(nodes: &BTreeMap<Text, BTreeSet<u64>>, node: &Text) -> u64
     ensures value { result ≡ length (numbers_by nodes.now.entries node.now) }
     ensures ordered { IsStrictlySortedBy nat_cmp (numbers_by nodes.now.entries node.now) }

@@ -1,7 +1,7 @@
 //! A volume as it is kept in memory.
 
 ghost use Rattle.std.specs.Prelude.{◌≡◌, IfOk};
-ghost use Rattle.csi_keeper.specs.Listing.{listed_at, row_told};
+ghost use Rattle.csi_keeper.specs.Listing.{listed_at, row_reported};
 ghost use Rattle.csi_maps.specs.Stored.{as_volume};
 
 use crate::compact::CompactMap;
@@ -14,7 +14,7 @@ use std::alloc::{AllocError, Global};
 /// A node of the tree has room for twice as many rows as it holds, so each byte here counts twice.
 #[derive(Drop)]
 pub struct StoredVolume {
-    /// Its name.
+    /// The volume's name, which no other volume has.
     pub name: Text,
     /// Its size in bytes.
     pub bytes: u64,
@@ -26,7 +26,7 @@ pub struct StoredVolume {
 }
 
 impl StoredVolume {
-    /// What is kept of a volume: all but its number. What the volume owns is moved.
+    /// A volume without its number. The fields that the volume owns are moved.
     ///
     /// # Errors
     ///
@@ -59,10 +59,10 @@ impl StoredVolume {
         })
     }
 
-    /// What a listing says of the volume, which has this number and is published at these nodes.
+    /// The part of the volume that a listing shows, with this number and these nodes.
     #[inline(always)]
     pub(crate) fn listed_at<'a>(&'a self, number: u64, nodes: &'a Items<Text>) -> ListedRow<'a>
-        ensures { row_told result ≡ listed_at (as_volume number self.now) nodes.now }
+        ensures { row_reported result ≡ listed_at (as_volume number self.now) nodes.now }
     {
         ListedRow {
             number,

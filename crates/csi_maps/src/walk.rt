@@ -20,7 +20,7 @@ pub(crate) struct Walk<'a> {
     // The attachment that is next, and those after it.
     next: Option<(&'a (u64, Text), &'a Attachment)>,
     rest: Range<'a, (u64, Text), Attachment>,
-    // Those of greater numbers are all ahead.
+    // The last number passed. All greater numbers are ahead.
     passed: u64,
     /// The nodes of the number that it went to last, in byte order.
     pub(crate) nodes: Items<Text>,

@@ -1,4 +1,4 @@
--- What rows represent after a change, and after one that memory refused.
+-- The State that rows represent after a change, and after a change that memory refused.
 use Rattle.std.proofs.Common.{◌≡◌, ◌∙◌, inl, inr, ap, sym, subst, cond, arith, refl, ℕ, ◌+◌, ◌*◌, ◌<◌, ◌≤◌, ◌^◌, List, [], ◌∷◌, length, sum, Bool, true, false, Some, None, Result, Ok, Err, OnErr}
 use Rattle.std.specs.Cmp.{nat_cmp_total}
 use Rattle.std.specs.FinMap as fin
@@ -28,7 +28,7 @@ pub on_err : {A E P : Type 0} (r : Result A E) → P → OnErr r P
 on_err (Ok x) h = tt
 on_err (Err e) h = h
 
--- the volume that was put into the rows stands there
+-- a volume put into the rows is there
 pub stands_now : (es rows : List (ℕ × Volume)) (v : Volume) → volumes_of rows ≡ fin.insert (volumes_of es) v.number v → fin.get (volumes_of rows) v.number ≡ Some v
 stands_now es rows v is = ap (λ (m : fin.FinMap nat_cmp Volume). fin.get m v.number) is ∙ put_there nat_cmp_total fin.nat_cmp-IsAntisymmetric (volumes_of es) v.number v
 
@@ -200,7 +200,7 @@ module _ (next : ℕ) (volumes : List (ℕ × Volume)) (names : Names) (pools : 
   taken rows index kept n v k some is_rows is_totals is_index =
       kept_remove next volumes rows names pools kept attachments spots s index n v k (ap (λ (m : fin.FinMap nat_cmp Volume). fin.get m n) k.volumes_are ∙ some) is_rows is_totals is_index
 
-  -- a volume got other mutable parameters, or none stands
+  -- a volume got other mutable parameters, or does not exist
   pub kept_mutable : (rows : List (ℕ × Volume)) (n : ℕ) (m : TextMap) → IsKept next volumes names pools attachments spots s
       → volumes_of rows ≡ mutable_set (volumes_of volumes) n m (fin.get (volumes_of volumes) n)
       → IsKept next rows names pools attachments spots (changed s (SetMutable n m))
@@ -221,7 +221,7 @@ module _ (next : ℕ) (volumes : List (ℕ × Volume)) (names : Names) (pools : 
     spotted = k.spotted;
   }
     where
-      -- a volume that stands stood before under its name, and one that stood stands
+      -- each volume after the change existed before under its name, and the reverse
       was : (q : ℕ) (w : Volume) → fin.get (mutable_set s.volumes n m (fin.get s.volumes n)) q ≡ Some w → (v : Volume) × (fin.get s.volumes q ≡ Some v) × (w.name ≡ v.name)
       was q w e = let old = stood s.volumes n m q w e in (
         old.0,

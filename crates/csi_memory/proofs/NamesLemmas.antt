@@ -1,4 +1,4 @@
--- What the index of names and the totals tell of a State that they are kept for.
+-- The facts that the index of names and the totals give of their State.
 use Rattle.std.proofs.Common.{◌≡◌, ◌∙◌, ◌⊎◌, inl, inr, ap, sym, subst, cond, refl, ℕ, List, [], ◌∷◌, map, find, Bool, true, false, Option, Some, None}
 use Rattle.std.specs.Cmp.{nat_cmp_total}
 use Rattle.std.specs.FinMap as fin
@@ -20,7 +20,7 @@ use Rattle.csi_keeper.specs.Texts.{Text}
 use Rattle.csi_keeper.specs.facts.Names.{nobody}
 use Rattle.csi_keeper.specs.facts.Finite.{none_some, same_some, all_entries}
 
--- what is found among the values stands under a number
+-- a volume found among the values is stored under a number
 found_number : (m : fin.FinMap nat_cmp Volume) (p : Volume → Bool) (es : List (ℕ × Volume)) (v : Volume) → AllByRecursion (λ e. fin.get m e.0 ≡ Some e.1) es → find p (map (λ e. e.1) es) ≡ Some v
     → (n : ℕ) × (fin.get m n ≡ Some v) × (p v ≡ true)
 found_number m p [] v a f = absurd (none_some v f)

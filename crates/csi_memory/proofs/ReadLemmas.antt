@@ -1,4 +1,4 @@
--- What rows tell of a State that they are kept for.
+-- The facts that rows give of their State.
 use Rattle.std.proofs.Common.{◌≡◌, ◌∙◌, ap, sym, subst, is_some, arith, refl, ℕ, ◌==◌, ◌≤◌, nat_lt, zero, suc, List, [], ◌∷◌, map, filter, take, length, sum}
 use Rattle.std.specs.BTreeMap.{is_at}
 use Rattle.std.specs.BTreeMap.Range.{entries_between}
@@ -12,7 +12,7 @@ use Rattle.csi_types.specs.Maps.{same_text}
 use Rattle.csi_keeper.specs.declared.volume.Attachment.{Attachment}
 use Rattle.csi_keeper.specs.declared.volume.Volume.{Volume}
 use Rattle.csi_keeper.specs.declared.totals.Totals.{Totals}
-use Rattle.csi_keeper.specs.Totals.{total_of, zero_total, the_total, told}
+use Rattle.csi_keeper.specs.Totals.{total_of, zero_total, the_total, reported}
 use Rattle.csi_maps.specs.Rows.{Nodes, HasNoEmpty, has_spot, numbers_by, volumes_of, places_of, place_end, nodes_in, listed_in}
 use Rattle.csi_memory.specs.Kept.{IsKept}
 use Rattle.csi_maps.specs.declared.names.Names.{Names}
@@ -85,9 +85,9 @@ module _ (next : ℕ) (volumes : List (ℕ × Volume)) (names : Names) (pools : 
   pub held_count : (node : Text) → IsStrictlySortedBy nat_cmp (numbers_by spots node) → IsKept next volumes names pools attachments spots s → length (numbers_by spots node) ≡ count_at s node
   held_count node o k = ap (λ (ns : List ℕ). length ns) (held_at node o k)
 
-  -- the kept total says what is used
-  pub held_used : (pool : Text) → IsKept next volumes names pools attachments spots s → told (total_of pools pool) ≡ used s pool
-  held_used pool k = ap told (k.totals pool)
+  -- the kept total is the used bytes
+  pub held_used : (pool : Text) → IsKept next volumes names pools attachments spots s → reported (total_of pools pool) ≡ used s pool
+  held_used pool k = ap reported (k.totals pool)
 
 -- trees with no entries, and totals of nothing, represent the first State
 pub first_held : (first : ℕ) → 1 ≤ first → (volumes : List (ℕ × Volume)) (names : Names) (pools : Totals) (attachments : List (AttachmentKey × Attachment)) (spots : Nodes)

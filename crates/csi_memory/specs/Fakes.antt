@@ -8,13 +8,13 @@ use Rattle.csi_keeper.specs.declared.change.StoreFault.TheVariants.{Refused}
 use Rattle.csi_memory.specs.declared.fakes.FusedMem.{FusedMem}
 use Rattle.csi_memory.specs.declared.mem.MemKeeper.{MemKeeper}
 
--- what a call is answered before which so many go by, and how many go by after it
+-- the answer of a call, and the calls that still pass after it, from the calls that pass before
 abbrev pub burnt : Option ℕ → Result (Unit {0}) StoreFault × Option ℕ
 burnt None = (Ok tt, None)
 burnt (Some n) = if n == 0 then (Err Refused, None) else (Ok tt, Some (n - 1))
 
--- what is seen of a keeper that refuses a call: the keeper below it, how many calls go by before the one that
--- is refused (none is after it), how many were answered `Refused` or `Down`, and whether it is down
+-- the model of a keeper that refuses one call: the keeper below it, the number of calls that pass before
+-- the refused one (0 after it), the number of calls answered `Refused` or `Down`, and whether it is down
 abbrev pub kept : FusedMem → MemKeeper
 kept fused = fused.keeper
 
@@ -27,7 +27,7 @@ refusals_of fused = fused.fuse.health.refusals
 abbrev pub is_shut : FusedMem → Bool
 is_shut fused = fused.fuse.health.is_down
 
--- A call goes by, or is the one that is refused: no other is, and none goes uncounted.
+-- A call passes, or is the refused one. No other call is refused, and every call is counted.
 pub record Burns {X : Type 0} (old new : FusedMem) (result : Result X StoreFault) : Type 0 where
   pub left : is_shut old ≡ false → calls_left new ≡ (burnt (calls_left old)).1
   pub refused : is_shut old ≡ false → (burnt (calls_left old)).0 ≡ Err Refused → result ≡ Err Refused

@@ -19,13 +19,13 @@ pub record IsKept (next : ℕ) (volumes : List (ℕ × Volume)) (names : Names) 
   pub volumes_are : s.volumes ≡ volumes_of volumes
   pub attachments_are : s.attachments ≡ places_of attachments
   pub named : (n : ℕ) (v : Volume) → get s.volumes n ≡ Some v → Lists names v.name n
-  -- and each number in the index is that of a volume that has the name
+  -- and each number in the index belongs to a volume of that name
   pub hashes_stand : (h n : ℕ) → at_hash names h ≡ Some n → (v : Volume) × (get s.volumes n ≡ Some v) × (name_hash v.name ≡ h)
   pub texts_stand : (q : Text) (n : ℕ) → at_text names q ≡ Some n → (v : Volume) × (get s.volumes n ≡ Some v) × (v.name ≡ q)
-  -- no name is that of two
+  -- no two volumes share a name
   pub single : (n m : ℕ) (v w : Volume) → get s.volumes n ≡ Some v → get s.volumes m ≡ Some w → v.name ≡ w.name → n ≡ m
   pub totals : AreTotals pools s
   pub spotted : AreSpotted attachments spots
-  -- so that neither total passes what it is kept in
+  -- so neither total overflows
   pub few : len s.volumes < s.next
   pub small : (n : ℕ) (v : Volume) → get s.volumes n ≡ Some v → v.bytes ≤ 2 ^ 62

@@ -20,7 +20,7 @@ use std::alloc::{AllocError, Global};
 // Refuses one of the calls that it is asked for.
 #[derive(Drop)]
 struct Fuse {
-    // How many calls go by before the one that is refused; none is once it was.
+    // The calls that still pass before the refused one; `None` after the refusal.
     left: Option<u64>,
     health: Health,
 }
@@ -28,7 +28,7 @@ struct Fuse {
 impl Fuse {
     // Lets a call go by, or refuses it.
     fn burn(&mut self) -> Result<(), StoreFault>
-        ensures burns { self.old.health.is_down ≡ false → (result ≡ (burnt self.old.left).0)
+        ensures counts_calls { self.old.health.is_down ≡ false → (result ≡ (burnt self.old.left).0)
             × (self.new.left ≡ (burnt self.old.left).1) }
         ensures count { self.new.health.refusals ≡ count_after self.old.health.refusals result }
         ensures down { (result ≡ Err Down) ↔ IsTrue self.old.health.is_down }
@@ -85,7 +85,7 @@ impl FusedMem {
         })
     }
 
-    /// Whether each further call is answered `Down`.
+    /// Whether every further call is answered `Down`.
     pub fn is_down(&self) -> bool
         ensures { result ≡ is_shut self.now }
     {
@@ -111,7 +111,7 @@ impl Keeper for FusedMem {
 
     fn next_number(&mut self) -> Result<u64, StoreFault>
         ensures reads { Reads (fused_model self.old) (fused_model self.new) result (λ s n. n ≡ s.next) }
-        ensures burns { Burns self.old self.new result }
+        ensures counts_calls { Burns self.old self.new result }
     {
         self.fuse.burn()?;
         self.keeper.next_number()
@@ -120,7 +120,7 @@ impl Keeper for FusedMem {
     fn by_name(&mut self, alloc: Global, name: &str) -> Result<Option<Volume>, StoreFault>
         ensures reads { Reads (fused_model self.old) (fused_model self.new) result
             (λ s v. v ≡ named s name.now) }
-        ensures burns { Burns self.old self.new result }
+        ensures counts_calls { Burns self.old self.new result }
     {
         self.fuse.burn()?;
         self.keeper.by_name(alloc, name)
@@ -129,7 +129,7 @@ impl Keeper for FusedMem {
     fn by_number(&mut self, alloc: Global, number: u64) -> Result<Option<Volume>, StoreFault>
         ensures reads { Reads (fused_model self.old) (fused_model self.new) result
             (λ s v. v ≡ get s.volumes number) }
-        ensures burns { Burns self.old self.new result }
+        ensures counts_calls { Burns self.old self.new result }
     {
         self.fuse.burn()?;
         self.keeper.by_number(alloc, number)
@@ -138,7 +138,7 @@ impl Keeper for FusedMem {
     fn has_volume(&mut self, number: u64) -> Result<bool, StoreFault>
         ensures reads { Reads (fused_model self.old) (fused_model self.new) result
             (λ s has. has ≡ is_some (get s.volumes number)) }
-        ensures burns { Burns self.old self.new result }
+        ensures counts_calls { Burns self.old self.new result }
     {
         self.fuse.burn()?;
         self.keeper.has_volume(number)
@@ -147,7 +147,7 @@ impl Keeper for FusedMem {
     fn caps_of(&mut self, alloc: Global, number: u64) -> Result<Option<Items<CapKey>>, StoreFault>
         ensures reads { Reads (fused_model self.old) (fused_model self.new) result
             (λ s keys. keys ≡ option_map (λ v. v.caps) (get s.volumes number)) }
-        ensures burns { Burns self.old self.new result }
+        ensures counts_calls { Burns self.old self.new result }
     {
         self.fuse.burn()?;
         self.keeper.caps_of(alloc, number)
@@ -156,7 +156,7 @@ impl Keeper for FusedMem {
     fn attachments(&mut self, alloc: Global, number: u64) -> Result<Items<Attachment>, StoreFault>
         ensures reads { Reads (fused_model self.old) (fused_model self.new) result
             (λ s xs. xs ≡ attached s number) }
-        ensures burns { Burns self.old self.new result }
+        ensures counts_calls { Burns self.old self.new result }
     {
         self.fuse.burn()?;
         self.keeper.attachments(alloc, number)
@@ -165,7 +165,7 @@ impl Keeper for FusedMem {
     fn attached_at(&mut self, alloc: Global, node: &str) -> Result<Items<u64>, StoreFault>
         ensures reads { Reads (fused_model self.old) (fused_model self.new) result
             (λ s xs. xs ≡ attached_at s node.now) }
-        ensures burns { Burns self.old self.new result }
+        ensures counts_calls { Burns self.old self.new result }
     {
         self.fuse.burn()?;
         self.keeper.attached_at(alloc, node)
@@ -174,7 +174,7 @@ impl Keeper for FusedMem {
     fn count_at(&mut self, alloc: Global, node: &Text) -> Result<u64, StoreFault>
         ensures reads { Reads (fused_model self.old) (fused_model self.new) result
             (λ s n. n ≡ count_at s node.now) }
-        ensures burns { Burns self.old self.new result }
+        ensures counts_calls { Burns self.old self.new result }
     {
         self.fuse.burn()?;
         self.keeper.count_at(alloc, node)
@@ -183,7 +183,7 @@ impl Keeper for FusedMem {
     fn sizes_in(&mut self, alloc: Global, pool: &str) -> Result<Items<u64>, StoreFault>
         ensures reads { Reads (fused_model self.old) (fused_model self.new) result
             (λ s xs. xs ≡ sizes s pool.now) }
-        ensures burns { Burns self.old self.new result }
+        ensures counts_calls { Burns self.old self.new result }
     {
         self.fuse.burn()?;
         self.keeper.sizes_in(alloc, pool)
@@ -192,7 +192,7 @@ impl Keeper for FusedMem {
     fn used_in(&mut self, pool: &Text) -> Result<Usage, StoreFault>
         ensures reads { Reads (fused_model self.old) (fused_model self.new) result
             (λ s u. u ≡ used s pool.now) }
-        ensures burns { Burns self.old self.new result }
+        ensures counts_calls { Burns self.old self.new result }
     {
         self.fuse.burn()?;
         self.keeper.used_in(pool)
@@ -201,7 +201,7 @@ impl Keeper for FusedMem {
     fn page(&mut self, alloc: Global, after: u64, count: u32) -> Result<Items<Volume>, StoreFault>
         ensures reads { Reads (fused_model self.old) (fused_model self.new) result
             (λ s xs. xs ≡ page s after count) }
-        ensures burns { Burns self.old self.new result }
+        ensures counts_calls { Burns self.old self.new result }
     {
         self.fuse.burn()?;
         self.keeper.page(alloc, after, count)
@@ -215,7 +215,7 @@ impl Keeper for FusedMem {
     ) -> Result<PageWithNodes, StoreFault>
         ensures reads { Reads (fused_model self.old) (fused_model self.new) result
             (λ s p. IsPageWithNodes s after count p) }
-        ensures burns { Burns self.old self.new result }
+        ensures counts_calls { Burns self.old self.new result }
     {
         self.fuse.burn()?;
         self.keeper.page_with_nodes(alloc, after, count)
@@ -231,7 +231,7 @@ impl Keeper for FusedMem {
         ensures folded { Reads (fused_model self.old) (fused_model self.new) result
             (λ s _. F.folds fold.old (listing s after count) fold.new) }
         ensures kept { F.keeps fold.old fold.new }
-        ensures burns { Burns self.old self.new result }
+        ensures counts_calls { Burns self.old self.new result }
     {
         self.fuse.burn()?;
         self.keeper.fold_page(alloc, after, count, fold)
@@ -240,7 +240,7 @@ impl Keeper for FusedMem {
     fn apply(&mut self, alloc: Global, change: &Change) -> Result<(), StoreFault>
         requires { IsBounded change.now }
         ensures applies { Applies (fused_model self.old) (fused_model self.new) change.now result }
-        ensures burns { Burns self.old self.new result }
+        ensures counts_calls { Burns self.old self.new result }
         ensures stops { result ≡ Err Refused → IsTrue (is_shut self.new) }
         ensures goes_on { result ≢ Err Refused → is_shut self.new ≡ is_shut self.old }
     {
@@ -254,7 +254,7 @@ impl Keeper for FusedMem {
     fn apply_owned(&mut self, alloc: Global, change: Change) -> Result<(), StoreFault>
         requires { IsBounded change }
         ensures applies { Applies (fused_model self.old) (fused_model self.new) change result }
-        ensures burns { Burns self.old self.new result }
+        ensures counts_calls { Burns self.old self.new result }
         ensures stops { result ≡ Err Refused → IsTrue (is_shut self.new) }
         ensures goes_on { result ≢ Err Refused → is_shut self.new ≡ is_shut self.old }
     {

@@ -1,21 +1,21 @@
 -- What reads of a keeper find, in order, and the volume that a request names.
 use Rattle.std.specs.Prelude.{◌≡◌, ℕ, List, Option, None, Some, Result, IfOk}
 use Rattle.std.specs.FinMap.{get}
-use Rattle.csi_keeper.specs.Keeper.{IsQuiet, Tells, count_after}
+use Rattle.csi_keeper.specs.Keeper.{IsQuiet, Reports, count_after}
 use Rattle.csi_keeper.specs.Model.{Model}
 use Rattle.csi_keeper.specs.State.{State}
 use Rattle.csi_keeper.specs.declared.capability.CapKey.{CapKey}
 use Rattle.csi_keeper.specs.declared.change.StoreFault.{StoreFault}
 use Rattle.csi_keeper.specs.declared.volume.Volume.{Volume}
-use Rattle.csi_rules.specs.Down.{TellsDown}
+use Rattle.csi_rules.specs.Down.{ReportsDown}
 
 -- The answer holds for each State that the keeper may have, nothing moves, and a refusal is counted. An
 -- answer over a keeper that is down holds for every State.
 pub record Finds {X : Type 0} (old new : Model State) (result : Result X StoreFault) (IsSo : State → X → Type 0) : Type 0 where
-  pub value : IfOk result (λ x. Tells old new (λ s. IsSo s x))
+  pub value : IfOk result (λ x. Reports old new (λ s. IsSo s x))
   pub quiet : IsQuiet old new
   pub count : new.refusals ≡ count_after old.refusals result
-  pub down : TellsDown old.is_down (λ x. (s : State) → IsSo s x) result
+  pub down : ReportsDown old.is_down (λ x. (s : State) → IsSo s x) result
 
 -- a volume with its number
 abbrev pub numbered : ℕ → Option Volume → Option (ℕ × Volume)

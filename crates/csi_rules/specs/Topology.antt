@@ -15,8 +15,8 @@ abbrev pub or_empty : List TextMap → List TextMap
 or_empty [] = empty ∷ []
 or_empty (t ∷ ts) = t ∷ ts
 
--- the terms in the order of the tries: the preferred ones, and then the requisite ones, or the empty term if
--- none is given
+-- the terms in the order of the tries: the preferred ones, then the requisite ones, or the empty term if
+-- the request gives no term
 abbrev pub terms : Option Requirement → List TextMap
 terms None = empty ∷ []
 terms (Some r) = r.preferred ++ or_empty r.requisite

@@ -133,8 +133,8 @@ fn few_have(alloc: Global, keys: &[CapKey], capabilities: &[Capability]) -> Resu
     Ok(true)
 }
 
-/// Whether they have the key of each capability: O((n + m) log m) for n capabilities and m
-/// keys, which need no order.
+/// Whether `keys` has the key of each capability: O((n + m) log m) for n capabilities and m keys, which
+/// need no order.
 ///
 /// # Errors
 ///

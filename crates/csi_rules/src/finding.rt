@@ -21,7 +21,7 @@ pub fn volume_of<K: Keeper>(
     keeper: &mut K,
     id: &Text,
 ) -> Result<Option<(u64, Volume)>, StoreFault>
-    ensures unasked { number_of_id id.now ≡ None → (keeper.new ≡ keeper.old) × (result ≡ Ok None) }
+    ensures asks_nothing { number_of_id id.now ≡ None → (keeper.new ≡ keeper.old) × (result ≡ Ok None) }
     ensures finds { Finds (K.model keeper.old) (K.model keeper.new) result
         (λ s found. found ≡ volume_at s (number_of_id id.now)) }
 {
@@ -46,7 +46,7 @@ pub fn caps_of<K: Keeper>(
     keeper: &mut K,
     id: &Text,
 ) -> Result<Option<(u64, Items<CapKey>)>, StoreFault>
-    ensures unasked { number_of_id id.now ≡ None → (keeper.new ≡ keeper.old) × (result ≡ Ok None) }
+    ensures asks_nothing { number_of_id id.now ≡ None → (keeper.new ≡ keeper.old) × (result ≡ Ok None) }
     ensures finds { Finds (K.model keeper.old) (K.model keeper.new) result
         (λ s found. found ≡ caps_at s (number_of_id id.now)) }
 {
@@ -67,7 +67,7 @@ pub fn caps_of<K: Keeper>(
 /// What the keeper answers.
 #[tactic(auto, using(csi_keeper::specs::facts::Reads::quiet_same, csi_keeper::specs::facts::Reads::quiet_then, crate::specs::facts::Finding::number_has, crate::specs::facts::Finding::number_none))]
 pub fn existing_number<K: Keeper>(keeper: &mut K, id: &Text) -> Result<Option<u64>, StoreFault>
-    ensures unasked { number_of_id id.now ≡ None → (keeper.new ≡ keeper.old) × (result ≡ Ok None) }
+    ensures asks_nothing { number_of_id id.now ≡ None → (keeper.new ≡ keeper.old) × (result ≡ Ok None) }
     ensures finds { Finds (K.model keeper.old) (K.model keeper.new) result
         (λ s found. found ≡ number_at s (number_of_id id.now)) }
 {

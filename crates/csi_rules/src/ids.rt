@@ -9,7 +9,7 @@ use csi_types::Text;
 use itoa::Buffer;
 use std::alloc::{AllocError, Global};
 
-/// How the id of a volume begins, before its number in decimal.
+/// The first part of a volume's id, before its number in decimal.
 pub const ID_PREFIX: &str = "vol-";
 
 /// The number in decimal, without leading zeros.

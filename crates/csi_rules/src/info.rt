@@ -57,13 +57,13 @@ fn pool_named<'a>(pools: &'a [Pool], name: &Text) -> Option<&'a Pool>
     pools.iter().find(|pool| pool.name == *name)
 }
 
-/// The segments of the first pool that has the name; `nowhere` if the configuration has no such pool.
-pub fn segments_at<'a>(config: &'a Config, pool: &Text, nowhere: &'a Map) -> &'a Map
-    requires { nowhere.now ≡ empty }
+/// The segments of the first pool that has the name; `no_segments` if the configuration has no such pool.
+pub fn segments_at<'a>(config: &'a Config, pool: &Text, no_segments: &'a Map) -> &'a Map
+    requires { no_segments.now ≡ empty }
     ensures { result.now ≡ segments_at config.now pool.now }
 {
     match pool_named(config.pools(), pool) {
         Some(pool) => &pool.segments,
-        None => nowhere,
+        None => no_segments,
     }
 }

@@ -11,7 +11,7 @@ use std::process::ExitCode;
 /// The number that the first volume gets.
 const FIRST_NUMBER: u64 = 1;
 
-// How the run over standard input ended.
+// Serves standard input, and returns the end of the run.
 fn run(rt: &HostRuntime) -> Result<RunEnd, AllocError> {
     let config = Config::sample(rt.alloc())?;
     let mut keeper = MemKeeper::new(rt.alloc(), FIRST_NUMBER)?;

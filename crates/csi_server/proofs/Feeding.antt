@@ -5,7 +5,7 @@ use Rattle.std.specs.Io.KnownBytes.{Appends}
 use Rattle.std.proofs.lemmas.List.{take_all}
 use Rattle.envelope.specs.declared.fault.FrameFault.{FrameFault}
 use Rattle.envelope.specs.Envelope.{CallBytes, IsCall, IsReply, frame, reply}
-use Rattle.envelope.specs.declared.kind.Kind.TheVariants.{Calls}
+use Rattle.envelope.specs.declared.kind.FrameKind.TheVariants.{Calls}
 use Rattle.envelope.specs.Faults.{part, place}
 use Rattle.envelope.specs.Stream.{IsUnfinished, part_of}
 use Rattle.frames_core.specs.Framer.{FramerState, start}
@@ -27,7 +27,7 @@ use Rattle.std.proofs.KnownBytes.{Consumes-trans}
 use Rattle.csi_server.specs.Live.{Live, IsReady, Advances, Refuses, Finishes}
 use Rattle.csi_server.proofs.Runs.{runs_start, so_far_start, so_far_push, cut_call, cut_fault, answered, answered_then, answered_kept, answered_fault, stream_ends}
 
--- what was taken from the first piece on, with one feed more
+-- the bytes taken from the first piece on, after one more feed
 pub advanced_open : (first old new : FramerState) (at : ℕ) (rest : List ℕ) (n : ℕ) → Advances first old at → Fed old new rest n → IsReady new → Advances first new (at + n)
 advanced_open first old new at rest n a f ready = record {
   count = omega (arith, a.count, fed_count Calls part place old new rest n f);

@@ -22,14 +22,14 @@ use Rattle.csi_types.specs.Codes.{number_of}
 use Rattle.csi_types.specs.Reasons.{code_of, text_of}
 use Rattle.csi_codec.specs.Methods.{IsNoRequest}
 use Rattle.csi_codec.specs.Reading.{read_request, IsRead}
-use Rattle.csi_machine.specs.Verdicts.{Told, Says, Denies, within, reported_of}
+use Rattle.csi_machine.specs.Verdicts.{Report, Says, Denies, within, reported_of}
 use Rattle.csi_server.specs.Machine.{refusal, refused}
-use Rattle.csi_server.specs.Requests.{requests, malformed, told, after_check, after_read, after_path}
+use Rattle.csi_server.specs.Requests.{requests, malformed, reported, after_check, after_read, after_path}
 use Rattle.csi_server.proofs.Printable.{all_printable}
 use Rattle.csi_server.proofs.Reasons.{reason_printable, reason_short, reason_refuses, refusal_number}
 
 -- a body that a reply holds
-abbrev pub IsShort : Told → Type 0
+abbrev pub IsShort : Report → Type 0
 IsShort (Says body) = length body ≤ MAX_BODY_BYTES
 IsShort (Denies r) = Unit {0}
 
@@ -40,9 +40,9 @@ short_within body = by (nat_le (length body) MAX_BODY_BYTES) refl
     by true e = leb-true (length body) MAX_BODY_BYTES e
     by false e = tt
 
-pub short_told : (o : Result Response Reason) → IsShort (reported_of o)
-short_told (Ok r) = short_within _
-short_told (Err r) = tt
+pub short_reported : (o : Result Response Reason) → IsShort (reported_of o)
+short_reported (Ok r) = short_within _
+short_reported (Err r) = tt
 
 formed_refusal : (code : ℕ) (text : List ℕ) → is_status code ≡ true → code ≢ 0 → length text ≤ 1024 → All IsTextByte text → IsReply (refusal code text)
 formed_refusal code text is some short printable = record {
@@ -73,8 +73,8 @@ formed_refused r = let short = reason_short r in formed_refusal (number_of (code
 pub formed_malformed : (at : ℕ) (text : List ℕ) → text ≡ codes "malformed message in the field at byte " ++ decimal at → length text ≤ 1024 → All IsTextByte text → IsReply (malformed at)
 formed_malformed at text is short printable = subst (λ (t : List ℕ). IsReply (refusal 3 t)) is (formed_refusal 3 text refl (λ e. omega arith) short printable)
 
-formed_told : (v : Told) → IsShort v → IsReply (told v)
-formed_told (Says body) short = record {
+formed_reported : (v : Report) → IsShort v → IsReply (reported v)
+formed_reported (Says body) short = record {
   status = refl;
   text_short = omega arith;
   text_bytes = All-nil IsTextByte;
@@ -82,11 +82,11 @@ formed_told (Says body) short = record {
   ok = λ e. refl;
   refused = λ ne. absurd (ne refl);
 }
-formed_told (Denies r) short = formed_refused r
+formed_reported (Denies r) short = formed_refused r
 
-module _ {S : Type 0} (answer : S → Request → Told × S) (short : (s : S) (r : Request) → IsShort (answer s r).0) (numbers : (n : ℕ) → n < 2 ^ 64 → All IsTextByte (decimal n)) (reading : (m : Method) (bytes : List ℕ) → IsRead m bytes (read_request m bytes)) where
+module _ {S : Type 0} (answer : S → Request → Report × S) (short : (s : S) (r : Request) → IsShort (answer s r).0) (numbers : (n : ℕ) → n < 2 ^ 64 → All IsTextByte (decimal n)) (reading : (m : Method) (bytes : List ℕ) → IsRead m bytes (read_request m bytes)) where
   formed_check : (s : S) (r : Request) (o : Option Reason) → IsReply (after_check answer s r o).0
-  formed_check s r None = formed_told (answer s r).0 (short s r)
+  formed_check s r None = formed_reported (answer s r).0 (short s r)
   formed_check s r (Some why) = formed_refused why
 
   formed_read : (s : S) (m : Method) (message : List ℕ) → length message ≤ MAX_MESSAGE_BYTES → (x : Result Request ℕ) → IsRead m message x → IsReply (after_read answer s x).0

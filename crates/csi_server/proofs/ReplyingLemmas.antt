@@ -1,4 +1,4 @@
--- What one feed of a framer makes of what was read and written, whatever the service.
+-- One feed of a framer: the bytes read and written after it, for every service.
 use Rattle.std.proofs.Common.{◌≡◌, ◌≢◌, ℕ, ◌+◌, ◌-◌, ◌<◌, ◌≤◌, List, [], ◌∷◌, ◌++◌, length, take, drop, Option, Some, None, Result, Ok, Err, OnOk, refl, sym, ap, subst, ◌∙◌, append_assoc, append-nil, length-append, length-drop, arith, inl, inr}
 use Rattle.std.specs.List.{flat_map}
 use Rattle.std.specs.Io.KnownBytes.{Appends}
@@ -9,7 +9,7 @@ use Rattle.std.proofs.lemmas.List.{take_all}
 use Rattle.std.proofs.lemmas.List.Elements.{All-push, All-nil}
 use Rattle.envelope.specs.declared.fault.FrameFault.{FrameFault}
 use Rattle.envelope.specs.declared.fault.FrameWhy.TheVariants.{EndOfInput}
-use Rattle.envelope.specs.declared.kind.Kind.TheVariants.{Calls}
+use Rattle.envelope.specs.declared.kind.FrameKind.TheVariants.{Calls}
 use Rattle.envelope.specs.Envelope.{CallBytes, ReplyBytes, IsCall, IsReply, frame, reply}
 use Rattle.envelope.specs.Faults.{part, place}
 use Rattle.envelope.specs.Stream.{Stream, Clean, Open, IsUnfinished, frames, part_of}
@@ -30,7 +30,7 @@ replies_push rs r = flat_map-append reply rs (r ∷ []) ∙ ap (λ (x : List ℕ
 calls_push : (calls : List CallBytes) (call : CallBytes) → frames (calls ++ call ∷ []) ≡ frames calls ++ frame call
 calls_push calls call = frames-append calls (call ∷ []) ∙ ap (λ (x : List ℕ). frames calls ++ x) (frames-one call)
 
--- what was read has no fault
+-- the bytes read have no fault
 no_fault : (read : List ℕ) (s : FramerState) (held holds : Option (List ℕ)) → (h : Replying read s held holds) → HasNoFault read h.calls
 no_fault read s held holds h =
     elim (open_or_clean s.held h.unfinished) [
@@ -135,7 +135,7 @@ replying_more read old new next rest n call r held holds then_ h fed good is for
       written = subst (λ (x : List ℕ). Appends held then_ x) (sym (replies_push h.rs r)) (Appends-trans held holds then_ (flat_map reply h.rs) (reply r) h.written w);
     })
 
--- what is so where it was put whole
+-- a fact after the whole reply was put
 pub whole_put : {V E : Type 0} {P : Type 0} (put : Result V E) → OnOk put P → IsOk put → P
 whole_put (Ok v) all ok = all
 whole_put (Err e) all ok = absurd (cc)
@@ -151,7 +151,7 @@ replied_so_far read s held holds h = record {
   written = subst (λ (x : List ℕ). Appends held holds x) (sym (append-nil (flat_map reply h.rs))) h.written;
 }
 
--- what is written of the fault's frame is written after all replies
+-- the bytes of the fault's frame are written after all replies
 after_replies : (held holds then_ : Option (List ℕ)) (rs : List ReplyBytes) (last : List ℕ) → Appends held holds (flat_map reply rs ++ []) → Appends holds then_ last → Appends held then_ (flat_map reply rs ++ last)
 after_replies held holds then_ rs last h w =
     subst (λ (x : List ℕ). Appends held then_ x) (ap (λ (x : List ℕ). x ++ last) (append-nil (flat_map reply rs))) (Appends-trans held holds then_ (flat_map reply rs ++ []) last h w)

@@ -10,10 +10,10 @@ use Rattle.envelope.specs.declared.limits.TheConstants.{REPLY_HEAD_BYTES}
 use Rattle.csi_codec.specs.Reading.{read_request}
 use Rattle.csi_machine.specs.declared.body.Verdict.{Verdict}
 use Rattle.csi_machine.specs.declared.body.Verdict.TheVariants as verdict
-use Rattle.csi_machine.specs.Verdicts.{Told, reported_of, IsReported}
+use Rattle.csi_machine.specs.Verdicts.{Report, reported_of, IsReported}
 use Rattle.csi_keeper.specs.Model.{Model}
 use Rattle.csi_server.specs.Machine.{Machine, Mark, Unmarked, OutOfMemory, StoreRefused, StoreDown, Answers, Leaves, KnowsDown, marked, refused}
-use Rattle.csi_server.specs.Requests.{AnswersBy, LeavesBy, IsUnread, IsRequest, MayBe, requests, after_check, after_read, after_path, told}
+use Rattle.csi_server.specs.Requests.{AnswersBy, LeavesBy, IsUnread, IsRequest, MayBe, requests, after_check, after_read, after_path, reported}
 use Rattle.csi_server.specs.Identity.{said, still}
 use Rattle.csi_server.specs.Service.{room}
 
@@ -82,8 +82,8 @@ same_by {S} f g {old = old} {new = new} {s = s} e a = record {
   knows = knows_same {f = f} {g = g} e a.knows;
 }
 
-module _ {S : Type 0} (asks : Request → Bool) (answer : S → Request → Told × S) (m : Method) (message : List ℕ) where
-  -- what is responded to the message from each state
+module _ {S : Type 0} (asks : Request → Bool) (answer : S → Request → Report × S) (m : Method) (message : List ℕ) where
+  -- the response to the message in each state
   abbrev pub to_message : S → ReplyBytes × S
   to_message t = after_read answer t (read_request m message)
 
@@ -101,7 +101,7 @@ module _ {S : Type 0} (asks : Request → Bool) (answer : S → Request → Told
   pub read_by : (old new : Model S) (s : S) (r : ReplyBytes) (q : Request) → read_request m message ≡ Ok q → checked q ≡ None → AnswersBy (λ t. after_check answer t q None) (MayBe (asks q)) old new s r → AnswersBy to_message MayMessage old new s r
   read_by old new s r q is passed a = same_by (λ t. after_check answer t q None) to_message (λ t. sym (ap (after_read answer t) is ∙ ap (after_check answer t q) passed)) (may_by {May = MayBe (asks q)} {Might = MayMessage} (λ k may. (q, is, may)) a)
 
-module _ {S : Type 0} (method : List ℕ → Option Method) (asks : Request → Bool) (answer : S → Request → Told × S) (call : CallBytes) where
+module _ {S : Type 0} (method : List ℕ → Option Method) (asks : Request → Bool) (answer : S → Request → Report × S) (call : CallBytes) where
   -- a call whose path names no method
   pub unknown_by : (now : Model S) (s : S) (r : ReplyBytes) → method call.path ≡ None → r ≡ refused reason.UnknownMethod → now.holds s → Answers (requests method asks answer) now now s call r
   unknown_by now s r none e h =
@@ -126,8 +126,8 @@ SaysIn out r (Err e) = r ≡ refused reason.OutOfMemory
 -- the identity service's answer
 pub said_by : {E : Type 0} (name version : List ℕ) (q : Request) (v : Result Verdict E) (out : List ℕ) (r : ReplyBytes) → IsReported (reported_of (said name version q)) room out v → SaysIn out r v
     → AnswersBy (λ t. after_check (λ (s : ⊤) (p : Request). (reported_of (said name version p), s)) t q None) (MayBe false) still still tt r
-said_by name version q (Ok verdict.Done) out r tells e =
-    kept_by _ (MayBe false) still tt r (λ s. ap (λ (t : Told). (told t, s)) tells.1 ∙ ap (λ (o : List ℕ). (record { status = 0; text = []; body = drop REPLY_HEAD_BYTES o }, s)) (sym tells.2) ∙ ap (λ (b : ReplyBytes). (b, s)) (sym e)) tt
-said_by name version q (Ok (verdict.Refused why)) out r tells e =
-    kept_by _ (MayBe false) still tt r (λ s. ap (λ (t : Told). (told t, s)) tells ∙ ap (λ (b : ReplyBytes). (b, s)) (sym e)) tt
-said_by name version q (Err x) out r tells e = memory_by _ (MayBe false) still tt r e tt tt
+said_by name version q (Ok verdict.Done) out r reports e =
+    kept_by _ (MayBe false) still tt r (λ s. ap (λ (t : Report). (reported t, s)) reports.1 ∙ ap (λ (o : List ℕ). (record { status = 0; text = []; body = drop REPLY_HEAD_BYTES o }, s)) (sym reports.2) ∙ ap (λ (b : ReplyBytes). (b, s)) (sym e)) tt
+said_by name version q (Ok (verdict.Refused why)) out r reports e =
+    kept_by _ (MayBe false) still tt r (λ s. ap (λ (t : Report). (reported t, s)) reports ∙ ap (λ (b : ReplyBytes). (b, s)) (sym e)) tt
+said_by name version q (Err x) out r reports e = memory_by _ (MayBe false) still tt r e tt tt

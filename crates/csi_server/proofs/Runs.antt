@@ -12,7 +12,7 @@ use Rattle.envelope.specs.Envelope.{CallBytes, ReplyBytes, IsCall, IsReply, fram
 use Rattle.envelope.specs.Stream.{Stream, End, Ends, Fault, Open, frames, FaultAt}
 use Rattle.frames_core.specs.Writing.{IsPrefix, WrotePrefix}
 use Rattle.csi_keeper.specs.Model.{Model}
-use Rattle.csi_server.specs.Machine.{Machine, Mark, Unmarked, OutOfMemory, StoreRefused, StoreDown, Event, Runs, Answers, IsDue, Leaves, RoseBy, IsAllowed, IsIdle, KnowsDown, StaysDown, is_down_after, told_down, may_leave, done, replies, state_after, store_mark, store_marks, step, calls_of, AreReplies}
+use Rattle.csi_server.specs.Machine.{Machine, Mark, Unmarked, OutOfMemory, StoreRefused, StoreDown, Event, Runs, Answers, IsDue, Leaves, RoseBy, IsAllowed, IsIdle, KnowsDown, StaysDown, is_down_after, reported_down, may_leave, done, replies, state_after, store_mark, store_marks, step, calls_of, AreReplies}
 use Rattle.csi_server.specs.Live.{SoFar}
 use Rattle.csi_server.specs.Serving.{Answered, CutOff, HasFault, BeginsWithCalls, AnswersCall, fault_frame}
 
@@ -133,12 +133,12 @@ left_push m s es call StoreDown old new u l t h = left_stays m s es (record { ca
 stays_down_push : {S : Type 0} (m : Machine S) (down : Bool) (es : List Event) (e : Event) → StaysDown m down es → (is_down_after down es ≡ true → IsIdle m e.call e.mark) → StaysDown m down (es ++ e ∷ [])
 unfolding StaysDown is_down_after
 stays_down_push m down [] e h k = (k, tt)
-stays_down_push m down (x ∷ xs) e h k = (h.0, stays_down_push m (down || told_down x.mark) xs e h.1 k)
+stays_down_push m down (x ∷ xs) e h k = (h.0, stays_down_push m (down || reported_down x.mark) xs e h.1 k)
 
-down_after_push : (down : Bool) (es : List Event) (e : Event) → is_down_after down (es ++ e ∷ []) ≡ (is_down_after down es || told_down e.mark)
+down_after_push : (down : Bool) (es : List Event) (e : Event) → is_down_after down (es ++ e ∷ []) ≡ (is_down_after down es || reported_down e.mark)
 unfolding is_down_after
 down_after_push down [] e = refl
-down_after_push down (x ∷ xs) e = down_after_push (down || told_down x.mark) xs e
+down_after_push down (x ∷ xs) e = down_after_push (down || reported_down x.mark) xs e
 
 -- a call over a store that is down
 idle_by : {S : Type 0} (m : Machine S) (old new : Model S) (call : CallBytes) (r : ReplyBytes) (mark : Mark) → KnowsDown (λ t. m.respond t call) old new r mark → old.is_down ≡ true → IsIdle m call mark
@@ -147,7 +147,7 @@ idle_by m old new call r OutOfMemory k is = tt
 idle_by m old new call r StoreRefused k is = absurd (cc (k.refused refl, is))
 idle_by m old new call r StoreDown k is = tt
 
-shut_by : {S : Type 0} (f : S → ReplyBytes × S) (old new : Model S) (r : ReplyBytes) (mark : Mark) (b : Bool) → KnowsDown f old new r mark → (b ≡ true → old.is_down ≡ true) → (b || told_down mark) ≡ true → new.is_down ≡ true
+shut_by : {S : Type 0} (f : S → ReplyBytes × S) (old new : Model S) (r : ReplyBytes) (mark : Mark) (b : Bool) → KnowsDown f old new r mark → (b ≡ true → old.is_down ≡ true) → (b || reported_down mark) ≡ true → new.is_down ≡ true
 shut_by f old new r mark true k was is = k.stays (was refl)
 shut_by f old new r Unmarked false k was is = absurd (cc)
 shut_by f old new r OutOfMemory false k was is = absurd (cc)
@@ -230,7 +230,7 @@ cut_call {S} m start mid new s bytes more rest read call held holds then_ Whole 
       written = Appends-trans held holds then_ (replies m s h.events) a.part.0 h.written a.part.2;
     }
 
--- how what is left of the stream ends it
+-- how the rest of the stream ends it
 pub stream_of : (bytes rest read : List ℕ) (calls : List CallBytes) → All IsCall calls → bytes ≡ frames calls → (end : End) → read ≡ bytes ++ rest → Ends (length bytes) rest end → Stream read calls end
 stream_of bytes rest read calls each whole end e ends = record {
   rest = rest;

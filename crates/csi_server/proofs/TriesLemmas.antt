@@ -16,12 +16,12 @@ use Rattle.csi_codec.specs.Reading.{read_request}
 use Rattle.csi_config.specs.declared.config.Config.{Config}
 use Rattle.csi_keeper.specs.Invariant.{IsInvariant}
 use Rattle.csi_keeper.specs.State.{State}
-use Rattle.csi_machine.specs.Retry.{Try, Ending, Marked, Down, Unanswered, Answered, after_try, told_by, reported_of, IsDue, IsOfFirst, Leaves, IsLife, AreTriesOf, all_tries, told_once, after_once, still_open, state_after as after_tries}
+use Rattle.csi_machine.specs.Retry.{Try, Ending, Marked, Down, Unanswered, Answered, after_try, reported_by, reported_of, IsDue, IsOfFirst, Leaves, IsLife, AreTriesOf, all_tries, reported_once, after_once, still_open, state_after as after_tries}
 use Rattle.csi_machine.specs.Step.{step}
-use Rattle.csi_machine.specs.Verdicts.{Told}
+use Rattle.csi_machine.specs.Verdicts.{Report}
 use Rattle.csi_server.specs.Machine.{Event, Mark, Unmarked, OutOfMemory, StoreRefused, StoreDown, marked, may_leave, refused, state_after}
 use Rattle.csi_server.specs.Machine.{step as call_step}
-use Rattle.csi_server.specs.Requests.{after_check, after_path, after_read, malformed, told}
+use Rattle.csi_server.specs.Requests.{after_check, after_path, after_read, malformed, reported}
 use Rattle.csi_server.specs.Tries.{Exchange, Asks, asked, asked_in, asked_of, spelled_call, unless_refused, ending, events_of, heard_by, heard_of, tries_for, tries_in, tries_of, IsLeft, IsLifeOfCalls}
 use Rattle.csi_server.specs.Volumes.{volumes, IsPending}
 
@@ -101,7 +101,7 @@ unasked_stays call = by_path (method_at call.path)
 
 module _ (config : Config) where
   abbrev answer_to : State → Request → ReplyBytes × State
-  answer_to s r = (told (step config s r).0, (step config s r).1)
+  answer_to s r = (reported (step config s r).0, (step config s r).1)
 
   -- a call that asks for a request is answered as the request is
   pub asked_answers : (s : State) (call : CallBytes) (r : Request) → asked call ≡ Some r → (volumes config).respond s call ≡ answer_to s r
@@ -124,11 +124,11 @@ module _ (config : Config) where
   -- the State after it, and what its client heard
   record Moves (s : State) (x : Exchange) : Type 0 where
     pub after : (call_step (volumes config) s x.event).1 ≡ after_tries config s (tries_in x)
-    pub heard : heard_by (asked x.event.call) x.event.mark x.is_heard (call_step (volumes config) s x.event).0 ≡ map told (reported_of config s (tries_in x))
+    pub heard : heard_by (asked x.event.call) x.event.mark x.is_heard (call_step (volumes config) s x.event).0 ≡ map reported (reported_of config s (tries_in x))
 
   moves_by : (s : State) (call : CallBytes) (mark : Mark) (is_heard : Bool) (o : Option Request) → asked call ≡ o
       → ((marked s ((volumes config).respond s call) mark).1 ≡ after_tries config s (tries_for o (ending mark is_heard)))
-      × (heard_by o mark is_heard (marked s ((volumes config).respond s call) mark).0 ≡ map told (reported_of config s (tries_for o (ending mark is_heard))))
+      × (heard_by o mark is_heard (marked s ((volumes config).respond s call) mark).0 ≡ map reported (reported_of config s (tries_for o (ending mark is_heard))))
   moves_by s call Unmarked true (Some r) e =
       let is : (volumes config).respond s call ≡ answer_to s r = asked_answers s call r e in
       (ap (λ (y : ReplyBytes × State). y.1) is, ap (λ (y : ReplyBytes × State). y.0 ∷ []) is)
@@ -152,11 +152,11 @@ module _ (config : Config) where
   after_append s [] us = refl
   after_append s (t ∷ ts) us = after_append (after_try config s t) ts us
 
-  told_append : (s : State) (ts us : List Try) → reported_of config s (ts ++ us) ≡ reported_of config s ts ++ reported_of config (after_tries config s ts) us
-  told_append s [] us = refl
-  told_append s (t ∷ ts) us =
-      ap (λ (l : List Told). told_by config s t.request t.end ++ l) (told_append (after_try config s t) ts us)
-      ∙ sym (append_assoc (told_by config s t.request t.end) (reported_of config (after_try config s t) ts) (reported_of config (after_tries config (after_try config s t) ts) us))
+  reported_append : (s : State) (ts us : List Try) → reported_of config s (ts ++ us) ≡ reported_of config s ts ++ reported_of config (after_tries config s ts) us
+  reported_append s [] us = refl
+  reported_append s (t ∷ ts) us =
+      ap (λ (l : List Report). reported_by config s t.request t.end ++ l) (reported_append (after_try config s t) ts us)
+      ∙ sym (append_assoc (reported_by config s t.request t.end) (reported_of config (after_try config s t) ts) (reported_of config (after_tries config (after_try config s t) ts) us))
 
   -- ---- a session
 
@@ -167,15 +167,15 @@ module _ (config : Config) where
       session_after (call_step (volumes config) s x.event).1 xs
       ∙ (ap (λ (z : State). after_tries config z (tries_of xs)) (moves s x).after ∙ sym (after_append s (tries_in x) (tries_of xs)))
 
-  pub session_heard : (s : State) (session : List Exchange) → heard_of config s session ≡ map told (reported_of config s (tries_of session))
+  pub session_heard : (s : State) (session : List Exchange) → heard_of config s session ≡ map reported (reported_of config s (tries_of session))
   session_heard s [] = refl
   session_heard s (x ∷ xs) =
       let first = (moves s x).heard in
-      let next = session_heard (call_step (volumes config) s x.event).1 xs ∙ ap (λ (z : State). map told (reported_of config z (tries_of xs))) (moves s x).after in
+      let next = session_heard (call_step (volumes config) s x.event).1 xs ∙ ap (λ (z : State). map reported (reported_of config z (tries_of xs))) (moves s x).after in
       ap (λ (l : List ReplyBytes). l ++ heard_of config (call_step (volumes config) s x.event).1 xs) first
-      ∙ (ap (λ (l : List ReplyBytes). map told (reported_of config s (tries_in x)) ++ l) next
-      ∙ (sym (map-append told (reported_of config s (tries_in x)) (reported_of config (after_tries config s (tries_in x)) (tries_of xs)))
-      ∙ ap (map told) (sym (told_append s (tries_in x) (tries_of xs)))))
+      ∙ (ap (λ (l : List ReplyBytes). map reported (reported_of config s (tries_in x)) ++ l) next
+      ∙ (sym (map-append reported (reported_of config s (tries_in x)) (reported_of config (after_tries config s (tries_in x)) (tries_of xs)))
+      ∙ ap (map reported) (sym (reported_append s (tries_in x) (tries_of xs)))))
 
   -- ---- what a session leaves
 
@@ -345,11 +345,11 @@ module _ (config : Config) where
 
   -- ---- a life
 
-  -- the life of the tries, and what was answered in it
+  -- the life of the tries, and the answers in it
   record IsOfTries (s : State) (sessions : List (List Exchange)) (heard : List ReplyBytes) (t : State) : Type 0 where
-    pub said : List Told
+    pub said : List Report
     pub life : IsLife config s (map tries_of sessions) said t
-    pub hears : heard ≡ map told said
+    pub hears : heard ≡ map reported said
 
   life_tries : (s : State) (sessions : List (List Exchange)) (heard : List ReplyBytes) (t : State) → IsLifeOfCalls config s sessions heard t → IsOfTries s sessions heard t
   life_tries s [] heard t l = record { said = []; life = (refl, l.1); hears = l.0 }
@@ -360,7 +360,7 @@ module _ (config : Config) where
         life = (u, o.said, session_leaves s u session left, refl, o.life);
         hears = hears
             ∙ (ap (λ (l : List ReplyBytes). l ++ rest) (session_heard config s session)
-            ∙ (ap (λ (l : List ReplyBytes). map told (reported_of config s (tries_of session)) ++ l) o.hears ∙ sym (map-append told (reported_of config s (tries_of session)) o.said)));
+            ∙ (ap (λ (l : List ReplyBytes). map reported (reported_of config s (tries_of session)) ++ l) o.hears ∙ sym (map-append reported (reported_of config s (tries_of session)) o.said)));
       }
 
 -- ---- requests that are asked for pass the checks
@@ -403,15 +403,15 @@ requests_pass (t ∷ ts) rs h tries = elim tries as (λ _. AllByRecursion (λ r.
 module _ (config : Config) where
   -- the law of tries, over requests
   abbrev pub Retried : Type 0
-  Retried = (s t : State) (requests : List Request) (sessions : List (List Try)) (told : List Told) → IsInvariant config s → AllByRecursion (λ r. checked r ≡ None) requests → AreTriesOf requests (all_tries sessions)
-      → IsLife config s sessions told t → (told ≡ told_once config s requests) × (t ≡ after_once config s requests)
+  Retried = (s t : State) (requests : List Request) (sessions : List (List Try)) (reported : List Report) → IsInvariant config s → AllByRecursion (λ r. checked r ≡ None) requests → AreTriesOf requests (all_tries sessions)
+      → IsLife config s sessions reported t → (reported ≡ reported_once config s requests) × (t ≡ after_once config s requests)
 
   pub calls_retried : Retried → (s t : State) (requests : List Request) (sessions : List (List Exchange)) (heard : List ReplyBytes) → IsInvariant config s → AreTriesOf requests (all_tries (map tries_of sessions))
-      → IsLifeOfCalls config s sessions heard t → (heard ≡ map told (told_once config s requests)) × (t ≡ after_once config s requests)
+      → IsLifeOfCalls config s sessions heard t → (heard ≡ map reported (reported_once config s requests)) × (t ≡ after_once config s requests)
   calls_retried law s t requests sessions heard inv tries l =
       let o = life_tries config s sessions heard t l in
       let once = law s t requests (map tries_of sessions) o.said inv (requests_pass (all_tries (map tries_of sessions)) requests (life_passes sessions) tries) tries o.life in
-      (o.hears ∙ ap (map told) once.0, once.1)
+      (o.hears ∙ ap (map reported) once.0, once.1)
 
   -- ---- the same call again
 
@@ -428,6 +428,6 @@ module _ (config : Config) where
           u.1 config ((volumes config).respond s call).1 ∙ (ap (λ (y : ReplyBytes × State). (u.0, y.1)) (u.1 config s) ∙ sym (u.1 config s))
       by_asked (Some r) e =
           let is : (volumes config).respond s call ≡ answer_to config s r = asked_answers config s call r e in
-          let again : answer_to config (step config s r).1 r ≡ answer_to config s r = ap (λ (y : Told × State). (told y.0, y.1)) (law s r inv ((asked_is call r e).passed)) in
+          let again : answer_to config (step config s r).1 r ≡ answer_to config s r = ap (λ (y : Report × State). (reported y.0, y.1)) (law s r inv ((asked_is call r e).passed)) in
           asked_answers config ((volumes config).respond s call).1 call r e
           ∙ (ap (λ (y : ReplyBytes × State). answer_to config y.1 r) is ∙ (again ∙ sym is))

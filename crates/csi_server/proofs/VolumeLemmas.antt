@@ -15,11 +15,11 @@ use Rattle.csi_keeper.specs.State.{State}
 use Rattle.csi_machine.specs.Step.{is_of_plugin, step}
 use Rattle.csi_machine.specs.Verdicts.{Appended}
 use Rattle.csi_server.specs.Machine.{Mark, Unmarked, OutOfMemory, StoreRefused, StoreDown, KnowsDown, RoseBy, marked, store_mark}
-use Rattle.csi_server.specs.Requests.{AnswersBy, LeavesBy, MayBe, after_check, told}
+use Rattle.csi_server.specs.Requests.{AnswersBy, LeavesBy, MayBe, after_check, reported}
 use Rattle.csi_server.specs.Service.{HasBody, room}
 use Rattle.csi_server.specs.Volumes.{RepliesTo, asks_keeper, seen}
 
--- what was appended after the room for a head is a body
+-- the bytes after the room for a head are a body
 pub holds_body : (old out : List ℕ) (v : Result Verdict StoreFault) → old ≡ room → Appended old out v → v ≡ Ok verdict.Done → HasBody out
 holds_body old out (Ok verdict.Done) begun (body, is, few) e =
     let long : length out ≡ 8 + length body = ap length is ∙ (length-append old body ∙ ap (λ (xs : List ℕ). length xs + length body) begun) in
@@ -34,7 +34,7 @@ mark_of fault.Refused = StoreRefused
 mark_of fault.Down = StoreDown
 
 module _ (config : Config) (request : Request) (a b : Model State) where
-  -- a keeper before and after, and what is responded from each State
+  -- a keeper before and after, and the response from each State
   abbrev before : Model State
   before = seen config a
 
@@ -44,7 +44,7 @@ module _ (config : Config) (request : Request) (a b : Model State) where
   abbrev to_request : State → ReplyBytes × State
   to_request t = after_check (step config) t request None
 
-  done_by : (s : State) (r : ReplyBytes) → r ≡ told (step config s request).0
+  done_by : (s : State) (r : ReplyBytes) → r ≡ reported (step config s request).0
       → b.holds (step config s request).1 → IsInvariant config (step config s request).1 → b.refusals ≡ a.refusals
       → ((((step config s request).1 ≡ s) × ((u : State) → b.survivors u → a.survivors u)) ⊎ ((u : State) → b.survivors u → u ≡ (step config s request).1))
       → (a.tied → b.tied)
@@ -61,14 +61,14 @@ module _ (config : Config) (request : Request) (a b : Model State) where
     knows = record { down = λ is. absurd (cc); refused = λ is. absurd (cc); unasked = λ is unmarked. alone is; stays = stays };
   }
 
-  -- what is reported of every State is what is responded from each
-  told_all : (v : Verdict) (old out : List ℕ) (r : ReplyBytes) → old ≡ room → RepliesTo out r (Ok v) → IsOfAll config request old out v → (t : State) → to_request t ≡ (r, t)
-  told_all verdict.Done old out r begun e all t =
+  -- the answer that fits every State is the response from each
+  reported_all : (v : Verdict) (old out : List ℕ) (r : ReplyBytes) → old ≡ room → RepliesTo out r (Ok v) → IsOfAll config request old out v → (t : State) → to_request t ≡ (r, t)
+  reported_all verdict.Done old out r begun e all t =
       let is = (all t).0 in
-      let said : told (step config t request).0 ≡ r = ap told is.1 ∙ sym (e ∙ ap (λ (o : List ℕ). record { status = 0; text = []; body = drop REPLY_HEAD_BYTES o }) (is.2 ∙ ap (λ (o : List ℕ). o ++ is.0) begun)) in
+      let said : reported (step config t request).0 ≡ r = ap reported is.1 ∙ sym (e ∙ ap (λ (o : List ℕ). record { status = 0; text = []; body = drop REPLY_HEAD_BYTES o }) (is.2 ∙ ap (λ (o : List ℕ). o ++ is.0) begun)) in
       ap (λ (x : ReplyBytes). (x, (step config t request).1)) said ∙ ap (λ (u : State). (r, u)) (all t).1
-  told_all (verdict.Refused q) old out r begun e all t =
-      ap (λ (x : ReplyBytes). (x, (step config t request).1)) (ap told (all t).0 ∙ sym e) ∙ ap (λ (u : State). (r, u)) (all t).1
+  reported_all (verdict.Refused q) old out r begun e all t =
+      ap (λ (x : ReplyBytes). (x, (step config t request).1)) (ap reported (all t).0 ∙ sym e) ∙ ap (λ (u : State). (r, u)) (all t).1
 
   -- a call that reports a fault of the keeper asked something of it
   asked : (e : StoreFault) → (IsTrue (is_of_plugin request) → e ≡ fault.NoMemory) → (e ≡ fault.NoMemory → ⊥) → asks_keeper request ≡ true
@@ -99,12 +99,12 @@ module _ (config : Config) (request : Request) (a b : Model State) where
   pub answered_by : (v : Result Verdict StoreFault) (old out : List ℕ) (s : State) (r : ReplyBytes) → old ≡ room → Performs config request a b old out v → b.doubt ≡ 0 → a.holds s → IsInvariant config s
       → IsInvariant config (step config s request).1 → RepliesTo out r v → AnswersBy to_request (MayBe (asks_keeper request)) before behind s r
   answered_by (Ok verdict.Done) old out s r begun did d h inv next e =
-      let tells = did.told d s h inv in
-      done_by s r (e ∙ ap (λ (o : List ℕ). record { status = 0; text = []; body = drop REPLY_HEAD_BYTES o }) (tells.2 ∙ ap (λ (o : List ℕ). o ++ tells.0) begun) ∙ ap told (sym tells.1))
-      (did.state d s h inv) next did.counted (did.left d s h inv) (did.ties d s h inv) (λ is. told_all verdict.Done old out r begun e (did.down.unasked is)) did.stays
+      let reports = did.reported d s h inv in
+      done_by s r (e ∙ ap (λ (o : List ℕ). record { status = 0; text = []; body = drop REPLY_HEAD_BYTES o }) (reports.2 ∙ ap (λ (o : List ℕ). o ++ reports.0) begun) ∙ ap reported (sym reports.1))
+      (did.state d s h inv) next did.counted (did.left d s h inv) (did.ties d s h inv) (λ is. reported_all verdict.Done old out r begun e (did.down.unasked is)) did.stays
   answered_by (Ok (verdict.Refused q)) old out s r begun did d h inv next e =
-      done_by s r (e ∙ ap told (sym (did.told d s h inv))) (did.state d s h inv) next did.counted (did.left d s h inv) (did.ties d s h inv)
-      (λ is. told_all (verdict.Refused q) old out r begun e (did.down.unasked is)) did.stays
+      done_by s r (e ∙ ap reported (sym (did.reported d s h inv))) (did.state d s h inv) next did.counted (did.left d s h inv) (did.ties d s h inv)
+      (λ is. reported_all (verdict.Refused q) old out r begun e (did.down.unasked is)) did.stays
   answered_by (Err fault.NoMemory) old out s r begun did d h inv next e =
       failed_by s r fault.NoMemory tt e refl (did.state d s h inv) inv (inl (refl, did.counted)) (did.left d s h inv) (did.ties d s h inv)
       (record { down = λ is. absurd (cc); refused = λ is. absurd (cc); unasked = λ is unmarked. absurd (cc); stays = did.stays })

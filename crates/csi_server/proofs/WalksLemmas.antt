@@ -11,10 +11,10 @@ use Rattle.csi_keeper.specs.State.{State}
 use Rattle.csi_keeper.specs.Texts.{Text}
 use Rattle.csi_machine.specs.Step.{step}
 use Rattle.csi_machine.specs.Walk.{Call, Next, Other, Page, AreChecked, asked_with, next_token, shown, with_page, pages as request_pages, AreRead as AreRequestsRead}
-use Rattle.csi_machine.specs.Verdicts.{Told, Says, Denies}
+use Rattle.csi_machine.specs.Verdicts.{Report, Says, Denies}
 use Rattle.csi_server.specs.Machine.{Mark, Unmarked, OutOfMemory, StoreRefused, StoreDown, marked, refused}
 use Rattle.csi_server.specs.Machine.{step as call_step}
-use Rattle.csi_server.specs.Requests.{told}
+use Rattle.csi_server.specs.Requests.{reported}
 use Rattle.csi_server.specs.Tries.{asked}
 use Rattle.csi_server.specs.Volumes.{volumes}
 use Rattle.csi_server.specs.Walks.{Turn, AreAsked, AreRead, IsAsked, IsRead, pages, shown_by, shown_in}
@@ -59,17 +59,16 @@ bad_token reason.OutOfMemory e = absurd (cc)
 bad_token reason.StoreRefused e = absurd (cc)
 bad_token reason.StoreDown e = absurd (cc)
 
--- what is reported in a reply that refuses the token
-told_bad : (t : Told) → told t ≡ refused reason.BadToken → t ≡ Denies reason.BadToken
-told_bad (Says body) e = (let none : 0 ≡ number_of (code_of reason.BadToken) = ap (λ (r : ReplyBytes). r.status) e in absurd (cc))
-told_bad (Denies r) e = ap (λ (q : Reason). Denies q) (bad_token r (ap (λ (x : ReplyBytes). x.status) e))
+-- the reply that refuses the token
+reported_bad : (t : Report) → reported t ≡ refused reason.BadToken → t ≡ Denies reason.BadToken
+reported_bad (Says body) e = (let none : 0 ≡ number_of (code_of reason.BadToken) = ap (λ (r : ReplyBytes). r.status) e in absurd (cc))
+reported_bad (Denies r) e = ap (λ (q : Reason). Denies q) (bad_token r (ap (λ (x : ReplyBytes). x.status) e))
 
 marks_apart : (r : Reason) → (number_of (code_of r) ≡ number_of (code_of reason.BadToken) → ⊥) → refused r ≢ refused reason.BadToken
 marks_apart r apart e = apart (ap (λ (x : ReplyBytes). x.status) e)
 
 module _ (config : Config) where
-  -- requests that show these pages, and of which no page is refused for its token where no page of the calls
-  -- is
+  -- requests that show these pages, and that refuse no token if the calls refuse none
   pub record Walks (s : State) (token : Text) (ps : List Page) (Read : Type 0) : Type 0 where
     pub calls : List Call
     pub checked : AreChecked calls
@@ -108,12 +107,12 @@ module _ (config : Config) where
       let r : Request = asked_with token most in
       let next : Text = next_token token (shown config s r) in
       let v : Walks (step config s r).1 next ps Read = subst (λ (z : State). Walks z next ps Read) (moved s call r asks) w in
-      let reply : (answered s call).0 ≡ told (step config s r).0 = ap (λ (y : ReplyBytes × State). y.0) (asked_answers config s call r asks) in
+      let reply : (answered s call).0 ≡ reported (step config s r).0 = ap (λ (y : ReplyBytes × State). y.0) (asked_answers config s call r asks) in
       record {
         calls = Next most ∷ v.calls;
         checked = v.checked;
         same = ap (λ (qs : List Page). with_page s (shown config s r) qs) v.same;
-        read = λ read. ((λ e. read.0 (told_bad (step config s r).0 (sym reply ∙ e))), v.read read.1);
+        read = λ read. ((λ e. read.0 (reported_bad (step config s r).0 (sym reply ∙ e))), v.read read.1);
       }
 
   turn : (s : State) (token : Text) (ts : List Turn) (call : CallBytes) (mark : Mark) (is_heard : Bool) (page : Option ℕ) → IsAsked token page call

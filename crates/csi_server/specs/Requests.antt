@@ -10,7 +10,7 @@ use Rattle.csi_types.specs.Checks.{checked}
 use Rattle.csi_types.specs.Codes.{number_of}
 use Rattle.envelope.specs.Envelope.{ReplyBytes}
 use Rattle.csi_codec.specs.Reading.{read_request}
-use Rattle.csi_machine.specs.Verdicts.{Told, Says, Denies}
+use Rattle.csi_machine.specs.Verdicts.{Report, Says, Denies}
 use Rattle.csi_keeper.specs.Model.{Model}
 use Rattle.csi_server.specs.Machine.{Machine, Mark, Unmarked, OutOfMemory, StoreRefused, StoreDown, KnowsDown, RoseBy, refusal, refused, marked, store_mark}
 
@@ -19,13 +19,13 @@ abbrev pub malformed : ℕ → ReplyBytes
 malformed at = refusal (number_of code.InvalidArgument) (codes "malformed message in the field at byte " ++ decimal at)
 
 -- the reply that says it
-abbrev pub told : Told → ReplyBytes
-told (Says body) = record { status = 0; text = []; body = body }
-told (Denies reason) = refused reason
+abbrev pub reported : Report → ReplyBytes
+reported (Says body) = record { status = 0; text = []; body = body }
+reported (Denies reason) = refused reason
 
-module _ {S : Type 0} (answer : S → Request → Told × S) where
+module _ {S : Type 0} (answer : S → Request → Report × S) where
   abbrev pub after_check : S → Request → Option Reason → ReplyBytes × S
-  after_check s r None = (told (answer s r).0, (answer s r).1)
+  after_check s r None = (reported (answer s r).0, (answer s r).1)
   after_check s r (Some reason) = (refused reason, s)
 
   abbrev pub after_read : S → Result Request ℕ → ReplyBytes × S
@@ -57,7 +57,7 @@ IsRequest asks None message mark = ⊥
 IsRequest asks (Some m) message mark = (r : Request) × (read_request m message ≡ Ok r) × MayBe (asks r) mark
 
 -- the machine that knows these paths, where these requests ask something of the store
-abbrev pub requests : {S : Type 0} → (List ℕ → Option Method) → (Request → Bool) → (S → Request → Told × S) → Machine S
+abbrev pub requests : {S : Type 0} → (List ℕ → Option Method) → (Request → Bool) → (S → Request → Report × S) → Machine S
 requests method asks answer = record {
   respond = λ s call. after_path answer s (method call.path) call.message;
   may_fail = λ call mark. IsRequest asks (method call.path) call.message mark;

@@ -13,6 +13,6 @@ pub enum RunEnd {
     TurnsSpent,
     /// A write or a flush failed, or a write took nothing. All replies before the last one were written.
     WriteFailed,
-    /// There was no memory for the buffer of frames. Nothing was read or written.
+    /// Memory for the buffer of frames was refused. Nothing was read or written.
     NoMemory,
 }

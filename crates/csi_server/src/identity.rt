@@ -20,7 +20,7 @@ use envelope::Call;
 use std::alloc::{AllocError, Global};
 use std::io::{Read, Write};
 
-// What the plugin says of itself.
+// The name and version that the plugin answers.
 #[derive(Drop)]
 struct PluginNames<'a> {
     name: &'a str,

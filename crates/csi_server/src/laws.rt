@@ -14,11 +14,11 @@ ghost use Rattle.csi_codec.specs.Methods.{FitsRequest};
 ghost use Rattle.csi_keeper.specs.Invariant.{IsInvariant};
 ghost use Rattle.csi_server.specs.Machine.{Unmarked, Event, Mark, Runs, AreReplies, may_leave, refusal, state_after};
 ghost use Rattle.csi_server.specs.Identity.{identity};
-ghost use Rattle.csi_server.specs.Requests.{told};
+ghost use Rattle.csi_server.specs.Requests.{reported};
 ghost use Rattle.csi_server.specs.Tries.{Asks, Exchange, asked, spelled_call, events_of, tries_of, heard_of, IsLeft, IsLifeOfCalls, IsLifeOfTwo, IsLifeWithAnother};
 ghost use Rattle.csi_server.specs.Volumes.{volumes, seen, IsPending};
 ghost use Rattle.csi_machine.specs.Numbers.{NumbersRise};
-ghost use Rattle.csi_machine.specs.Retry.{Leaves, AreTriesOf, all_tries, reported_of, told_once, after_once, state_after as after_tries};
+ghost use Rattle.csi_machine.specs.Retry.{Leaves, AreTriesOf, all_tries, reported_of, reported_once, after_once, state_after as after_tries};
 ghost use Rattle.csi_machine.specs.Step.{is_read, step};
 ghost use Rattle.csi_config.specs.Values.{Has};
 ghost use Rattle.csi_config.specs.declared.config.Config.{Config as AnyConfig};
@@ -129,8 +129,8 @@ pub fn asking()
     ensures exact { (call : CallBytes) (r : Request) → (asked call ≡ Some r) ↔ Asks call r }
     ensures answered { (config : AnyConfig) (s : MachineState) (call : CallBytes) (r : Request)
         → asked call ≡ Some r
-        → (volumes config).respond s call ≡ (told (step config s r).0, (step config s r).1) }
-    ensures unasked { (call : CallBytes) → asked call ≡ None → (reply : ReplyBytes)
+        → (volumes config).respond s call ≡ (reported (step config s r).0, (step config s r).1) }
+    ensures no_request { (call : CallBytes) → asked call ≡ None → (reply : ReplyBytes)
         × ((config : AnyConfig) (s : MachineState) → (volumes config).respond s call ≡ (reply, s)) }
     ensures spelled { (r : Request) → FitsRequest r → checked r ≡ None → Asks (spelled_call r) r }
 {
@@ -147,7 +147,7 @@ pub fn tries<K: Keeper>(config: &Config)
         → state_after (volumes config.now) s (events_of session)
         ≡ after_tries config.now s (tries_of session) }
     ensures heard { (s : MachineState) (session : List Exchange)
-        → heard_of config.now s session ≡ map told (reported_of config.now s (tries_of session)) }
+        → heard_of config.now s session ≡ map reported (reported_of config.now s (tries_of session)) }
     ensures left { (s t : MachineState) (session : List Exchange) → IsLeft config.now s (events_of session) t
         ↔ Leaves config.now s (tries_of session) t }
     ensures stopped { (old new : K) (s : MachineState) (session : List Exchange)
@@ -179,7 +179,8 @@ pub fn retry(config: &Config)
         (heard : List ReplyBytes) → IsInvariant config.now s
         → AreTriesOf requests (all_tries (map tries_of sessions))
         → IsLifeOfCalls config.now s sessions heard t
-        → (heard ≡ map told (told_once config.now s requests)) × (t ≡ after_once config.now s requests) }
+        → (heard ≡ map reported (reported_once config.now s requests))
+        × (t ≡ after_once config.now s requests) }
 {
     retry_requests(config);
 }

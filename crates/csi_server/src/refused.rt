@@ -17,7 +17,7 @@ pub enum Refusal {
     Malformed(u64),
 }
 
-/// What comes of a call: it is done, or refused.
+/// The outcome of a call: done, or refused.
 pub type CallResult = Result<(), Refusal>;
 
 impl Refusal {

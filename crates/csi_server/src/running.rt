@@ -17,7 +17,7 @@ const MAX_READS: u64 = 1 << 32;
 // The most bytes of one read.
 const PIECE_BYTES: usize = 4096;
 
-// What came of a piece.
+// The outcome of one piece of the input.
 #[derive(Clone, Copy)]
 pub(crate) enum PieceOutcome {
     Fed,
@@ -38,7 +38,7 @@ fn answer_piece<C, S: Service<C>, W: Write>(
 ) -> PieceOutcome
     requires room { framer.old.past + length framer.old.held + length piece.now < 2 ^ 63 }
     requires ready { IsReady framer.old }
-    requires one { length piece.now ≤ PIECE_BYTES }
+    requires within_piece { length piece.now ≤ PIECE_BYTES }
     ensures clean { (S.model config.now service.old).doubt ≤ (S.model config.now service.new).doubt }
     ensures steps { (start : S) (s : S.State) (read : List ℕ) (held : Option (List ℕ))
         → IsLive (S.machine config.now) (S.model config.now start)

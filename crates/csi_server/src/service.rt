@@ -8,15 +8,15 @@ use crate::refused::CallResult;
 use envelope::{Call, REPLY_HEAD_BYTES};
 use std::alloc::{AllocError, Global};
 
-/// What answers calls, under a configuration.
+/// A service that answers calls, under a configuration.
 pub trait Service<C> {
-    /// What the service keeps from call to call, as the definitions see it.
+    /// The state that the service keeps from call to call, for definitions.
     ghost State: { Type 0 };
 
-    /// What it replies, and the state that this leaves.
+    /// The service as a machine: the reply to a call in a state, and the next state.
     ghost machine: { C → Machine State };
 
-    /// What contracts see of it.
+    /// The model of the service's keeper, as contracts see it.
     ghost model: { C → Self → Model State };
 
     ghost use Rattle.csi_server.specs.Service.{reply_of, HoldsBody};

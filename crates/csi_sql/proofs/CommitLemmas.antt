@@ -1,5 +1,5 @@
--- What a transaction over the tables makes, and that of two statements: the row of a volume, and the next
--- number.
+-- The effect of a transaction over the tables, and of the transaction with two statements: the row of a
+-- volume, and the next number.
 use Rattle.std.proofs.Common.{◌≡◌, ◌∙◌, ◌∷◌, inr, refl, sym, ap, subst, arith, map, true, ℕ, Ok, Err, Result, OnOk, IsPermutation}
 use Rattle.std.specs.Result.{IsErrAnd}
 use Rattle.sqlite.specs.Effect.{Database}
@@ -11,7 +11,7 @@ use Rattle.sqlite.specs.declared.error.Error.{Error}
 use Rattle.sqlite.proofs.InsideLemmas.{keeps_then}
 use Rattle.sqlite.proofs.StateLemmas.{survives_then}
 use Rattle.csi_sql.specs.Transactions.{CommitsOver, RunsOver}
-use Rattle.csi_sql.specs.facts.Failing.{Committed, Dropped, commits, fails_behind, undoes}
+use Rattle.csi_sql.specs.facts.Failing.{Committed, Dropped, commits, fails_after, undoes}
 use Rattle.csi_sql.specs.Failing.{FailsOver}
 use Rattle.csi_sql.specs.Refusing.{RefusesNext, RefusesNumbered}
 use Rattle.csi_sql.specs.Rows.{seen_meta}
@@ -48,7 +48,7 @@ module _ (row : Row) (next : ℕ) (a b c : State) (one : Steps (AddsVolume row) 
   second_fails : {Y : Type 0} (r : Result Y Error) → Survives a b (λ _. ⊥) → FailsOver schema (RefusesNext next) b c r → FailsOver schema (RefusesNumbered row next) a c r
   second_fails (Ok y) left failed has = tt
   second_fails (Err e) left failed has =
-      fails_behind (RefusesNext next b) (RefusesNumbered row next a) a b c e left.counts one.shown.is_open left.limit
+      fails_after (RefusesNext next b) (RefusesNumbered row next a) a b c e left.counts one.shown.is_open left.limit
       (λ why. inr (b.now, one.effect, subst (λ limit. RefusesNext next (record a { now = b.now; step_limit = limit }) e) left.limit why)) (failed ((one.effect has).schema ∙ has))
 
 pub runs_both : {S X Y : Type 0} {g : store.Ghosts S} {a b c : Held S} {P : State → Error → Type 0} {x : X} (row : Row) (next : ℕ) (r : Result Y Error) → RunsOver g a b schema (AddsVolume row) P (Ok x)

@@ -40,7 +40,7 @@ filter_by p q same (x ∷ xs) = rw (same x, filter_by p q same xs) refl
 abbrev pub passes : List Term → Row → Row → Bool
 passes test params r = list_all (holds (params ∷ r ∷ [])) test
 
--- what is left where the rows that pass are shown
+-- the rows left, if the rows that pass are shown
 left_where : (tree : ℕ) (test : List Term) (see : Row → Row) (pass : Row → Bool) → ((a b : Row) → see a ≡ see b → pass a ≡ pass b) → (rows : List Row) (params : Row) (shown : List Row)
     → ((r : Row) → passes test params r ≡ pass r) → IsShownOf (one_table tree test (col 1 0 ∷ []) []) rows params shown → AreKeyed see rows → without_all rows (ids_of shown) ≡ filter (λ r. not (pass r)) rows
 left_where tree test see pass same rows params shown is h are =

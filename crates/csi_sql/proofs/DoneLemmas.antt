@@ -1,4 +1,4 @@
--- A statement of which the count of rows is not told.
+-- A statement without its count of rows.
 use Rattle.std.proofs.Common.{ℕ, Ok, Err, Result}
 use Rattle.std.specs.Result.{result_and}
 use Rattle.sqlite.specs.Effect.{Database}

@@ -1,4 +1,4 @@
--- What is left without the rows that a query shows.
+-- The rows left after the rows that a query shows are removed.
 use Rattle.std.proofs.Common.{◌≡◌, inl, inr, ◌∙◌, refl, sym, ap, ℤ, Bool, true, false, not, ◌||◌, cond, true≢false, List, [], ◌∷◌, map, filter, IsPermutation, is_eq}
 use Rattle.std.specs.List.{list_any}
 use Rattle.std.proofs.lemmas.Cmp.{tied_itself}
@@ -73,6 +73,6 @@ module _ (see : Row → Row) (pass : Row → Bool) (same_pass : (a b : Row) → 
     ]
   ]
 
-  -- what is left is what does not pass
+  -- the rows left are the rows that do not pass
   pub left_rows : without_all rows (ids_of shown) ≡ filter (λ r. not (pass r)) rows
   left_rows = without_filter rows (ids_of shown) ∙ filter_same (λ r. not (list_any (λ id. has_rowid id r) (ids_of shown))) (λ r. not (pass r)) rows (all_from _ rows (λ r has. ap not (gone r has)))

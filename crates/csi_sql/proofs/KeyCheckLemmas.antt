@@ -77,12 +77,12 @@ check_back ops [] h = absurd cc
 check_back ops (root ∷ []) h = (root, refl, parts ops (length ops) root cc)
 check_back ops (root ∷ other ∷ roots) h = absurd cc
 
-pub key_tells : (ops : List Op) (roots : List ℕ) (root : ℕ) (all : List Term) → terms_in ops roots ≡ all → roots ≡ root ∷ [] → (r : Bool) → IsTrue r ↔ IsKeyCheck ops root → IsTrue r ↔ all ≡ meta.checks
-key_tells ops roots root all view one r tells = (
-  λ t. let it = tells.0 t in sym view ∙ ap (terms_in ops) one ∙ check_is ops root it.0 it.1 it.2 it.3 it.4,
+pub key_reports : (ops : List Op) (roots : List ℕ) (root : ℕ) (all : List Term) → terms_in ops roots ≡ all → roots ≡ root ∷ [] → (r : Bool) → IsTrue r ↔ IsKeyCheck ops root → IsTrue r ↔ all ≡ meta.checks
+key_reports ops roots root all view one r reports = (
+  λ t. let it = reports.0 t in sym view ∙ ap (terms_in ops) one ∙ check_is ops root it.0 it.1 it.2 it.3 it.4,
   λ e. let it = check_back ops roots (view ∙ e) in
       let same : root ≡ it.0 = let both : root ∷ [] ≡ it.0 ∷ [] = sym one ∙ it.1 in cc in
-      tells.1 (subst (IsKeyCheck ops) (sym same) it.2),
+      reports.1 (subst (IsKeyCheck ops) (sym same) it.2),
 )
 
 pub no_key : (ops : List Op) (roots : List ℕ) (all : List Term) → terms_in ops roots ≡ all → ((r : ℕ) → roots ≢ r ∷ []) → all ≢ meta.checks

@@ -1,4 +1,4 @@
-mod BehindLemmas
+mod AfterLemmas
 mod CommitLemmas
 mod CreateLemmas
 mod DeleteLemmas

@@ -1,4 +1,4 @@
--- What a SELECT inside a transaction reads, and that it keeps what was committed.
+-- A SELECT inside a transaction: the rows that it reads, and that the committed state stays.
 use Rattle.std.proofs.Common.{◌≡◌, ◌∙◌, ◌⊎◌, inl, inr, refl, sym, ap, subst, subst₂, ℕ, List, [], ◌∷◌, map, filter, take, true, if◌then◌else◌, Option, Some, None, Ok, Err, Result, IfOk, IfErr, IsTrue}
 use Rattle.sqlite.specs.Effect.{Database}
 use Rattle.sqlite.specs.Held.{Held, state}
@@ -24,17 +24,17 @@ use Rattle.csi_sql.specs.Transactions.{LeavesNothingNew}
 use Rattle.csi_sql.specs.facts.Failing.{IsSelect}
 use Rattle.csi_sql.specs.Refusing.{NothingRefuses}
 use Rattle.csi_sql.specs.Effects.{Sees, Selects, Steps, Reads}
-use Rattle.csi_sql.specs.Selecting.{Tells, asked, given}
+use Rattle.csi_sql.specs.Selecting.{Reports, asked, given}
 use Rattle.csi_sql.specs.declared.statements.select.Select.{Select}
 use Rattle.csi_sql.specs.declared.statements.select.Select.TheVariants.{Numbered, Named, Sizes, Page, Nodes, Attached, Places}
 use Rattle.csi_sql.specs.Shown.{IsShownOf, IsBeginningOf, IsNext}
 use Rattle.csi_sql.specs.Statements.{number_query, volume_query, named_query, sizes_query, page_query, nodes_query, attached_query, places_query}
 use Rattle.csi_sql.specs.Tables.{schema}
 use Rattle.csi_sql.proofs.SelectLemmas.{limited, one_table, shows_all, shows_one}
-use Rattle.csi_sql.proofs.RefusingLemmas.{all_told}
+use Rattle.csi_sql.proofs.RefusingLemmas.{all_reported}
 use Rattle.csi_sql.proofs.TextLemmas.{is_select, is_sure, number_text, number_select}
 
--- ---- what was committed stays
+-- ---- the committed state stays
 
 kept_unchanged : (old new : State) → IsUnchanged old new → KeepsCommit old new
 kept_unchanged old new h = record { was_open = λ _. h.0.was_open; committed = λ _. h.0.committed_is }
@@ -106,7 +106,7 @@ module _ (text : List ℕ) (t : ℕ) (test shown : List Term) (order : List (Ter
     shown = step_shown text params old new rows inside h;
     effect = λ has. record {
       same = stays text params old new rows it.plain has h;
-      told = subst (λ table. IsShownOf (one_table t test shown order) table params rows) (stands old.now.trees)
+      reported = subst (λ table. IsShownOf (one_table t test shown order) table params rows) (stands old.now.trees)
           (shows_one t test shown order (overlay old.now.trees []) params rows ((reads_as text params old new schema has _ it.is it.plain it.unlisted rows h).answer Null));
     };
   }
@@ -122,11 +122,11 @@ module _ (text : List ℕ) (t : ℕ) (test shown : List Term) (order : List (Ter
         let first = shows_all t test shown order (col 0 1) (overlay old.now.trees []) params rows a in
         record {
           same = stays text params old new rows it.plain has h;
-          told = (all, subst (λ table. IsShownOf (limited t test shown order (col 0 1)) table params all) (stands old.now.trees) first, a.shown ∙ cut all);
+          reported = (all, subst (λ table. IsShownOf (limited t test shown order (col 0 1)) table params all) (stands old.now.trees) first, a.shown ∙ cut all);
         };
   }
 
-shows : (q : Select) (old new : State) (rows : List Row) → IsTrue old.in_transaction → Shown (asked q) (given q) old new rows → Steps (Sees (λ db. Tells q db rows)) old new
+shows : (q : Select) (old new : State) (rows : List Row) → IsTrue old.in_transaction → Shown (asked q) (given q) old new rows → Steps (Sees (λ db. Reports q db rows)) old new
 shows (Page after count) old new rows inside h = let q = page_query in selects_first _ 1 q.filter q.project q.order _ old new rows (λ db. refl) inside h count (λ all. refl) (is_select (Page after count))
 shows (Numbered number) old new rows inside h = let q = volume_query in selects _ 1 q.filter q.project q.order _ old new rows (λ db. refl) inside h (is_select (Numbered number))
 shows (Named name) old new rows inside h = let q = named_query in selects _ 1 q.filter q.project q.order _ old new rows (λ db. refl) inside h (is_select (Named name))
@@ -139,22 +139,22 @@ shows (Places after last) old new rows inside h = let q = places_query in select
 pub selects_over : {S V : Type 0} {g : Ghosts S} {old new : Held S} (q : Select) (text : List ℕ) (params : Row) → text ≡ asked q → params ≡ given q → (items : V → List Row) (r : Result V Error)
     → (HasCleanDisk (state g new) → IfOk r (λ v. Shown text params (state g old) (state g new) (items v)))
     → (HasCleanDisk (state g new) → IfErr r (λ e. FailsToQuery text params (state g old) (state g new) e ⊎ IsTooLate text params (state g old) (state g new) e))
-    → LeavesNothingNew g old new → Selects g old new (λ db v. Tells q db (items v)) NothingRefuses r
+    → LeavesNothingNew g old new → Selects g old new (λ db v. Reports q db (items v)) NothingRefuses r
 selects_over {g = g} {old = old} {new = new} q text params is same items r ok err left =
     let before = state g old in
     let behind = state g new in
     let did = λ (clean : HasCleanDisk behind). subst₂ (λ t p. IfOk r (λ v. Shown t p before behind (items v))) is same (ok clean) in
     let refused = λ (clean : HasCleanDisk behind). subst₂ (λ t p. IfErr r (λ e. FailsToQuery t p before behind e ⊎ IsTooLate t p before behind e)) is same (err clean) in
     record {
-      ok = λ clean inside. read_all items r (Shown (asked q) (given q) before behind) (λ rows. Steps (Sees (λ db. Tells q db rows)) before behind) (λ rows h. shows q before behind rows inside h) (did clean);
-      failed = λ clean inside. all_told (asked q) (given q) before behind r (is_sure q) inside (refused clean);
+      ok = λ clean inside. read_all items r (Shown (asked q) (given q) before behind) (λ rows. Steps (Sees (λ db. Reports q db rows)) before behind) (λ rows h. shows q before behind rows inside h) (did clean);
+      failed = λ clean inside. all_reported (asked q) (given q) before behind r (is_sure q) inside (refused clean);
       kept = λ clean inside. all_keeps items (asked q) (given q) before behind r inside (did clean) (refused clean);
       survives = left;
     }
 
 -- a read that is then undone
 pub reads : {What : Database → Type 0} {old new : State} → Steps (Sees What) old new → Reads What old
-reads h = record { was_open = h.shown.was_open; what = λ has. (h.effect has).told }
+reads h = record { was_open = h.shown.was_open; what = λ has. (h.effect has).reported }
 
 -- ---- a row of meta
 
@@ -191,6 +191,6 @@ number_read old new (Ok row) inside h = record {
   shown = step_row number_text old new row inside h;
   effect = λ has. record {
     same = row_stays number_text old new row number_select.plain has h;
-    told = number_shown old new row h has;
+    reported = number_shown old new row h has;
   };
 }

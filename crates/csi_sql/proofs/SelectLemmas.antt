@@ -44,7 +44,7 @@ pub shows_one : (t : ℕ) (test shown : List Term) (order : List (Term × Key)) 
     → IsAnswer (one_table t test shown order) db params rows → IsShownOf (one_table t test shown order) (db t) params rows
 shows_one t test shown order db params rows a = subst (IsShownOf (one_table t test shown order) (db t) params) (Rattle.std.proofs.Common.sym a.shown) (shows_all t test shown order plain_query.limit db params rows a)
 
--- what is shown of the rows that pass, in any order
+-- the columns shown of the rows that pass, in any order
 pub shown_each : (t : ℕ) (test shown : List Term) (rows : List Row) (params : Row) (answer : List Row)
     → IsShownOf (one_table t test shown []) rows params answer → IsPermutation (map (λ r. eval_all shown (params ∷ r ∷ [])) (filter (λ r. list_all (holds (params ∷ r ∷ [])) test) rows)) answer
 shown_each t test shown rows params answer h =

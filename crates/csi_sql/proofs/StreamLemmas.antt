@@ -18,7 +18,7 @@ use Rattle.sqlite.specs.View.{is_fault}
 use Rattle.sqlite_trees.specs.declared.error.StoreError.{StoreError}
 use Rattle.sqlite_trees.specs.declared.error.StoreError.TheVariants.{OutOfMemory, Io, Corrupt, Full, Broken, Unstorable}
 use Rattle.csi_sql.specs.Failing.{FailsFor, SqlRefusesToRead}
-use Rattle.csi_sql.specs.facts.Failing.{fails_behind, query_fails}
+use Rattle.csi_sql.specs.facts.Failing.{fails_after, query_fails}
 use Rattle.csi_sql.specs.Folding.{RefusesRows}
 use Rattle.csi_sql.specs.Folding.{FoldsOver}
 
@@ -75,9 +75,9 @@ pub behind_rows : (text : List ℕ) (old mid new : State) (e : Error) → IsPlai
     → FailsFor (SqlRefusesToRead text [] old) old new e
 behind_rows text old mid new e plain left same h =
     let now : mid.now ≡ old.now = same.0.now_is in
-    let told : FailsFor (SqlRefusesToRead text [] mid) mid new e = query_fails text [] mid new e (subst (λ (d : Database). IsPlain (understood d.schema text)) (sym now) plain) h in
-    fails_behind (SqlRefusesToRead text [] mid) (SqlRefusesToRead text [] old) old mid new e left.counts same.0.is_open left.limit
-    (refused_before text old mid e now left.limit) told
+    let reported : FailsFor (SqlRefusesToRead text [] mid) mid new e = query_fails text [] mid new e (subst (λ (d : Database). IsPlain (understood d.schema text)) (sym now) plain) h in
+    fails_after (SqlRefusesToRead text [] mid) (SqlRefusesToRead text [] old) old mid new e left.counts same.0.is_open left.limit
+    (refused_before text old mid e now left.limit) reported
 
 fault_of : (cause : StoreError) → IsTrue (is_disk_error (store_error cause)) → IsTrue (is_fault cause)
 fault_of OutOfMemory is = absurd (true≢false (sym is))
@@ -91,29 +91,29 @@ store_relays : (old new : State) (e : Error) → Fails old new ⊥ e → Relays 
 store_relays old new e h kind named is = h.1 ∙ ap store_error (h.4 kind named (fault_of h.0 (sym (ap is_disk_error h.1) ∙ is)))
 
 -- a query fails as the store named its fault, or is refused
-pub query_told : (text : List ℕ) (old new : State) (e : Error) → IsPlain (understood old.now.schema text) → FailsToQuery text [] old new e → Relays new.blamed e ⊎ SqlRefusesToRead text [] old e
+pub query_reported : (text : List ℕ) (old new : State) (e : Error) → IsPlain (understood old.now.schema text) → FailsToQuery text [] old new e → Relays new.blamed e ⊎ SqlRefusesToRead text [] old e
 unfolding FailsToQuery IsNotRun
-query_told text old new e plain (inl (inl none)) = inr (inl none.0)
-query_told text old new e plain (inl (inr failed)) = inl (store_relays old new e failed)
-query_told text old new e plain (inr (c, it, h)) =
+query_reported text old new e plain (inl (inl none)) = inr (inl none.0)
+query_reported text old new e plain (inl (inr failed)) = inl (store_relays old new e failed)
+query_reported text old new e plain (inr (c, it, h)) =
     let bare = subst IsPlain it.is plain in
     let shown = rw (bare.0, bare.1, append-nil []) at h in
     inr (inr (c, it.is, shown.0, shown.1, shown.2))
 
 -- the same, after rows that were read
-pub told_behind : (text : List ℕ) (old mid new : State) (e : Error) → IsPlain (understood old.now.schema text) → Survives old mid (λ _. ⊥) → IsUnchanged old mid → FailsToQuery text [] mid new e
+pub reported_after : (text : List ℕ) (old mid new : State) (e : Error) → IsPlain (understood old.now.schema text) → Survives old mid (λ _. ⊥) → IsUnchanged old mid → FailsToQuery text [] mid new e
     → Relays new.blamed e ⊎ SqlRefusesToRead text [] old e
-told_behind text old mid new e plain left same h =
+reported_after text old mid new e plain left same h =
     let now : mid.now ≡ old.now = same.0.now_is in
-    elim (query_told text mid new e (subst (λ (d : Database). IsPlain (understood d.schema text)) (sym now) plain) h) [
+    elim (query_reported text mid new e (subst (λ (d : Database). IsPlain (understood d.schema text)) (sym now) plain) h) [
       | inl relayed ↦ inl relayed
       | inr why ↦ inr (refused_before text old mid e now left.limit why)
     ]
 
 -- in the words of a scan
-pub told_rows : {S : Type 0} (g : Ghosts S) (text : List ℕ) (old : Held S) (new : State) (e : Error) → Relays new.blamed e ⊎ SqlRefusesToRead text [] (state g old) e → Relays new.blamed e ⊎ RefusesRows g text old e
-told_rows g text old new e (inl relayed) = inl relayed
-told_rows g text old new e (inr why) = inr (inl why)
+pub reported_rows : {S : Type 0} (g : Ghosts S) (text : List ℕ) (old : Held S) (new : State) (e : Error) → Relays new.blamed e ⊎ SqlRefusesToRead text [] (state g old) e → Relays new.blamed e ⊎ RefusesRows g text old e
+reported_rows g text old new e (inl relayed) = inl relayed
+reported_rows g text old new e (inr why) = inr (inl why)
 
 -- an error that is handed on is no answer
 pub never_ok : {X : Type 0} (r : Result X Error) (e : Error) (P : Type 0) → IsErrAnd r (λ x. x ≡ e) → OnOk r P

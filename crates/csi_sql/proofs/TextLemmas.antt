@@ -35,8 +35,8 @@ attach_terms = lit Null ∷ col 0 0 ∷ col 0 1 ∷ col 0 2 ∷ col 0 3 ∷ []
 abbrev pub add_terms : List Term
 add_terms = col 0 0 ∷ lit Null ∷ col 0 1 ∷ col 0 2 ∷ col 0 3 ∷ col 0 4 ∷ col 0 5 ∷ []
 
--- an UPDATE asks for the rowid of what passes, and for each column as it will be: that of the key is kept as
--- NULL
+-- an UPDATE asks for the rowid of each row that passes, and for each column's new value: the key's column
+-- is kept as NULL
 abbrev pub meta_query : Term → Term → Query
 meta_query format next = record plain_query { project = col 1 0 ∷ col 1 0 ∷ lit Null ∷ format ∷ next ∷ [] }
 

@@ -27,12 +27,12 @@ Changes = ChangesFrom schema
 abbrev pub Leaves : (Database → Database → Type 0) → State → Trees → Type 0
 Leaves = LeavesFrom schema
 
--- a SELECT leaves the database, and says what is so of it
+-- a SELECT leaves the database unchanged, and its rows are facts of it
 pub record Sees (What : Database → Type 0) (old new : Database) : Type 0 where
   pub same : new ≡ old
-  pub told : What old
+  pub reported : What old
 
--- what is read of the rows, in a transaction that is then undone
+-- the result of a read of the rows, in a transaction that is then undone
 pub record Reads (What : Database → Type 0) (old : State) : Type 0 where
   pub was_open : IsTrue old.is_open
   pub what : old.now.schema ≡ schema → What old.now

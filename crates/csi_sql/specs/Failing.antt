@@ -24,7 +24,7 @@ pub data FailsFor (Refuses : Error → Type 0) (old new : State) (e : Error) : T
   as_shut : e ≡ SqliteFailure Closed → old.is_open ≡ false → FailsFor Refuses old new e
   -- the connection has a limit on the steps of a statement
   at_limit : e ≡ SqliteFailure OperationInterrupted → IsSome old.step_limit → FailsFor Refuses old new e
-  -- what is asked for is refused
+  -- the request is refused
   as_refused : Refuses e → FailsFor Refuses old new e
 
 -- SQL's rules refuse what the text does with the parameters to the database, or a row of it is too big to be

@@ -27,7 +27,7 @@ module _ {S : Type 0} (g : Ghosts S) (text : List ℕ) (old : Held S) where
   abbrev pub RefusesRows : Error → Type 0
   RefusesRows e = SqlRefusesToRead text [] (state g old) e ⊎ GivesTooMany e
 
--- a fold has become another over rows of which this is so
+-- the result of a fold over rows with this property
 abbrev pub HasFolded : {F : Type 0} → (F → List Row → F → Type 0) → F → F → (List Row → Type 0) → Type 0
 HasFolded folds old new What = (rows : List Row) × What rows × folds old rows new
 
@@ -38,7 +38,7 @@ module _ {S F : Type 0} (g : Ghosts S) (old new : Held S) (folds : F → List Ro
     pub ok : HasCleanDisk (state g new) → OnOk r (HasFolded folds before after What)
     pub failed : HasCleanDisk (state g new) → IfErr r (FailsFor Refuses (state g old) (state g new))
     -- which error of the disk it was: as the store named it, where it keeps that
-    pub told : HasCleanDisk (state g new) → IfErr r (λ e. Relays (state g new).blamed e ⊎ Refuses e)
+    pub reported : HasCleanDisk (state g new) → IfErr r (λ e. Relays (state g new).blamed e ⊎ Refuses e)
     pub same : HasCleanDisk (state g new) → OnOk r (IsUnchanged (state g old) (state g new))
     pub kept : HasCleanDisk (state g new) → KeepsCommit (state g old) (state g new)
     pub survives : LeavesNothingNew g old new

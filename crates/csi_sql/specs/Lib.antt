@@ -3,7 +3,7 @@ pub mod Deletes
 pub mod Effects
 pub mod Failing
 pub mod Folding
-pub mod Lent
+pub mod Borrowed
 pub mod Making
 pub mod Ours
 pub mod Refusing

@@ -54,7 +54,7 @@ pub record MakesTables (old new : Database) : Type 0 where
   pub volumes : new.trees 1 ≡ []
   pub attachments : new.trees 3 ≡ []
 
--- the tables, in which there is no row
+-- the tables, without rows
 abbrev pub HasNoRow : Database → Type 0
 HasNoRow db = (db.schema ≡ schema) × (db.trees 0 ≡ []) × (db.trees 1 ≡ []) × (db.trees 3 ≡ [])
 

@@ -17,8 +17,8 @@ use Rattle.csi_sql.specs.Tables.{meta, volumes, attachments}
 abbrev pub plain_column : List ℕ → Kind → Bool → Column
 plain_column name kind full = record { name = name; kind = kind; is_strict = false; not_null = full; default = Null; collation = Binary }
 
--- a table of the name over the tree, without what none of our tables has: a reference, a computed default, a
--- stamp and a counter of rowids
+-- a table of the name over the tree, without a reference, a computed default, a stamp or a counter of
+-- rowids: our tables have none of these
 pub record IsBare (name : List ℕ) (tree : ℕ) (t : Table) : Type 0 where
   pub name_is : t.name ≡ name
   pub tree_is : t.tree ≡ tree

@@ -48,11 +48,11 @@ IsAsked (Sizes pool) = Unit {0}
 IsAsked (Attached node) = Unit {0}
 
 -- what each read says of the rows
-abbrev pub Tells : Select → Database → List Row → Type 0
-Tells (Page after count) db rows = IsBeginningOf page_query (db.trees 1) (number_value after ∷ number_value count ∷ []) count rows
-Tells (Numbered number) db rows = IsShownOf volume_query (db.trees 1) (number_value number ∷ []) rows
-Tells (Named name) db rows = IsShownOf named_query (db.trees 1) (Text name.now ∷ []) rows
-Tells (Sizes pool) db rows = IsShownOf sizes_query (db.trees 1) (Text pool.now ∷ []) rows
-Tells (Nodes number) db rows = IsShownOf nodes_query (db.trees 3) (number_value number ∷ []) rows
-Tells (Attached node) db rows = IsShownOf attached_query (db.trees 3) (Text node.now ∷ []) rows
-Tells (Places after last) db rows = IsShownOf places_query (db.trees 3) (number_value after ∷ number_value last ∷ []) rows
+abbrev pub Reports : Select → Database → List Row → Type 0
+Reports (Page after count) db rows = IsBeginningOf page_query (db.trees 1) (number_value after ∷ number_value count ∷ []) count rows
+Reports (Numbered number) db rows = IsShownOf volume_query (db.trees 1) (number_value number ∷ []) rows
+Reports (Named name) db rows = IsShownOf named_query (db.trees 1) (Text name.now ∷ []) rows
+Reports (Sizes pool) db rows = IsShownOf sizes_query (db.trees 1) (Text pool.now ∷ []) rows
+Reports (Nodes number) db rows = IsShownOf nodes_query (db.trees 3) (number_value number ∷ []) rows
+Reports (Attached node) db rows = IsShownOf attached_query (db.trees 3) (Text node.now ∷ []) rows
+Reports (Places after last) db rows = IsShownOf places_query (db.trees 3) (number_value after ∷ number_value last ∷ []) rows

@@ -10,7 +10,7 @@ use Rattle.csi_sql.specs.Cells.{as_number}
 use Rattle.csi_sql.specs.Rows.{number_value}
 use Rattle.csi_sql.specs.Statements.{page_query, places_query}
 
--- what is shown of each row that passes, in an order that ORDER BY allows; a LIMIT is not looked at
+-- the columns shown of each row that passes, in an order that ORDER BY allows; LIMIT is ignored
 pub record IsShownOf (q : Query) (rows : List Row) (params : Row) (shown : List Row) : Type 0 where
   pub ordered : List Output
   pub same : IsPermutation (map (λ r. output q (params ∷ r ∷ [])) (filter (λ r. list_all (holds (params ∷ r ∷ [])) q.filter) rows)) ordered
@@ -21,7 +21,7 @@ pub record IsShownOf (q : Query) (rows : List Row) (params : Row) (shown : List 
 abbrev pub IsFoundBy : Query → List Row → Row → Option Row → Type 0
 IsFoundBy q rows params found = (shown : List Row) × IsShownOf q rows params shown × (found ≡ slice_get shown 0)
 
--- at most so many of them
+-- at most `count` of them
 abbrev pub IsBeginningOf : Query → List Row → Row → ℕ → List Row → Type 0
 IsBeginningOf q rows params count shown = (all : List Row) × IsShownOf q rows params all × (shown ≡ take count all)
 
@@ -29,7 +29,7 @@ IsBeginningOf q rows params count shown = (all : List Row) × IsShownOf q rows p
 abbrev pub IsPage : ℕ → ℕ → Database → List Row → Type 0
 IsPage after count db shown = IsBeginningOf page_query (db.trees 1) (number_value after ∷ number_value count ∷ []) count shown
 
--- the number in the last row, or the one given where there is none
+-- the number in the last row, or the given number if there is no row
 abbrev pub last_number : ℕ → List Row → ℕ
 last_number n rows = unwrap_or (option_and_then (λ r. as_number (column r 0)) (slice_get rows (length rows - 1))) n
 
@@ -38,6 +38,6 @@ pub record IsPageWithNodes (after count : ℕ) (db : Database) (volumes places :
   pub shown : IsPage after count db volumes
   pub placed : IsShownOf places_query (db.trees 3) (number_value after ∷ number_value (last_number after volumes) ∷ []) places
 
--- the one cell is the next number of a row of meta, whatever its format is
+-- the one cell is the next number of a row of meta, for every format
 abbrev pub IsNext : Database → Row → Type 0
 IsNext db row = (kept : Row) × Has (db.trees 0) kept × (row ≡ column kept 3 ∷ [])

@@ -1,5 +1,4 @@
--- The queries that the reads are: over which tree, which rows pass, what is shown of a row, and in which
--- order.
+-- The queries of the reads: the tree, the rows that pass, the columns shown of a row, and the order.
 use Rattle.std.specs.Prelude.{false, [], ◌∷◌, None, List, pos, negsuc}
 use Rattle.sqlite.specs.Collation.TheVariants.{Binary}
 use Rattle.sqlite.specs.declared.types.Value.TheVariants.{Int}
@@ -68,7 +67,7 @@ page_query = record plain_query {
   limit = col 0 1;
 }
 
--- ---- attachments: their number is no key, so what it is compared with is made a number first
+-- ---- attachments: their number is no key, so the value compared with it is made a number first
 
 abbrev pub nodes_query : Query
 nodes_query = record plain_query {

@@ -38,8 +38,7 @@ key_column name = record { name = name; kind = Integer; is_strict = false; not_n
 abbrev pub full_column : List ℕ → Kind → Column
 full_column name kind = record { name = name; kind = kind; is_strict = false; not_null = true; default = Null; collation = Binary }
 
--- what none of them has: a reference, a computed column, a default that reads the time, and rowids that are
--- counted
+-- no table has these: a reference, a computed column, a default that reads the time, counted rowids
 abbrev pub bare_table : List ℕ → List Column → Table
 bare_table name columns = record {
   name = name;

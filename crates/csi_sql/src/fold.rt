@@ -11,9 +11,9 @@ ghost use Rattle.csi_sql.specs.Folding.{FailsForMemory, FoldsOver, RefusesRows};
 use crate::idle_connection::IdleConnection;
 use sqlite::{Alter, Error, ErrorCode, Row};
 
-/// What is made of rows, in order.
+/// A value made from rows, in order.
 pub trait Fold {
-    /// What a fold becomes over rows, in their order.
+    /// The relation between a fold before and after these rows.
     ghost folds: { Self → List Values → Self → Type 0 };
 
     /// Where it asks for memory to take a row; anywhere, if it does not say.

@@ -49,7 +49,7 @@ impl<S: Alter> IdleConnection<S> {
         self.0.schema()
     }
 
-    /// The connection.
+    /// The connection, for transactions of the caller.
     pub fn into_connection(self) -> Connection<S>
         ensures value { result ≡ self }
         ensures idle { result.in_transaction ≡ false }

@@ -8,7 +8,7 @@ ghost use Rattle.sqlite.specs.declared.types.Value.TheVariants.{Text};
 ghost use Rattle.csi_sql.specs.Refusing.{HasNoNext, NothingRefuses};
 ghost use Rattle.csi_sql.specs.Effects.{ReadsOnly};
 ghost use Rattle.csi_sql.specs.Rows.{number_value};
-ghost use Rattle.csi_sql.specs.Selecting.{IsAsked, Tells};
+ghost use Rattle.csi_sql.specs.Selecting.{IsAsked, Reports};
 ghost use Rattle.csi_sql.specs.Shown.{IsFoundBy, IsNext, IsPage, IsPageWithNodes, IsShownOf, last_number};
 ghost use Rattle.csi_sql.specs.Statements.{attached_query, named_query, nodes_query, sizes_query, volume_query};
 
@@ -31,7 +31,7 @@ pub fn next_number<S: Alter>(conn: &mut IdleConnection<S>) -> Result<Row, Error>
 fn rows_of<S: Alter>(conn: &mut IdleConnection<S>, read: &Select<'_>) -> Result<Vec<Row>, Error>
     requires asked { IsAsked read.now }
     ensures { ReadsOnly S.Store conn.old conn.new
-        (λ db rows. Tells read.now db rows.items) NothingRefuses result }
+        (λ db rows. Reports read.now db rows.items) NothingRefuses result }
 {
     let mut tx = conn.0.transaction();
     let rows = select_rows(&mut tx, read)?;
@@ -103,7 +103,7 @@ pub fn page<S: Alter>(
 
 /// A page of volumes, and where they are attached.
 #[derive(Drop)]
-pub struct PageWithNodes {
+pub struct PageRows {
     /// The volumes of the page, in rising order of their numbers.
     pub volumes: Vec<Row>,
     /// The number and the node of each of their attachments, in rising order of the numbers, and
@@ -128,7 +128,7 @@ pub fn page_with_nodes<S: Alter>(
     conn: &mut IdleConnection<S>,
     after: u64,
     count: u32,
-) -> Result<PageWithNodes, Error>
+) -> Result<PageRows, Error>
     requires after { after < 2 ^ 63 }
     ensures { ReadsOnly S.Store conn.old conn.new
         (λ db page. IsPageWithNodes after count db page.volumes.items page.places.items)
@@ -138,5 +138,5 @@ pub fn page_with_nodes<S: Alter>(
     let volumes = select_rows(&mut tx, &Select::Page(after, count))?;
     let places = select_rows(&mut tx, &Select::Places(after, last_of(&volumes, after)))?;
     tx.rollback();
-    Ok(PageWithNodes { volumes, places })
+    Ok(PageRows { volumes, places })
 }

@@ -22,8 +22,8 @@ use Rattle.csi_tables.specs.Refusing.{ConnChanges, ConnReads, ConnStays, StoreCh
 use Rattle.csi_tables.specs.declared.fault.TablesFault.{TablesFault}
 use Rattle.csi_tables.specs.declared.fault.TablesFault.TheVariants.{Refused}
 use Rattle.csi_tables.proofs.CellLemmas.{handed_on}
-use Rattle.csi_tables.proofs.KeepLemmas.{fails, fails_behind, fails_quiet, is_quiet, makes, makes_behind, makes_never, on_err, on_err_so, on_ok_so, store_fails, store_makes}
-use Rattle.csi_tables.proofs.RefusalLemmas.{call_refused, refused_after, refused_so, told_as}
+use Rattle.csi_tables.proofs.KeepLemmas.{fails, fails_after, fails_quiet, is_quiet, makes, makes_after, makes_never, on_err, on_err_so, on_ok_so, store_fails, store_makes}
+use Rattle.csi_tables.proofs.RefusalLemmas.{call_refused, refused_after, refused_so, reported_as}
 
 -- an answer Ok is no refusal
 made_unrefused : {X : Type 0} (x : X) (P : Type 0) → ◌≡◌ {A = Result X TablesFault} (Ok x) (Err Refused) → P
@@ -52,7 +52,7 @@ module _ {S X : Type 0} {g : Ghosts S} {old new : Held S} {Why : Type 0} where
   unmade change r fault h is = record {
     made = never_ok r _ _ is;
     failed = on_err r (fails_quiet g change old new (is_quiet g old new h.undone h.survives));
-    refused = λ clean told s held known. refused_so ⊥ Why (state g old) (state g new) (λ none. absurd none) (h.refused clean (handed_on r (Err fault) fault Refused is told refl) s held known);
+    refused = λ clean reported s held known. refused_so ⊥ Why (state g old) (state g new) (λ none. absurd none) (h.refused clean (handed_on r (Err fault) fault Refused is reported refl) s held known);
     limit = h.survives.limit;
   }
 
@@ -66,7 +66,7 @@ module _ {S X : Type 0} {g : Ghosts S} {old new : Held S} {Why : Type 0} where
     limit = h.survives.limit;
   }
 
-  -- a change beside totals that are moved with it
+  -- a change together with the totals
   pub beside : (r : Result X TablesFault) (change : Change) {a b : Totals} → OnOk r ((s : State) → conn_doubt g new ≡ 0 → conn_holds g old s → Allows s change → IsStorable s → AreTotals a s → AreTotals b (changed s change))
       → OnOk r ((s : State) → conn_doubt g new ≡ 0 → conn_holds g old s → Allows s change → IsStorable s → IsStorable (changed s change)) → OnErr r ((q : Text) → total_of b q ≡ total_of a q)
       → ConnChanges g old new change Why r → StoreChanges g (old, a) (new, b) change Why r
@@ -94,7 +94,7 @@ module _ {S : Type 0} (g : Ghosts S) (back : ReadsBack) (change : Change) (Effec
   changes_not r e why h is = record {
     made = never_ok r _ _ is;
     failed = on_err r (fails g back change Effect keeps steps old new h.survives h.err);
-    refused = λ clean told s held known. call_refused g old new Refuses Why e s (λ shows. why) (told_as r e is told) (h.failed clean) held;
+    refused = λ clean reported s held known. call_refused g old new Refuses Why e s (λ shows. why) (reported_as r e is reported) (h.failed clean) held;
     limit = h.survives.limit;
   }
 
@@ -102,21 +102,21 @@ module _ {S : Type 0} (g : Ghosts S) (back : ReadsBack) (change : Change) (Effec
 module _ {S : Type 0} (g : Ghosts S) (back : ReadsBack) (change : Change) (Effect : Database → Database → Type 0) (keeps : (old new : Database) → Effect old new → new.schema ≡ old.schema)
     {X Y Z : Type 0} {before old new : Held S} {What : State → Z → Type 0} {z : Result Z TablesFault} (read : ConnReads g before old What z) {Refuses : sql.State → Error → Type 0} {Why : Type 0}
     (steps : HasCleanDisk (state g new) → (s : State) → conn_holds g before s → (db after : Database) → db.schema ≡ schema → IsRows s db.trees → Allows s change → Effect db after → IsRows (changed s change) after.trees) where
-  pub changes_behind : {x : X} {y : Y} → ((s : S) (db : Trees) → IsTrue (g.view s).is_open → g.recovers s db → db ≡ (g.view s).committed) → CommitsOver g old new schema Effect Refuses (Ok x) → ConnChanges g before new change Why (Ok y)
-  changes_behind {y = y} settled h = record {
-    made = makes_behind g back change Effect keeps before old new (is_quiet g before old read.undone read.survives) steps h.survives settled h.ok;
+  pub changes_after : {x : X} {y : Y} → ((s : S) (db : Trees) → IsTrue (g.view s).is_open → g.recovers s db → db ≡ (g.view s).committed) → CommitsOver g old new schema Effect Refuses (Ok x) → ConnChanges g before new change Why (Ok y)
+  changes_after {y = y} settled h = record {
+    made = makes_after g back change Effect keeps before old new (is_quiet g before old read.undone read.survives) steps h.survives settled h.ok;
     failed = tt;
     refused = λ clean is. made_unrefused y _ is;
     limit = h.survives.limit ∙ read.survives.limit;
   }
 
-  pub changes_not_behind : (r : Result Y TablesFault) (e : Error) → (HasCleanDisk (state g old) → (s : State) → conn_holds g before s → Shows (state g before) s → (state g old).now ≡ (state g before).now → (state g old).step_limit ≡ (state g before).step_limit → Refuses (state g old) e → Why)
+  pub changes_not_after : (r : Result Y TablesFault) (e : Error) → (HasCleanDisk (state g old) → (s : State) → conn_holds g before s → Shows (state g before) s → (state g old).now ≡ (state g before).now → (state g old).step_limit ≡ (state g before).step_limit → Refuses (state g old) e → Why)
       → CommitsOver g old new {X = X} schema Effect Refuses (Err e) → IsErrAnd r (λ y. y ≡ of_database e) → ConnChanges g before new change Why r
-  changes_not_behind r e why h is = record {
+  changes_not_after r e why h is = record {
     made = never_ok r _ _ is;
-    failed = on_err r (fails_behind g back change Effect keeps before old new (is_quiet g before old read.undone read.survives) steps h.survives h.err);
-    refused = λ clean told s held known.
+    failed = on_err r (fails_after g back change Effect keeps before old new (is_quiet g before old read.undone read.survives) steps h.survives h.err);
+    refused = λ clean reported s held known.
         let mid : HasCleanDisk (state g old) = omega (arith, h.survives.clean) in
-        refused_after g before old new Why Refuses e s (read.undone mid) read.survives mid h.survives.counts (why mid s held) (told_as r e is told) (h.failed clean) held;
+        refused_after g before old new Why Refuses e s (read.undone mid) read.survives mid h.survives.counts (why mid s held) (reported_as r e is reported) (h.failed clean) held;
     limit = h.survives.limit ∙ read.survives.limit;
   }

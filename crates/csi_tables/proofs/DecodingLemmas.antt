@@ -1,4 +1,4 @@
--- What is read of the bytes that were written of keys and of parameters.
+-- Reading the written bytes of keys and of parameters.
 use Rattle.std.proofs.Common.{◌≡◌, ◌∙◌, refl, sym, ap, arith, ℕ, ℤ, zero, suc, ◌<◌, pos, Bool, true, false, List, [], ◌∷◌, map, length, get_or, Option, Some, None, Result, Ok, cond}
 use Rattle.std.specs.FinMap.{empty}
 use Rattle.csi_types.specs.Checks.{is_known_mode}
@@ -88,7 +88,7 @@ parameters_of : Request → TextMap × TextMap
 parameters_of (Create v) = (v.parameters, v.mutable)
 parameters_of _ = (empty, empty)
 
--- the request that bytes are read as is the one that they were written of
+-- reading the bytes of a request gives that request
 made_of : (bytes : List ℕ) (v : message.CreateVolume) (r : Request) → read_request CreateVolume bytes ≡ Ok (Create v) → read_request CreateVolume bytes ≡ Ok r → Create v ≡ r
 made_of bytes v r one other = let both = sym one ∙ other in cc
 

@@ -90,7 +90,7 @@ module _ {K X : Type 0} {R : K → K → Ordering} (o : IsTotalOrder R) (exact :
       turned : (a b : Bool) → a ≡ b → (v : Option X) → cond a None v ≡ cond (not b) v None
       turned a b e v = ap (λ c. cond c None v) e ∙ elim b as (λ c. cond c None v ≡ cond (not c) v None) [ true ↦ refl | false ↦ refl ]
 
--- ---- entries of a map in which a key has a new value
+-- ---- entries of a map after a key got a new value
 
 module _ {K X : Type 0} {R : K → K → Ordering} (o : IsTotalOrder R) (exact : IsAntisymmetric R) where
   pub overwritten : (m : FinMap R X) (k : K) (v : X) → IsPermutation ((k, v) ∷ filter (λ e. not (eq_by_cmp R k e.0)) (entries m)) (entries (insert m k v))

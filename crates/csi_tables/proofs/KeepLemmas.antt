@@ -51,9 +51,9 @@ module _ {S : Type 0} (g : Ghosts S) where
     shown : HasCleanDisk (state g new) → (s : State) → conn_holds g before s → IsTrue (state g old).is_open → Shows (state g old) s
     shown clean s held = q.state (omega (arith, h.clean)) s held
 
-    pub makes_behind : ((s : S) (db : Trees) → IsTrue (g.view s).is_open → g.recovers s db → db ≡ (g.view s).committed) → (HasCleanDisk (state g new) → Changes Effect (state g old) (state g new))
+    pub makes_after : ((s : S) (db : Trees) → IsTrue (g.view s).is_open → g.recovers s db → db ≡ (g.view s).committed) → (HasCleanDisk (state g new) → Changes Effect (state g old) (state g new))
         → ConnMakes g before new change
-    makes_behind settled made =
+    makes_after settled made =
         let after = λ (clean : HasCleanDisk (state g new)) (s : State) (held : conn_holds g before s) (allowed : Allows s change).
         let it = made clean in
         let shows = shown clean s held it.was_open in
@@ -75,8 +75,8 @@ module _ {S : Type 0} (g : Ghosts S) where
           down = refl;
         }
 
-    pub fails_behind : (HasCleanDisk (state g new) → IsUndone (state g old) (state g new)) → ConnFails g before new change
-    fails_behind undone =
+    pub fails_after : (HasCleanDisk (state g new) → IsUndone (state g old) (state g new)) → ConnFails g before new change
+    fails_after undone =
         record {
           clean = omega (arith, q.clean, h.clean);
           state = λ clean s held allowed. kept_holds (state g old) (state g new) (undone clean) s (q.state (omega (arith, h.clean)) s held);
@@ -100,10 +100,10 @@ module _ {S : Type 0} (g : Ghosts S) where
       (old new : Held S) (h : Survives (state g old) (state g new) (Leaves Effect (state g old))) where
     pub makes : ((s : S) (db : Trees) → IsTrue (g.view s).is_open → g.recovers s db → db ≡ (g.view s).committed) → (HasCleanDisk (state g new) → Changes Effect (state g old) (state g new))
         → ConnMakes g old new change
-    makes = makes_behind back change Effect keeps old old new (stays_quiet old) (λ clean s held. steps s) h
+    makes = makes_after back change Effect keeps old old new (stays_quiet old) (λ clean s held. steps s) h
 
     pub fails : (HasCleanDisk (state g new) → IsUndone (state g old) (state g new)) → ConnFails g old new change
-    fails = fails_behind back change Effect keeps old old new (stays_quiet old) (λ clean s held. steps s) h
+    fails = fails_after back change Effect keeps old old new (stays_quiet old) (λ clean s held. steps s) h
 
 module _ {S : Type 0} (g : Ghosts S) (change : Change) (old new : Held S) where
   -- a read that fails makes no change

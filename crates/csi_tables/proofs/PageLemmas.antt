@@ -101,7 +101,7 @@ up_to_last n (e ∷ es) up = subst (λ (l : ℕ). AllByRecursion (λ k. k ≤ l)
 stays : ℕ → ℕ → AttachmentKey × Attachment → Bool
 stays after last e = nat_lt after e.0.0 && nat_le e.0.0 last
 
--- the places of a number between the two are those of the State
+-- the places of a number between the two are the State's
 nodes_here : (after last n : ℕ) → after < n → n ≤ last → (es : List (AttachmentKey × Attachment)) → AllByRecursion IsPlaced es
     → nodes_at (map (λ e. e.0) (filter (stays after last) es)) n ≡ map (λ a. a.node) (map (λ e. e.1) (filter (λ e. e.0.0 == n) es))
 unfolding stays
@@ -150,7 +150,7 @@ module _ (s : State) (db : Trees) (p : IsRows s db) where
   places_rise : (after last : ℕ) → IsRisen (map (λ e. e.0) (filter (stays after last) (entries s.attachments)))
   places_rise after last = ascending-map (λ a b. a.0 ≤ b.0) (λ e. e.0) _ (ascending_weaker _ _ (λ a b h. less_or_same a.0 b.0 h) _ (ascending-filter _ (stays after last) (entries s.attachments) (places_up s db p)))
 
-  -- what is read of each volume of a page
+  -- the entry read for each volume of a page
   nodes_each : (after last : ℕ) (es : List (ℕ × Volume)) → AllByRecursion IsStored es → AllByRecursion (λ e. nat_lt after e.0 ≡ true) es → AllByRecursion (λ n. n ≤ last) (map (λ e. e.0) es)
       → AllByRecursion (λ e. nodes_at (map (λ e. e.0) (filter (stays after last) (entries s.attachments))) e.0 ≡ published s e.1.number) es
   nodes_each after last [] stored above below = tt
@@ -168,8 +168,8 @@ module _ (s : State) (db : Trees) (p : IsRows s db) where
   numbers_stored [] all = tt
   numbers_stored (e ∷ es) all = (sym all.0.number, numbers_stored es all.1)
 
-  -- The rows of a page are those of its volumes, and the places after them are those of its nodes; all are
-  -- read again.
+  -- The rows of a page are its volumes' rows, and the places after them are its nodes'; reading gives all
+  -- of them back.
   pub record IsShownAs (after count : ℕ) (volumes places : List Row) : Type 0 where
     pub stored : List (ℕ × Volume)
     pub are_stored : AllByRecursion IsStored stored

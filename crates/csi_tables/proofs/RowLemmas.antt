@@ -92,7 +92,7 @@ not_placed n node (e ∷ es) far all =
 pub none_removed : (n : ℕ) (s : State) → get s.volumes n ≡ None → changed s (RemoveVolume n) ≡ s
 none_removed n s none = ap (λ (m : FinMap nat_cmp Volume). record s { volumes = m }) (not_there nat_cmp_total nat_cmp-IsAntisymmetric s.volumes n none)
 
--- what is set of no volume
+-- parameters set for no volume
 pub none_set : (n : ℕ) (m : TextMap) (s : State) → get s.volumes n ≡ None → changed s (SetMutable n m) ≡ s
 none_set n m s none = ap (λ (o : Option Volume). record s { volumes = mutable_set s.volumes n m o }) none
 

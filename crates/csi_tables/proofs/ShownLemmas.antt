@@ -67,7 +67,7 @@ is_above a b = truth_test (is_gt (value_cmp (Int (pos b)) (Int (pos a)))) ∙ ap
 lower : (a b : ℕ) → nat_cmp a b ≡ Less → value_cmp (number_value a) (number_value b) ≡ Less
 lower a b h = value_cmp-Int (pos a) (pos b) ∙ grind (arith, nat_tests, h)
 
--- of places in order, those of one number go by their nodes, and those at one node by their numbers
+-- in ordered places, the places of one number are ordered by node, and the places at one node by number
 same_first : (a b : AttachmentKey) → attachment_key_cmp a b ≡ Less → a.0 ≡ b.0 → text_cmp a.1 b.1 ≡ Less
 same_first a b h e = let tied : nat_cmp a.0 b.0 ≡ Equal = ap (nat_cmp a.0) (sym e) ∙ tied_itself nat_cmp_total a.0 in ap (λ o. ordering_then o (text_cmp a.1 b.1)) (sym tied) ∙ h
 
@@ -126,7 +126,7 @@ first_row entry shown es found are is = is ∙ ap (λ rs. slice_get rs 0) are �
     go [] = refl
     go (e ∷ es) = refl
 
--- that there is a first row says the same of its value
+-- a fact of the first row is a fact of its value
 pub some_found : (o : Option (ℕ × Volume)) → is_some (option_map volume_entry o) ≡ is_some (option_map (λ e. e.1) o)
 some_found None = refl
 some_found (Some e) = refl
@@ -155,7 +155,7 @@ first_numbered n (e ∷ es) =
       | false ↦ first_numbered n es
     ] ∙ ap (λ b. cond b (Some e.1) (fin.find nat_cmp n es)) (sym (nats_tie n e.0))
 
--- ---- what is read again
+-- ---- reading back
 
 readable : (es : List (ℕ × Volume)) → AllByRecursion IsStored es → AllByRecursion (λ e. AreKnown e.1.caps) es → AllByRecursion IsReadable es
 readable [] stored known = tt
@@ -258,7 +258,7 @@ module _ (s : State) (db : Trees) (p : IsRows s db) where
         refl,
       )
 
-  -- the numbers of what is attached at a node
+  -- the numbers of the volumes attached at a node
   pub attached_rows : (node : List ℕ) (shown : List Row) → IsShownOf attached_query (db 3) (Text node ∷ []) shown → shown ≡ map (λ n. number_value n ∷ []) (attached_at s node)
   attached_rows node shown h =
       let es = entries s.attachments in

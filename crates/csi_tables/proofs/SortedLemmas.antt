@@ -17,8 +17,8 @@ use Rattle.csi_sql.specs.Shown.{IsShownOf}
 pub output_total : (q : Query) → IsTotalOrder (output_cmp q)
 output_total q = on_total (λ (o : Output). o.0) (key_cmp_total (map (λ k. k.1) q.order) 0)
 
--- row: how an entry is written; see: what is seen of a row; show: what the query makes of what is seen; test:
--- which it takes
+-- row: an entry as it is written; see: the view of a row; show: the query's columns of a view; test: the
+-- rows that it takes
 module _ {E : Type 0} (q : Query) (params : Row) (row : E → Row) (see : Row → Row) (show : Row → Output) (test : Row → Bool)
     (shows : (r : Row) → output q (params ∷ r ∷ []) ≡ show (see r)) (tests : (r : Row) → list_all (holds (params ∷ r ∷ [])) q.filter ≡ test (see r)) where
   outputs : (rows : List Row) → map (λ r. output q (params ∷ r ∷ [])) (filter (λ r. list_all (holds (params ∷ r ∷ [])) q.filter) rows) ≡ map show (filter test (map see rows))

@@ -23,7 +23,7 @@ use Rattle.csi_tables.specs.Refusing.{ConnReads, StoreRefuses}
 use Rattle.csi_tables.specs.declared.fault.TablesFault.{TablesFault}
 use Rattle.csi_tables.specs.declared.fault.TablesFault.TheVariants.{NoMemory, Refused}
 use Rattle.csi_tables.proofs.KeepLemmas.{is_quiet, stays_quiet}
-use Rattle.csi_tables.proofs.RefusalLemmas.{told_refused}
+use Rattle.csi_tables.proofs.RefusalLemmas.{reported_refused}
 
 answered_again : {X : Type 0} (answer : Result X TablesFault) → health.answered (answered answer) ≡ answered answer
 answered_again (Ok x) = refl
@@ -34,9 +34,9 @@ answered_again (Err Refused) = refl
 pub is_answer : {X : Type 0} (answer : Result X TablesFault) (stored r : Result X StoreFault) → stored ≡ answered answer → r ≡ health.answered stored → r ≡ answered answer
 is_answer answer stored r made is = is ∙ ap health.answered made ∙ answered_again answer
 
--- what is reported of an answer
-pub told_if : {X : Type 0} {P Q : X → Type 0} (answer : Result X TablesFault) (r : Result X StoreFault) → r ≡ answered answer → ((x : X) → P x → Q x) → IfOk answer P → IfOk r Q
-told_if {X} {P} {Q} answer r is f h = subst (λ (x : Result X StoreFault). IfOk x Q) (sym is) (go answer h)
+-- the report of an answer
+pub reported_if : {X : Type 0} {P Q : X → Type 0} (answer : Result X TablesFault) (r : Result X StoreFault) → r ≡ answered answer → ((x : X) → P x → Q x) → IfOk answer P → IfOk r Q
+reported_if {X} {P} {Q} answer r is f h = subst (λ (x : Result X StoreFault). IfOk x Q) (sym is) (go answer h)
   where
     go : (a : Result X TablesFault) → IfOk a P → IfOk (answered a) Q
     go (Ok x) h = f x h
@@ -53,12 +53,12 @@ keeps_read {g = g} {a = a} {b = b} {answer = answer} {stored = stored} {r = r} t
   reads =
       let q = is_quiet g a b read.undone read.survives in
       record {
-        value = told_if answer r (is_answer answer stored r made end.answers) (λ x tells clean s held. tells clean s held.0) read.value;
+        value = reported_if answer r (is_answer answer stored r made end.answers) (λ x reports clean s held. reports clean s held.0) read.value;
         quiet = record { clean = q.clean; state = λ clean s held. (q.state clean s held.0, held.1, held.2); crash = q.crash; ties = q.ties; down = end.stays ∙ begun.stays };
         count = end.count ∙ ap (λ n. count_after n r) begun.count;
         down = (λ is. absurd (end.up is), λ down. absurd (cc (begun.down.1 down)));
       };
-  refused = λ clean is s held known. read.refused clean (told_refused answer r (is_answer answer stored r made end.answers) is) s held.0 known;
+  refused = λ clean is s held known. read.refused clean (reported_refused answer r (is_answer answer stored r made end.answers) is) s held.0 known;
   limit = read.survives.limit;
 }
 
@@ -104,16 +104,16 @@ none_at n (e ∷ es) far all = let other : (e.0.0 == n) ≡ false = grind (arith
 pub no_attachments : (s : State) (n : ℕ) → 2 ^ 63 ≤ n → IsStorable s → [] ≡ attached s n
 no_attachments s n far h = sym (ap (map (λ e. e.1)) (none_at n (entries s.attachments) far h.attachments))
 
-none_behind : (n : ℕ) (es : List (ℕ × Volume)) → 2 ^ 63 ≤ n → AllByRecursion IsStored es → filter (λ e. nat_lt n e.0) es ≡ []
-none_behind n [] far all = refl
-none_behind n (e ∷ es) far all = let other : nat_lt n e.0 ≡ false = grind (arith, nat_tests, all.0.small, far) in ap (λ b. cond b (e ∷ filter (λ e. nat_lt n e.0) es) (filter (λ e. nat_lt n e.0) es)) other ∙ none_behind n es far all.1
+none_after : (n : ℕ) (es : List (ℕ × Volume)) → 2 ^ 63 ≤ n → AllByRecursion IsStored es → filter (λ e. nat_lt n e.0) es ≡ []
+none_after n [] far all = refl
+none_after n (e ∷ es) far all = let other : nat_lt n e.0 ≡ false = grind (arith, nat_tests, all.0.small, far) in ap (λ b. cond b (e ∷ filter (λ e. nat_lt n e.0) es) (filter (λ e. nat_lt n e.0) es)) other ∙ none_after n es far all.1
 
 take_none : (count : ℕ) (vs : List Volume) → vs ≡ [] → take count vs ≡ []
 take_none zero vs e = refl
 take_none (suc count) vs e = ap (take (suc count)) e
 
 pub no_page : (s : State) (after count : ℕ) → 2 ^ 63 ≤ after → IsStorable s → [] ≡ page s after count
-no_page s after count far h = sym (take_none count _ (ap (map (λ e. e.1)) (none_behind after (entries s.volumes) far h.volumes)))
+no_page s after count far h = sym (take_none count _ (ap (map (λ e. e.1)) (none_after after (entries s.volumes) far h.volumes)))
 
 pub no_nodes : (s : State) (after count : ℕ) → 2 ^ 63 ≤ after → IsStorable s → [] ≡ published_of_page s after count
 no_nodes s after count far h = ap (map (λ (v : Volume). published s v.number)) (no_page s after count far h)

@@ -20,10 +20,10 @@ abbrev pub of_decoder : DecodeFault → TablesFault
 of_decoder decoding.NoMemory = NoMemory
 of_decoder (decoding.Malformed at) = Refused
 
-abbrev pub told : TablesFault → StoreFault
-told NoMemory = store.NoMemory
-told Refused = store.Refused
+abbrev pub reported : TablesFault → StoreFault
+reported NoMemory = store.NoMemory
+reported Refused = store.Refused
 
 abbrev pub answered : {X : Type 0} → Result X TablesFault → Result X StoreFault
 answered (Ok x) = Ok x
-answered (Err fault) = Err (told fault)
+answered (Err fault) = Err (reported fault)

@@ -9,7 +9,7 @@ use Rattle.sqlite.specs.Store.{Ghosts}
 use Rattle.sqlite.specs.Tree.{Trees}
 use Rattle.sqlite.specs.View.{doubt}
 use Rattle.sqlite_catalog.specs.Listing.{IsSound}
-use Rattle.csi_keeper.specs.Keeper.{Fails, IsQuiet, Makes, Tells}
+use Rattle.csi_keeper.specs.Keeper.{Fails, IsQuiet, Makes, Reports}
 use Rattle.csi_keeper.specs.Model.{Model}
 use Rattle.csi_keeper.specs.State.{State, AttachmentKey}
 use Rattle.csi_keeper.specs.Totals.{AreTotals}
@@ -68,7 +68,7 @@ pub record IsRowsOf (format : ℕ) (s : State) (db : Trees) : Type 0 where
   pub storable : IsStorable s
   pub sound : IsSound schema db
 
--- those of the format that is written
+-- the rows in the format that is written
 abbrev pub IsRows : State → Trees → Type 0
 IsRows s db = IsRowsOf LATEST_FORMAT s db
 
@@ -76,12 +76,12 @@ IsRows s db = IsRowsOf LATEST_FORMAT s db
 abbrev pub AreUnmodified : State → Type 0
 AreUnmodified s = AllByRecursion (λ e. e.1.mutable ≡ empty) (entries s.volumes)
 
--- Those of the first format, which has no mutable parameters: but for the number of the format they are the
--- rows that are written of such a State.
+-- The rows in the first format, which has no mutable parameters: except for the format's number they are
+-- the rows that are written for such a State.
 abbrev pub IsFirstRows : State → Trees → Type 0
 IsFirstRows s db = IsRowsOf FIRST_FORMAT s db × AreUnmodified s
 
--- those of either format
+-- the rows in either format
 abbrev pub IsEitherRows : State → Trees → Type 0
 IsEitherRows s db = IsFirstRows s db ⊎ IsRows s db
 
@@ -89,7 +89,7 @@ IsEitherRows s db = IsFirstRows s db ⊎ IsRows s db
 abbrev pub IsFormat : ℕ → Type 0
 IsFormat format = (format ≡ FIRST_FORMAT) ⊎ (format ≡ LATEST_FORMAT)
 
--- those of a format that is given by its number
+-- the rows in a format given by its number
 abbrev pub IsRowsIn : ℕ → State → Trees → Type 0
 IsRowsIn format s db = IsRowsOf format s db × (format ≡ FIRST_FORMAT → AreUnmodified s)
 
@@ -117,7 +117,7 @@ module _ {S : Type 0} (g : Ghosts S) where
   abbrev pub conn_holds : Held S → State → Type 0
   conn_holds h s = Holds (state g h) s
 
-  -- 0 while the disk has returned what was written
+  -- 0 while the disk has returned the bytes written to it
   abbrev pub conn_doubt : Held S → ℕ
   conn_doubt h = doubt (state g h).is_clean
 
@@ -127,7 +127,7 @@ module _ {S : Type 0} (g : Ghosts S) where
   abbrev pub conn_tied : Held S → Type 0
   conn_tied h = Ties (state g h)
 
-  -- what contracts see of it: what is over it counts refusals, and is down
+  -- the model that contracts see: the layer above counts refusals, and knows whether it is down
   abbrev pub conn_model : Held S → Model State
   conn_model h = record { holds = conn_holds h; doubt = conn_doubt h; refusals = 0; survivors = conn_survivors h; tied = conn_tied h; is_down = false }
 
@@ -150,7 +150,7 @@ module _ {S : Type 0} (g : Ghosts S) where
   abbrev pub store_tied : Store S → Type 0
   store_tied t = conn_tied g t.0
 
-  -- with what is counted of the calls
+  -- with the counts of the calls
   abbrev pub model_with : Store S → Health → Model State
   model_with t health = record {
     holds = store_holds t;
@@ -166,9 +166,9 @@ module _ {S : Type 0} (g : Ghosts S) where
   store_model t = model_with t (record { refusals = 0; is_down = false })
 
 module _ {S : Type 0} (g : Ghosts S) (old new : Held S) where
-  -- what a read answers is so of each State that the connection may have
-  abbrev pub ConnTells : (State → Type 0) → Type 0
-  ConnTells P = Tells (conn_model g old) (conn_model g new) P
+  -- the answer of a read holds of each State that the connection may have
+  abbrev pub ConnReports : (State → Type 0) → Type 0
+  ConnReports P = Reports (conn_model g old) (conn_model g new) P
 
   abbrev pub ConnIsQuiet : Type 0
   ConnIsQuiet = IsQuiet (conn_model g old) (conn_model g new)

@@ -1,4 +1,4 @@
--- What is read of rows, also of those that represent nothing that was written.
+-- Reading rows, also rows that no written State has.
 use Rattle.std.specs.Prelude.{◌≡◌, ℕ, ◌<◌, ◌≤◌, ◌^◌, ◌==◌, Bool, false, List, [], ◌∷◌, Option, None, Some, Ok, is_some, drop, length, map, filter, take, ⊤}
 use Rattle.std.specs.Option.{option_map}
 use Rattle.sqlite.specs.Effect.{Database}
@@ -37,7 +37,7 @@ AreParamsOf bytes params = (message : CreateVolume) × (read_request Creating by
 
 -- ---- cells
 
--- such bytes are in a cell, and nothing else is
+-- a cell has exactly such bytes
 abbrev pub HasKeys : Value → List CapKey → Type 0
 HasKeys cell keys = (bytes : List ℕ) × (cell ≡ Blob bytes) × AreKeysOf bytes keys
 
@@ -81,18 +81,18 @@ abbrev pub is_number : ℕ → Option ℕ → Bool
 is_number n None = false
 is_number n (Some m) = m == n
 
--- Nodes of a number, of rows of a number and a node each: every row has a number, and those of this one have
--- these texts.
+-- The nodes of a number, from rows with a number and a node: every row has a number, and the rows of this
+-- number have these texts.
 pub record ShowNodes (number : ℕ) (rows : List Row) (nodes : List texts.Text) : Type 0 where
   pub numbers : List ℕ
   pub numbered : AreReadOf ShowsNumber rows numbers
   pub nodes_are : map Text nodes ≡ map (λ row. column row 1) (filter (λ row. is_number number (as_number (column row 0))) rows)
 
--- what is taken of a pool's total with a volume: its pool, and its bytes
+-- a volume's share of a pool's total: its pool, and its bytes
 abbrev pub share : Volume → texts.Text × ℕ
 share v = (v.pool, v.bytes)
 
--- nodes of each number, in order: of rows that come after those of the number before it
+-- the nodes of each number, in order: their rows come after the previous number's rows
 abbrev pub AreNodesOf : List ℕ → List Row → List (List texts.Text) → Type 0
 AreNodesOf [] rows [] = ⊤
 AreNodesOf (n ∷ ns) rows (nodes ∷ others) = (passed : ℕ) × ShowNodes n (take passed rows) nodes × AreNodesOf ns (drop passed rows) others
@@ -105,16 +105,16 @@ pub record IsPageOf (rows : List Row × List Row) (p : PageWithNodes) : Type 0 w
 
 -- ---- what a read answers
 
--- It is read of rows. They are those that are shown of the database, where the store has returned what was
--- written to it, and else they may be any.
+-- It is read from rows: the rows that the database shows if the store has returned the bytes written to
+-- it, and otherwise any rows.
 pub record IsReadOfRows {S R X : Type 0} (g : Ghosts S) (old new : Held S) (Shown : Database → R → Type 0) (Of : R → X → Type 0) (x : X) : Type 0 where
   pub rows : R
   pub shown : HasCleanDisk (state g new) → (state g old).now.schema ≡ schema → Shown (state g old).now rows
   pub read : Of rows x
 
--- of a number that rows can have, and of one that no row has
-pub record TellsBelow {X : Type 0} (number : ℕ) (none : X) (Tells : X → Type 0) (x : X) : Type 0 where
-  pub small : number < 2 ^ 63 → Tells x
+-- for a number that rows can have, and for a number that no row has
+pub record ReportsBelow {X : Type 0} (number : ℕ) (none : X) (Reports : X → Type 0) (x : X) : Type 0 where
+  pub small : number < 2 ^ 63 → Reports x
   pub large : 2 ^ 63 ≤ number → x ≡ none
 
 -- the row of the volume of a number, if there is one
@@ -127,48 +127,48 @@ HasRow found has = has ≡ is_some found
 
 module _ {S : Type 0} (g : Ghosts S) (old new : Held S) where
   -- the next number
-  abbrev pub TellsNext : ℕ → Type 0
-  TellsNext n = IsReadOfRows g old new IsNext ShowsNumber n
+  abbrev pub ReportsNext : ℕ → Type 0
+  ReportsNext n = IsReadOfRows g old new IsNext ShowsNumber n
 
   -- the volume of a number, and whether there is one
-  abbrev pub TellsNumbered : ℕ → Option Volume → Type 0
-  TellsNumbered number found = IsReadOfRows g old new (IsRowOf number) (IsReadOf ShowsVolume) found
+  abbrev pub ReportsNumbered : ℕ → Option Volume → Type 0
+  ReportsNumbered number found = IsReadOfRows g old new (IsRowOf number) (IsReadOf ShowsVolume) found
 
-  abbrev pub TellsExistence : ℕ → Bool → Type 0
-  TellsExistence number has = IsReadOfRows g old new (IsRowOf number) HasRow has
+  abbrev pub ReportsExistence : ℕ → Bool → Type 0
+  ReportsExistence number has = IsReadOfRows g old new (IsRowOf number) HasRow has
 
   -- the volume of a name
-  abbrev pub TellsNamed : texts.Text → Option Volume → Type 0
-  TellsNamed name found = IsReadOfRows g old new (λ db row. IsFoundBy named_query (db.trees 1) (Text name ∷ []) row) (IsReadOf ShowsVolume) found
+  abbrev pub ReportsNamed : texts.Text → Option Volume → Type 0
+  ReportsNamed name found = IsReadOfRows g old new (λ db row. IsFoundBy named_query (db.trees 1) (Text name ∷ []) row) (IsReadOf ShowsVolume) found
 
   -- the attachments of a volume
-  abbrev pub TellsAttachments : ℕ → List Attachment → Type 0
-  TellsAttachments number xs =
+  abbrev pub ReportsAttachments : ℕ → List Attachment → Type 0
+  ReportsAttachments number xs =
       IsReadOfRows g old new (λ db rows. IsShownOf nodes_query (db.trees 3) (number_value number ∷ []) rows) (AreReadOf ShowsAttachment) xs
 
   -- the numbers at a node
-  abbrev pub TellsAttached : texts.Text → List ℕ → Type 0
-  TellsAttached node xs = IsReadOfRows g old new (λ db rows. IsShownOf attached_query (db.trees 3) (Text node ∷ []) rows) (AreReadOf ShowsNumber) xs
+  abbrev pub ReportsAttached : texts.Text → List ℕ → Type 0
+  ReportsAttached node xs = IsReadOfRows g old new (λ db rows. IsShownOf attached_query (db.trees 3) (Text node ∷ []) rows) (AreReadOf ShowsNumber) xs
 
   -- the bytes of a pool's volumes
-  abbrev pub TellsSizes : texts.Text → List ℕ → Type 0
-  TellsSizes pool xs = IsReadOfRows g old new (λ db rows. IsShownOf sizes_query (db.trees 1) (Text pool ∷ []) rows) (AreReadOf ShowsNumber) xs
+  abbrev pub ReportsSizes : texts.Text → List ℕ → Type 0
+  ReportsSizes pool xs = IsReadOfRows g old new (λ db rows. IsShownOf sizes_query (db.trees 1) (Text pool ∷ []) rows) (AreReadOf ShowsNumber) xs
 
   -- a page of volumes
-  abbrev pub TellsPage : ℕ → ℕ → List Volume → Type 0
-  TellsPage after count xs = IsReadOfRows g old new (λ db rows. IsPage after count db rows) (AreReadOf ShowsVolume) xs
+  abbrev pub ReportsPage : ℕ → ℕ → List Volume → Type 0
+  ReportsPage after count xs = IsReadOfRows g old new (λ db rows. IsPage after count db rows) (AreReadOf ShowsVolume) xs
 
-  -- the capability keys of the volume of a number: of a volume that is told, or of none
-  abbrev pub TellsCaps : ℕ → Option (List CapKey) → Type 0
-  TellsCaps number keys = (found : Option Volume) × TellsBelow number None (TellsNumbered number) found × (keys ≡ option_map (λ v. v.caps) found)
+  -- the capability keys of the volume of a number: of a reported volume, or none
+  abbrev pub ReportsCaps : ℕ → Option (List CapKey) → Type 0
+  ReportsCaps number keys = (found : Option Volume) × ReportsBelow number None (ReportsNumbered number) found × (keys ≡ option_map (λ v. v.caps) found)
 
   -- how many volumes are attached at a node
-  abbrev pub TellsCount : texts.Text → ℕ → Type 0
-  TellsCount node n = (xs : List ℕ) × TellsAttached node xs × (n ≡ length xs)
+  abbrev pub ReportsCount : texts.Text → ℕ → Type 0
+  ReportsCount node n = (xs : List ℕ) × ReportsAttached node xs × (n ≡ length xs)
 
   -- a page of volumes with the nodes of each
-  abbrev pub TellsPageWithNodes : ℕ → ℕ → PageWithNodes → Type 0
-  TellsPageWithNodes after count p = IsReadOfRows g old new (λ db rows. ArePageWithNodes after count db rows.0 rows.1) IsPageOf p
+  abbrev pub ReportsPageWithNodes : ℕ → ℕ → PageWithNodes → Type 0
+  ReportsPageWithNodes after count p = IsReadOfRows g old new (λ db rows. ArePageWithNodes after count db rows.0 rows.1) IsPageOf p
 
-  abbrev pub TellsPageBelow : ℕ → ℕ → PageWithNodes → Type 0
-  TellsPageBelow after count p = TellsBelow after (record { volumes = []; nodes = [] }) (TellsPageWithNodes after count) p
+  abbrev pub ReportsPageBelow : ℕ → ℕ → PageWithNodes → Type 0
+  ReportsPageBelow after count p = ReportsBelow after (record { volumes = []; nodes = [] }) (ReportsPageWithNodes after count) p

@@ -21,7 +21,7 @@ use Rattle.csi_sql.specs.Refusing.{RefusesAttachment, RefusesDetaching, RefusesD
 use Rattle.csi_sql.specs.Transactions.{LeavesNothingNew, IsUndone}
 use Rattle.csi_sql.specs.Rows.{attachment_row, seen_volume, volume_row}
 use Rattle.csi_columns.specs.Encoding.{caps_bytes, params_bytes, AreKnown}
-use Rattle.csi_tables.specs.Holding.{IsStorable, Store, conn_doubt, conn_holds, store_doubt, store_holds, ConnFails, ConnMakes, ConnTells, StoreFails}
+use Rattle.csi_tables.specs.Holding.{IsStorable, Store, conn_doubt, conn_holds, store_doubt, store_holds, ConnFails, ConnMakes, ConnReports, StoreFails}
 use Rattle.csi_columns.specs.Entries.{volume_entry}
 use Rattle.csi_tables.specs.Holding.{StoreMakes}
 use Rattle.csi_tables.specs.declared.fault.TablesFault.{TablesFault}
@@ -35,7 +35,7 @@ pub data IsRefusal (Why : Type 0) (old new : sql.State) : Type 0 where
   as_shut : old.is_open ≡ false → IsRefusal Why old new
   -- the connection has a limit on the steps of a statement
   at_limit : IsSome old.step_limit → IsRefusal Why old new
-  -- what is asked for is refused
+  -- the request is refused
   as_refused : Why → IsRefusal Why old new
 
 -- each capability has a known mode, so that its row is read again
@@ -83,10 +83,10 @@ module _ {S : Type 0} (g : Ghosts S) (old new : Held S) where
   abbrev pub ConnRefuses : {X : Type 0} → Type 0 → Result X TablesFault → Type 0
   ConnRefuses Why r = conn_doubt g new ≡ 0 → IsErrOf r Refused → (s : State) → conn_holds g old s → HasKnownModes s → IsRefusal Why (state g old) (state g new)
 
-  -- A read: what it answers of the State, and that nothing refuses it. What was committed stays, and a stop
-  -- leaves what it could leave before.
+  -- A read: its answer about the State, and that nothing refuses it. The committed state stays, and a stop
+  -- leaves no State that it could not leave before.
   pub record ConnReads {X : Type 0} (What : State → X → Type 0) (r : Result X TablesFault) : Type 0 where
-    pub value : IfOk r (λ x. ConnTells g old new (λ s. What s x))
+    pub value : IfOk r (λ x. ConnReports g old new (λ s. What s x))
     pub refused : ConnRefuses ⊥ r
     pub undone : HasCleanDisk (state g new) → IsUndone (state g old) (state g new)
     pub survives : LeavesNothingNew g old new

@@ -48,7 +48,7 @@ fn reserve(alloc: Global, totals: &mut Totals, pool: &Text, bytes: u64) -> Resul
     Ok(())
 }
 
-/// Adds a volume.
+/// Adds a volume, and counts it in the totals.
 pub(crate) fn make_volume<S: Alter>(
     alloc: Global,
     conn: &mut IdleConnection<S>,
@@ -214,7 +214,7 @@ pub(crate) fn make_mutable<S: Alter>(
     Ok(())
 }
 
-/// Makes a change.
+/// Makes a change in one transaction, and keeps the totals in step.
 pub(crate) fn make<S: Alter>(
     alloc: Global,
     conn: &mut IdleConnection<S>,

@@ -22,9 +22,9 @@ pub enum TablesFault {
 /// A fault, and what the database answered where that is why. A contract sees the fault alone.
 #[derive(Drop)]
 pub struct TablesError {
-    /// The fault.
+    /// The fault, without the database's error.
     pub fault: TablesFault,
-    /// What the database answered.
+    /// The database's error, if one caused the fault.
     pub cause: Option<Error>,
 }
 

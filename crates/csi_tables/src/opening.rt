@@ -21,7 +21,7 @@ use std::alloc::Global;
 /// Why no tables were made, and the connection on which they were to be.
 #[derive(Drop)]
 pub struct MakeFault<S: Alter> {
-    /// What the database answered.
+    /// The database's error.
     pub error: Error,
     /// The connection. No transaction is open on it.
     pub conn: Connection<S>,

@@ -6,7 +6,7 @@ ghost use Rattle.std.specs.Prelude.{◌≡◌, ◌<◌, ◌^◌, IfOk, is_some, 
 ghost use Rattle.std.specs.FinMap.{get};
 ghost use Rattle.csi_keeper.specs.Listing.{IsPageWithNodes};
 ghost use Rattle.csi_keeper.specs.State.{attached, attached_at, named, page, sizes};
-ghost use Rattle.csi_tables.specs.Reading.{TellsAttached, TellsAttachments, TellsExistence, TellsNamed, TellsNext, TellsNumbered, TellsPage, TellsPageWithNodes, TellsSizes, share};
+ghost use Rattle.csi_tables.specs.Reading.{ReportsAttached, ReportsAttachments, ReportsExistence, ReportsNamed, ReportsNext, ReportsNumbered, ReportsPage, ReportsPageWithNodes, ReportsSizes, share};
 ghost use Rattle.csi_tables.specs.Refusing.{ConnReads};
 
 use crate::fault::TablesError;
@@ -20,10 +20,10 @@ use csi_types::{Items, Text};
 use sqlite::Alter;
 use std::alloc::Global;
 
-/// The next number.
+/// The number that the next volume gets.
 pub(crate) fn next_number<S: Alter>(conn: &mut IdleConnection<S>) -> Result<u64, TablesError>
     ensures reads { ConnReads S.Store conn.old conn.new (λ s n. n ≡ s.next) result }
-    ensures exact { IfOk result (λ n. TellsNext S.Store conn.old conn.new n) }
+    ensures exact { IfOk result (λ n. ReportsNext S.Store conn.old conn.new n) }
 {
     let row = reads::next_number(conn)?;
     number_in(&row, 0)
@@ -37,7 +37,7 @@ pub(crate) fn by_number<S: Alter>(
 ) -> Result<Option<Volume>, TablesError>
     requires number { number < 2 ^ 63 }
     ensures reads { ConnReads S.Store conn.old conn.new (λ s v. v ≡ get s.volumes number) result }
-    ensures exact { IfOk result (TellsNumbered S.Store conn.old conn.new number) }
+    ensures exact { IfOk result (ReportsNumbered S.Store conn.old conn.new number) }
 {
     let found = reads::by_number(conn, number)?;
     volume_of(alloc, found)
@@ -51,7 +51,7 @@ pub(crate) fn has_volume<S: Alter>(
     requires number { number < 2 ^ 63 }
     ensures reads { ConnReads S.Store conn.old conn.new
         (λ s has. has ≡ is_some (get s.volumes number)) result }
-    ensures exact { IfOk result (TellsExistence S.Store conn.old conn.new number) }
+    ensures exact { IfOk result (ReportsExistence S.Store conn.old conn.new number) }
 {
     let found = reads::by_number(conn, number)?;
     Ok(found.is_some())
@@ -77,7 +77,7 @@ pub(crate) fn by_name<S: Alter>(
     name: &str,
 ) -> Result<Option<Volume>, TablesError>
     ensures reads { ConnReads S.Store conn.old conn.new (λ s v. v ≡ named s name.now) result }
-    ensures exact { IfOk result (TellsNamed S.Store conn.old conn.new name.now) }
+    ensures exact { IfOk result (ReportsNamed S.Store conn.old conn.new name.now) }
 {
     let found = reads::by_name(conn, name)?;
     volume_of(alloc, found)
@@ -91,7 +91,7 @@ pub(crate) fn attachments<S: Alter>(
 ) -> Result<Items<Attachment>, TablesError>
     requires number { number < 2 ^ 63 }
     ensures reads { ConnReads S.Store conn.old conn.new (λ s xs. xs ≡ attached s number) result }
-    ensures exact { IfOk result (TellsAttachments S.Store conn.old conn.new number) }
+    ensures exact { IfOk result (ReportsAttachments S.Store conn.old conn.new number) }
 {
     let rows = reads::attachments(conn, number)?;
     attachments_from(alloc, &rows)
@@ -104,7 +104,7 @@ pub(crate) fn attached_at<S: Alter>(
     node: &str,
 ) -> Result<Items<u64>, TablesError>
     ensures reads { ConnReads S.Store conn.old conn.new (λ s xs. xs ≡ attached_at s node.now) result }
-    ensures exact { IfOk result (TellsAttached S.Store conn.old conn.new node.now) }
+    ensures exact { IfOk result (ReportsAttached S.Store conn.old conn.new node.now) }
 {
     let rows = reads::attached_at(conn, node)?;
     numbers_from(alloc, &rows)
@@ -117,7 +117,7 @@ pub(crate) fn sizes_in<S: Alter>(
     pool: &str,
 ) -> Result<Items<u64>, TablesError>
     ensures reads { ConnReads S.Store conn.old conn.new (λ s xs. xs ≡ sizes s pool.now) result }
-    ensures exact { IfOk result (TellsSizes S.Store conn.old conn.new pool.now) }
+    ensures exact { IfOk result (ReportsSizes S.Store conn.old conn.new pool.now) }
 {
     let rows = reads::sizes_in(conn, pool)?;
     numbers_from(alloc, &rows)
@@ -132,7 +132,7 @@ pub(crate) fn page<S: Alter>(
 ) -> Result<Items<Volume>, TablesError>
     requires after { after < 2 ^ 63 }
     ensures reads { ConnReads S.Store conn.old conn.new (λ s xs. xs ≡ page s after count) result }
-    ensures exact { IfOk result (TellsPage S.Store conn.old conn.new after count) }
+    ensures exact { IfOk result (ReportsPage S.Store conn.old conn.new after count) }
 {
     let rows = reads::page(conn, after, count)?;
     volumes_from(alloc, &rows)
@@ -152,7 +152,7 @@ pub fn page_with_nodes<S: Alter>(
 ) -> Result<PageWithNodes, TablesError>
     requires after { after < 2 ^ 63 }
     ensures reads { ConnReads S.Store conn.old conn.new (λ s p. IsPageWithNodes s after count p) result }
-    ensures exact { IfOk result (TellsPageWithNodes S.Store conn.old conn.new after count) }
+    ensures exact { IfOk result (ReportsPageWithNodes S.Store conn.old conn.new after count) }
 {
     let page = reads::page_with_nodes(conn, after, count)?;
     let volumes = volumes_from(alloc, &page.volumes)?;

@@ -41,7 +41,7 @@ pub struct Tables<S: Alter> {
     pub(crate) conn: IdleConnection<S>,
     totals: Totals,
     health: Health,
-    // What the database answered the first call that it refused.
+    // The database's error for the first call that it refused.
     cause: Cell<Option<Error>>,
 }
 
@@ -68,14 +68,14 @@ impl<S: Alter> Tables<S> {
         }
     }
 
-    /// What the database answered the first call that it refused, as that the disk is full. There is nothing
-    /// where it refused none, where memory was refused, or where a row is none that was written.
+    /// The database's error for the first call that it refused, such as a full disk. `None` if it refused
+    /// no call, if memory was refused, or if a row is none that was written.
     pub fn cause(&self) -> Option<Error> {
         self.cause.get()
     }
 
-    /// Whether each further call is answered `Down`. A change that was refused, also for memory,
-    /// makes it so, and nothing else does.
+    /// Whether every further call is answered `Down`. Only a refused change, also one for memory, makes it
+    /// so.
     pub fn is_down(&self) -> bool
         ensures { result ≡ self.now.health.is_down }
     {
@@ -86,7 +86,7 @@ impl<S: Alter> Tables<S> {
 impl<S: Alter> Keeper for Tables<S> {
     ghost use Rattle.csi_keeper.specs.Keeper.{Applies, Reads};
     ghost use Rattle.csi_tables.specs.Keeping.{TablesRefuses, refuses_change, tables_model};
-    ghost use Rattle.csi_tables.specs.Reading.{TellsAttached, TellsAttachments, TellsBelow, TellsCaps, TellsCount, TellsExistence, TellsNamed, TellsNext, TellsNumbered, TellsPage, TellsPageBelow, TellsSizes};
+    ghost use Rattle.csi_tables.specs.Reading.{ReportsAttached, ReportsAttachments, ReportsBelow, ReportsCaps, ReportsCount, ReportsExistence, ReportsNamed, ReportsNext, ReportsNumbered, ReportsPage, ReportsPageBelow, ReportsSizes};
 
     ghost model = { λ t. tables_model S.Store t };
 
@@ -97,7 +97,7 @@ impl<S: Alter> Keeper for Tables<S> {
     fn next_number(&mut self) -> Result<u64, StoreFault>
         ensures reads { Reads (tables_model S.Store self.old) (tables_model S.Store self.new) result
             (λ s n. n ≡ s.next) }
-        ensures exact { IfOk result (λ n. TellsNext S.Store self.old.conn self.new.conn n) }
+        ensures exact { IfOk result (λ n. ReportsNext S.Store self.old.conn self.new.conn n) }
         ensures refused { TablesRefuses S.Store self.old self.new ⊥ result }
         ensures limit { self.new.conn.step_limit ≡ self.old.conn.step_limit }
     {
@@ -110,7 +110,7 @@ impl<S: Alter> Keeper for Tables<S> {
     fn by_name(&mut self, alloc: Global, name: &str) -> Result<Option<Volume>, StoreFault>
         ensures reads { Reads (tables_model S.Store self.old) (tables_model S.Store self.new) result
             (λ s v. v ≡ named s name.now) }
-        ensures exact { IfOk result (TellsNamed S.Store self.old.conn self.new.conn name.now) }
+        ensures exact { IfOk result (ReportsNamed S.Store self.old.conn self.new.conn name.now) }
         ensures refused { TablesRefuses S.Store self.old self.new ⊥ result }
         ensures limit { self.new.conn.step_limit ≡ self.old.conn.step_limit }
     {
@@ -123,8 +123,8 @@ impl<S: Alter> Keeper for Tables<S> {
     fn by_number(&mut self, alloc: Global, number: u64) -> Result<Option<Volume>, StoreFault>
         ensures reads { Reads (tables_model S.Store self.old) (tables_model S.Store self.new) result
             (λ s v. v ≡ get s.volumes number) }
-        ensures exact { IfOk result (TellsBelow number None
-            (TellsNumbered S.Store self.old.conn self.new.conn number)) }
+        ensures exact { IfOk result (ReportsBelow number None
+            (ReportsNumbered S.Store self.old.conn self.new.conn number)) }
         ensures refused { TablesRefuses S.Store self.old self.new ⊥ result }
         ensures limit { self.new.conn.step_limit ≡ self.old.conn.step_limit }
         ensures error_only_if { 2 ^ 63 ≤ number → OnErr result (IsTrue self.old.health.is_down) }
@@ -141,8 +141,8 @@ impl<S: Alter> Keeper for Tables<S> {
     fn has_volume(&mut self, number: u64) -> Result<bool, StoreFault>
         ensures reads { Reads (tables_model S.Store self.old) (tables_model S.Store self.new) result
             (λ s has. has ≡ is_some (get s.volumes number)) }
-        ensures exact { IfOk result (TellsBelow number false
-            (TellsExistence S.Store self.old.conn self.new.conn number)) }
+        ensures exact { IfOk result (ReportsBelow number false
+            (ReportsExistence S.Store self.old.conn self.new.conn number)) }
         ensures refused { TablesRefuses S.Store self.old self.new ⊥ result }
         ensures limit { self.new.conn.step_limit ≡ self.old.conn.step_limit }
         ensures error_only_if { 2 ^ 63 ≤ number → OnErr result (IsTrue self.old.health.is_down) }
@@ -159,7 +159,7 @@ impl<S: Alter> Keeper for Tables<S> {
     fn caps_of(&mut self, alloc: Global, number: u64) -> Result<Option<Items<CapKey>>, StoreFault>
         ensures reads { Reads (tables_model S.Store self.old) (tables_model S.Store self.new) result
             (λ s keys. keys ≡ option_map (λ v. v.caps) (get s.volumes number)) }
-        ensures exact { IfOk result (TellsCaps S.Store self.old.conn self.new.conn number) }
+        ensures exact { IfOk result (ReportsCaps S.Store self.old.conn self.new.conn number) }
         ensures refused { TablesRefuses S.Store self.old self.new ⊥ result }
         ensures limit { self.new.conn.step_limit ≡ self.old.conn.step_limit }
         ensures error_only_if { 2 ^ 63 ≤ number → OnErr result (IsTrue self.old.health.is_down) }
@@ -173,8 +173,8 @@ impl<S: Alter> Keeper for Tables<S> {
     fn attachments(&mut self, alloc: Global, number: u64) -> Result<Items<Attachment>, StoreFault>
         ensures reads { Reads (tables_model S.Store self.old) (tables_model S.Store self.new) result
             (λ s xs. xs ≡ attached s number) }
-        ensures exact { IfOk result (TellsBelow number []
-            (TellsAttachments S.Store self.old.conn self.new.conn number)) }
+        ensures exact { IfOk result (ReportsBelow number []
+            (ReportsAttachments S.Store self.old.conn self.new.conn number)) }
         ensures refused { TablesRefuses S.Store self.old self.new ⊥ result }
         ensures limit { self.new.conn.step_limit ≡ self.old.conn.step_limit }
         ensures error_only_if { 2 ^ 63 ≤ number → OnErr result (IsTrue self.old.health.is_down) }
@@ -191,7 +191,7 @@ impl<S: Alter> Keeper for Tables<S> {
     fn attached_at(&mut self, alloc: Global, node: &str) -> Result<Items<u64>, StoreFault>
         ensures reads { Reads (tables_model S.Store self.old) (tables_model S.Store self.new) result
             (λ s xs. xs ≡ attached_at s node.now) }
-        ensures exact { IfOk result (TellsAttached S.Store self.old.conn self.new.conn node.now) }
+        ensures exact { IfOk result (ReportsAttached S.Store self.old.conn self.new.conn node.now) }
         ensures refused { TablesRefuses S.Store self.old self.new ⊥ result }
         ensures limit { self.new.conn.step_limit ≡ self.old.conn.step_limit }
     {
@@ -205,7 +205,7 @@ impl<S: Alter> Keeper for Tables<S> {
     fn count_at(&mut self, alloc: Global, node: &Text) -> Result<u64, StoreFault>
         ensures reads { Reads (tables_model S.Store self.old) (tables_model S.Store self.new) result
             (λ s n. n ≡ count_at s node.now) }
-        ensures exact { IfOk result (TellsCount S.Store self.old.conn self.new.conn node.now) }
+        ensures exact { IfOk result (ReportsCount S.Store self.old.conn self.new.conn node.now) }
         ensures refused { TablesRefuses S.Store self.old self.new ⊥ result }
         ensures limit { self.new.conn.step_limit ≡ self.old.conn.step_limit }
     {
@@ -216,7 +216,7 @@ impl<S: Alter> Keeper for Tables<S> {
     fn sizes_in(&mut self, alloc: Global, pool: &str) -> Result<Items<u64>, StoreFault>
         ensures reads { Reads (tables_model S.Store self.old) (tables_model S.Store self.new) result
             (λ s xs. xs ≡ sizes s pool.now) }
-        ensures exact { IfOk result (TellsSizes S.Store self.old.conn self.new.conn pool.now) }
+        ensures exact { IfOk result (ReportsSizes S.Store self.old.conn self.new.conn pool.now) }
         ensures refused { TablesRefuses S.Store self.old self.new ⊥ result }
         ensures limit { self.new.conn.step_limit ≡ self.old.conn.step_limit }
     {
@@ -239,8 +239,8 @@ impl<S: Alter> Keeper for Tables<S> {
     fn page(&mut self, alloc: Global, after: u64, count: u32) -> Result<Items<Volume>, StoreFault>
         ensures reads { Reads (tables_model S.Store self.old) (tables_model S.Store self.new) result
             (λ s xs. xs ≡ page s after count) }
-        ensures exact { IfOk result (TellsBelow after []
-            (TellsPage S.Store self.old.conn self.new.conn after count)) }
+        ensures exact { IfOk result (ReportsBelow after []
+            (ReportsPage S.Store self.old.conn self.new.conn after count)) }
         ensures refused { TablesRefuses S.Store self.old self.new ⊥ result }
         ensures limit { self.new.conn.step_limit ≡ self.old.conn.step_limit }
         ensures error_only_if { 2 ^ 63 ≤ after → OnErr result (IsTrue self.old.health.is_down) }
@@ -262,7 +262,7 @@ impl<S: Alter> Keeper for Tables<S> {
     ) -> Result<PageWithNodes, StoreFault>
         ensures reads { Reads (tables_model S.Store self.old) (tables_model S.Store self.new) result
             (λ s p. IsPageWithNodes s after count p) }
-        ensures exact { IfOk result (TellsPageBelow S.Store self.old.conn self.new.conn after count) }
+        ensures exact { IfOk result (ReportsPageBelow S.Store self.old.conn self.new.conn after count) }
         ensures refused { TablesRefuses S.Store self.old self.new ⊥ result }
         ensures limit { self.new.conn.step_limit ≡ self.old.conn.step_limit }
         ensures error_only_if { 2 ^ 63 ≤ after → OnErr result (IsTrue self.old.health.is_down) }

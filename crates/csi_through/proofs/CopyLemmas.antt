@@ -41,7 +41,7 @@ no_choice : {X : Type 0} (b : Bool) → ◌≡◌ {A = Option X} (cond b None No
 no_choice true = refl
 no_choice false = refl
 
--- ---- what is kept up to a number
+-- ---- the volumes up to a number
 
 module _ (s : State) (n : ℕ) where
   kept_volumes : (q : ℕ) → fin.get (up_to s n).volumes q ≡ cond (not (nat_lt n q)) (fin.get s.volumes q) None
@@ -57,7 +57,7 @@ module _ (s : State) (n : ℕ) where
       go true t h = (kept n k t, h)
       go false t h = absurd (none_some w h)
 
--- before the first number there is nothing
+-- no volume comes before the first number
 module _ (config : Config) (s : State) (inv : IsInvariant config s) where
   no_volume : (q : ℕ) → None ≡ fin.get (up_to s 0).volumes q
   no_volume q = go (not (nat_lt 0 q)) refl (fin.get s.volumes q) refl ∙ sym (kept_volumes s 0 q)
@@ -388,7 +388,7 @@ module _ (config : Config) (s : State) (inv : IsInvariant config s) where
       let next : max (n + 1) s.next ≡ s.next = sym (sub-add-eq-max (n + 1) s.next) ∙ exact in
       λ i. record { next = next i; volumes = s.volumes; attachments = s.attachments }
 
--- where a list is taken apart at a volume, it stands at a place
+-- a list split at a volume has the volume at that place
 pub stands_at : (done rest vs : List Volume) (v : Volume) → done ++ v ∷ rest ≡ vs → (length done < length vs) × (v ≡ get_or vs (length done) v)
 stands_at done rest vs v is = subst (λ (ws : List Volume). (length done < length ws) × (v ≡ get_or ws (length done) v)) is (go done)
   where
@@ -396,7 +396,7 @@ stands_at done rest vs v is = subst (λ (ws : List Volume). (length done < lengt
     go [] = (omega arith, refl)
     go (x ∷ xs) = let r = go xs in (let low = r.0 in omega (arith, low), r.1)
 
--- where so many were given as there are, all were
+-- if as many were given as exist, all were given
 pub all_given : (done left vs : List Volume) → done ++ left ≡ vs → length done ≡ length vs → done ≡ vs
 all_given done [] vs is size = sym (append-nil done) ∙ is
 all_given done (v ∷ left) vs is size = absurd (let more = ap length is in omega (arith, length-append done (v ∷ left), more, size))
@@ -423,7 +423,7 @@ pub allows_more : (s : State) (n : ℕ) (rows : List Attachment) (a : Attachment
 allows_more s n [] a allows = (tt, allows.0)
 allows_more s n (b ∷ rows) a allows = let more = allows_more (changed s (Attach n b)) n rows a allows.1 in ((allows.0, more.0), more.1)
 
--- ---- what is published nowhere
+-- ---- volumes published nowhere
 
 node_of_each : (s : State) (vs : List Volume) (i : ℕ) (d : Volume) → i < length vs → get_or (map (λ v. published s v.number) vs) i [] ≡ published s (get_or vs i d).number
 node_of_each s [] i d low = absurd (omega (arith, low))

@@ -22,7 +22,7 @@ use Rattle.csi_keeper.specs.declared.change.StoreFault.{StoreFault}
 use Rattle.csi_keeper.specs.declared.change.StoreFault.TheVariants.{NoMemory, Refused, Down}
 use Rattle.csi_keeper.specs.declared.volume.Volume.{Volume}
 use Rattle.csi_keeper.specs.facts.Sums.{taken_sum}
-use Rattle.csi_through.specs.Copying.{AreNext, IsHeld, IsNext, IsToldFor, IsWhy, last_number}
+use Rattle.csi_through.specs.Copying.{AreNext, IsHeld, IsNext, IsReportedFor, IsWhy, last_number}
 
 -- ---- the bytes of a volume
 
@@ -97,7 +97,7 @@ next_at s n [] i v low is next = absurd (omega (arith, low))
 next_at s n (w ∷ vs) zero v low is next = subst (IsNext s n) (sym is) next.0
 next_at s n (w ∷ vs) (suc i) v low is next = next_at s w.number vs i v (omega (arith, low)) is next.1
 
--- ---- what is counted
+-- ---- counts
 
 pub on_err : {X E : Type 0} (P : E → Type 0) (r : Result X E) (e : E) → r ≡ Err e → P e → IfErr r P
 on_err {X} {E} P r e is p = subst (λ (r : Result X E). IfErr r P) (sym is) p
@@ -117,27 +117,27 @@ pub ok_count : {X : Type 0} (n m : ℕ) (r : Result X StoreFault) (x : X) → r 
 ok_count n m r x is count = count ∙ ap (count_after n) is
 
 pub of_read : {X : Type 0} {P : State → Type 0} (old new : Model State) (r : Result X StoreFault) (fault : StoreFault) → r ≡ Err fault → new.refusals ≡ count_after old.refusals r → (r ≡ Err Down → IsTrue old.is_down)
-    → IsToldFor P old new fault
+    → IsReportedFor P old new fault
 of_read old new r fault is count down = record {
   down = λ e. down (is ∙ ap Err e);
   count = λ d config s held inv p. count_of old.refusals new.refusals r fault is count;
 }
 
 pub of_memory : {P : State → Type 0} (old new : Model State) (fault : StoreFault) → (fault ≡ Down → ⊥) → new.refusals ≡ old.refusals
-    → ((config : Config) (s : State) → IsInvariant config s → P s → fault ≡ NoMemory) → IsToldFor P old new fault
+    → ((config : Config) (s : State) → IsInvariant config s → P s → fault ≡ NoMemory) → IsReportedFor P old new fault
 of_memory old new fault up same alone = record {
   down = λ e. absurd (up e);
   count = λ d config s held inv p. same ∙ ap (counted old.refusals) (sym (alone config s inv p));
 }
 
 -- after reads that were answered
-pub told_later : {P Q : State → Type 0} (a b c : Model State) (fault : StoreFault) → IsQuiet a b → b.doubt ≤ c.doubt → b.refusals ≡ a.refusals
-    → (b.doubt ≡ 0 → (config : Config) (s : State) → a.holds s → IsInvariant config s → P s → Q s) → IsToldFor Q b c fault → IsToldFor P a c fault
-told_later a b c fault quiet clean same more told = record {
-  down = λ e. subst IsTrue quiet.down (told.down e);
+pub reported_later : {P Q : State → Type 0} (a b c : Model State) (fault : StoreFault) → IsQuiet a b → b.doubt ≤ c.doubt → b.refusals ≡ a.refusals
+    → (b.doubt ≡ 0 → (config : Config) (s : State) → a.holds s → IsInvariant config s → P s → Q s) → IsReportedFor Q b c fault → IsReportedFor P a c fault
+reported_later a b c fault quiet clean same more reported = record {
+  down = λ e. subst IsTrue quiet.down (reported.down e);
   count = λ d config s held inv p.
       let before : b.doubt ≡ 0 = omega (arith, d, clean) in
-      told.count d config s (quiet.state before s held) inv (more before config s held inv p) ∙ ap (λ n. counted n fault) same;
+      reported.count d config s (quiet.state before s held) inv (more before config s held inv p) ∙ ap (λ n. counted n fault) same;
 }
 
 pub why_read : {X : Type 0} (old new : Model State) (r : Result X StoreFault) (fault : StoreFault) → r ≡ Err fault → new.refusals ≡ count_after old.refusals r → (r ≡ Err Down) ↔ IsTrue old.is_down → IsWhy old new fault
@@ -151,10 +151,10 @@ module _ {X : Type 0} (old mid : Model State) (r : Result X StoreFault) (x : X) 
   up : IsTrue old.is_down → ⊥
   up t = absurd (let e = down.1 t in cc (is, e))
 
-  pub why_then : (new : Model State) (fault : StoreFault) → IsQuiet old mid → mid.doubt ≤ new.doubt → mid.refusals ≡ old.refusals → IsToldFor (λ _. Unit {0}) mid new fault → IsWhy old new fault
-  why_then new fault quiet clean same told = record {
-    down = (λ e. absurd (up (subst IsTrue quiet.down (told.down e))), λ t. absurd (up t));
-    count = λ d config s held inv. told.count d config s (quiet.state (omega (arith, d, clean)) s held) inv tt ∙ ap (λ n. counted n fault) same;
+  pub why_then : (new : Model State) (fault : StoreFault) → IsQuiet old mid → mid.doubt ≤ new.doubt → mid.refusals ≡ old.refusals → IsReportedFor (λ _. Unit {0}) mid new fault → IsWhy old new fault
+  why_then new fault quiet clean same reported = record {
+    down = (λ e. absurd (up (subst IsTrue quiet.down (reported.down e))), λ t. absurd (up t));
+    count = λ d config s held inv. reported.count d config s (quiet.state (omega (arith, d, clean)) s held) inv tt ∙ ap (λ n. counted n fault) same;
   }
 
   pub why_here : (fault : StoreFault) → (fault ≡ Down → ⊥) → (mid.doubt ≡ 0 → (config : Config) (s : State) → old.holds s → IsInvariant config s → mid.refusals ≡ counted old.refusals fault) → IsWhy old mid fault

@@ -1,7 +1,7 @@
 -- A read of the memory is a read of the keeper over it.
 use Rattle.std.proofs.Common.{◌≡◌, ◌∙◌, ap, sym, subst, refl, arith, true, IsTrue, IfOk, Result, Ok, Err}
 use Rattle.csi_keeper.specs.Health.{Finishes, answered}
-use Rattle.csi_keeper.specs.Keeper.{Reads, Tells, count_after}
+use Rattle.csi_keeper.specs.Keeper.{Reads, Reports, count_after}
 use Rattle.csi_keeper.specs.Model.{Model}
 use Rattle.csi_keeper.specs.State.{State}
 use Rattle.csi_keeper.specs.declared.change.StoreFault.{StoreFault}
@@ -20,17 +20,17 @@ module _ {M D X : Type 0} (memory : M → Model State) (change_store : D → Mod
   abbrev new : Model State
   new = through_model memory change_store later
 
-  told : t.is_current ≡ true → (answer : Result X StoreFault) → IfOk answer (λ x. Tells (memory t.memory) (memory m) (λ s. IsSo s x)) → IfOk (answered answer) (λ x. Tells old new (λ s. IsSo s x))
-  told current (Ok x) is = λ d s held. is (omega (arith, d)) s (held.1 current)
-  told current (Err NoMemory) is = is
-  told current (Err Refused) is = is
-  told current (Err Down) is = is
+  reported : t.is_current ≡ true → (answer : Result X StoreFault) → IfOk answer (λ x. Reports (memory t.memory) (memory m) (λ s. IsSo s x)) → IfOk (answered answer) (λ x. Reports old new (λ s. IsSo s x))
+  reported current (Ok x) is = λ d s held. is (omega (arith, d)) s (held.1 current)
+  reported current (Err NoMemory) is = is
+  reported current (Err Refused) is = is
+  reported current (Err Down) is = is
 
   pub read_through : (started : Health) (answer result : Result X StoreFault) → t.is_current ≡ true → (IsTrue t.health.is_down → ⊥) → started.refusals ≡ t.health.refusals → started.is_down ≡ t.health.is_down
       → Reads (memory t.memory) (memory m) answer IsSo → Finishes started h answer result → ReadsThrough memory change_store t later result IsSo
   read_through started answer result current up count stays read finish = record {
     reads = record {
-      value = subst (λ (r : Result X StoreFault). IfOk r (λ x. Tells old new (λ s. IsSo s x))) (sym finish.answers) (told current answer read.value);
+      value = subst (λ (r : Result X StoreFault). IfOk r (λ x. Reports old new (λ s. IsSo s x))) (sym finish.answers) (reported current answer read.value);
       quiet = record {
         clean = let more = read.quiet.clean in omega (arith, more);
         state = λ d s held. (held.0, λ same. read.quiet.state (omega (arith, d)) s (held.1 current));

@@ -16,7 +16,7 @@ use Rattle.csi_memory.specs.declared.mem.MemKeeper.{MemKeeper}
 use Rattle.csi_keeper.specs.declared.volume.Attachment.{Attachment}
 use Rattle.csi_keeper.specs.declared.volume.Volume.{Volume}
 
--- the volumes up to a number, and what is attached of them; the next number is the one after it
+-- the volumes up to a number, and their attachments; the next number follows it
 abbrev pub up_to : State → ℕ → State
 up_to s n = record {
   next = n + 1;
@@ -24,7 +24,7 @@ up_to s n = record {
   attachments = retain_keys s.attachments (λ p. not (nat_lt n p.0));
 }
 
--- the State in which a volume is attached so, one attachment after the other
+-- the State after the attachments of a volume are added in order
 abbrev pub attached_each : State → ℕ → List Attachment → State
 attached_each s n [] = s
 attached_each s n (a ∷ rest) = attached_each (changed s (Attach n a)) n rest
@@ -84,16 +84,15 @@ IsCopy old new copy = new.doubt ≡ 0 → (config : Config) (s : State) → old.
 abbrev pub IsWhole : Model State → Model State → Type 0
 IsWhole old new = new.doubt ≡ 0 → (s : State) → old.holds s → IsNumbered s.next
 
--- Why a read of the keeper gave nothing, or there was no memory. That it is down is reported only where it
--- is; and of each State of the invariant of which P is so, a refusal is one that the keeper counted, and
--- nothing else is counted.
-pub record IsToldFor (P : State → Type 0) (old new : Model State) (fault : StoreFault) : Type 0 where
+-- Why a read of the keeper gave no value, or memory was refused. `Down` is reported only if the keeper is
+-- down. For each State of the invariant with P, the keeper counted each refusal, and nothing more.
+pub record IsReportedFor (P : State → Type 0) (old new : Model State) (fault : StoreFault) : Type 0 where
   pub down : fault ≡ Down → IsTrue old.is_down
   pub count : new.doubt ≡ 0 → (config : Config) (s : State) → old.holds s → IsInvariant config s → P s
       → new.refusals ≡ count_after {X = Unit {0}} old.refusals (Err fault)
 
--- Why there is no copy: that the keeper is down is reported where it is, and nowhere else; and of a State of
--- the invariant a refusal is one that the keeper counted, and nothing else is counted.
+-- Why there is no copy. `Down` is reported if and only if the keeper is down. For a State of the
+-- invariant, the keeper counted each refusal, and nothing more.
 pub record IsWhy (old new : Model State) (fault : StoreFault) : Type 0 where
   pub down : (fault ≡ Down) ↔ IsTrue old.is_down
   pub count : new.doubt ≡ 0 → (config : Config) (s : State) → old.holds s → IsInvariant config s

@@ -8,11 +8,13 @@ ghost use Rattle.csi_keeper.specs.State.{State, IsBounded};
 use csi_keeper::{Change, Keeper, StoreFault};
 use std::alloc::Global;
 
-/// What keeps the changes of a State, and answers no reads: a database, or a change store at a socket.
+/// A store that keeps the changes of a State, and answers no reads: a database, or a change store at a
+/// socket. The promises about the State hold while `doubt`, which never falls, is 0.
 ///
 /// What is promised of the State is promised while `doubt`, which never falls, is 0.
 pub trait ChangeStore {
-    // What contracts see of it. How many calls were refused is not asked of it.
+    // The State, the survivors and the counts of the store, as contracts see them. Its count of refused
+    // calls is not used.
     ghost model: { Self → Model State };
 
     /// Makes a change, which the State must allow: the items of `Change` say when it does.

@@ -7,7 +7,7 @@ ghost use Rattle.csi_memory.specs.Restoring.{CanRestore, restored};
 ghost use Rattle.csi_keeper.specs.Keeper.{IsQuiet, count_after};
 ghost use Rattle.csi_keeper.specs.State.{State, attached};
 ghost use Rattle.csi_keeper.specs.declared.change.StoreFault.TheVariants.{Down, NoMemory};
-ghost use Rattle.csi_through.specs.Copying.{AllowsEach, AreNext, CopiesAll, CopiesTo, IsCopy, IsHeld, IsNumbered, IsToldFor, IsWhole, IsWhy, attached_each, last_number};
+ghost use Rattle.csi_through.specs.Copying.{AllowsEach, AreNext, CopiesAll, CopiesTo, IsCopy, IsHeld, IsNumbered, IsReportedFor, IsWhole, IsWhy, attached_each, last_number};
 
 use csi_keeper::{Attachment, Change, Keeper, PageWithNodes, StoreFault, Volume};
 use csi_memory::MemKeeper;
@@ -89,7 +89,7 @@ fn attachments_of<K: Keeper>(
     number: u64,
     is_published: bool,
 ) -> Result<Items<Attachment>, StoreFault>
-    ensures quiet { IsQuiet (K.model keeper.old) (K.model keeper.new) }
+    ensures keeper_unchanged { IsQuiet (K.model keeper.old) (K.model keeper.new) }
     ensures value { IfOk result (λ rows. (K.model keeper.new).doubt ≡ 0 → (s : State)
         → (K.model keeper.old).holds s
         → (is_published ≡ false → attached s number ≡ []) → rows ≡ attached s number) }
@@ -112,13 +112,13 @@ fn restore_page<K: Keeper>(
     volumes: Items<Volume>,
     nodes: &[Items<Text>],
 ) -> Result<u64, StoreFault>
-    ensures quiet { IsQuiet (K.model keeper.old) (K.model keeper.new) }
+    ensures keeper_unchanged { IsQuiet (K.model keeper.old) (K.model keeper.new) }
     ensures copies { IfOk result (λ last. CopiesTo (K.model keeper.old)
         (K.model keeper.new) memory.old memory.new after volumes nodes.now last) }
     ensures last { IfOk result (λ last. last ≡ last_number after volumes) }
     ensures held { OnOk result (AllByRecursion IsHeld volumes) }
     ensures count { OnOk result ((K.model keeper.new).refusals ≡ (K.model keeper.old).refusals) }
-    ensures why { IfErr result (λ fault. IsToldFor (λ s. AreNext s after volumes) (K.model keeper.old)
+    ensures why { IfErr result (λ fault. IsReportedFor (λ s. AreNext s after volumes) (K.model keeper.old)
         (K.model keeper.new) fault) }
 {
     let mut last = after;
@@ -140,9 +140,10 @@ fn restore_all<K: Keeper>(
     keeper: &mut K,
     memory: &mut MemKeeper,
 ) -> Result<(), StoreFault>
-    ensures quiet { IsQuiet (K.model keeper.old) (K.model keeper.new) }
+    ensures keeper_unchanged { IsQuiet (K.model keeper.old) (K.model keeper.new) }
     ensures copied { OnOk result (CopiesAll (K.model keeper.old) (K.model keeper.new) memory.old memory.new) }
-    ensures why { IfErr result (λ fault. IsToldFor (λ _. ⊤) (K.model keeper.old) (K.model keeper.new) fault) }
+    ensures why { IfErr result (λ fault. IsReportedFor (λ _. ⊤)
+        (K.model keeper.old) (K.model keeper.new) fault) }
 {
     let mut after = 0;
     for turn in 0..u64::MAX {
@@ -167,7 +168,7 @@ fn restore_all<K: Keeper>(
 /// has, as only an untruthful store gives. So of a State of the invariant each refusal is
 /// the keeper's.
 pub(crate) fn copy_of<K: Keeper>(alloc: Global, keeper: &mut K) -> Result<MemKeeper, StoreFault>
-    ensures quiet { IsQuiet (K.model keeper.old) (K.model keeper.new) }
+    ensures keeper_unchanged { IsQuiet (K.model keeper.old) (K.model keeper.new) }
     ensures copy { IfOk result (λ memory. IsCopy (K.model keeper.old) (K.model keeper.new) memory) }
     ensures complete { OnOk result (IsWhole (K.model keeper.old) (K.model keeper.new)) }
     ensures why { IfErr result (λ fault. IsWhy (K.model keeper.old) (K.model keeper.new) fault) }

@@ -95,8 +95,7 @@ impl<M: Keeper, D: ChangeStore> Through<M, D> {
         }
     }
 
-    /// Whether each further call is answered `Down`. A change that was refused makes it so, and
-    /// nothing else does.
+    /// Whether every further call is answered `Down`. Only a refused change makes it so.
     pub fn is_down(&self) -> bool
         ensures { result ≡ self.now.health.is_down }
     {
@@ -117,7 +116,7 @@ impl<M: Keeper, D: ChangeStore> Through<M, D> {
 pub struct NotCopied<K> {
     /// Why: want of memory, or what the keeper answered.
     pub fault: StoreFault,
-    /// The keeper.
+    /// The keeper, as it was before.
     pub keeper: K,
 }
 
@@ -160,7 +159,7 @@ impl<D: ChangeStore + Drop> Through<MemKeeper, D> {
         keeper: &mut K,
         change_store: D,
     ) -> Result<Through<MemKeeper, D>, StoreFault>
-        ensures quiet { IsQuiet (K.model keeper.old) (K.model keeper.new) }
+        ensures keeper_unchanged { IsQuiet (K.model keeper.old) (K.model keeper.new) }
         ensures copy { IfOk result (λ through. IsCopy (K.model keeper.old)
             (K.model keeper.new) through.memory) }
         ensures why { IfErr result (λ fault. IsWhy (K.model keeper.old) (K.model keeper.new) fault) }

@@ -64,7 +64,7 @@ key_from_entry e (f ∷ es) h =
       | false ↦ λ k. key_from_entry e es k
     ] h
 
--- among entries whose keys differ, one that is there is found
+-- among entries with distinct keys, each entry is found
 found_entry : (q v : Text) (es : List Entry) → some_two same_key es ≡ false → list_any (same_entry (q, v)) es ≡ true → found q es ≡ Some v
 found_entry q v [] d h = absurd (false≢true h)
 found_entry q v (f ∷ es) d h =
@@ -82,7 +82,7 @@ found_entry q v (f ∷ es) d h =
 the_same : (a b : Text) → Some a ≡ Some b → a ≡ b
 the_same a b h = cc
 
--- what is found is there
+-- a found entry is in the list
 entry_found : (q v : Text) (es : List Entry) → found q es ≡ Some v → list_any (same_entry (q, v)) es ≡ true
 unfolding found
 entry_found q v [] h = absurd (cc h)
@@ -96,7 +96,7 @@ pub or_later : (a b : Bool) → b ≡ true → (a || b) ≡ true
 or_later true b h = refl
 or_later false b h = h
 
--- what is in one list is in the other, where each entry of the one is
+-- a member of one list is a member of the other, if each entry of the one is
 has_also : (e : Entry) (es fs : List Entry) → list_all (λ f. list_any (same_entry f) fs) es ≡ true → list_any (same_entry e) es ≡ true → list_any (same_entry e) fs ≡ true
 has_also e [] fs a h = absurd (false≢true h)
 has_also e (f ∷ es) fs a h =
@@ -117,7 +117,7 @@ all_has es fs (x ∷ xs) d is in_es =
     ap (λ b. b && list_all (λ e. list_any (same_entry e) fs) xs) one
     ∙ all_has es fs xs d is (λ e h. in_es e (or_later (same_entry e x) _ h))
 
--- lists of which each has the other's entries find alike
+-- lists with the same entries have equal look-ups
 found_alike : (es fs : List Entry) → some_two same_key es ≡ false → some_two same_key fs ≡ false → list_all (λ e. list_any (same_entry e) fs) es ≡ true → list_all (λ f. list_any (same_entry f) es) fs ≡ true → (q : Text) → found q es ≡ found q fs
 found_alike es fs d d' there back q =
     elim (found q es) as (λ o. found q es ≡ o → o ≡ found q fs) [
@@ -196,7 +196,7 @@ within_both m n d d' =
     ∙ ap (λ b. list_all (λ e. list_any (same_entry e) (map fold_key (entries n))) (map fold_key (entries m)) && b) (sym (all_folded (entries n) (entries m)))
     ∙ lists_same (map fold_key (entries m)) (map fold_key (entries n)) (two_folded (entries m) ∙ d) (two_folded (entries n) ∙ d')
 
--- what is within one is within another, where the one is within the other
+-- containment is transitive
 all_also : (xs es fs : List Entry) → list_all (λ x. list_any (same_entry x) es) xs ≡ true → list_all (λ e. list_any (same_entry e) fs) es ≡ true → list_all (λ x. list_any (same_entry x) fs) xs ≡ true
 all_also [] es fs h k = refl
 all_also (x ∷ xs) es fs h k =

@@ -186,7 +186,7 @@ goes_first e [] h = refl
 goes_first e (f ∷ es) h =
     ap (λ r. match_ordering r (e ∷ f ∷ es) ((f.0, e.1) ∷ es) (f ∷ insert_entry text_cmp es e.0 e.1)) (is_less _ (first_so _ _ (first_so _ _ h)))
 
--- the last of a list moves to the tree that stands after it
+-- the last item of a list moves to the next tree
 pub last_moves : (xs : List (Text × Text)) (e : Text × Text) (ts : List (Text × Text)) → IsRising ((xs ++ e ∷ []) ++ ts) → xs ++ insert_entry text_cmp ts e.0 e.1 ≡ (xs ++ e ∷ []) ++ ts
 last_moves xs e ts h =
     let whole = append_assoc xs (e ∷ []) ts in
@@ -205,7 +205,7 @@ find_at k (x ∷ es) (suc i) d h l e =
     let less : text_cmp x.0 k ≡ Less = subst (λ q. text_cmp x.0 q ≡ Less) (exact _ _ e) (below_at x.0 es i d (first_so _ _ h) (omega arith)) in
     ap (λ r. cond (is_eq r) (Some x.1) (find text_cmp k es)) (greater x.0 k less) ∙ find_at k es i d (second_so _ _ h) (omega arith) e
 
--- a key that a search misses is none of theirs
+-- a key that a search misses is not among their keys
 rises : (es : List (Text × Text)) → IsRising es → (n : ℕ) (d : Text × Text) → 0 ≤ n → n + 1 < length es → is_lt (text_cmp (get_or es (n + 1) d).0 (get_or es n d).0) ≡ false
 rises [] h n d z l = absurd (omega arith)
 rises (e ∷ es) h zero d z l = ap is_lt (greater e.0 (get_or es 0 d).0 (below_at e.0 es 0 d (first_so _ _ h) (omega arith)))

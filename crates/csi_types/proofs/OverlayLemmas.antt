@@ -81,7 +81,7 @@ gets_have m given g = each_found m (entries given) (entries_sorted given) (λ k 
 pub included : (m given : TextMap) → (has_each m given ≡ true) ↔ ((k v : Text) → get given k ≡ Some v → get m k ≡ Some v)
 included m given = (has_gets m given, gets_have m given)
 
--- what is laid over is there
+-- the overlay's entries are there
 
 or_first : (a b : Option Text) (v : Text) → a ≡ Some v → option_or a b ≡ Some v
 or_first a b v e = ap (λ (o : Option Text). option_or o b) e

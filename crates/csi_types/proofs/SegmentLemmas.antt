@@ -1,4 +1,4 @@
--- Segments in order: those whose keys are alike stand side by side.
+-- Ordered segments: segments with equal keys are adjacent.
 use Rattle.std.proofs.Common.{◌≡◌, ℕ, ◌+◌, ◌<◌, Bool, true, false, not, ◌||◌, ◌&&◌, List, [], ◌∷◌, length, map, get_or, refl, sym, ap, subst, ◌∙◌, arith, suc, zero, add-one}
 use Rattle.std.specs.Cmp.Lexicographic.{slice_cmp, texts_ties, on_texts}
 use Rattle.std.specs.List.{list_any, AllByRecursion, IsAllAdjacentAnswer, IsDistinct}
@@ -65,7 +65,7 @@ neighbours (s ∷ []) k d h a = absurd (omega arith)
 neighbours (s ∷ t ∷ ss) zero d h a = ap (λ b. (b || list_any (alike_entries (entry_of s)) (map entry_of ss)) || some_two alike_entries (map entry_of (t ∷ ss))) a
 neighbours (s ∷ t ∷ ss) (suc k) d h a = or_later (list_any (alike_entries (entry_of s)) (map entry_of (t ∷ ss))) _ (neighbours (t ∷ ss) k d (omega arith) a)
 
--- segments of which each is below the next
+-- segments that rise
 below_apart : (s : Segment) (ss : List Segment) → AllByRecursion (λ t. by_key s t ≡ Less) ss → list_any (alike_entries (entry_of s)) (map entry_of ss) ≡ false
 below_apart s [] h = refl
 below_apart s (t ∷ ss) h =
@@ -102,7 +102,7 @@ tied_neighbours (s ∷ ss) false o a =
     let room = a.1 in
     sym (neighbours all a.0 s (omega (arith, room)) (subst (λ j. alike_entries (entry_of one) (entry_of (get_or all j s)) ≡ true) (add-one a.0) both))
 
--- a segment that stands at a place
+-- a segment at a place
 at_place : (p : Entry → Bool) (ss : List Segment) (i : ℕ) (s : Segment) → i < length ss → s ≡ get_or ss i s → p (entry_of s) ≡ true → list_any p (map entry_of ss) ≡ true
 at_place p [] i s h is a = absurd (omega arith)
 at_place p (t ∷ ss) zero s h is a = ap (λ b. b || list_any p (map entry_of ss)) (ap (λ u. p (entry_of u)) (sym is) ∙ a)

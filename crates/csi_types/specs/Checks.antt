@@ -35,16 +35,16 @@ is_known_mode (Some (pos mode)) = nat_lt 0 mode && nat_le mode MAX_ACCESS_MODE
 is_known_mode (Some (negsuc n)) = false
 
 -- a node may write while others have the volume: MULTI_NODE_SINGLE_WRITER 4, MULTI_NODE_MULTI_WRITER 5
-abbrev pub writes_beside_others : Option ℤ → Bool
-writes_beside_others None = false
-writes_beside_others (Some (pos mode)) = mode == 4 || mode == 5
-writes_beside_others (Some (negsuc n)) = false
+abbrev pub is_multi_node_writer : Option ℤ → Bool
+is_multi_node_writer None = false
+is_multi_node_writer (Some (pos mode)) = mode == 4 || mode == 5
+is_multi_node_writer (Some (negsuc n)) = false
 
--- supported: block with each known mode, mount with those in which no node writes next to others
+-- supported: block with each known mode, mount with each mode that lets no node write next to others
 abbrev pub is_supported_access : Access → Option ℤ → Bool
 is_supported_access access.Missing mode = false
 is_supported_access access.Block mode = is_known_mode mode
-is_supported_access (access.Mount m) mode = is_known_mode mode && not (writes_beside_others mode)
+is_supported_access (access.Mount m) mode = is_known_mode mode && not (is_multi_node_writer mode)
 
 abbrev pub is_supported : Capability → Bool
 is_supported c = is_supported_access c.access c.mode
@@ -85,7 +85,7 @@ abbrev pub terms : Option Requirement → List TextMap
 terms None = []
 terms (Some r) = r.requisite ++ r.preferred
 
--- there is a requisite topology, and some preferred one is none of them
+-- there is a requisite topology, and some preferred topology is not among them
 abbrev pub prefers_another : Requirement → Bool
 prefers_another r = not (is_empty r.requisite) && list_any (λ p. not (list_any (same_topology p) r.requisite)) r.preferred
 
@@ -180,7 +180,7 @@ parts (Modify r) = record no_parts {
   volume_ids = r.volume_id ∷ [];
 }
 
--- The table, in the order in which its lines are answered.
+-- The table, in the order of its answers.
 
 abbrev pub lines : List (Reason × (Parts → Bool))
 lines =

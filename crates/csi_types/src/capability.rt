@@ -1,7 +1,7 @@
 //! How a volume may be used.
 
 ghost use Rattle.std.specs.Prelude.{◌≡◌};
-ghost use Rattle.csi_types.specs.Checks.{is_known_mode, is_supported, writes_beside_others};
+ghost use Rattle.csi_types.specs.Checks.{is_known_mode, is_supported, is_multi_node_writer};
 
 use crate::boxed::Boxed;
 use crate::items::Items;
@@ -50,8 +50,8 @@ pub fn is_known_mode(mode: Option<i32>) -> bool
 
 /// Whether a node may write while others have the volume: `MULTI_NODE_SINGLE_WRITER` and
 /// `MULTI_NODE_MULTI_WRITER`.
-pub fn writes_beside_others(mode: Option<i32>) -> bool
-    ensures { result ≡ writes_beside_others mode }
+pub fn is_multi_node_writer(mode: Option<i32>) -> bool
+    ensures { result ≡ is_multi_node_writer mode }
 {
     mode.is_some_and(|mode| mode == 4 || mode == 5)
 }
@@ -65,6 +65,6 @@ pub fn is_supported(capability: &Capability) -> bool
     match capability.access {
         Access::Missing => false,
         Access::Block => is_known_mode(mode),
-        Access::Mount(_) => is_known_mode(mode) && !writes_beside_others(mode),
+        Access::Mount(_) => is_known_mode(mode) && !is_multi_node_writer(mode),
     }
 }

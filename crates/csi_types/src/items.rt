@@ -67,14 +67,14 @@ impl<T> Items<T> {
         self.vec.as_slice()
     }
 
-    /// How many values there are.
+    /// The number of values.
     pub fn len(&self) -> usize
         ensures { result ≡ length self.now }
     {
         self.vec.len()
     }
 
-    /// Whether there is no value.
+    /// Whether the list has no value.
     pub fn is_empty(&self) -> bool
         ensures { result ≡ (length self.now == 0) }
     {

@@ -45,7 +45,7 @@ mod volume;
 
 pub use boxed::Boxed;
 pub use capability::{
-    Access, Capability, Mount, is_known_mode, is_supported, writes_beside_others,
+    Access, Capability, Mount, is_known_mode, is_multi_node_writer, is_supported,
 };
 pub use capacity::CapacityRange;
 pub use code::Code;

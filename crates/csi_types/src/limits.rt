@@ -19,16 +19,16 @@ pub const MAX_MOUNT_FLAGS_BYTES: usize = 4096;
 /// The most bytes of all keys and values of one map together.
 pub const MAX_MAP_BYTES: usize = 4096;
 
-/// The most pools.
+/// The most pools of a configuration.
 pub const MAX_POOLS: usize = 16;
 
 /// The most segments of a pool.
 pub const MAX_SEGMENTS: usize = 8;
 
-/// The most nodes.
+/// The most nodes of a configuration.
 pub const MAX_NODES: usize = 64;
 
-/// The most volumes.
+/// The most volumes at once, in all pools together.
 pub const MAX_VOLUMES: u64 = 100_000;
 
 /// The most entries of a page of a listing.

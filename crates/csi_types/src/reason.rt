@@ -56,7 +56,7 @@ pub enum Reason {
     VolumeNotCompatible,
     /// No pool that serves the topology has room.
     NoRoom,
-    /// There are as many volumes as there can be.
+    /// The most volumes exist already.
     TooManyVolumes,
     /// No number is left for a further volume.
     NumbersUsedUp,

@@ -169,7 +169,7 @@ fn has_segment(topology: &Map, key: &Text, value: &Text) -> bool
 
 /// Whether topologies are equal when their keys are folded. Neither has two keys that are alike.
 pub fn same_topology(one: &Map, other: &Map) -> bool
-    requires one { has_alike_keys one.now ≡ false }
+    requires keys_differ { has_alike_keys one.now ≡ false }
     requires other { has_alike_keys other.now ≡ false }
     ensures { result ≡ same_topology one.now other.now }
 {

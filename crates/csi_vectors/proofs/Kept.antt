@@ -10,9 +10,9 @@ use Rattle.csi_vectors.specs.Judging.{IsWritten}
 use Rattle.csi_vectors.specs.Lines.{IsLineOf}
 use Rattle.csi_vectors.specs.declared.running.VectorsEnd.{VectorsEnd}
 use Rattle.csi_vectors.specs.declared.running.VectorsEnd.TheVariants.{ReadFailed, NoMemory}
-use Rattle.csi_vectors.specs.declared.running.Halt.{Halt}
-use Rattle.csi_vectors.specs.declared.running.Halt.TheVariants as halt
-use Rattle.csi_vectors.specs.Running.{AreRun, EndsAs, IsCut, IsDone, IsNoVector, IsRun, IsSkipped, IsTextOf, Takes, end_of, told}
+use Rattle.csi_vectors.specs.declared.running.RunHalt.{RunHalt}
+use Rattle.csi_vectors.specs.declared.running.RunHalt.TheVariants as halt
+use Rattle.csi_vectors.specs.Running.{AreRun, EndsAs, IsCut, IsDone, IsNoVector, IsRun, IsSkipped, IsTextOf, Takes, end_of, reported}
 
 pub none_before : (known : Option (List ℕ)) → prepend_known [] known ≡ known
 none_before None = refl
@@ -24,7 +24,7 @@ pub no_line : (given text : List ℕ) → given ≡ text → ((name input output
 no_line given text same none name input output h = none name input output (subst (λ (l : List ℕ). IsLineOf l name input output) (sym same) h)
 
 pub was_run : (config : Config) (text given name input output bytes : List ℕ) (ok : Bool) → (IsSkipped text → ⊥) → given ≡ text → IsUtf8 text → IsLineOf given name input output → IsWritten config (not ok) input bytes
-    → ok ≡ bytes_eq bytes output → IsRun config text (told (not ok) name) (not ok)
+    → ok ≡ bytes_eq bytes output → IsRun config text (reported (not ok) name) (not ok)
 was_run config text given name input output bytes ok run same utf8 line written judged = record {
   name = name;
   input = input;
@@ -38,7 +38,7 @@ was_run config text given name input output bytes ok run same utf8 line written 
   said = refl;
 }
 
--- the line that was made is what is reported
+-- the line that was made is the one reported
 pub appended_as : (a b : Option (List ℕ)) (slice items line : List ℕ) → slice ≡ items → items ≡ line → Appends a b slice → Appends a b line
 appended_as a b slice items line s i h = subst (λ (l : List ℕ). Appends a b l) (s ∙ i) h
 
@@ -84,18 +84,18 @@ stopped config unread held left holds count failed end run why =
     let ends : (e : VectorsEnd) → end ≡ e → EndsAs config unread held holds e → EndsAs config unread held holds end = λ e same h. subst (λ (x : VectorsEnd). EndsAs config unread held holds x) (sym same) h in
     ⊎_elim (λ e. ends NoMemory e (count, left, failed, run)) (λ e. ends ReadFailed e (count, left, failed, run)) why
 
-abbrev is_write : Halt → Bool
+abbrev is_write : RunHalt → Bool
 is_write halt.BadLine = false
 is_write halt.WriteFailed = true
 is_write halt.NoMemory = false
 
-unwritten : (why : Halt) → is_write why ≡ false → why ≢ halt.WriteFailed
+unwritten : (why : RunHalt) → is_write why ≡ false → why ≢ halt.WriteFailed
 unwritten why is e = true≢false (sym (ap is_write e) ∙ is)
 
 -- a line ended the run
-pub halted : (config : Config) (unread held left after holds now : Option (List ℕ)) (count number : ℕ) (failed : Bool) (line given : List ℕ) (why : Halt) (end : VectorsEnd)
-    → AreRun config unread held count left holds failed → Takes left after line → given ≡ line → (why ≢ halt.WriteFailed → now ≡ holds) → (IsErrOf {T = Bool} {E = Halt} (Err why) halt.BadLine → IsNoVector given)
-    → (IsErrOf {T = Bool} {E = Halt} (Err why) halt.WriteFailed → (text : List ℕ) × IsTextOf given text × IsCut config text holds now) → number ≡ count + 1 → end ≡ end_of why number → EndsAs config unread held now end
+pub halted : (config : Config) (unread held left after holds now : Option (List ℕ)) (count number : ℕ) (failed : Bool) (line given : List ℕ) (why : RunHalt) (end : VectorsEnd)
+    → AreRun config unread held count left holds failed → Takes left after line → given ≡ line → (why ≢ halt.WriteFailed → now ≡ holds) → (IsErrOf {T = Bool} {E = RunHalt} (Err why) halt.BadLine → IsNoVector given)
+    → (IsErrOf {T = Bool} {E = RunHalt} (Err why) halt.WriteFailed → (text : List ℕ) × IsTextOf given text × IsCut config text holds now) → number ≡ count + 1 → end ≡ end_of why number → EndsAs config unread held now end
 halted config unread held left after holds now count number failed line given halt.BadLine end run taken same kept bad cut is e =
     subst (λ (x : VectorsEnd). EndsAs config unread held now x) (sym e) (
       count,

@@ -19,7 +19,7 @@ use Rattle.csi_vectors.specs.Judging.{IsAnswered, IsUnrefused, IsWritten}
 abbrev pub ReadsBack : Type 0
 ReadsBack = (r : ReplyBytes) (more : List ℕ) (taken : TakenReply) → IsReply r → TakesFirstReply (reply r ++ more) taken → IsTakenReply r taken
 
--- a reply that begins the bytes is the one that is taken of them
+-- a reply at the start of the bytes is the reply taken from them
 first_is : (bytes : List ℕ) (taken : TakenReply) (r : ReplyBytes) (rs : List ReplyBytes) (last : List ℕ) → ReadsBack → TakesFirstReply bytes taken → IsReply r → bytes ≡ (reply r ++ flat_map reply rs) ++ last → IsTakenReply r taken
 first_is bytes taken r rs last back takes is e =
     back r (flat_map reply rs ++ last) taken is (subst (λ (b : List ℕ). TakesFirstReply b taken) (e ∙ append_assoc (reply r) (flat_map reply rs) last) takes)

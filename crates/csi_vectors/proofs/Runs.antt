@@ -1,4 +1,4 @@
--- What was written by a run over memory.
+-- The output of a run over memory.
 use Rattle.std.proofs.Common.{false, ◌≡◌, ◌≢◌, ◌⊎◌, ℕ, List, [], ◌∷◌, ◌++◌, Option, Some, None, inl, inr, ◌∙◌, refl, subst, arith}
 use Rattle.std.specs.List.{AllByRecursion}
 use Rattle.envelope.specs.Envelope.{CallBytes}
@@ -33,7 +33,7 @@ all_answered config (e ∷ es) h none = (for_memory config e.call e.mark h.0 (om
 run_answered : (config : Config) (old new : Model State) (events : List Event) → old.refusals ≡ 0 → new.refusals ≡ 0 → Runs (volumes config) old new (first_state 1) events → AllByRecursion (IsAnswered config) events
 run_answered config old new events o n run = all_answered config events run.allowed (none_refused old.refusals new.refusals (store_marks events) o n run.counted)
 
--- ---- what was written
+-- ---- the output
 
 ended : (config : Config) (old new : Model State) (end : RunEnd) (read ys w : List ℕ) → old.refusals ≡ 0 → new.refusals ≡ 0 → IsWhole end → Ended (volumes config) old new (first_state 1) read (ys ≡ []) (Some []) (Some w) end → IsWritten config false (read ++ ys) w
 ended config old new Done read ys w o n is h = record {

@@ -10,7 +10,7 @@ is_space byte = byte == 32
 abbrev pub HasSpace : List ℕ → Type 0
 HasSpace text = position_or_len is_space text < length text
 
--- what comes before the first space of a text, and what is after it
+-- the part of a text before its first space, and the part after it
 abbrev pub head : List ℕ → List ℕ
 head text = before_first is_space text
 

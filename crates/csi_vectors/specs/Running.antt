@@ -1,4 +1,4 @@
--- What is written of vectors, a line each.
+-- The output for vectors, a line each.
 use Rattle.std.specs.Prelude.{ℕ, zero, suc, ◌≡◌, ◌≢◌, ◌⊎◌, ◌+◌, ◌-◌, ◌^◌, ◌++◌, ◌||◌, Bool, true, false, not, List, [], Option, IfSome, IsUtf8, codes, bytes_eq}
 use Rattle.std.specs.Io.BufRead.{take_through, DropsThrough}
 use Rattle.std.specs.Io.KnownBytes.{Appends, Keeps, IsAtEnd}
@@ -9,8 +9,8 @@ use Rattle.csi_vectors.specs.Judging.{IsWritten}
 use Rattle.csi_vectors.specs.Lines.{IsLineOf}
 use Rattle.csi_vectors.specs.declared.vector.LineFault.{LineFault}
 use Rattle.csi_vectors.specs.declared.vector.LineFault.TheVariants as fault
-use Rattle.csi_vectors.specs.declared.running.Halt.{Halt}
-use Rattle.csi_vectors.specs.declared.running.Halt.TheVariants as halt
+use Rattle.csi_vectors.specs.declared.running.RunHalt.{RunHalt}
+use Rattle.csi_vectors.specs.declared.running.RunHalt.TheVariants as halt
 use Rattle.csi_vectors.specs.declared.running.VectorsEnd.{VectorsEnd}
 use Rattle.csi_vectors.specs.declared.running.VectorsEnd.TheVariants.{Done, BadLine, LinesSpent, ReadFailed, WriteFailed, NoMemory}
 
@@ -22,7 +22,7 @@ IsTextOf line text = (line ≡ text ++ codes "\n") ⊎ ((line ≡ text) × ((fro
 abbrev pub IsSkipped : List ℕ → Type 0
 IsSkipped text = (text ≡ []) ⊎ ((rest : List ℕ) × (text ≡ codes "#" ++ rest))
 
--- these bytes are not skipped, and are no text or one that has not the form
+-- these bytes are not skipped, and are no text, or a text without the form
 abbrev pub IsNoText : List ℕ → Type 0
 IsNoText text = (¬ IsSkipped text) × ((¬ IsUtf8 text) ⊎ ((name input output : List ℕ) → ¬ IsLineOf text name input output))
 
@@ -30,10 +30,10 @@ IsNoText text = (¬ IsSkipped text) × ((¬ IsUtf8 text) ⊎ ((name input output
 abbrev pub IsNoVector : List ℕ → Type 0
 IsNoVector line = (text : List ℕ) × IsTextOf line text × IsNoText text
 
--- what is written of a vector
-abbrev pub told : Bool → List ℕ → List ℕ
-told true name = codes "FAIL " ++ name ++ codes "\n"
-told false name = codes "ok " ++ name ++ codes "\n"
+-- the output for a vector
+abbrev pub reported : Bool → List ℕ → List ℕ
+reported true name = codes "FAIL " ++ name ++ codes "\n"
+reported false name = codes "ok " ++ name ++ codes "\n"
 
 -- a vector was run: a new server writes these bytes for its input, and it failed where they are not its
 -- output and no call was refused
@@ -47,7 +47,7 @@ pub record IsRun (config : Config) (text lines : List ℕ) (failed : Bool) : Typ
   pub line : IsLineOf text name input output
   pub written : IsWritten config failed input bytes
   pub judged : failed ≡ not (bytes_eq bytes output)
-  pub said : lines ≡ told failed name
+  pub said : lines ≡ reported failed name
 
 -- a vector was run, and of its line a prefix was written, which may be none or all of it
 abbrev pub IsCut : Config → List ℕ → Option (List ℕ) → Option (List ℕ) → Type 0
@@ -57,11 +57,11 @@ IsCut config text held holds = (lines : List ℕ) × (failed : Bool) × IsRun co
 abbrev pub IsDone : Config → List ℕ → List ℕ → Bool → Type 0
 IsDone config text lines failed = (IsSkipped text × (lines ≡ []) × (failed ≡ false)) ⊎ IsRun config text lines failed
 
--- the first line, with its end, was taken of what was left
+-- the first line, with its end, was taken from the rest
 abbrev pub Takes : Option (List ℕ) → Option (List ℕ) → List ℕ → Type 0
 Takes before after line = IfSome before (λ bytes. line ≡ take_through 10 bytes) × DropsThrough before after 10
 
--- One line more: what was left and held before it, and what came of it.
+-- One more line: the rest and the held bytes before it, and the result.
 pub record LineStep (config : Config) (Before : Option (List ℕ) → Option (List ℕ) → Bool → Type 0) (left holds : Option (List ℕ)) (failed : Bool) : Type 0 where
   pub mid : Option (List ℕ)
   pub held : Option (List ℕ)
@@ -78,13 +78,13 @@ pub record LineStep (config : Config) (Before : Option (List ℕ) → Option (Li
   pub wrote : Appends held holds lines
   pub either : failed ≡ (already || now)
 
--- So many lines were run, in order.
+-- `count` lines were run, in order.
 abbrev pub AreRun : Config → Option (List ℕ) → Option (List ℕ) → ℕ → Option (List ℕ) → Option (List ℕ) → Bool → Type 0
 AreRun config unread held zero left holds failed = (left ≡ unread) × Keeps held holds × (failed ≡ false)
 AreRun config unread held (suc n) left holds failed = LineStep config (AreRun config unread held n) left holds failed
 
--- How a run ends. After a failed write or flush, which was that of a vector's line, the writer holds a prefix
--- of that line after all lines before it.
+-- How a run ends. After a failed write or flush of a vector's line, the writer holds all earlier lines and
+-- a prefix of this one.
 abbrev pub EndsAs : Config → Option (List ℕ) → Option (List ℕ) → Option (List ℕ) → VectorsEnd → Type 0
 EndsAs config unread held holds (Done failed) = (count : ℕ) × (left : Option (List ℕ)) × AreRun config unread held count left holds failed × IsAtEnd left
 EndsAs config unread held holds (BadLine number) = (count : ℕ) × (left : Option (List ℕ)) × (failed : Bool) × (after : Option (List ℕ)) × (line : List ℕ)
@@ -98,12 +98,12 @@ EndsAs config unread held holds WriteFailed = (count : ℕ) × (left : Option (L
 EndsAs config unread held holds NoMemory = (count : ℕ) × (left : Option (List ℕ)) × (failed : Bool) × AreRun config unread held count left holds failed
 
 -- why a line ends the run
-abbrev pub halt_of : LineFault → Halt
+abbrev pub halt_of : LineFault → RunHalt
 halt_of fault.NotVector = halt.BadLine
 halt_of fault.NoMemory = halt.NoMemory
 
 -- and how
-abbrev pub end_of : Halt → ℕ → VectorsEnd
+abbrev pub end_of : RunHalt → ℕ → VectorsEnd
 end_of halt.BadLine number = BadLine number
 end_of halt.WriteFailed number = WriteFailed
 end_of halt.NoMemory number = NoMemory
@@ -116,7 +116,7 @@ pub record IsSample (config : Config) : Type 0 where
   pub pools : config.pools ≡ sample_pools
   pub nodes : config.nodes ≡ sample_nodes
 
--- A run under the sample configuration; nothing is written where there is no memory for that.
+-- A run under the sample configuration; without memory for that it writes nothing.
 abbrev pub Runs : Option (List ℕ) → Option (List ℕ) → Option (List ℕ) → VectorsEnd → Type 0
 Runs unread held holds end = ((end ≡ NoMemory) × Keeps held holds)
     ⊎ ((config : Config) × IsSample config × EndsAs config unread held holds end)

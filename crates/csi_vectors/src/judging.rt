@@ -19,7 +19,7 @@ use std::alloc::{AllocError, Global};
 // The number that the first volume gets.
 const FIRST_NUMBER: u64 = 1;
 
-// Whether all was read, or all up to a malformed frame, and answered.
+// Whether the whole input was answered, or all of it up to a malformed frame.
 fn is_whole(end: RunEnd) -> bool
     ensures true_only_if { IsTrue result → IsWhole end }
     ensures all { IsWhole end → IsTrue result }
@@ -27,7 +27,7 @@ fn is_whole(end: RunEnd) -> bool
     matches!(end, RunEnd::Done | RunEnd::Malformed(_))
 }
 
-// What a new server writes for these bytes.
+// The output of a new server for these bytes.
 fn written(alloc: Global, config: &Config, input: &[u8]) -> Result<Vec<u8>, AllocError>
     ensures { IfOk result (λ bytes. IsWritten config.now false input.now bytes.items) }
 {
@@ -51,7 +51,7 @@ fn is_refusal(reply: &Reply<'_>) -> bool
     reply.status == reason.code().number() && reply.text == reason.text().as_bytes()
 }
 
-// Whether one of these replies does.
+// Whether one of these replies refuses for want of memory.
 fn has_refusal(replies: &[u8]) -> bool
     ensures { result ≡ false → IsUnrefused replies.now }
 {

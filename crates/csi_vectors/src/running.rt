@@ -4,8 +4,8 @@ ghost use Rattle.std.specs.Prelude.{◌≡◌, ◌≢◌, ◌⊎◌, [], List, �
 ghost use Rattle.std.specs.IoError.{error_kind};
 ghost use Rattle.std.specs.declared.io.ErrorKind.TheVariants.{OutOfMemory};
 ghost use Rattle.std.specs.Io.KnownBytes.{Appends, IsAtEnd};
-ghost use Rattle.csi_vectors.specs.Running.{EndsAs, IsCut, IsDone, IsNoText, IsNoVector, IsSkipped, IsTextOf, Runs, Takes, end_of, halt_of, told};
-ghost use Rattle.csi_vectors.specs.declared.running.Halt.TheVariants.{BadLine, NoMemory, WriteFailed};
+ghost use Rattle.csi_vectors.specs.Running.{EndsAs, IsCut, IsDone, IsNoText, IsNoVector, IsSkipped, IsTextOf, Runs, Takes, end_of, halt_of, reported};
+ghost use Rattle.csi_vectors.specs.declared.running.RunHalt.TheVariants.{BadLine, NoMemory, WriteFailed};
 ghost use Rattle.csi_vectors.specs.declared.running.VectorsEnd.TheVariants as ends;
 
 use crate::judging::passes;
@@ -25,7 +25,7 @@ pub enum VectorsEnd {
     BadLine(u64),
     /// 2^64 - 1 lines were run, and no more are.
     LinesSpent,
-    /// A read failed.
+    /// A read of the file failed.
     ReadFailed,
     /// A write or a flush failed, or a write was interrupted. The lines before were written, and of this one
     /// a part.
@@ -36,32 +36,32 @@ pub enum VectorsEnd {
 
 // Why no more lines are run.
 #[derive(Clone, Copy)]
-pub(crate) enum Halt {
+pub(crate) enum RunHalt {
     BadLine,
     WriteFailed,
     NoMemory,
 }
 
-impl From<AllocError> for Halt {
+impl From<AllocError> for RunHalt {
     ghost from_gives = { λ _ halt. halt ≡ NoMemory };
 
-    fn from(_error: AllocError) -> Halt {
-        Halt::NoMemory
+    fn from(_error: AllocError) -> RunHalt {
+        RunHalt::NoMemory
     }
 }
 
-impl From<LineFault> for Halt {
+impl From<LineFault> for RunHalt {
     ghost from_gives = { λ fault halt. halt ≡ halt_of fault };
 
-    fn from(fault: LineFault) -> Halt {
+    fn from(fault: LineFault) -> RunHalt {
         match fault {
-            LineFault::NotVector => Halt::BadLine,
-            LineFault::NoMemory => Halt::NoMemory,
+            LineFault::NotVector => RunHalt::BadLine,
+            LineFault::NoMemory => RunHalt::NoMemory,
         }
     }
 }
 
-// Whether nothing is run of a line without its end: it is empty, or a comment.
+// Whether a line, without its end, is skipped: it is empty, or a comment.
 fn is_skipped(text: &[u8]) -> bool
     ensures skipped { IsTrue result → IsSkipped text.now }
     ensures run { IsSkipped text.now → IsTrue result }
@@ -70,17 +70,17 @@ fn is_skipped(text: &[u8]) -> bool
 }
 
 // The text that these bytes are.
-fn text_of(bytes: &[u8]) -> Result<&str, Halt>
+fn text_of(bytes: &[u8]) -> Result<&str, RunHalt>
     ensures ok { IfOk result (λ text. (text.now ≡ bytes.now) × IsUtf8 bytes.now) }
     ensures bad { IfErr result (λ halt. (halt ≡ BadLine) × ¬ IsUtf8 bytes.now) }
 {
-    str::from_utf8(bytes).map_err(|_| Halt::BadLine)
+    str::from_utf8(bytes).map_err(|_| RunHalt::BadLine)
 }
 
 // The line that says whether a vector failed. It is made before any of it is written, so that no part of it
 // is written for want of memory.
 fn line_of(alloc: Global, name: &str, failed: bool) -> Result<Vec<u8>, AllocError>
-    ensures { IfOk result (λ line. line.items ≡ told failed name.now) }
+    ensures { IfOk result (λ line. line.items ≡ reported failed name.now) }
 {
     let mut line = Vec::new(alloc);
     line.extend_from_slice(if failed { b"FAIL " } else { b"ok " })?;
@@ -95,7 +95,7 @@ fn run_text<W: Write>(
     config: &Config,
     text: &[u8],
     writer: &mut W,
-) -> Result<bool, Halt>
+) -> Result<bool, RunHalt>
     ensures ok { IfOk result (λ failed. (lines : List ℕ) × IsDone config.now text.now lines failed
         × Appends (W.contents writer.old) (W.contents writer.new) lines) }
     ensures kept { IfErr result (λ halt. halt ≢ WriteFailed → W.contents writer.new ≡ W.contents writer.old) }
@@ -111,7 +111,7 @@ fn run_text<W: Write>(
     let line = line_of(alloc, vector.name, failed)?;
     match send(writer, line.as_slice()) {
         Ok(()) => Ok(failed),
-        Err(_) => Err(Halt::WriteFailed),
+        Err(_) => Err(RunHalt::WriteFailed),
     }
 }
 
@@ -125,13 +125,13 @@ fn without_end(line: &[u8]) -> &[u8]
     }
 }
 
-// The same of a line with its end.
+// Runs a line with its end.
 fn run_line<W: Write>(
     alloc: Global,
     config: &Config,
     line: &[u8],
     writer: &mut W,
-) -> Result<bool, Halt>
+) -> Result<bool, RunHalt>
     ensures ok { IfOk result (λ failed. (text lines : List ℕ) × IsTextOf line.now text
         × IsDone config.now text lines failed
         × Appends (W.contents writer.old) (W.contents writer.new) lines) }
@@ -143,7 +143,7 @@ fn run_line<W: Write>(
     run_text(alloc, config, without_end(line), writer)
 }
 
-// How a run ends where a read failed with this error.
+// The end of a run after a read failed with this error.
 fn unread(error: &io::Error) -> VectorsEnd
     ensures memory { error_kind error.now ≡ OutOfMemory → result ≡ ends.NoMemory }
     ensures failed { error_kind error.now ≢ OutOfMemory → result ≡ ends.ReadFailed }
@@ -168,14 +168,14 @@ fn next_line<B: BufRead>(reader: &mut B, line: &mut Vec<u8>) -> Result<bool, Vec
     }
 }
 
-// How the run ends at the line with this number.
-fn ended(halt: Halt, number: u64) -> VectorsEnd
+// The end of a run that halts at the line with this number.
+fn ended(halt: RunHalt, number: u64) -> VectorsEnd
     ensures { result ≡ end_of halt number }
 {
     match halt {
-        Halt::BadLine => VectorsEnd::BadLine(number),
-        Halt::WriteFailed => VectorsEnd::WriteFailed,
-        Halt::NoMemory => VectorsEnd::NoMemory,
+        RunHalt::BadLine => VectorsEnd::BadLine(number),
+        RunHalt::WriteFailed => VectorsEnd::WriteFailed,
+        RunHalt::NoMemory => VectorsEnd::NoMemory,
     }
 }
 

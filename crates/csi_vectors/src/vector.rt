@@ -8,10 +8,10 @@ ghost use Rattle.csi_vectors.specs.declared.vector.LineFault.TheVariants.{NoMemo
 
 use std::alloc::{AllocError, Global};
 
-/// A test vector.
+/// A test vector: bytes for a new server, and the bytes that it must write.
 #[derive(Debug, Drop)]
 pub struct Vector<'a> {
-    /// What it is called.
+    /// The name, which the line of its result shows.
     pub name: &'a str,
     /// The bytes that a server reads until their end: frames of calls.
     pub input: Vec<u8>,
@@ -42,7 +42,7 @@ fn are_digits(bytes: &[u8]) -> bool
     bytes.iter().all(|byte| byte.is_ascii_hexdigit())
 }
 
-// Whether these are hexadecimal digits, of either case, of bytes; `-` is none.
+// Whether these are pairs of hexadecimal digits, of either case; `-` is no bytes.
 fn is_spelling(digits: &str) -> bool
     ensures true_only_if { IsTrue result → IsSpelling digits.now }
     ensures none { IsSpelling digits.now → IsTrue result }

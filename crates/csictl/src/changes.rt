@@ -87,8 +87,8 @@ fn line_of(
     }
 }
 
-// The same of the body of a reply. The response is borrowed, so that what owns one does nothing else that
-// may fail.
+// The line for the body of a reply. The response is borrowed, so that its owner does nothing else that may
+// fail.
 fn line_of_body(
     alloc: Global,
     method: Method,

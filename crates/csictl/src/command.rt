@@ -4,7 +4,7 @@ use clap::ArgMatches;
 use command_line::{ArgumentsFault, CommandLine, CommandOption, OPTION, Subcommand, Takes};
 use std::alloc::{AllocError, Global};
 
-// What a call is made of: its method, the fields of its message, and the message as it is.
+// The options of a call: its method, the fields of its message, and the message as bytes.
 static CALLED: [CommandOption; 15] = [
     CommandOption {
         is_required: true,
@@ -119,7 +119,7 @@ pub(crate) const TIMEOUT: &str = "timeout";
 
 static SHOW: [CommandOption; 1] = [METHOD];
 
-// How the server is reached, and how long it is waited for.
+// The option for the server's socket.
 const SOCKET: CommandOption = CommandOption {
     name: "socket",
     takes: Takes::Text("PATH"),
@@ -376,7 +376,7 @@ fn commands(alloc: Global) -> Result<Vec<Subcommand>, AllocError> {
     Ok(commands)
 }
 
-/// What the arguments ask for; nothing where that is help or the version, which is printed then.
+/// The parsed arguments; `None` after the help or the version was printed.
 ///
 /// # Errors
 ///

@@ -21,7 +21,7 @@ const LONG_SECONDS: u64 = 3;
 // A connection is the one source of its wait.
 const ONLY: Token = Token(0);
 
-// How long it is until a moment.
+// The time until a moment; `None` for ever.
 fn until(moment: Option<Instant>, now: Instant) -> Option<Duration> {
     moment.map(|moment| moment.saturating_duration_since(now))
 }
@@ -51,7 +51,7 @@ struct Waiting<'a> {
     end: Option<Instant>,
     // When it reports that it waits; `None` once it did.
     report: Option<Instant>,
-    // What it reports then.
+    // The line that it writes then.
     line: String,
 }
 
@@ -81,8 +81,8 @@ impl<'a> Waiting<'a> {
         Ok(())
     }
 
-    // How long to wait next: until its end, or until it reports that it waits; `None` where neither comes. An
-    // error where its time is over.
+    // The time of the next wait: until the end, or until the line that reports the wait; `None` if neither
+    // comes. An error once the time is over.
     fn left(&mut self) -> io::Result<Option<Duration>> {
         let now = Instant::now(self.rt)?;
         let end = until(self.end, now);
@@ -106,9 +106,9 @@ pub(crate) struct Connection<'a> {
     stream: UnixStream,
     poll: Poll,
     events: Events,
-    // Whether something was read.
+    // Whether any byte was read.
     has_begun: bool,
-    /// Whether what was read first is how a server of HTTP/2 begins.
+    /// Whether the first bytes are the beginning of an HTTP/2 server.
     pub(crate) is_http2: bool,
     /// Whether a read or a write gave up since the time was over.
     pub(crate) is_late: bool,
@@ -129,7 +129,7 @@ fn connect(waiting: &mut Waiting<'_>, path: &str) -> io::Result<UnixStream> {
     Err(io::Error::from(ErrorKind::TimedOut))
 }
 
-// What waits until a connection may be read or written.
+// A poll of a connection's readiness to be read or written.
 fn watch(rt: &HostRuntime, stream: &mut UnixStream) -> io::Result<Poll> {
     let poll = Poll::new(rt)?;
     let interests = Interest::READABLE | Interest::WRITABLE;

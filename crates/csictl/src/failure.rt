@@ -12,17 +12,17 @@ use std::fmt::Display;
 use std::io::{self, ErrorKind};
 use thiserror::Error;
 
-/// How the program ends where nothing fails.
+/// The end of the program without a failure.
 #[derive(Clone, Copy)]
 pub(crate) enum Ended {
-    /// All went well.
+    /// All calls were answered OK, or all vectors passed.
     Done,
     /// A reply was a refusal, or a vector failed.
     Refused,
 }
 
 impl Ended {
-    /// How a run over replies or vectors ends, of which one may have been a refusal, or failed.
+    /// The end of a run over replies or vectors; `is_refused` if one was a refusal, or failed.
     pub(crate) fn with(is_refused: bool) -> Ended
         ensures refused { IsTrue is_refused → result ≡ Ended.Refused }
         ensures done { is_refused ≡ false → result ≡ Ended.Done }
@@ -34,7 +34,7 @@ impl Ended {
         }
     }
 
-    /// The exit status.
+    /// The exit status of this end (docs/CLI.md, "Exit status").
     pub(crate) fn status(self) -> u8
         ensures { result ≡ ended_status self }
     {
@@ -162,7 +162,7 @@ impl Failure {
         }
     }
 
-    /// The exit status.
+    /// The exit status of this failure (docs/CLI.md, "Exit status").
     pub(crate) fn status(&self) -> u8
         ensures { result ≡ failure_status self.now }
     {

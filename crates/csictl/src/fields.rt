@@ -263,7 +263,7 @@ impl<'m, 'a> Fields<'m, 'a> {
         }))
     }
 
-    /// The same as a list.
+    /// The one capability as a list; empty if it is not given.
     pub(crate) fn capabilities(&self) -> Result<Items<Capability>, FieldFault> {
         list_of(self.alloc, self.capability()?)
     }
@@ -295,7 +295,7 @@ impl<'m, 'a> Fields<'m, 'a> {
         Ok(Some(map))
     }
 
-    /// The same, or no pairs.
+    /// The pairs of an option as a map; empty if it is not given.
     pub(crate) fn map(&self, name: &str) -> Result<Map, FieldFault> {
         let mut map = Map::new(self.alloc);
         if let Some(text) = self.arguments.get_str(name) {
@@ -304,7 +304,7 @@ impl<'m, 'a> Fields<'m, 'a> {
         Ok(map)
     }
 
-    /// One requisite topology, where it is given.
+    /// The requirement with the one requisite topology, if a topology is given.
     pub(crate) fn requirement(&self) -> Result<Option<Requirement>, FieldFault> {
         let option = if self.is_person {
             "pool-topology"

@@ -13,7 +13,7 @@ struct Group {
     topology: String,
     volumes: u64,
     bytes: i64,
-    // Their ids, with commas between them.
+    // The ids of the volumes, with commas between them.
     ids: String,
 }
 

@@ -179,7 +179,7 @@ fn ready(alloc: Global, ready: Option<bool>) -> Json {
     json!(in alloc; {"ready": ready})
 }
 
-/// A response.
+/// A response as a JSON object with the names of the CSI specification.
 pub(crate) fn response(alloc: Global, response: &Response) -> Json {
     match response {
         Response::PluginInfo { name, version } => {

@@ -34,12 +34,12 @@ pub(crate) enum Unanswered {
 struct Wire<'a> {
     rt: &'a HostRuntime,
     path: &'a str,
-    // How long one try may take.
+    // The longest time of one try; `None` for ever.
     timeout: Option<Duration>,
     // Whether a connection is kept for the next call, once the server has answered on it.
     is_kept: bool,
     kept: Option<Connection<'a>>,
-    // Whether what was read last came from a server of HTTP/2.
+    // Whether the last bytes came from a server of HTTP/2.
     is_http2: bool,
 }
 
@@ -67,7 +67,7 @@ impl<'a> Wire<'a> {
         }
     }
 
-    // One call, up to its reply.
+    // Makes one call on a new connection, up to its reply.
     fn converse(&mut self, frame: &[u8]) -> io::Result<Received> {
         let mut connection = self.connection()?;
         let received = self.ask(&mut connection, frame)?;
@@ -124,7 +124,7 @@ impl<'a> SocketLine<'a> {
         }
     }
 
-    // What is wrong with a reply that is none.
+    // The failure for a malformed reply.
     fn malformed(&self, fault: ReplyFault) -> Failure {
         if !self.wire.is_http2 {
             return Failure::Malformed(fault);
@@ -176,7 +176,7 @@ impl<'a> SocketLine<'a> {
     }
 }
 
-// What an exchange gave, and where it is not answered, why.
+// The reply of an exchange, and the error if it has none.
 fn outcome(exchanged: io::Result<Received>) -> (Received, Option<Unanswered>) {
     let error = match exchanged {
         Ok(Received::Nothing) => return (Received::Nothing, Some(Unanswered::Closed)),

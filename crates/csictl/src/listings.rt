@@ -15,7 +15,7 @@ use command_line::Table;
 use csi_types::{Entry, Method};
 use std::alloc::{AllocError, Global};
 
-/// What is shown of a listing.
+/// The kinds of listings.
 #[derive(Clone, Copy)]
 pub(crate) enum What {
     Volumes,
@@ -70,7 +70,7 @@ fn volume_text(alloc: Global, entries: &[Entry], id: &str) -> Result<String, Fai
     }
 }
 
-// What is shown of the entries.
+// The text of the entries.
 fn text_of(
     alloc: Global,
     what: What,

@@ -10,7 +10,7 @@ use csi_client::ReceivedReply;
 use csi_types::{Entry, Method, Text};
 use std::alloc::{AllocError, Global};
 
-// How the id of a volume begins, before its number in decimal (docs/MACHINE.md, "CreateVolume").
+// The first part of a volume's id, before its number in decimal (docs/MACHINE.md, "CreateVolume").
 const ID_PREFIX: &str = "vol-";
 
 // The number in the id of a volume; `None` where the text is not an id.

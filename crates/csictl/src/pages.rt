@@ -17,7 +17,7 @@ const ABORTED: u8 = 10;
 // Asks for as many entries as the server puts on a page.
 const FULL_PAGE: i32 = 0;
 
-/// What came of asking for pages.
+/// The outcome of a walk over pages.
 #[derive(Drop)]
 pub(crate) enum Walked {
     /// The entries of all pages that were asked for.

@@ -8,7 +8,7 @@ use clap::ArgMatches;
 use command_line::is_decimal;
 use std::time::Duration;
 
-/// How often a call is sent at most, and how long each try may take.
+/// The most tries of a call, and the longest time of each.
 #[derive(Clone, Copy)]
 pub(crate) struct Patience {
     pub(crate) tries: u32,
@@ -26,7 +26,7 @@ fn number(arguments: &ArgMatches<'_>, name: &'static str) -> Result<Option<u32>,
 }
 
 impl Patience {
-    /// What the arguments say: once without them, and as long as it takes.
+    /// The tries and the time from the arguments. The default is one try without a limit.
     ///
     /// # Errors
     ///

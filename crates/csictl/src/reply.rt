@@ -66,8 +66,7 @@ pub(crate) fn show_lines(
     Ok(Ended::with(reply.status != 0))
 }
 
-// What a body says, as a line of JSON. The response is borrowed, so that what owns one does nothing else
-// that may fail.
+// A body as a line of JSON. The response is borrowed, so that its owner does nothing else that may fail.
 fn body_line(alloc: Global, method: Method, body: &[u8]) -> Result<String, Failure> {
     match decode_response(alloc, method, body) {
         Ok(response) => response_line(alloc, &response),

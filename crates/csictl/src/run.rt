@@ -19,7 +19,7 @@ fn obey(rt: &HostRuntime, arguments: &ArgMatches<'_>) -> Result<Ended, Failure> 
     }
 }
 
-// The same of the commands for people, and of `show`.
+// Runs a command for people, or `show`.
 fn obey_person(rt: &HostRuntime, name: &str, arguments: &ArgMatches<'_>) -> Result<Ended, Failure> {
     match name {
         "volumes" => listings::run(rt, What::Volumes, arguments),

@@ -6,7 +6,7 @@ use clap::ArgMatches;
 use csi_client::{ShowEnd, show_all};
 use csi_types::Method;
 
-// What came of a run.
+// The end of the program after a run that showed replies.
 fn outcome(end: ShowEnd) -> Result<Ended, Failure> {
     match end {
         ShowEnd::Done(is_refused) => Ok(Ended::with(is_refused)),
@@ -35,7 +35,7 @@ pub(crate) fn run(rt: &HostRuntime, arguments: &ArgMatches<'_>) -> Result<Ended,
     }
 }
 
-/// The same where there are no arguments.
+/// Shows standard input, without arguments.
 pub(crate) fn run_plain(rt: &HostRuntime) -> Result<Ended, Failure> {
     show(rt, None)
 }

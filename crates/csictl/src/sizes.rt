@@ -12,7 +12,7 @@ struct Unit {
     bytes: u64,
 }
 
-// What a size may end in, as for kubectl: no unit ends in one before it.
+// The endings of a size, as for kubectl: no unit ends in an earlier one.
 const WRITTEN: [Unit; 14] = [
     Unit {
         name: "Ki",

@@ -11,7 +11,7 @@ const VARIABLE: &str = "CSID_SOCKET";
 // Where the units of deploy/ have the control socket of the front, and the socket of csid.
 const PLACES: [&str; 2] = ["/run/csid-front/control.sock", "/run/csid/csid.sock"];
 
-// What the environment says; an empty text where it says nothing.
+// The socket of the environment variable; an empty text without one.
 fn from_environment(rt: &HostRuntime) -> Result<String, Failure> {
     match env::var(rt, VARIABLE) {
         Ok(path) => Ok(path),

@@ -6,7 +6,7 @@ use csi_vectors::{VectorsEnd, run_vectors};
 use std::alloc::Global;
 use std::fs::File;
 
-// What came of a run over a file.
+// The end of the program after a run over a file of vectors.
 fn outcome(alloc: Global, path: &str, end: VectorsEnd) -> Result<Ended, Failure> {
     match end {
         VectorsEnd::Done(is_failed) => Ok(Ended::with(is_failed)),

@@ -5,7 +5,7 @@ use command_line::{or_dash, put_next, put_word, word};
 use csi_types::{Items, Map, Text, VolumeInfo};
 use std::alloc::{AllocError, Global};
 
-// What the context of a volume has under this key is its pool (csid says it in each volume).
+// The key of a volume's context that has its pool (csid sets it in each volume).
 const POOL: &str = "pool";
 
 /// The pairs of a map, with commas between them.
@@ -90,7 +90,7 @@ pub(crate) fn topology_word(
     }
 }
 
-// What a map has under a key, or the empty text.
+// The value under a key, or the empty text.
 fn value_of<'m>(pairs: &'m Map, wanted: &str) -> &'m str {
     for (key, value) in pairs {
         if key.as_str() == wanted {

@@ -1,4 +1,4 @@
--- The State of new tables into which the rows of pages were put is one that the pages give.
+-- New tables filled with the rows of pages have a State that the pages give.
 use Rattle.std.proofs.Common.{◌≡◌, ◌∙◌, refl, sym, ap, subst, inl, inr, ℕ, pos, List, [], ◌∷◌, ◌++◌, map, append-nil, IsPermutation}
 use Rattle.std.proofs.lemmas.List.Sorted.{IsPermutation-append_right, IsPermutation-map, IsPermutation-middle, IsPermutation-refl, IsPermutation-sym, IsPermutation-trans}
 use Rattle.sqlite.specs.Effect.{Database}

@@ -1,4 +1,4 @@
--- What is read of a change store, from its pages to a memory.
+-- Reading a change store, from its pages to a memory.
 use Rattle.std.proofs.Common.{◌≡◌, ◌∙◌, refl, sym, ap, subst, inl, inr, arith, ℕ, false, true, List}
 use Rattle.sqlite_disk.specs.contracts.memory.MemoryDisk.TheImpl as memory
 use Rattle.sqlite_disk.specs.declared.memory.Memory.{Memory}
@@ -18,7 +18,7 @@ use Rattle.csi_keeper.specs.Keeper.{IsQuiet}
 use Rattle.csi_keeper.specs.State.{State}
 use Rattle.csi_change_store.specs.Filling.{ReadsRows}
 use Rattle.csi_change_store.specs.Giving.{GivesRows}
-use Rattle.csi_change_store.specs.Pages.{Notes}
+use Rattle.csi_change_store.specs.Pages.{PagesRead}
 use Rattle.csi_change_store.specs.Walking.{all_items}
 use Rattle.csi_change_store.specs.declared.remote.RemoteChangeStore.{RemoteChangeStore}
 use Rattle.csi_memory.specs.declared.mem.MemKeeper.{MemKeeper}
@@ -32,7 +32,7 @@ use Rattle.csi_through.specs.declared.through.Through.{Through}
 use Rattle.csid.specs.Reading.{AreTaken, IsCopied, IsReadFrom, IsUnused, ChecksMeta}
 use Rattle.csid.proofs.GivenLemmas.{given_back, moved}
 
--- a file in memory returns what was written
+-- a file in memory returns the bytes written to it
 undoubted : (store : FileStore Memory memory.ghosts) → doubt (view store).is_clean ≡ 0
 unfolding doubt
 undoubted store = let clean : (view store).is_clean ≡ true = (pool_files store.pool).1 in rw clean refl
@@ -40,14 +40,14 @@ undoubted store = let clean : (view store).is_clean ≡ true = (pool_files store
 not_none : schema ≡ no_schema → ⊥
 not_none e = let tables = ap (λ s. s.tables) e in absurd cc
 
--- the rows of a database with our tables are those of its State
+-- the rows of a database with our tables are the rows of its State
 rows_of : (db : Database) (s : State) → db.schema ≡ schema → IsStateOf db s → IsEitherRows s db.trees
 rows_of db s ours (inl it) = it.1
 rows_of db s ours (inr none) = absurd (not_none (sym ours ∙ none.0))
 
 module _ {S : Type 0} (g : Ghosts S) (config : Config) (conn : Held S) {P : Type 0} (exchanged : P → P → List ℕ → Received → Type 0) (old : P) where
   -- the tables that adoption makes of a connection with the rows of all pages
-  pub taken : GivesRows → OneState → (mid new : P) (notes : Notes) (filled : Held S) (t : Tables S) → ReadsRows g conn filled exchanged old mid notes → ChecksMeta exchanged mid new notes
+  pub taken : GivesRows → OneState → (mid new : P) (notes : PagesRead) (filled : Held S) (t : Tables S) → ReadsRows g conn filled exchanged old mid notes → ChecksMeta exchanged mid new notes
       → IsAdopted g config filled t → AreTaken g config conn exchanged old new t
   taken gives one mid new notes filled t rows settled adopted = record {
     asked = record { pages = rows.pages; notes = notes; mid = mid; read = rows.read; settled = settled };

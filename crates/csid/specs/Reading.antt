@@ -11,7 +11,7 @@ use Rattle.csi_keeper.specs.State.{State}
 use Rattle.csi_change_store.specs.Asking.{make_frame}
 use Rattle.csi_change_store.specs.Filling.{AreRead}
 use Rattle.csi_change_store.specs.Giving.{Gives}
-use Rattle.csi_change_store.specs.Pages.{Notes, PageItem}
+use Rattle.csi_change_store.specs.Pages.{PagesRead, PageItem}
 use Rattle.csi_change_store.specs.Walking.{all_items}
 use Rattle.csi_change_store.specs.declared.remote.RemoteChangeStore.{RemoteChangeStore}
 use Rattle.csi_memory.specs.Holding.{Holds}
@@ -33,14 +33,14 @@ module _ {P : Type 0} (exchanged : P → P → List ℕ → Received → Type 0)
 
   -- The row of meta has the latest format, and nothing is asked. Or there is no row at all, and the change
   -- store makes that row.
-  abbrev pub ChecksMeta : Notes → Type 0
+  abbrev pub ChecksMeta : PagesRead → Type 0
   ChecksMeta notes = ((notes.format ≡ Some LATEST_FORMAT) × (new ≡ old)) ⊎ ((notes.format ≡ None) × (notes.has_rows ≡ false) × MakesMeta)
 
 -- The requests to a change store before calls are served: for all its pages, and then, if it has no row, that
 -- it makes its row of meta. The peer is as these exchanges left it.
 pub record AsksAll {P : Type 0} (exchanged : P → P → List ℕ → Received → Type 0) (old new : P) : Type 0 where
   pub pages : List (List PageItem)
-  pub notes : Notes
+  pub notes : PagesRead
   pub mid : P
   pub read : AreRead exchanged old mid notes pages
   pub settled : ChecksMeta exchanged mid new notes

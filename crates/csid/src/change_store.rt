@@ -10,7 +10,7 @@ use crate::timed::{Deadline, TimedStream};
 use csi_adoption::{AdoptFault, Foreign};
 use csi_change_store::laws::gives_rows;
 use csi_change_store::{
-    Channel, Notes, Peer, ReadFault, RemoteChangeStore, RowsFault, lead_frame, make_frame,
+    Channel, PagesRead, Peer, ReadFault, RemoteChangeStore, RowsFault, lead_frame, make_frame,
     read_rows,
 };
 use csi_client::{Received, ReceivedReply};
@@ -132,7 +132,7 @@ pub(crate) fn leads(alloc: Global, stream: &TimedStream) -> bool {
 #[derive(Clone, Copy, Drop)]
 pub(crate) struct ChangeStoreLeadership<'a> {
     pub(crate) stream: &'a TimedStream,
-    /// Whether it was asked for a change since the last reply.
+    /// Whether a change was asked for since the last reply.
     pub(crate) is_asked: &'a Rc<Cell<bool>>,
     pub(crate) alloc: Global,
 }
@@ -232,7 +232,7 @@ fn check_or_make_meta<P: Peer>(
     alloc: Global,
     path: &str,
     change_store: &mut P,
-    notes: &Notes,
+    notes: &PagesRead,
 ) -> Result<(), Failure>
     ensures settled { OnOk result (ChecksMeta P.exchanged change_store.old change_store.new
         (seen_notes notes.now)) }

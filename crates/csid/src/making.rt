@@ -3,7 +3,7 @@
 use std::fs::{self, OpenOptions, Permissions};
 use std::os::unix::fs::{OpenOptionsExt, PermissionsExt};
 
-// Its owner alone may read and write a file that is made.
+// The mode of a new file: only its owner may read and write it.
 const OWNER: u32 = 0o600;
 
 /// Makes a missing file with mode 0600, whatever the umask is. An error is left to the opening, which reports

@@ -18,7 +18,7 @@ const CALL_BYTES: u64 = 8 << 20;
 // the process.
 const CALL_SPACE_BYTES: u64 = 4 << 20;
 
-// How much of something the process uses, and may use at most.
+// A limited resource: the use of this process, and the limit.
 struct Limit {
     // The most bytes.
     most: u64,
@@ -69,7 +69,7 @@ fn pages(word: Option<&str>) -> Option<u64> {
     Some(pages.saturating_mul(PAGE_BYTES))
 }
 
-// What the process uses; nothing, where the system does not report it.
+// The memory that the process uses; `None` if the system does not report it.
 fn used(rt: &HostRuntime) -> Option<Usage> {
     let text = fs::read_to_string(rt, "/proc/self/statm").ok()?;
     let mut words = text.as_str().split(' ');
@@ -147,7 +147,7 @@ fn address_space_limit(rt: &HostRuntime) -> Option<u64> {
     None
 }
 
-// What calls leave of a control group's limit for the volumes.
+// The part of a control group's limit that calls leave for the volumes.
 fn group_room(limit: u64) -> u64 {
     limit.saturating_sub(limit / 8).saturating_sub(CALL_BYTES)
 }

@@ -38,8 +38,8 @@ fn pipe_over_memory(rt: &HostRuntime, config: &Config) -> Result<(), Failure> {
     outcome(Endpoint::Pipe, end)
 }
 
-// How the calls of standard input ended. Where their file was not closed, both are said, and the program ends
-// with what became of the file.
+// The outcome of the calls of standard input. If their file was not closed, both are reported, and the
+// status is the file's.
 fn pipe_outcome(
     console: &Console<'_>,
     ended: Result<RunReport, TablesFailure>,
@@ -104,7 +104,7 @@ fn refused_options(alloc: Global, why: &str) -> Failure
     Failure::Arguments(ArgumentsFault::refused(format!(in alloc; "{why}")))
 }
 
-// What the arguments ask for.
+// The task of the arguments.
 fn task<'a>(alloc: Global, arguments: &ArgMatches<'a>) -> Result<Task<'a>, Failure> {
     if let Some((option, number)) = odd_number(arguments) {
         return Err(refused_number(alloc, option, number));

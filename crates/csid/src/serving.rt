@@ -87,9 +87,9 @@ fn outcome_of<D: Disk + Drop>(
 pub(crate) struct TablesRun<'a, O> {
     /// The operating system.
     pub(crate) rt: HostRuntime,
-    /// The configuration.
+    /// The configuration of the calls.
     pub(crate) config: &'a Config,
-    /// The file.
+    /// The file of tables, and its options.
     pub(crate) file: TablesFile<'a>,
     /// Reports how the calls are served.
     pub(crate) observer: &'a O,

@@ -61,7 +61,7 @@ impl Deadline {
         self.rows.set(None);
     }
 
-    // How long a read or a write may wait, which is at least a microsecond.
+    // The time that a read or a write may still wait, at least a microsecond.
     fn left(&self) -> io::Result<Duration> {
         let now = Instant::now(&self.rt)?;
         let Some(exchange) = self.exchange.get() else {
@@ -111,7 +111,7 @@ impl TimedStream {
         })
     }
 
-    /// The same connection once more, under the same deadline.
+    /// A second handle of the same connection, under the same deadline.
     ///
     /// # Errors
     ///

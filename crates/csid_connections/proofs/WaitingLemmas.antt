@@ -1,4 +1,4 @@
--- Looks at the connections that wait, one after the other.
+-- Looks at the waiting connections, in order.
 use Rattle.std.proofs.Common.{◌≡◌, ◌∙◌, ◌<◌, ◌≤◌, ◌+◌, ◌-◌, ◌++◌, if◌then◌else◌, refl, sym, ap, subst, arith, inl, inr}
 use Rattle.std.proofs.Common.{Bool, true, false, ℕ, suc, List, [], ◌∷◌, Option, None, length, append-nil}
 use Rattle.std.proofs.lemmas.List.{append_assoc}

@@ -46,7 +46,7 @@ pub(crate) struct CallClock {
     active: Since,
     // When the call or the reply began.
     begun: Since,
-    // How long the call or the reply may take in all.
+    // The time of the whole call or reply.
     allowed: Duration,
     // When this call or reply first delayed another connection that was ready.
     delayed: Option<Instant>,
@@ -126,7 +126,7 @@ impl CallClock {
         self.delayed = None;
     }
 
-    /// How long the current call or reply may still take; `None` between two calls.
+    /// The time left for the current call or reply; `None` between two calls.
     ///
     /// # Errors
     ///
@@ -143,8 +143,8 @@ impl CallClock {
         }
     }
 
-    /// How long the peer may still do nothing, of `idle`; `None` for ever. Of that time, `blocked` passed in
-    /// a read or a write that blocked.
+    /// The time, of `idle`, that the peer may still do nothing; `None` for ever. Of that time, `blocked`
+    /// passed in a read or a write that blocked.
     ///
     /// # Errors
     ///
@@ -167,8 +167,8 @@ impl CallClock {
         }
     }
 
-    /// How long the peer may still delay a call or a reply while another connection has been ready since
-    /// `since`.
+    /// The time that the peer may still delay a call or a reply while another connection has been ready
+    /// since `since`.
     ///
     /// # Errors
     ///

@@ -18,10 +18,10 @@ pub fn has_gone(stream: &UnixStream) -> bool {
 /// An answer to whether the replies hold that were made from the volumes in memory: they do while no other
 /// program may have changed the volumes.
 pub trait Leadership {
-    // It was asked, and gave this answer.
+    // A question whether replies hold, and its answer.
     ghost asked: { Self → Self → Bool → Type 0 } = { λ _ _ _. ⊤ };
 
-    /// Whether they hold. It is asked before the first byte of each reply.
+    /// Whether replies still hold. It is asked before the first byte of each reply.
     fn holds(&mut self) -> bool
         ensures { asked self.old self.new result };
 }
@@ -40,14 +40,14 @@ impl Leadership for Always {
     }
 }
 
-/// What has become of the reply that is written.
+/// The state of the reply that is being written.
 #[derive(Clone, Copy)]
 pub enum Reply {
     /// No byte of it was written. It is asked first whether it holds.
     Between,
-    /// It holds, and is written.
+    /// The reply holds, and is written.
     Open,
-    /// It did not hold. No byte is written any more, of this reply or of a later one.
+    /// The reply did not hold. No further byte is written, of this reply or of a later one.
     Cut,
 }
 

@@ -17,7 +17,7 @@ use std::time::{Duration, Instant};
 /// the memory of the queue.
 const ENOUGH: usize = 4096;
 
-/// How the first bytes of a connection begin.
+/// The kinds of first bytes of a connection.
 #[derive(Clone, Copy)]
 pub enum Start {
     /// With a call: a complete frame, or its first 4,096 bytes.
@@ -31,7 +31,7 @@ pub enum Start {
 /// The result of a read from a connection that does not block.
 #[derive(Clone, Copy)]
 pub enum PeerInput {
-    /// No bytes.
+    /// The connection has sent no bytes.
     Nothing,
     /// Bytes, or the end of the stream.
     Something,
@@ -44,7 +44,7 @@ pub enum PeerInput {
 pub struct FirstBytes {
     /// The bytes, in order.
     pub sent: Vec<u8>,
-    /// How they begin; `None` before the first read.
+    /// The kind of the bytes; `None` before the first read.
     pub start: Option<Start>,
     // When the last byte came, or the connection itself.
     since: Instant,
@@ -69,7 +69,7 @@ impl Drop for Pending {
     }
 }
 
-// How the bytes begin that a connection has sent so far, or has sent in all.
+// The kind of the bytes that a connection has sent so far, or in all if it has ended.
 fn start_of(sent: &[u8], has_ended: bool) -> Start
     ensures { Begins sent.now has_ended result }
 {
@@ -108,8 +108,8 @@ impl FirstBytes {
         matches!(self.start, Some(Start::Call | Start::NoCall))
     }
 
-    /// How long the connection may go on without a complete call; `None` for ever. Its peer may send nothing
-    /// for `idle`, and has ten seconds from the first byte of its first call.
+    /// The time that the connection may go on without a complete call; `None` for ever. Its peer may send
+    /// nothing for `idle`, and has ten seconds from the first byte of its first call.
     ///
     /// # Errors
     ///

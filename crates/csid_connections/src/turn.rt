@@ -102,8 +102,8 @@ impl<S: Stream> Steps<'_, S> {
         io::Error::from(ErrorKind::TimedOut)
     }
 
-    // How long the peer may still delay a read or a write, or why the turn ends. Where reads block, a second
-    // of the peer's silence has passed in the read itself.
+    // The time that the peer may still delay a read or a write, or why the turn ends. If reads block, a
+    // second of the peer's silence has passed in the read itself.
     fn patience(&mut self, now: Instant) -> Result<Option<Duration>, Ending>
         ensures call { GoesOnCall self.old.clock self.new.clock }
         ensures stream { self.new.stream ≡ self.old.stream }

@@ -26,7 +26,7 @@ const MOST: usize = 256;
 // The most connections that are accepted in one look.
 const AT_ONCE: usize = 64;
 
-// Which source is ready does not matter, since a look reads from all.
+// The token of every source: a look reads from all, so it does not matter which one is ready.
 const ANY: Token = Token(0);
 
 /// The queue of connections, and the socket that accepts them.
@@ -35,9 +35,9 @@ pub struct Waiting {
     poll: Poll,
     events: Events,
     pending: VecDeque<Pending>,
-    // How many connections are still accepted.
+    // The connections that are still accepted.
     left: u32,
-    // How long a connection may send nothing; `None` for ever.
+    // The time that a connection may send nothing; `None` for ever.
     idle: Option<Duration>,
     // Whether a connection or bytes came at the last look.
     is_stirring: bool,
@@ -122,7 +122,7 @@ impl Waiting {
         })
     }
 
-    /// How long a peer may send nothing, or take nothing; `None` for ever.
+    /// The time that a peer may send nothing, or take nothing; `None` for ever.
     pub fn idle(&self) -> Option<Duration>
         ensures { result ≡ self.now.idle }
     {
@@ -148,8 +148,8 @@ impl Waiting {
         earliest
     }
 
-    // How long a connection in the queue may send nothing. Once no further connection is accepted, that has
-    // an end, so that the program ends.
+    // The time that a connection in the queue may send nothing. After the last accepted connection it is
+    // limited, so that the program ends.
     fn silence(&self) -> Option<Duration>
         ensures { IsSilence self.now.idle self.now.left result }
     {
@@ -211,7 +211,7 @@ impl Waiting {
 
     // Adds a connection to the queue.
     fn admit(&mut self, console: &Console<'_>, stream: UnixStream, now: Instant)
-        ensures few { is_full self.old.pending.items ≡ false
+        ensures bounded { is_full self.old.pending.items ≡ false
             → StayFew self.old.pending.items self.new.pending.items }
         ensures comes { ComesIn now self.old.pending.items self.new.pending.items }
         ensures others { (self.new.left ≡ self.old.left - 1) × (self.new.idle ≡ self.old.idle) }
@@ -232,7 +232,7 @@ impl Waiting {
     // Closes up to half of the queue if the system refuses a further connection, as for want of descriptors.
     // The error is returned if the queue is empty.
     fn make_room(&mut self, console: &Console<'_>, error: io::Error, now: Instant) -> io::Result<()>
-        ensures few { length self.new.pending.items ≤ length self.old.pending.items }
+        ensures bounded { length self.new.pending.items ≤ length self.old.pending.items }
         ensures room { (n : ℕ) × (n * 2 ≤ length self.old.pending.items + 1)
             × (self.new.pending.items ≡ closed n self.old.pending.items) }
         ensures others { (self.new.left ≡ self.old.left) × (self.new.idle ≡ self.old.idle) }
@@ -251,7 +251,7 @@ impl Waiting {
 
     // Accepts the connections that have come, some of them at a time.
     fn accept_some(&mut self, console: &Console<'_>, now: Instant) -> io::Result<()>
-        ensures few { StayFew self.old.pending.items self.new.pending.items }
+        ensures bounded { StayFew self.old.pending.items self.new.pending.items }
         ensures takes { TakesIn now self.old.pending.items self.new.pending.items
             self.old.left self.new.left }
         ensures others { self.new.idle ≡ self.old.idle }
@@ -292,7 +292,7 @@ impl Waiting {
     fn look_at_first(&mut self, now: Instant) -> Option<Ending>
         ensures turns { TurnsOver self.old.idle self.old.left now
             self.old.pending.items self.new.pending.items }
-        ensures few { length self.new.pending.items ≤ length self.old.pending.items }
+        ensures bounded { length self.new.pending.items ≤ length self.old.pending.items }
         ensures others { (self.new.left ≡ self.old.left) × (self.new.idle ≡ self.old.idle) }
     {
         let mut one = self.pending.pop_front()?;
@@ -309,7 +309,7 @@ impl Waiting {
     fn receive_all(&mut self, console: &Console<'_>, now: Instant)
         ensures looks { LooksAt self.old.idle self.old.left now
             self.old.pending.items self.new.pending.items }
-        ensures few { length self.new.pending.items ≤ length self.old.pending.items }
+        ensures bounded { length self.new.pending.items ≤ length self.old.pending.items }
         ensures others { (self.new.left ≡ self.old.left) × (self.new.idle ≡ self.old.idle) }
     {
         let count = self.pending.len();
@@ -334,7 +334,7 @@ impl Waiting {
         ensures taken { TakesOut (position is_ready self.old.pending.items)
             self.old.pending.items self.new.pending.items result }
         ensures ready { IfSome result (λ one. is_ready one ≡ true) }
-        ensures few { length self.new.pending.items ≤ length self.old.pending.items }
+        ensures bounded { length self.new.pending.items ≤ length self.old.pending.items }
         ensures none { result ≡ None → self.new.pending ≡ self.old.pending }
         ensures others { (self.new.left ≡ self.old.left) × (self.new.idle ≡ self.old.idle) }
     {
@@ -342,7 +342,7 @@ impl Waiting {
         self.pending.remove(place)
     }
 
-    // How long no connection of the queue has to be closed; `None` for ever.
+    // The time until a connection of the queue must be closed; `None` for ever.
     fn patience(&self, now: Instant) -> Option<Duration> {
         let mut longest = None;
         for one in self.pending.iter() {
@@ -363,7 +363,7 @@ impl Waiting {
     ///
     /// If the socket refuses a connection while the queue is empty.
     pub fn look(&mut self, console: &Console<'_>, now: Instant) -> io::Result<()>
-        ensures few { StayFew self.old.pending.items self.new.pending.items }
+        ensures bounded { StayFew self.old.pending.items self.new.pending.items }
         ensures looks { Looks self.old.idle now self.old.pending.items self.new.pending.items
             self.old.left self.new.left }
         ensures others { self.new.idle ≡ self.old.idle }
@@ -405,7 +405,7 @@ impl Waiting {
     /// If the socket refuses a connection while the queue is empty, or the system refuses to wait.
     pub fn next(&mut self, console: &Console<'_>) -> io::Result<Option<Pending>>
         ensures ready { IfOk result (λ next. IfSome next (λ one. is_ready one ≡ true)) }
-        ensures few { StayFew self.old.pending.items self.new.pending.items }
+        ensures bounded { StayFew self.old.pending.items self.new.pending.items }
         ensures next { IfOk result (GivesNext self.old.idle
             self.old.pending.items self.new.pending.items self.old.left self.new.left) }
     {

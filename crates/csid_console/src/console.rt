@@ -21,10 +21,10 @@ const FEW: u32 = 10;
 
 const SECOND_MILLIS: u64 = 1000;
 
-// How many ways there are in which a connection ends that are counted.
+// The number of counted ways in which a connection ends.
 const WAYS: usize = 7;
 
-/// How a connection ended, where all calls were not read and answered.
+/// The way in which a connection ended before all its calls were read and answered.
 #[derive(Clone, Copy, PartialEq, Eq)]
 pub enum Ending {
     /// Its peer sent nothing for too long.
@@ -54,7 +54,7 @@ const ENDINGS: [Ending; WAYS] = [
 ];
 
 impl Ending {
-    // How a count of it reads.
+    // The words for a count of this way.
     fn words(self) -> &'static str {
         match self {
             Ending::Idle => "sent nothing in time",
@@ -67,7 +67,7 @@ impl Ending {
         }
     }
 
-    // Its place in a count.
+    // The index of this way among the counts.
     fn place(self) -> usize
         ensures { result < WAYS }
     {
@@ -192,7 +192,7 @@ impl<'a> Console<'a> {
         self.say(&Named { name: path, what });
     }
 
-    // How long a count is not written yet; nothing where there is none, or its time has come.
+    // The time until the count is written; `None` if there is none, or its time has come.
     fn left(&self, now: Instant) -> Option<Duration>
         ensures { IfSome result (λ left. as_nanos left ≤ 10 ^ 9) }
     {
@@ -200,8 +200,8 @@ impl<'a> Console<'a> {
         Duration::from_millis(SECOND_MILLIS).checked_sub(now.duration_since(begun))
     }
 
-    /// How long it is until the count of ended connections is to be written, a second at most; `None` where
-    /// no connection is counted.
+    /// The time until the count of ended connections is to be written, a second at most; `None` without a
+    /// count.
     pub fn patience(&self, now: Instant) -> Option<Duration>
         ensures { IfSome result (λ left. as_nanos left ≤ 10 ^ 9) }
     {

@@ -4,7 +4,7 @@ use libc::net::{POLLIN, POLLOUT, poll};
 use libc::types::pollfd;
 use std::os::fd::RawFd;
 
-/// What a descriptor is looked at for.
+/// The readiness that a poll asks for: to read, or to write.
 #[derive(Clone, Copy)]
 pub enum Way {
     /// A read: bytes have come, or their end.

@@ -15,7 +15,7 @@ use Rattle.sqlite.specs.State.{HasCleanDisk}
 use Rattle.sqlite.specs.View.{doubt}
 use Rattle.csi_sql.specs.Tables.{no_schema}
 
--- a file in memory returns what was written
+-- a file in memory returns the bytes written to it
 undoubted : (store : FileStore Memory memory.ghosts) → doubt (view store).is_clean ≡ 0
 unfolding doubt
 undoubted store = let clean : (view store).is_clean ≡ true = (pool_files store.pool).1 in rw clean refl

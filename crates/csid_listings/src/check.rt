@@ -15,7 +15,7 @@ use sqlite::{Alter, Connection};
 use std::fmt::{self, Display};
 use std::io::Write;
 
-/// What a configuration has. Its `Display` is one line.
+/// The counts of a configuration. Its `Display` is one line.
 #[derive(Clone, Copy, Drop)]
 struct Summary<'a> {
     config: &'a Config,
@@ -31,7 +31,7 @@ impl Display for Summary<'_> {
 }
 
 // Says a line on standard output.
-fn tell<T: Display>(rt: &HostRuntime, what: &T) -> Result<(), Failure> {
+fn report<T: Display>(rt: &HostRuntime, what: &T) -> Result<(), Failure> {
     let line = format!(in rt.alloc(); "{what}\n")?;
     let mut out = rt.stdout();
     match out.write_all(line.as_bytes()).and_then(|()| out.flush()) {
@@ -48,7 +48,7 @@ fn tell<T: Display>(rt: &HostRuntime, what: &T) -> Result<(), Failure> {
 /// Where it is refused, the line cannot be written, or memory is refused.
 pub fn check_config(console: &Console<'_>, path: &str) -> Result<(), Failure> {
     let config = checked_configuration(console, path)?;
-    tell(console.rt, &Summary { config: &config })
+    report(console.rt, &Summary { config: &config })
 }
 
 // The counts of tables in memory that are adopted. The tables are counted first, since an adoption upgrades
@@ -97,5 +97,5 @@ pub(crate) fn check_over<S: Alter + Drop>(
     requires { conn.in_transaction ≡ false }
 {
     let content = adopted(console, path, conn, config)?;
-    tell(console.rt, &content)
+    report(console.rt, &content)
 }

@@ -9,7 +9,7 @@ use csid_console::Console;
 use sqlite::{Alter, Connection, Error};
 use std::fmt;
 
-/// How much tables have. Its `Display` is one line.
+/// The counts of tables. Its `Display` is one line.
 #[derive(Clone, Copy)]
 pub struct Content {
     volumes: i64,
@@ -58,7 +58,7 @@ fn number<S: Alter>(conn: &mut Connection<S>, sql: &str) -> Result<i64, Error>
     conn.query_row(sql, &[])?.get(0)
 }
 
-/// How much the tables on a connection have. Nothing is changed.
+/// The counts of the tables on a connection. Nothing is changed.
 ///
 /// # Errors
 ///

@@ -18,7 +18,7 @@ use std::alloc::Global;
 use std::fs::{self, File};
 use std::io::{self, ErrorKind, Read};
 
-// How many times a copy is begun of a file that another process writes at the same time.
+// The most tries of a copy while another process writes the file.
 const TRIES: usize = 10;
 
 // The length of the header of a WAL (sqlite.org/fileformat2.html, section 4.1).

@@ -41,7 +41,7 @@ impl From<Error> for Silence {
     }
 }
 
-// What a volume is.
+// The line that describes a volume.
 fn volume_line<S: Alter>(
     alloc: Global,
     conn: &mut Connection<S>,
@@ -61,7 +61,7 @@ fn volume_line<S: Alter>(
     Ok(format!(in alloc; "volume {number}: it is vol-{number} ({name}), {size} in pool {pool}")?)
 }
 
-// How many bytes a pool has, and how many its volumes have.
+// The line with a pool's size, and the bytes of its volumes.
 fn pool_line<S: Alter>(
     alloc: Global,
     conn: &mut Connection<S>,
@@ -84,7 +84,7 @@ fn pool_line<S: Alter>(
     Ok(format!(in alloc; "pool {name}: its volumes have {used}, and it has {size}")?)
 }
 
-// How many volumes a node can have, and how many are attached there.
+// The line with a node's limit, and its number of volumes.
 fn node_line<S: Alter>(
     alloc: Global,
     conn: &mut Connection<S>,

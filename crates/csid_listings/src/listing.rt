@@ -35,7 +35,7 @@ fn is_wanted(wanted: Option<&str>, text: &Text) -> bool {
     }
 }
 
-// Whether one of the nodes is wanted, or any volume is.
+// Whether a volume at these nodes is wanted: it is at the wanted node, or none was named.
 fn is_at(wanted: Option<&str>, nodes: &Items<Text>) -> bool {
     wanted.is_none() || nodes.as_slice().iter().any(|node| is_wanted(wanted, node))
 }
@@ -91,7 +91,7 @@ impl<S: Alter + Drop> TablesCopy<'_, S> {
         }
     }
 
-    // Of the volumes with greater numbers the first ones.
+    // The next page of the volumes after a number.
     fn page(&mut self, after: u64) -> Result<PageWithNodes, Failure> {
         if after >= NUMBERS {
             return Ok(PageWithNodes {
@@ -136,7 +136,7 @@ pub fn list_tables(
     over_tables_copy(console, path, CopyTask::List(chosen, is_json))?
 }
 
-// The same over a connection to them, which does not know how they are stored.
+// Lists over a connection to the tables, which does not know how they are stored.
 pub(crate) fn list_over<S: Alter + Drop>(
     console: &Console<'_>,
     path: &str,

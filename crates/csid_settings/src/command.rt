@@ -5,7 +5,7 @@ use command_line::{
     ArgumentsFault, CommandLine, CommandOption, OPTION, Subcommand, Takes, is_decimal,
 };
 
-/// Which volumes are listed: those that meet each condition that is given.
+/// The filter of a listing: volumes must meet each given condition.
 #[derive(Clone, Copy)]
 pub struct Chosen<'a> {
     /// The name of the volume.
@@ -16,7 +16,7 @@ pub struct Chosen<'a> {
     pub node: Option<&'a str>,
 }
 
-/// What the command line asks for.
+/// The task of a command line.
 #[derive(Clone, Copy)]
 pub enum Task<'a> {
     /// Calls on standard input, replies on standard output.
@@ -25,25 +25,25 @@ pub enum Task<'a> {
     Serve(Serving<'a>),
     /// A configuration is judged: its file.
     CheckConfig(&'a str),
-    /// Tables are judged.
+    /// Judge the tables of a file.
     CheckTables {
-        /// Their file.
+        /// The path of the file.
         tables: &'a str,
         /// The file of the configuration; without it the sample configuration.
         config: Option<&'a str>,
     },
-    /// Tables are listed.
+    /// List the tables of a file.
     ListTables {
-        /// Their file.
+        /// The path of the file.
         tables: &'a str,
-        /// Which of their volumes.
+        /// The filter of the volumes.
         chosen: Chosen<'a>,
         /// In JSON, and not in columns.
         is_json: bool,
     },
 }
 
-/// How calls of standard input are answered.
+/// Options of `csid pipe`, which answers standard input.
 #[derive(Clone, Copy)]
 pub struct Piped<'a> {
     /// The file of the configuration; without it the sample configuration.
@@ -59,20 +59,20 @@ pub struct TablesFile<'a> {
     pub path: &'a str,
     /// Whether the file must exist and have tables. Otherwise both are made where they are missing.
     pub is_existing: bool,
-    /// Whether each read is answered from the file, and not from a copy in memory.
+    /// Whether reads are answered from the file, and not from a copy in memory.
     pub is_low_memory: bool,
 }
 
 /// Where a server has its volumes.
 #[derive(Clone, Copy)]
 pub enum Volumes<'a> {
-    /// In tables.
+    /// The volumes are in the tables of a file.
     Tables(TablesFile<'a>),
     /// In the change store that listens at this socket.
     ChangeStore(&'a str),
 }
 
-/// How connections are served.
+/// Options of `csid serve`.
 #[derive(Clone, Copy)]
 pub struct Serving<'a> {
     /// Where the socket is made.
@@ -85,7 +85,7 @@ pub struct Serving<'a> {
     pub group: Option<&'a str>,
     /// The seconds for which a connection may send nothing; without it there is no end to them.
     pub idle: Option<u32>,
-    /// How many connections are served.
+    /// The number of connections to serve before the program ends.
     pub connections: u32,
 }
 
@@ -212,7 +212,7 @@ static SERVE: [CommandOption; 9] = [
     },
 ];
 
-/// What the arguments ask for; nothing where that is help or the version, which is printed then.
+/// The parsed arguments; `None` after the help or the version was printed.
 ///
 /// # Errors
 ///
@@ -265,7 +265,7 @@ pub fn odd_number<'a>(matches: &ArgMatches<'a>) -> Option<(&'static str, &'a str
     None
 }
 
-/// What is wrong with two checks at once.
+/// The fault of a command line with both checks.
 pub fn odd_check<'a>(matches: &ArgMatches<'a>) -> Option<&'static str> {
     if matches.get_str("list-tables").is_some() && matches.get_str("check-tables").is_some() {
         return Some(
@@ -275,7 +275,7 @@ pub fn odd_check<'a>(matches: &ArgMatches<'a>) -> Option<&'static str> {
     None
 }
 
-/// What is wrong with where a server is to have its volumes: it is one of two places.
+/// The fault of a server's place for its volumes: it must be exactly one of two.
 pub fn odd_store<'a>(matches: &ArgMatches<'a>) -> Option<&'static str> {
     let Some(("serve", arguments)) = matches.subcommand() else {
         return None;
@@ -305,7 +305,7 @@ fn place_of_volumes<'a>(arguments: &ArgMatches<'a>) -> Volumes<'a> {
     }
 }
 
-// What the arguments after `serve` ask for.
+// The options after `serve`.
 fn serve_task<'a>(arguments: &ArgMatches<'a>) -> Serving<'a> {
     Serving {
         socket: arguments.get_str("socket").unwrap_or(""),
@@ -317,7 +317,7 @@ fn serve_task<'a>(arguments: &ArgMatches<'a>) -> Serving<'a> {
     }
 }
 
-// What a listing is asked for.
+// The task of a listing.
 fn list_task<'a>(arguments: &ArgMatches<'a>, tables: &'a str) -> Task<'a> {
     Task::ListTables {
         tables,
@@ -330,7 +330,7 @@ fn list_task<'a>(arguments: &ArgMatches<'a>, tables: &'a str) -> Task<'a> {
     }
 }
 
-// What the arguments without a subcommand ask for.
+// The task without a subcommand.
 fn plain_task<'a>(arguments: &ArgMatches<'a>) -> Task<'a> {
     if let Some(path) = arguments.get_str("check-config") {
         return Task::CheckConfig(path);
@@ -350,7 +350,7 @@ fn plain_task<'a>(arguments: &ArgMatches<'a>) -> Task<'a> {
     }
 }
 
-// What the arguments after `pipe` ask for.
+// The options after `pipe`.
 fn pipe_task<'a>(arguments: &ArgMatches<'a>) -> Piped<'a> {
     let tables = match arguments.get_str("tables") {
         Some(path) => Some(tables_file(arguments, path)),
@@ -362,7 +362,7 @@ fn pipe_task<'a>(arguments: &ArgMatches<'a>) -> Piped<'a> {
     }
 }
 
-/// What arguments that [`read_arguments`] takes ask for.
+/// The task of arguments that [`read_arguments`] accepts.
 pub fn task_of<'a>(matches: &ArgMatches<'a>) -> Task<'a> {
     match matches.subcommand() {
         Some(("serve", arguments)) => Task::Serve(serve_task(arguments)),

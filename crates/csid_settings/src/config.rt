@@ -34,7 +34,7 @@ fn config_of(alloc: Global, path: &str, bytes: &[u8]) -> Result<Config, Failure>
 }
 
 // Says each key of a configuration that is not known, a line each: it may be a slip of the pen.
-fn tell_unknown(console: &Console<'_>, path: &str, bytes: &[u8]) {
+fn report_unknown(console: &Console<'_>, path: &str, bytes: &[u8]) {
     match unknown_keys(console.rt.alloc(), bytes) {
         Ok(keys) => {
             for key in &keys {
@@ -47,7 +47,7 @@ fn tell_unknown(console: &Console<'_>, path: &str, bytes: &[u8]) {
 
 // Says the keys that are not known of a configuration that is refused, and then all of its faults but the
 // last one, which is given.
-fn tell_faults(console: &Console<'_>, path: &str, bytes: &[u8], refused: Failure) -> Failure
+fn report_faults(console: &Console<'_>, path: &str, bytes: &[u8], refused: Failure) -> Failure
     requires { IsOrNoMemory 3 refused }
     ensures { IsOrNoMemory 3 result }
 {
@@ -58,7 +58,7 @@ fn tell_faults(console: &Console<'_>, path: &str, bytes: &[u8], refused: Failure
     let Some((last, others)) = faults.as_slice().split_last() else {
         return refused;
     };
-    tell_unknown(console, path, bytes);
+    report_unknown(console, path, bytes);
     for fault in others {
         console.say_of(path, fault);
     }
@@ -77,10 +77,10 @@ pub fn checked_configuration(console: &Console<'_>, path: &str) -> Result<Config
     let bytes = read_file(rt, path)?;
     match config_of(rt.alloc(), path, bytes.as_slice()) {
         Ok(config) => {
-            tell_unknown(console, path, bytes.as_slice());
+            report_unknown(console, path, bytes.as_slice());
             Ok(config)
         }
-        Err(refused) => Err(tell_faults(console, path, bytes.as_slice(), refused)),
+        Err(refused) => Err(report_faults(console, path, bytes.as_slice(), refused)),
     }
 }
 
@@ -104,7 +104,7 @@ pub fn configuration(
     let bytes = read_file(rt, path)?;
     let config = config_of(rt.alloc(), path, bytes.as_slice())?;
     if names_unknown {
-        tell_unknown(console, path, bytes.as_slice());
+        report_unknown(console, path, bytes.as_slice());
     }
     Ok(config)
 }

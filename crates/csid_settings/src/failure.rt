@@ -11,7 +11,7 @@ use std::alloc::{AllocError, Global};
 use std::fmt::Display;
 use thiserror::Error;
 
-/// What cannot be had, of which there is a name.
+/// A resource that may be unavailable, by the name in its line.
 #[derive(Clone, Copy, Debug)]
 pub enum Resource {
     /// The configuration, by its file.
@@ -96,7 +96,7 @@ impl From<AllocError> for Failure {
 }
 
 impl Failure {
-    // What cannot be had, and why; want of memory, where there was none to say so.
+    // The failure for an unavailable thing and its cause; want of memory if the cause has no text.
     fn of(thing: Resource, cause: Result<Cause, AllocError>) -> Failure
         ensures unusable { IfOk cause (λ why. result ≡ Unusable thing why) }
         ensures memory { IfErr cause (λ _. result ≡ NoMemory) }
@@ -158,7 +158,7 @@ pub enum Endpoint {
 }
 
 impl Endpoint {
-    // What is read.
+    // The name of the input in a line.
     fn source(self) -> &'static str {
         match self {
             Endpoint::Pipe => "standard input",
@@ -166,7 +166,7 @@ impl Endpoint {
         }
     }
 
-    // What is written.
+    // The name of the output in a line.
     fn sink(self) -> &'static str {
         match self {
             Endpoint::Pipe => "standard output",
@@ -175,7 +175,7 @@ impl Endpoint {
     }
 }
 
-/// What came of a run of calls that ended so.
+/// The outcome of a run of calls with this end.
 ///
 /// # Errors
 ///

@@ -3,8 +3,8 @@ use Rattle.std.proofs.Common.{Bool, true, false, ◌≡◌, ◌≢◌, ℕ, zero
 use Rattle.std.proofs.lemmas.List.{take-append-drop, length-take, take_all, take-take, take_more, get_or_past, drop_at}
 use Rattle.std.proofs.lemmas.Bool.{cases_lt}
 use Rattle.envelope.specs.declared.fault.FrameWhy.TheVariants.{BadPathLength, BadPath, BadFlag, TooLong}
-use Rattle.envelope.specs.declared.kind.Kind.{Kind}
-use Rattle.envelope.specs.declared.kind.Kind.TheVariants.{Calls}
+use Rattle.envelope.specs.declared.kind.FrameKind.{FrameKind}
+use Rattle.envelope.specs.declared.kind.FrameKind.TheVariants.{Calls}
 use Rattle.envelope.specs.declared.kind.Part.{Part}
 use Rattle.envelope.specs.declared.kind.Part.TheVariants.{Status, TextLength, Text, Flag, BodyLength, Missing}
 use Rattle.envelope.specs.Envelope.{CallBytes, IsCall, frame, is_status}
@@ -22,7 +22,7 @@ same_or_not a b =
       | inr le ↦ elim (cases_lt b a) [ inl more ↦ inr (λ e. omega arith) | inr same ↦ inl (omega arith) ]
     ]
 
-good_byte_or_not : (kind : Kind) (b : ℕ) → IsGoodByte kind b ⊎ (IsGoodByte kind b → ⊥)
+good_byte_or_not : (kind : FrameKind) (b : ℕ) → IsGoodByte kind b ⊎ (IsGoodByte kind b → ⊥)
 good_byte_or_not kind b =
     elim (cases_lt b (least_byte kind)) [
       | inl low ↦ inr (λ p. omega (arith, p.0))
@@ -31,14 +31,14 @@ good_byte_or_not kind b =
 
 -- ---- whether the last byte breaks the table
 
-abbrev IsBroken : Kind → List ℕ → Type 0
+abbrev IsBroken : FrameKind → List ℕ → Type 0
 IsBroken kind bytes = (part : Part) × (at : ℕ) × Breaks kind bytes part at
 
 true_or_false : (b : Bool) → (b ≡ true) ⊎ (b ≡ false)
 true_or_false true = inl refl
 true_or_false false = inr refl
 
-status_or_not : (kind : Kind) (bytes : List ℕ) → IsBroken kind bytes ⊎ (length bytes ≡ 1 → 0 < lead kind → is_status (get_or bytes 0 0) ≡ true)
+status_or_not : (kind : FrameKind) (bytes : List ℕ) → IsBroken kind bytes ⊎ (length bytes ≡ 1 → 0 < lead kind → is_status (get_or bytes 0 0) ≡ true)
 unfolding Breaks
 status_or_not kind bytes =
     elim (cases_lt 0 (lead kind)) [
@@ -52,7 +52,7 @@ status_or_not kind bytes =
       ]
     ]
 
-text_length_or_not : (kind : Kind) (bytes : List ℕ) → IsBroken kind bytes ⊎ (length bytes ≡ lead kind + 2 → (least_text kind ≤ text_length kind bytes) × (text_length kind bytes ≤ most_text kind (get_or bytes 0 0)))
+text_length_or_not : (kind : FrameKind) (bytes : List ℕ) → IsBroken kind bytes ⊎ (length bytes ≡ lead kind + 2 → (least_text kind ≤ text_length kind bytes) × (text_length kind bytes ≤ most_text kind (get_or bytes 0 0)))
 unfolding Breaks
 text_length_or_not kind bytes =
     elim (cases_lt (length bytes) (lead kind + 2)) [
@@ -66,7 +66,7 @@ text_length_or_not kind bytes =
       ]
     ]
 
-text_or_not : (kind : Kind) (bytes : List ℕ) → IsBroken kind bytes ⊎ (lead kind + 3 ≤ length bytes → length bytes ≤ lead kind + 2 + text_length kind bytes → IsGoodByte kind (get_or bytes (length bytes - 1) 0))
+text_or_not : (kind : FrameKind) (bytes : List ℕ) → IsBroken kind bytes ⊎ (lead kind + 3 ≤ length bytes → length bytes ≤ lead kind + 2 + text_length kind bytes → IsGoodByte kind (get_or bytes (length bytes - 1) 0))
 unfolding Breaks
 text_or_not kind bytes =
     elim (cases_lt (length bytes) (lead kind + 3)) [
@@ -80,7 +80,7 @@ text_or_not kind bytes =
       ]
     ]
 
-flag_or_not : (kind : Kind) (bytes : List ℕ) → IsBroken kind bytes ⊎ (length bytes ≡ lead kind + 3 + text_length kind bytes → get_or bytes (length bytes - 1) 0 ≡ 0)
+flag_or_not : (kind : FrameKind) (bytes : List ℕ) → IsBroken kind bytes ⊎ (length bytes ≡ lead kind + 3 + text_length kind bytes → get_or bytes (length bytes - 1) 0 ≡ 0)
 unfolding Breaks
 flag_or_not kind bytes =
     elim (same_or_not (length bytes) (lead kind + 3 + text_length kind bytes)) [
@@ -91,7 +91,7 @@ flag_or_not kind bytes =
       ]
     ]
 
-body_length_or_not : (kind : Kind) (bytes : List ℕ) → IsBroken kind bytes ⊎ (length bytes ≡ lead kind + 7 + text_length kind bytes → body_length kind bytes ≤ most_body kind (get_or bytes 0 0))
+body_length_or_not : (kind : FrameKind) (bytes : List ℕ) → IsBroken kind bytes ⊎ (length bytes ≡ lead kind + 7 + text_length kind bytes → body_length kind bytes ≤ most_body kind (get_or bytes 0 0))
 unfolding Breaks
 body_length_or_not kind bytes =
     elim (cases_lt (length bytes) (lead kind + 7 + text_length kind bytes)) [
@@ -102,7 +102,7 @@ body_length_or_not kind bytes =
       ]
     ]
 
-last_or_not : (kind : Kind) (bytes : List ℕ) → IsBroken kind bytes ⊎ LastIsRight kind bytes
+last_or_not : (kind : FrameKind) (bytes : List ℕ) → IsBroken kind bytes ⊎ LastIsRight kind bytes
 last_or_not kind bytes =
     elim (status_or_not kind bytes) [
       | inl broken ↦ inl broken
@@ -123,17 +123,17 @@ last_or_not kind bytes =
 
 -- ---- whether any byte does
 
-abbrev BreaksOrNot : Kind → List ℕ → Type 0
+abbrev BreaksOrNot : FrameKind → List ℕ → Type 0
 BreaksOrNot kind bytes = ((part : Part) × (at : ℕ) × BreaksFirst kind bytes part at) ⊎ IsUnbroken kind bytes
 
-one_more : (kind : Kind) (bytes : List ℕ) → 0 < length bytes → IsUnbroken kind (take (length bytes - 1) bytes) → BreaksOrNot kind bytes
+one_more : (kind : FrameKind) (bytes : List ℕ) → 0 < length bytes → IsUnbroken kind (take (length bytes - 1) bytes) → BreaksOrNot kind bytes
 one_more kind bytes some prefix =
     elim (last_or_not kind bytes) [
       | inl broken ↦ inl (broken.0, broken.1, BreaksFirst_last kind bytes broken.0 broken.1 some prefix broken.2)
       | inr right ↦ inr (IsUnbroken_last kind bytes some prefix right)
     ]
 
-prefix_breaks_or_not : (kind : Kind) (n : ℕ) (bytes : List ℕ) → n ≤ length bytes → BreaksOrNot kind (take n bytes)
+prefix_breaks_or_not : (kind : FrameKind) (n : ℕ) (bytes : List ℕ) → n ≤ length bytes → BreaksOrNot kind (take n bytes)
 prefix_breaks_or_not kind zero bytes within = inr (nil_unbroken kind)
 prefix_breaks_or_not kind (suc n) bytes within =
     let next : suc n ≡ n + 1 = omega arith in
@@ -146,12 +146,12 @@ prefix_breaks_or_not kind (suc n) bytes within =
       | inr unbroken ↦ one_more kind (take (suc n) bytes) (omega arith) (subst (IsUnbroken kind) (sym prefix) unbroken)
     ]
 
-breaks_or_not : (kind : Kind) (bytes : List ℕ) → BreaksOrNot kind bytes
+breaks_or_not : (kind : FrameKind) (bytes : List ℕ) → BreaksOrNot kind bytes
 breaks_or_not kind bytes = subst (BreaksOrNot kind) (take_all (length bytes) bytes (omega arith)) (prefix_breaks_or_not kind (length bytes) bytes (omega arith))
 
--- ---- what stands first
+-- ---- the first byte
 
-unbroken_begins : (kind : Kind) (bytes : List ℕ) → IsBytes bytes → IsUnbroken kind bytes → lead kind + 7 + text_length kind bytes ≤ length bytes → lead kind + 7 + text_length kind bytes + body_length kind bytes ≤ length bytes → BeginsFrame kind bytes
+unbroken_begins : (kind : FrameKind) (bytes : List ℕ) → IsBytes bytes → IsUnbroken kind bytes → lead kind + 7 + text_length kind bytes ≤ length bytes → lead kind + 7 + text_length kind bytes + body_length kind bytes ≤ length bytes → BeginsFrame kind bytes
 unfolding IsWhole
 unbroken_begins kind bytes fits unbroken head all =
     let n = lead kind + 7 + text_length kind bytes + body_length kind bytes in
@@ -164,7 +164,7 @@ unbroken_begins kind bytes fits unbroken head all =
     let call = whole_is_frame kind prefix (IsBytes-take n bytes fits) (prefix_unbroken kind prefix (drop n bytes) (subst (IsUnbroken kind) (sym whole) unbroken)) is in
     (item_in kind prefix, drop n bytes, call.0, sym whole ∙ ap (λ (x : List ℕ). x ++ drop n bytes) call.1)
 
-short_or_begins : (kind : Kind) (bytes : List ℕ) → IsBytes bytes → IsUnbroken kind bytes → IsShort kind bytes ⊎ BeginsFrame kind bytes
+short_or_begins : (kind : FrameKind) (bytes : List ℕ) → IsBytes bytes → IsUnbroken kind bytes → IsShort kind bytes ⊎ BeginsFrame kind bytes
 unfolding IsShort
 short_or_begins kind bytes fits unbroken =
     elim (cases_lt (length bytes) (lead kind + 7 + text_length kind bytes)) [

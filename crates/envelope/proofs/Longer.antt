@@ -3,7 +3,7 @@ use Rattle.std.proofs.Common.{◌≡◌, ℕ, List, [], ◌∷◌, ◌++◌, len
 use Rattle.std.proofs.lemmas.List.Elements.{All-tail}
 use Rattle.std.proofs.lemmas.List.{append-nil}
 use Rattle.envelope.specs.Envelope.{CallBytes, IsCall, frame}
-use Rattle.envelope.specs.declared.kind.Kind.TheVariants.{Calls}
+use Rattle.envelope.specs.declared.kind.FrameKind.TheVariants.{Calls}
 use Rattle.envelope.specs.Stream.{part_of, BeginsFrame, End, Clean, Fault, Open, Ends, KeepsEnd, KeepsReading, frames}
 use Rattle.envelope.specs.facts.Breaking.{BreaksFirst-longer}
 use Rattle.envelope.specs.facts.Frames.{broken_rest}

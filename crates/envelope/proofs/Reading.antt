@@ -4,7 +4,7 @@ use Rattle.std.proofs.lemmas.List.Elements.{All-tail}
 use Rattle.envelope.specs.declared.fault.FrameWhy.{FrameWhy}
 use Rattle.envelope.specs.declared.fault.FrameWhy.TheVariants.{BadPathLength, BadPath, BadFlag, TooLong, EndOfInput}
 use Rattle.envelope.specs.Envelope.{CallBytes, IsCall, frame}
-use Rattle.envelope.specs.declared.kind.Kind.TheVariants.{Calls}
+use Rattle.envelope.specs.declared.kind.FrameKind.TheVariants.{Calls}
 use Rattle.envelope.specs.Grammar as grammar
 use Rattle.envelope.specs.Stream.{part_of, BreaksFirst, BeginsFrame, IsUnbroken, End, Clean, Fault, Open, Ends, Stream, frames}
 use Rattle.envelope.specs.facts.Breaking.{nil_unbroken}

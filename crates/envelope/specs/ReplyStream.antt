@@ -1,6 +1,6 @@
 -- How a stream of replies is read, reply by reply: docs/PROTOCOL.md, "Streams" (own).
 use Rattle.std.specs.Prelude.{ℕ, List}
-use Rattle.envelope.specs.declared.kind.Kind.TheVariants.{Replies}
+use Rattle.envelope.specs.declared.kind.FrameKind.TheVariants.{Replies}
 use Rattle.envelope.specs.declared.reply_fault.ReplyWhy.{ReplyWhy}
 use Rattle.envelope.specs.Grammar as grammar
 use Rattle.envelope.specs.Replies.{reply_part_of}

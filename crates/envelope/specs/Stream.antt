@@ -3,7 +3,7 @@ use Rattle.std.specs.Prelude.{◌≡◌, ℕ, ◌+◌, List, [], ◌++◌, lengt
 use Rattle.std.specs.List.{flat_map}
 use Rattle.envelope.specs.declared.fault.FrameWhy.{FrameWhy}
 use Rattle.envelope.specs.declared.fault.FrameWhy.TheVariants.{BadPathLength, BadPath, BadFlag, TooLong, EndOfInput}
-use Rattle.envelope.specs.declared.kind.Kind.TheVariants.{Calls}
+use Rattle.envelope.specs.declared.kind.FrameKind.TheVariants.{Calls}
 use Rattle.envelope.specs.declared.kind.Part.{Part}
 use Rattle.envelope.specs.declared.kind.Part.TheVariants.{TextLength, Text, Flag, BodyLength, Missing}
 use Rattle.envelope.specs.Envelope.{CallBytes, IsCall, frame}

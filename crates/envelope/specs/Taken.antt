@@ -3,7 +3,7 @@ use Rattle.std.specs.Prelude.{◌≡◌, ◌≤◌, List, [], length, take, ℕ,
 use Rattle.envelope.specs.declared.taken.Taken.{Taken}
 use Rattle.envelope.specs.declared.taken.Taken.TheVariants.{Nothing, Frame, Fault}
 use Rattle.envelope.specs.Envelope.{CallBytes, IsCall, bytes_of, frame}
-use Rattle.envelope.specs.declared.kind.Kind.{Kind}
+use Rattle.envelope.specs.declared.kind.FrameKind.{FrameKind}
 use Rattle.envelope.specs.declared.kind.Part.{Part}
 use Rattle.envelope.specs.Grammar.{FaultAt as FaultAtPart}
 use Rattle.envelope.specs.Head.{WholePrefix}
@@ -11,12 +11,12 @@ use Rattle.envelope.specs.Stream.{FaultAt}
 
 -- the first frame and its length, nothing, or the fault that is there, whose part and place two functions
 -- give
-abbrev pub BeginsWith : {F : Type 0} → Kind → (F → Part) → (F → ℕ) → List ℕ → Result (Option ℕ) F → Type 0
+abbrev pub BeginsWith : {F : Type 0} → FrameKind → (F → Part) → (F → ℕ) → List ℕ → Result (Option ℕ) F → Type 0
 BeginsWith kind part place bytes (Ok None) = bytes ≡ []
 BeginsWith kind part place bytes (Ok (Some size)) = WholePrefix kind bytes size
 BeginsWith kind part place bytes (Err f) = FaultAtPart kind bytes (part f) (place f)
 
--- it is this call, and nothing else
+-- it is exactly this call
 abbrev pub IsTaken : CallBytes → Taken → Type 0
 IsTaken call Nothing = ⊥
 IsTaken call (Frame c size) = (bytes_of c ≡ call) × (size ≡ length (frame call))

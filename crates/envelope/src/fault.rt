@@ -1,5 +1,5 @@
 ghost use Rattle.std.specs.Prelude.{◌≡◌, ℕ, ◌≤◌, length, All};
-ghost use Rattle.envelope.specs.declared.kind.Kind.TheVariants.{Calls};
+ghost use Rattle.envelope.specs.declared.kind.FrameKind.TheVariants.{Calls};
 ghost use Rattle.envelope.specs.declared.kind.Part.TheVariants.{Missing};
 ghost use Rattle.envelope.specs.Envelope.{IsTextByte};
 ghost use Rattle.envelope.specs.Faults.{call_cut_at, part as part_of_fault, place};
@@ -7,19 +7,19 @@ ghost use Rattle.envelope.specs.Grammar.{HasPart};
 ghost use Rattle.envelope.specs.Stream.{part_of};
 ghost use Rattle.envelope.specs.Texts.{fault_words};
 
-use crate::kind::{Kind, Part};
+use crate::kind::{FrameKind, Part};
 use thiserror::Error;
 
 /// The fault of a stream of frames, be they calls ([`FrameFault`]) or replies
 /// ([`ReplyFault`](crate::ReplyFault)).
 pub trait Fault: Copy + Drop {
     ghost use Rattle.std.specs.Prelude.{ℕ};
-    ghost use Rattle.envelope.specs.declared.kind.Kind.{Kind};
+    ghost use Rattle.envelope.specs.declared.kind.FrameKind.{FrameKind};
     ghost use Rattle.envelope.specs.declared.kind.Part.{Part};
 
     // The kind of the frames, the part that is wrong, where it is, and the fault of an input that ends inside
     // a frame.
-    ghost kind: { Kind };
+    ghost kind: { FrameKind };
 
     ghost wrong_part: { Self → Part };
 
@@ -28,7 +28,7 @@ pub trait Fault: Copy + Drop {
     ghost cut_at: { ℕ → Self };
 
     /// The kind of the frames.
-    fn kind() -> Kind
+    fn kind() -> FrameKind
         ensures { result ≡ kind };
 
     /// The fault of this part at this place.
@@ -55,7 +55,7 @@ pub enum FrameWhy {
 }
 
 impl FrameWhy {
-    /// What a fault's text says before its place.
+    /// The text of the fault before its place.
     pub fn text(self) -> &'static str
         ensures value { result.now ≡ fault_words self }
         ensures short { length result.now ≤ 120 }
@@ -90,7 +90,7 @@ impl FrameWhy {
 #[derive(Clone, Copy, Debug, PartialEq, Eq, Error)]
 #[error("{}{}", self.why.text(), self.at)]
 pub struct FrameFault {
-    /// What is wrong.
+    /// The rule that the frame breaks.
     pub why: FrameWhy,
     /// The byte at which it is, counted from 0 over the bytes that were given.
     pub at: u64,
@@ -105,8 +105,8 @@ impl Fault for FrameFault {
 
     ghost cut_at = { call_cut_at };
 
-    fn kind() -> Kind {
-        Kind::Calls
+    fn kind() -> FrameKind {
+        FrameKind::Calls
     }
 
     fn of(part: Part, at: u64) -> FrameFault {

@@ -118,7 +118,7 @@ pub fn text_and_number(text: &[u8], n: u64) -> FixedText
     line
 }
 
-/// What a malformed frame is answered with, as `bad flag at byte 53`.
+/// The text of the refusal of a malformed frame, such as `bad flag at byte 53`.
 pub fn fault_text(fault: &FrameFault) -> FixedText
     ensures value { result ≡ fault_words fault.now.why ++ decimal fault.now.at }
     ensures short { length result ≤ 140 }

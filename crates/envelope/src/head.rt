@@ -1,17 +1,17 @@
 ghost use Rattle.std.specs.Prelude.{◌≡◌, ℕ, ◌+◌, ◌-◌, ◌<◌, ◌≤◌, ◌↔◌, ◌≢◌, ◌⊎◌, length, take, slice_index, false, IsTrue, MatchOption};
-ghost use Rattle.envelope.specs.declared.kind.Kind.TheVariants.{Calls, Replies};
+ghost use Rattle.envelope.specs.declared.kind.FrameKind.TheVariants.{Calls, Replies};
 ghost use Rattle.envelope.specs.Grammar.{lead, text_length, body_length, IsUnbroken};
 ghost use Rattle.envelope.specs.Envelope.{IsCall, bytes_of, frame, IsReply, reply_bytes_of, reply};
 ghost use Rattle.envelope.specs.Head.{item, Says, IsHead, IsWhole, Looks, AreGoodBytes, IsBadByte};
 
 use crate::call::Call;
-use crate::kind::{Kind, Part};
+use crate::kind::{FrameKind, Part};
 use crate::reply::Reply;
 
 // The length of the text, which the two bytes before it give.
 #[tactic(auto, unfolding(crate::specs::Grammar::text_length))]
 #[inline(always)]
-fn text_length_of(kind: Kind, bytes: &[u8]) -> usize
+fn text_length_of(kind: FrameKind, bytes: &[u8]) -> usize
     requires { lead kind + 2 ≤ length bytes.now }
     ensures value { result ≡ text_length kind bytes.now }
     ensures bound { result < 65536 }
@@ -23,7 +23,7 @@ fn text_length_of(kind: Kind, bytes: &[u8]) -> usize
 // The length of the body, which the four bytes after the flag give.
 #[tactic(auto, unfolding(crate::specs::Grammar::body_length))]
 #[inline(always)]
-fn body_length_of(kind: Kind, bytes: &[u8], from: usize) -> usize
+fn body_length_of(kind: FrameKind, bytes: &[u8], from: usize) -> usize
     requires from { from ≡ lead kind + 3 + text_length kind bytes.now }
     requires there { from + 4 ≤ length bytes.now }
     ensures value { result ≡ body_length kind bytes.now }
@@ -35,19 +35,19 @@ fn body_length_of(kind: Kind, bytes: &[u8], from: usize) -> usize
         + usize::from(bytes[from + 3])
 }
 
-/// What the bytes of a frame before its body say of its length.
+/// The lengths in the bytes of a frame before its body.
 #[derive(Clone, Copy)]
 pub struct Head {
     /// Where the body begins.
     pub body_at: usize,
-    /// How many bytes it has.
+    /// The length of the body in bytes.
     pub body_length: usize,
 }
 
 impl Head {
-    /// What they say, where all bytes before the body are there; nothing where one is missing.
+    /// The lengths of a frame, if all bytes before the body are there; otherwise `None`.
     #[inline(always)]
-    pub fn read(kind: Kind, bytes: &[u8]) -> Option<Head>
+    pub fn read(kind: FrameKind, bytes: &[u8]) -> Option<Head>
         ensures { MatchOption result (length bytes.now < lead kind + 7 + text_length kind bytes.now)
             (IsHead kind bytes.now) }
     {
@@ -65,8 +65,8 @@ impl Head {
         })
     }
 
-    /// How many bytes the whole frame has. The head is one that [`read`](Head::read) gave, which is within
-    /// both bounds.
+    /// The length of the whole frame in bytes. The head comes from [`read`](Head::read), so both of its
+    /// lengths are within their bounds.
     pub fn frame_bytes(self) -> usize
         requires { (self.body_at < 65544) × (self.body_length < 4294967296) }
         ensures { result ≡ self.body_at + self.body_length }
@@ -80,7 +80,7 @@ impl Head {
 /// Where [`look_at`] finds nothing broken in them, they are then a frame.
 #[tactic(auto, unfolding(crate::specs::Head::IsWhole))]
 #[inline(always)]
-pub fn is_whole(kind: Kind, bytes: &[u8]) -> bool
+pub fn is_whole(kind: FrameKind, bytes: &[u8]) -> bool
     ensures { IsTrue result ↔ IsWhole kind bytes.now }
 {
     match Head::read(kind, bytes) {
@@ -89,7 +89,7 @@ pub fn is_whole(kind: Kind, bytes: &[u8]) -> bool
     }
 }
 
-/// What breaks the table of a frame.
+/// A broken rule of a frame, and its place.
 #[derive(Clone, Copy)]
 pub struct Flaw {
     /// The part that is wrong.
@@ -98,22 +98,23 @@ pub struct Flaw {
     pub at: usize,
 }
 
-/// What the first bytes of a rest are.
+/// The state of the first bytes of a stream's rest.
 #[derive(Clone, Copy)]
 pub enum Look {
     /// They may yet become a frame.
     Short,
-    /// That many are a frame.
+    /// A whole frame, of this many bytes.
     Whole(usize),
     /// They break the table, and the last of that many shows it.
     Broken(Flaw, usize),
 }
 
-/// What these bytes are, of which so many were looked at before and break nothing.
+/// Looks at bytes whose first `seen` were looked at before and break no rule. Takes the time of the text's
+/// new bytes: the body is not looked at.
 ///
 /// Takes the time of the text's bytes that are new: none of the body is looked at.
 #[inline(always)]
-pub fn look_at(kind: Kind, bytes: &[u8], seen: usize) -> Look
+pub fn look_at(kind: FrameKind, bytes: &[u8], seen: usize) -> Look
     requires within { seen ≤ length bytes.now }
     requires prefix { IsUnbroken kind (take seen bytes.now) }
     ensures { Looks kind bytes.now result }
@@ -162,7 +163,7 @@ fn broken(part: Part, at: usize, size: usize) -> Look
 
 // The first byte that no text has, of those from here on that the text has.
 #[inline(always)]
-fn bad_byte(kind: Kind, bytes: &[u8], from: usize, end: usize) -> Option<usize>
+fn bad_byte(kind: FrameKind, bytes: &[u8], from: usize, end: usize) -> Option<usize>
     ensures { MatchOption result (AreGoodBytes kind bytes.now from end (length bytes.now))
         (λ at. IsBadByte kind bytes.now from end at) }
 {
@@ -181,7 +182,7 @@ fn bad_byte(kind: Kind, bytes: &[u8], from: usize, end: usize) -> Option<usize>
 // The text and the body of a whole frame.
 #[tactic(auto, unfolding(crate::specs::Head::IsWhole))]
 #[inline(always)]
-fn parts(kind: Kind, bytes: &[u8]) -> (&[u8], &[u8])
+fn parts(kind: FrameKind, bytes: &[u8]) -> (&[u8], &[u8])
     requires unbroken { IsUnbroken kind bytes.now }
     requires whole { IsWhole kind bytes.now }
     ensures { Says kind bytes.now (item kind (slice_index bytes.now 0) result.0.now result.1.now) }
@@ -200,7 +201,7 @@ pub fn call_of(bytes: &[u8]) -> Call<'_>
     requires { IsUnbroken Calls bytes.now × IsWhole Calls bytes.now }
     ensures { IsCall (bytes_of result) × (bytes.now ≡ frame (bytes_of result)) }
 {
-    let (path, message) = parts(Kind::Calls, bytes);
+    let (path, message) = parts(FrameKind::Calls, bytes);
     Call { path, message }
 }
 
@@ -211,7 +212,7 @@ pub fn reply_of(bytes: &[u8]) -> Reply<'_>
     requires { IsUnbroken Replies bytes.now × IsWhole Replies bytes.now }
     ensures { IsReply (reply_bytes_of result) × (bytes.now ≡ reply (reply_bytes_of result)) }
 {
-    let (text, body) = parts(Kind::Replies, bytes);
+    let (text, body) = parts(FrameKind::Replies, bytes);
     Reply {
         status: bytes[0],
         text,

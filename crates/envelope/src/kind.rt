@@ -11,10 +11,10 @@ use crate::limits::{
 /// The two kinds of frame, which one table reads: a text after its length, a flag, and a body
 /// after its length.
 #[derive(Clone, Copy)]
-pub enum Kind {
-    /// Of calls: the text is the path, the body is the message.
+pub enum FrameKind {
+    /// Frames of calls: the text is the path, the body is the message.
     Calls,
-    /// Of replies: the status comes before the text.
+    /// Frames of replies: the status comes before the text.
     Replies,
 }
 
@@ -31,19 +31,19 @@ pub enum Part {
     Flag,
     /// The length of the body.
     BodyLength,
-    /// What has not come when the input ends.
+    /// The part that is missing when the input ends.
     Missing,
 }
 
-impl Kind {
-    /// How many bytes come before the length of the text.
+impl FrameKind {
+    /// The number of bytes before the length of the text.
     pub(crate) fn lead(self) -> usize
         ensures value { result ≡ lead self }
         ensures small { result ≤ 1 }
     {
         match self {
-            Kind::Calls => 0,
-            Kind::Replies => 1,
+            FrameKind::Calls => 0,
+            FrameKind::Replies => 1,
         }
     }
 
@@ -52,8 +52,8 @@ impl Kind {
         ensures { result ≡ least_text self }
     {
         match self {
-            Kind::Calls => 1,
-            Kind::Replies => 0,
+            FrameKind::Calls => 1,
+            FrameKind::Replies => 0,
         }
     }
 
@@ -62,9 +62,9 @@ impl Kind {
         ensures { result ≡ most_text self first }
     {
         match self {
-            Kind::Calls => MAX_PATH_BYTES,
-            Kind::Replies if first == 0 => 0,
-            Kind::Replies => MAX_TEXT_BYTES,
+            FrameKind::Calls => MAX_PATH_BYTES,
+            FrameKind::Replies if first == 0 => 0,
+            FrameKind::Replies => MAX_TEXT_BYTES,
         }
     }
 
@@ -73,9 +73,9 @@ impl Kind {
         ensures { result ≡ most_body self first }
     {
         match self {
-            Kind::Calls => MAX_MESSAGE_BYTES,
-            Kind::Replies if first == 0 => MAX_BODY_BYTES,
-            Kind::Replies => 0,
+            FrameKind::Calls => MAX_MESSAGE_BYTES,
+            FrameKind::Replies if first == 0 => MAX_BODY_BYTES,
+            FrameKind::Replies => 0,
         }
     }
 
@@ -84,8 +84,8 @@ impl Kind {
         ensures { result ≡ least_byte self }
     {
         match self {
-            Kind::Calls => 33,
-            Kind::Replies => 32,
+            FrameKind::Calls => 33,
+            FrameKind::Replies => 32,
         }
     }
 
@@ -94,8 +94,8 @@ impl Kind {
         ensures { result ≡ most_head self }
     {
         match self {
-            Kind::Calls => MAX_HEAD_BYTES,
-            Kind::Replies => MAX_REPLY_HEAD_BYTES,
+            FrameKind::Calls => MAX_HEAD_BYTES,
+            FrameKind::Replies => MAX_REPLY_HEAD_BYTES,
         }
     }
 
@@ -104,8 +104,8 @@ impl Kind {
         ensures { result ≡ most_frame self }
     {
         match self {
-            Kind::Calls => MAX_FRAME_BYTES,
-            Kind::Replies => MAX_REPLY_BYTES,
+            FrameKind::Calls => MAX_FRAME_BYTES,
+            FrameKind::Replies => MAX_REPLY_BYTES,
         }
     }
 
@@ -115,9 +115,9 @@ impl Kind {
         ensures good { (result ≡ false) → HasBadStatus self bytes.now → ⊥ }
     {
         match self {
-            Kind::Calls => false,
-            Kind::Replies if bytes.is_empty() => false,
-            Kind::Replies => !is_status(bytes[0]),
+            FrameKind::Calls => false,
+            FrameKind::Replies if bytes.is_empty() => false,
+            FrameKind::Replies => !is_status(bytes[0]),
         }
     }
 }

@@ -42,7 +42,7 @@ pub use fixed::{
     Fixed, FixedFrame, FixedText, fault_text, refusal_frame, reply_head, text_and_number,
 };
 pub use head::{Flaw, Head, Look, call_of, is_whole, look_at, reply_of};
-pub use kind::{Kind, Part};
+pub use kind::{FrameKind, Part};
 pub use limits::{
     MAX_BODY_BYTES, MAX_FRAME_BYTES, MAX_HEAD_BYTES, MAX_MESSAGE_BYTES, MAX_PATH_BYTES,
     MAX_REFUSAL_TEXT_BYTES, MAX_REPLY_BYTES, MAX_REPLY_HEAD_BYTES, MAX_TEXT_BYTES,

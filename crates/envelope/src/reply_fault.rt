@@ -1,11 +1,11 @@
 ghost use Rattle.std.specs.Prelude.{◌≡◌};
 ghost use Rattle.envelope.specs.Texts.{reply_fault_words};
-ghost use Rattle.envelope.specs.declared.kind.Kind.TheVariants.{Replies};
+ghost use Rattle.envelope.specs.declared.kind.FrameKind.TheVariants.{Replies};
 ghost use Rattle.envelope.specs.Faults.{reply_cut_at, reply_part, reply_place};
 ghost use Rattle.envelope.specs.Replies.{reply_part_of};
 
 use crate::fault::Fault;
-use crate::kind::{Kind, Part};
+use crate::kind::{FrameKind, Part};
 use thiserror::Error;
 
 /// Why bytes are not a reply frame, in the order in which a frame's bytes show it.
@@ -28,7 +28,7 @@ pub enum ReplyWhy {
 }
 
 impl ReplyWhy {
-    /// What a fault's text says before its place.
+    /// The text of the fault before its place.
     pub fn text(self) -> &'static str
         ensures { result.now ≡ reply_fault_words self }
     {
@@ -61,7 +61,7 @@ impl ReplyWhy {
 #[derive(Clone, Copy, Debug, PartialEq, Eq, Error)]
 #[error("{}{}", self.why.text(), self.at)]
 pub struct ReplyFault {
-    /// What is wrong.
+    /// The rule that the reply breaks.
     pub why: ReplyWhy,
     /// The byte at which it is, counted from 0 over the bytes that were given.
     pub at: u64,
@@ -76,8 +76,8 @@ impl Fault for ReplyFault {
 
     ghost cut_at = { reply_cut_at };
 
-    fn kind() -> Kind {
-        Kind::Replies
+    fn kind() -> FrameKind {
+        FrameKind::Replies
     }
 
     fn of(part: Part, at: u64) -> ReplyFault {

@@ -5,7 +5,7 @@ use crate::fault::{Fault, FrameFault};
 use crate::head::{Look, call_of, look_at};
 use crate::kind::Part;
 
-/// What comes first in the whole rest of a stream.
+/// The first frame of a stream's whole rest.
 #[derive(Clone, Copy, Debug)]
 pub enum Taken<'a> {
     /// No byte is left.
@@ -33,7 +33,7 @@ pub fn take_frame(bytes: &[u8]) -> Taken<'_>
     }
 }
 
-/// How many bytes the first frame has, if any byte is left, or the fault that is there instead.
+/// The length of the first frame in bytes, if any byte is left, or the fault of the rest.
 pub(crate) fn first_frame<F: Fault>(bytes: &[u8]) -> Result<Option<usize>, F>
     ensures { BeginsWith F.kind F.wrong_part F.place bytes.now result }
 {

@@ -5,7 +5,7 @@ use crate::reply::Reply;
 use crate::reply_fault::ReplyFault;
 use crate::taken::first_frame;
 
-/// What comes first in the whole rest of a stream of replies.
+/// The first frame of the whole rest of a stream of replies.
 #[derive(Clone, Copy, Debug)]
 pub enum TakenReply<'a> {
     /// No byte is left.

@@ -4,7 +4,7 @@ use Rattle.std.specs.Prelude.{Bool, IsTrue, false, min, true, ◌≢◌}
 use Rattle.std.proofs.lemmas.List.{take-append-drop, length-take, length-drop, take-take, take_at, append-nil}
 use Rattle.std.proofs.lemmas.Bool.{cases_lt}
 use Rattle.std.proofs.Math.Seq.{take-append-add, take-add}
-use Rattle.envelope.specs.declared.kind.Kind.{Kind}
+use Rattle.envelope.specs.declared.kind.FrameKind.{FrameKind}
 use Rattle.envelope.specs.declared.kind.Part.{Part}
 use Rattle.envelope.specs.declared.kind.Part.TheVariants.{Status, TextLength, Text, Flag, BodyLength, Missing}
 use Rattle.envelope.specs.declared.head.Flaw.{Flaw}
@@ -25,16 +25,16 @@ front_of old piece k n le =
 back_some : (piece : List ℕ) (k n : ℕ) → k < n → n ≤ length piece → 0 < length (drop k (take n piece))
 back_some piece k n lt le = omega (arith, length-drop k (take n piece), length-take n piece)
 
-pub least_short : (kind : Kind) (old piece : List ℕ) (n : ℕ) → IsUnfinished kind (old ++ take n piece) → (k : ℕ) → k < n → IsUnfinished kind (old ++ take k piece)
+pub least_short : (kind : FrameKind) (old piece : List ℕ) (n : ℕ) → IsUnfinished kind (old ++ take n piece) → (k : ℕ) → k < n → IsUnfinished kind (old ++ take k piece)
 least_short kind old piece n h k lt = front_unfinished kind (old ++ take k piece) (drop k (take n piece)) (subst (λ (x : List ℕ). IsUnfinished kind x) (front_of old piece k n (omega arith)) h)
 
-pub least_whole : (kind : Kind) (old piece : List ℕ) (n : ℕ) → n ≤ length piece → IsUnbroken kind (old ++ take n piece) → IsWhole kind (old ++ take n piece) → (k : ℕ) → k < n → IsUnfinished kind (old ++ take k piece)
+pub least_whole : (kind : FrameKind) (old piece : List ℕ) (n : ℕ) → n ≤ length piece → IsUnbroken kind (old ++ take n piece) → IsWhole kind (old ++ take n piece) → (k : ℕ) → k < n → IsUnfinished kind (old ++ take k piece)
 least_whole kind old piece n within unbroken whole k lt =
     let e = front_of old piece k n (omega arith) in
     whole_unfinished kind (old ++ take k piece) (drop k (take n piece)) (back_some piece k n lt within) (subst (IsUnbroken kind) e unbroken) (subst (IsWhole kind) e whole)
 
 -- the prefix that was seen to be right ends one byte before the prefix that is broken
-pub least_broken : (kind : Kind) (old piece : List ℕ) (n : ℕ) (why : Part) (at : ℕ) → 0 < n → n ≤ length piece → IsUnbroken kind (old ++ take (n - 1) piece) → BreaksFirst kind (old ++ take n piece) why at → (k : ℕ) → k < n → IsUnfinished kind (old ++ take k piece)
+pub least_broken : (kind : FrameKind) (old piece : List ℕ) (n : ℕ) (why : Part) (at : ℕ) → 0 < n → n ≤ length piece → IsUnbroken kind (old ++ take (n - 1) piece) → BreaksFirst kind (old ++ take n piece) why at → (k : ℕ) → k < n → IsUnfinished kind (old ++ take k piece)
 least_broken kind old piece n why at some within before h k lt =
     let e = front_of old piece k n (omega arith) in
     let f = front_of old piece k (n - 1) (omega arith) in
@@ -42,7 +42,7 @@ least_broken kind old piece n why at some within before h k lt =
     (prefix_unbroken kind (old ++ take k piece) (drop k (take (n - 1) piece)) (subst (IsUnbroken kind) f before))
     (subst (λ (x : List ℕ). BreaksFirst kind x why at) e h)
 
--- a prefix of what was held and the head of the piece, as what was held and a prefix of the piece
+-- a prefix of the held bytes and the head of the piece, as the held bytes and a prefix of the piece
 pub cut_piece : (old piece : List ℕ) (h n : ℕ) → length old ≤ n → n ≤ length (old ++ take h piece) → take n (old ++ take h piece) ≡ old ++ take (n - length old) piece
 cut_piece old piece h n above within =
     let e : n ≡ length old + (n - length old) = omega arith in
@@ -50,7 +50,7 @@ cut_piece old piece h n above within =
     ap (λ (k : ℕ). take k (old ++ take h piece)) e ∙ (take-append-add old (take h piece) (n - length old) ∙ ap (λ (x : List ℕ). old ++ x) (take-take (n - length old) h piece small))
 
 -- a break isn't within the prefix that is right
-pub broken_later : (kind : Kind) (old all : List ℕ) (f : Flaw) (n : ℕ) → take (length old) all ≡ old → length old ≤ length all → IsUnbroken kind old → BrokenPrefix kind all f n → length old < n
+pub broken_later : (kind : FrameKind) (old all : List ℕ) (f : Flaw) (n : ℕ) → take (length old) all ≡ old → length old ≤ length all → IsUnbroken kind old → BrokenPrefix kind all f n → length old < n
 unfolding IsUnbroken
 broken_later kind old all f n prefix fits unbroken b =
     elim (cases_lt (length old) n) [
@@ -62,7 +62,7 @@ broken_later kind old all f n prefix fits unbroken b =
     ]
 
 -- nor is a whole frame within a prefix that is short of one
-pub whole_later : (kind : Kind) (old all : List ℕ) (n : ℕ) → take (length old) all ≡ old → IsShort kind old → WholePrefix kind all n → length old < n
+pub whole_later : (kind : FrameKind) (old all : List ℕ) (n : ℕ) → take (length old) all ≡ old → IsShort kind old → WholePrefix kind all n → length old < n
 unfolding IsShort IsWhole
 whole_later kind old all n prefix short w =
     elim (cases_lt (length old) n) [
@@ -78,7 +78,7 @@ whole_later kind old all n prefix short w =
           absurd (short (omega (arith, whole.0)) (omega (arith, whole.1)))
     ]
 
-pub takes_broken : (kind : Kind) (old piece all new : List ℕ) (h n count : ℕ) (f : Flaw) → all ≡ old ++ take h piece → IsUnbroken kind old → BrokenPrefix kind all f n → new ≡ take n all → count ≡ n - length old → TakesPrefix kind old piece new (record { count = count; flaw = Some f; whole = false })
+pub takes_broken : (kind : FrameKind) (old piece all new : List ℕ) (h n count : ℕ) (f : Flaw) → all ≡ old ++ take h piece → IsUnbroken kind old → BrokenPrefix kind all f n → new ≡ take n all → count ≡ n - length old → TakesPrefix kind old piece new (record { count = count; flaw = Some f; whole = false })
 takes_broken kind old piece all new h n count f is unbroken b new-is count-is =
     let prefix : take (length old) all ≡ old = ap (λ (x : List ℕ). take (length old) x) is ∙ take_at old (take h piece) (length old) refl in
     let len : length all ≡ length old + length (take h piece) = ap length is ∙ length-append old (take h piece) in
@@ -101,7 +101,7 @@ takes_broken kind old piece all new h n count f is unbroken b new-is count-is =
       idle = λ none. absurd (omega arith);
     }
 
-pub takes_whole : (kind : Kind) (old piece all new : List ℕ) (h n count : ℕ) → all ≡ old ++ take h piece → IsShort kind old → WholePrefix kind all n → new ≡ take n all → count ≡ n - length old → TakesPrefix kind old piece new (record { count = count; flaw = None; whole = true })
+pub takes_whole : (kind : FrameKind) (old piece all new : List ℕ) (h n count : ℕ) → all ≡ old ++ take h piece → IsShort kind old → WholePrefix kind all n → new ≡ take n all → count ≡ n - length old → TakesPrefix kind old piece new (record { count = count; flaw = None; whole = true })
 takes_whole kind old piece all new h n count is short w new-is count-is =
     let prefix : take (length old) all ≡ old = ap (λ (x : List ℕ). take (length old) x) is ∙ take_at old (take h piece) (length old) refl in
     let len : length all ≡ length old + length (take h piece) = ap length is ∙ length-append old (take h piece) in
@@ -124,7 +124,7 @@ takes_whole kind old piece all new h n count is short w new-is count-is =
     }
 
 -- after a whole head anything may follow
-unbroken_longer : (kind : Kind) (bytes more : List ℕ) → IsUnbroken kind bytes → lead kind + 7 + text_length kind bytes ≤ length bytes → IsUnbroken kind (bytes ++ more)
+unbroken_longer : (kind : FrameKind) (bytes more : List ℕ) → IsUnbroken kind bytes → lead kind + 7 + text_length kind bytes ≤ length bytes → IsUnbroken kind (bytes ++ more)
 unfolding IsUnbroken Breaks
 unbroken_longer kind bytes more unbroken all Status at h = unbroken Status at (Breaks-shorter kind bytes more Status at h (omega arith))
 unbroken_longer kind bytes more unbroken all TextLength at h = unbroken TextLength at (Breaks-shorter kind bytes more TextLength at h (omega arith))
@@ -133,15 +133,15 @@ unbroken_longer kind bytes more unbroken all Flag at h = let t = text_length-app
 unbroken_longer kind bytes more unbroken all BodyLength at h = let t = text_length-append kind bytes more (omega arith) in unbroken BodyLength at (Breaks-shorter kind bytes more BodyLength at h (omega (arith, h.0)))
 unbroken_longer kind bytes more unbroken all Missing at h = h
 
--- what is missing has room
-pub missing_room : (kind : Kind) (bytes : List ℕ) (miss n : ℕ) → IsUnbroken kind bytes → IsShort kind bytes → Misses kind bytes miss → n ≤ miss → length bytes + n ≤ most_frame kind
+-- there is room for the missing bytes
+pub missing_room : (kind : FrameKind) (bytes : List ℕ) (miss n : ℕ) → IsUnbroken kind bytes → IsShort kind bytes → Misses kind bytes miss → n ≤ miss → length bytes + n ≤ most_frame kind
 missing_room kind bytes miss n unbroken short misses few =
     elim (cases_lt (length bytes) (lead kind + 7 + text_length kind bytes)) [
       | inl less ↦ omega (arith, misses.head less, short_room kind bytes unbroken short)
       | inr all ↦ let parts = Parts_of kind bytes unbroken all in omega (arith, misses.body all, parts.text_short, parts.body_short, frame_fits kind (get_or bytes 0 0))
     ]
 
-longer_or_whole : (kind : Kind) (bytes more : List ℕ) (miss : ℕ) → lead kind + 7 + text_length kind bytes ≤ length bytes → Misses kind bytes miss → length more ≤ miss → (length more < miss → IsShort kind (bytes ++ more)) × (length more ≡ miss → IsWhole kind (bytes ++ more))
+longer_or_whole : (kind : FrameKind) (bytes more : List ℕ) (miss : ℕ) → lead kind + 7 + text_length kind bytes ≤ length bytes → Misses kind bytes miss → length more ≤ miss → (length more < miss → IsShort kind (bytes ++ more)) × (length more ≡ miss → IsWhole kind (bytes ++ more))
 unfolding IsShort IsWhole
 longer_or_whole kind bytes more miss all misses few =
     let len = length-append bytes more in
@@ -150,15 +150,15 @@ longer_or_whole kind bytes more miss all misses few =
     let e = misses.body all in
     (λ less a b. omega arith, λ same. (omega arith, omega arith))
 
--- what is held with more of the message
-pub record Longer (kind : Kind) (new : List ℕ) (last less : Type 0) : Type 0 where
+-- the held bytes, with more of the message
+pub record Longer (kind : FrameKind) (new : List ℕ) (last less : Type 0) : Type 0 where
   pub unbroken : IsUnbroken kind new
   pub or : IsShort kind new ⊎ IsWhole kind new
   pub whole : last → IsWhole kind new
   pub short : less → IsShort kind new
 
 -- where the head is there and the frame is not whole, some of the body is missing
-some_missing : (kind : Kind) (bytes : List ℕ) (miss : ℕ) → lead kind + 7 + text_length kind bytes ≤ length bytes
+some_missing : (kind : FrameKind) (bytes : List ℕ) (miss : ℕ) → lead kind + 7 + text_length kind bytes ≤ length bytes
     → IsShort kind bytes → Misses kind bytes miss → 0 < miss
 unfolding IsShort
 some_missing kind bytes miss all short misses =
@@ -167,7 +167,7 @@ some_missing kind bytes miss all short misses =
       | inr none ↦ absurd (short all (omega (arith, misses.body all)))
     ]
 
-longer : (kind : Kind) (bytes more : List ℕ) (miss : ℕ) → IsUnbroken kind bytes → IsShort kind bytes → Misses kind bytes miss → length more ≤ miss → (length bytes < lead kind + 7 + text_length kind bytes → more ≡ [])
+longer : (kind : FrameKind) (bytes more : List ℕ) (miss : ℕ) → IsUnbroken kind bytes → IsShort kind bytes → Misses kind bytes miss → length more ≤ miss → (length bytes < lead kind + 7 + text_length kind bytes → more ≡ [])
     → Longer kind (bytes ++ more) ((lead kind + 7 + text_length kind bytes ≤ length bytes) × (length more ≡ miss))
     (0 < miss → length more < miss)
 longer kind bytes more miss unbroken short misses few none =
@@ -190,14 +190,14 @@ longer kind bytes more miss unbroken short misses few none =
           }
     ]
 
-least_longer : (kind : Kind) (old piece : List ℕ) (n : ℕ) → n ≤ length piece → IsUnbroken kind (old ++ take n piece) → IsShort kind (old ++ take n piece) ⊎ IsWhole kind (old ++ take n piece) → (k : ℕ) → k < n → IsUnfinished kind (old ++ take k piece)
+least_longer : (kind : FrameKind) (old piece : List ℕ) (n : ℕ) → n ≤ length piece → IsUnbroken kind (old ++ take n piece) → IsShort kind (old ++ take n piece) ⊎ IsWhole kind (old ++ take n piece) → (k : ℕ) → k < n → IsUnfinished kind (old ++ take k piece)
 least_longer kind old piece n within unbroken or k lt =
     elim or [
       | inl short ↦ least_short kind old piece n (is_unfinished kind (old ++ take n piece) unbroken short) k lt
       | inr whole ↦ least_whole kind old piece n within unbroken whole k lt
     ]
 
-pub takes_short : (kind : Kind) (old piece all new : List ℕ) (h j miss count : ℕ) (whole : Bool)
+pub takes_short : (kind : FrameKind) (old piece all new : List ℕ) (h j miss count : ℕ) (whole : Bool)
     → all ≡ old ++ take h piece → h ≡ min (length piece) (most_head kind - length old) → IsUnbroken kind all → IsShort kind all → Misses kind all miss → j ≡ min (length (drop h piece)) miss → new ≡ all ++ take j (drop h piece)
     → count ≡ h + j → (IsTrue whole → (0 < miss) × (j ≡ miss)) → (whole ≡ false → 0 < miss → j ≢ miss)
     → TakesPrefix kind old piece new (record { count = count; flaw = None; whole = whole })

@@ -2,8 +2,8 @@
 use Rattle.std.specs.Prelude.{ℕ, ◌+◌, List, [], length, Option, Some, None, IsSome, IsNone, ◌≢◌, ◌⊎◌}
 use Rattle.envelope.specs.declared.fault.FrameFault.{FrameFault}
 use Rattle.envelope.specs.declared.reply_fault.ReplyFault.{ReplyFault}
-use Rattle.envelope.specs.declared.kind.Kind.{Kind}
-use Rattle.envelope.specs.declared.kind.Kind.TheVariants.{Calls, Replies}
+use Rattle.envelope.specs.declared.kind.FrameKind.{FrameKind}
+use Rattle.envelope.specs.declared.kind.FrameKind.TheVariants.{Calls, Replies}
 use Rattle.envelope.specs.Grammar as grammar
 use Rattle.envelope.specs.Faults.{part, place, call_cut_at, reply_part, reply_place, reply_cut_at}
 use Rattle.frames_core.specs.Holding.{IsFaultIn, IsBreakIn}
@@ -19,11 +19,11 @@ abbrev pub begun : {F : Type 0} → CutterState F
 begun = record { past = 0; held = []; fault = None }
 
 -- nothing more is taken
-abbrev pub IsSettledAs : {F : Type 0} → Kind → CutterState F → Type 0
+abbrev pub IsSettledAs : {F : Type 0} → FrameKind → CutterState F → Type 0
 IsSettledAs kind s = grammar.IsFrame kind s.held ⊎ IsSome s.fault
 
 -- the input ends: what has begun and isn't whole is a fault at the end
-abbrev pub IsCutShortAs : {F : Type 0} → Kind → CutterState F → Type 0
+abbrev pub IsCutShortAs : {F : Type 0} → FrameKind → CutterState F → Type 0
 IsCutShortAs kind s = IsNone s.fault × (s.held ≢ []) × ¬ grammar.IsFrame kind s.held
 
 abbrev pub cut_with : {F : Type 0} → (ℕ → F) → CutterState F → CutterState F
@@ -44,7 +44,7 @@ IsFrame bytes = grammar.IsFrame Calls bytes
 abbrev pub IsFaultOf : ℕ → List ℕ → FrameFault → Type 0
 IsFaultOf past held f = IsFaultIn Calls past held (part f) (place f)
 
--- a fault that the bytes have, whatever follows them
+-- a fault that the bytes have, whichever bytes follow
 abbrev pub IsBreakOf : ℕ → List ℕ → FrameFault → Type 0
 IsBreakOf past held f = IsBreakIn Calls past held (part f) (place f)
 

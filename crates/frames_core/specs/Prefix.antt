@@ -1,6 +1,6 @@
 -- What a framer takes of a piece.
 use Rattle.std.specs.Prelude.{◌≡◌, ℕ, ◌+◌, ◌≤◌, ◌<◌, List, ◌++◌, length, take, Option, None, Some, IsSome, ◌⊎◌}
-use Rattle.envelope.specs.declared.kind.Kind.{Kind}
+use Rattle.envelope.specs.declared.kind.FrameKind.{FrameKind}
 use Rattle.frames_core.specs.declared.prefix.Prefix.{Prefix}
 use Rattle.envelope.specs.declared.head.Flaw.{Flaw}
 use Rattle.envelope.specs.Grammar.{lead, text_length, body_length, IsUnbroken, IsUnfinished, BreaksFirst}
@@ -8,11 +8,11 @@ use Rattle.envelope.specs.Head.{IsShort, IsWhole}
 use Rattle.frames_core.specs.Holding.{Marks}
 
 -- what the bytes are with those that were taken
-abbrev pub Stands : Kind → List ℕ → Option Flaw → Type 0
+abbrev pub Stands : FrameKind → List ℕ → Option Flaw → Type 0
 Stands kind bytes None = IsUnbroken kind bytes × (IsShort kind bytes ⊎ IsWhole kind bytes)
 Stands kind bytes (Some f) = BreaksFirst kind bytes f.part f.at
 
-pub record TakesPrefix (kind : Kind) (old piece new : List ℕ) (prefix : Prefix) : Type 0 where
+pub record TakesPrefix (kind : FrameKind) (old piece new : List ℕ) (prefix : Prefix) : Type 0 where
   pub within : prefix.count ≤ length piece
   pub held : new ≡ old ++ take prefix.count piece
   pub least : (k : ℕ) → k < prefix.count → IsUnfinished kind (old ++ take k piece)
@@ -22,6 +22,6 @@ pub record TakesPrefix (kind : Kind) (old piece new : List ℕ) (prefix : Prefix
   pub idle : prefix.count ≡ 0 → prefix.flaw ≡ None
 
 -- nothing is missing while the body's length isn't known
-pub record Misses (kind : Kind) (bytes : List ℕ) (n : ℕ) : Type 0 where
+pub record Misses (kind : FrameKind) (bytes : List ℕ) (n : ℕ) : Type 0 where
   pub head : length bytes < lead kind + 7 + text_length kind bytes → n ≡ 0
   pub body : lead kind + 7 + text_length kind bytes ≤ length bytes → length bytes + n ≡ lead kind + 7 + text_length kind bytes + body_length kind bytes

@@ -1,7 +1,7 @@
 ghost use Rattle.std.specs.Prelude.{◌≡◌, ℕ, ◌+◌, ◌^◌, ◌<◌, ◌≤◌, [], ◌++◌, length, take, slice_index, min, vec_len, vec_capacity, None, Some, IfOk, MatchOption, IsTrue, IsNone, IfSome, is_some, false};
 ghost use Rattle.envelope.specs.Envelope.{IsCall, bytes_of, frame, IsReply, reply_bytes_of, reply};
 ghost use Rattle.envelope.specs.Grammar.{BeginsFrame, IsFrame, IsUnbroken, IsUnfinished};
-ghost use Rattle.envelope.specs.declared.kind.Kind.TheVariants.{Calls, Replies};
+ghost use Rattle.envelope.specs.declared.kind.FrameKind.TheVariants.{Calls, Replies};
 ghost use Rattle.envelope.specs.Head.{IsShort, IsWhole, most_frame};
 ghost use Rattle.frames_core.specs.Holding.{IsBreakIn, IsFaultIn};
 ghost use Rattle.frames_core.specs.Framer.{CutterState, begun, IsSettledAs, IsCutShortAs, cut_with};
@@ -64,10 +64,10 @@ impl<F: Fault> Cutter<F> {
         })
     }
 
-    /// How many bytes were taken since the start of the stream.
+    /// The number of bytes taken since the start of the stream.
     pub fn taken(&self) -> u64
         ensures value { result ≡ self.now.past + length self.now.held }
-        ensures few { result < 2 ^ 63 }
+        ensures bounded { result < 2 ^ 63 }
     {
         self.past + self.buffer.len() as u64
     }
@@ -125,7 +125,7 @@ impl<F: Fault> Cutter<F> {
         }
     }
 
-    // Whether nothing more is taken.
+    // Whether no more bytes are taken: a frame is whole, or a fault is known.
     #[inline(always)]
     fn is_settled(&self) -> bool
         ensures settled { IsTrue result → IsSettledAs F.kind self.now }
@@ -153,8 +153,8 @@ impl<F: Fault> Cutter<F> {
         ensures known { self.old.fault ≡ None
             → IfSome self.new.fault (λ f. IsBreakIn F.kind self.new.past self.new.held (F.wrong_part f)
             (F.place f)) }
-        // What may yet become a frame is shorter than the longest one.
-        ensures few { self.new.fault ≡ None → IsUnfinished F.kind self.new.held
+        // A prefix of a frame is shorter than the longest frame.
+        ensures bounded { self.new.fault ≡ None → IsUnfinished F.kind self.new.held
             → length self.new.held < most_frame F.kind }
         // Nothing is taken while a frame is complete or after a fault.
         ensures settled { IsSettledAs F.kind self.old → result ≡ 0 }

@@ -4,14 +4,14 @@ ghost use Rattle.frames_core.specs.Prefix.{TakesPrefix, Misses};
 ghost use Rattle.envelope.specs.Grammar.{IsUnbroken};
 ghost use Rattle.envelope.specs.Head.{IsShort, most_frame};
 
-use envelope::{Flaw, Head, Kind, Look, look_at};
+use envelope::{Flaw, FrameKind, Head, Look, look_at};
 
-/// What was taken of a piece.
+/// The part of a piece that was taken.
 #[derive(Clone, Copy)]
 pub(crate) struct Prefix {
-    /// How many bytes.
+    /// The number of bytes taken.
     pub count: usize,
-    /// What the last of them breaks, with its place in the bytes held.
+    /// The rule that the last of them breaks, with its place in the held bytes.
     pub flaw: Option<Flaw>,
     /// Whether the bytes held are then a whole frame.
     pub whole: bool,
@@ -22,7 +22,7 @@ pub(crate) struct Prefix {
 /// What may be the head is appended, looked at and cut back to where the frame or the break ends; the body
 /// then comes as one copy.
 #[inline(always)]
-pub(crate) fn take_prefix(kind: Kind, buffer: &mut Vec<u8>, piece: &[u8]) -> Prefix
+pub(crate) fn take_prefix(kind: FrameKind, buffer: &mut Vec<u8>, piece: &[u8]) -> Prefix
     requires room { most_frame kind ≤ vec_capacity buffer.old }
     requires unbroken { IsUnbroken kind buffer.old.items }
     requires short { IsShort kind buffer.old.items }
@@ -88,7 +88,8 @@ fn append(buffer: &mut Vec<u8>, bytes: &[u8])
     }
 }
 
-// Whether so many are all that were missing: none were, until the length of the body is known.
+// Whether `count` bytes are all the missing ones. No bytes are missing until the length of the body is
+// known.
 #[inline(always)]
 fn are_all(count: usize, missing: usize) -> bool
     ensures all { IsTrue result → (0 < missing) × (count ≡ missing) }
@@ -97,10 +98,10 @@ fn are_all(count: usize, missing: usize) -> bool
     missing > 0 && count == missing
 }
 
-// How many bytes of the body are missing: 0 until its length is known.
+// The missing bytes of the body: 0 until its length is known.
 #[tactic(auto, unfolding(envelope::specs::Head::IsShort))]
 #[inline(always)]
-fn missing(kind: Kind, bytes: &[u8]) -> usize
+fn missing(kind: FrameKind, bytes: &[u8]) -> usize
     requires { IsShort kind bytes.now }
     ensures { Misses kind bytes.now result }
 {

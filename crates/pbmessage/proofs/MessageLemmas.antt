@@ -117,7 +117,7 @@ merging_next {V} good value bytes before rest start now e m read = from m.left m
           };
         }
 
--- nothing is left where no field stands
+-- no bytes are left after the last field
 pub merging_ends : {V : Type 0} (good : WireField → Type 0) (value : List WireField → V) (bytes rest : List ℕ) (start now : V) → Merging good value bytes rest start now → ((x : WireField × List ℕ) → field_at rest ≡ Ok x → ⊥) → (seen : List WireField) → start ≡ value seen → now ≡ value (seen ++ fields_of bytes)
 merging_ends good value bytes rest start now m none seen h = m.merged seen h ∙ ap (λ (es : List WireField). value (seen ++ es)) (sym (m.whole ∙ ap (λ (es : List WireField). m.done ++ es) (no_left m.left m.reads) ∙ append-nil m.done))
   where
@@ -159,7 +159,7 @@ looking_ends laws good bytes rest at l none = record { fields = l.fields; whole 
 pub looking_stops : FieldLaws → (good : WireField → Type 0) (bytes rest : List ℕ) (at : ℕ) → Looking good bytes rest at → rest ≢ [] → ((e : WireField) (mid : List ℕ) → field_at rest ≡ Ok (e, mid) → good e → ⊥) → IsRefusedAt good bytes at
 looking_stops laws good bytes rest at l more bad = refused laws good bytes at (record { fields = l.fields; rest = rest; prefix = l.prefix; each = l.each; offset = l.offset; more = more; bad = bad })
 
--- the field that was read is the only one that is
+-- the field that was read is the only field
 pub not_good : (good : WireField → Type 0) (rest mid : List ℕ) (e : WireField) → field_at rest ≡ Ok (e, mid) → (good e → ⊥) → (f : WireField) (others : List ℕ) → field_at rest ≡ Ok (f, others) → good f → ⊥
 not_good good rest mid e read bad f others is g = bad (subst good (ap (λ (p : WireField × List ℕ). p.0) (same_read (f, others) (e, mid) (sym is ∙ read))) g)
 

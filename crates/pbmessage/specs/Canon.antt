@@ -44,7 +44,7 @@ abbrev pub row_number : Row → ℕ
 row_number (Numbers k xs) = k
 row_number (Strings k ps) = k
 
--- the number is above those of all rows
+-- the number is above every row's
 abbrev pub above : Rows → ℕ → Bool
 above Start k = true
 above (rs ▸ r) k = above rs k && nat_lt (row_number r) k
@@ -72,7 +72,7 @@ signed_number z = present_number (cast_unsigned w64 z)
 abbrev pub flag_number : Bool → List ℕ
 flag_number b = if b then 1 ∷ [] else []
 
--- a present message of which nothing more is kept
+-- a present message without kept fields
 abbrev pub presence : Bool → Payloads
 presence b = if b then [] ∷ [] else []
 

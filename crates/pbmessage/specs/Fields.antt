@@ -29,19 +29,19 @@ abbrev pub Refuses : (WireField → Type 0) → List ℕ → DecodeFault → Typ
 Refuses good bytes (fault.Malformed at) = IsRefusedAt good bytes at
 Refuses good bytes fault.NoMemory = AreGood good bytes
 
--- the bytes mean the value: they are a list of good fields, and the value is that of the list
+-- the bytes mean the value: they are a list of good fields, and the list has this value
 pub record Means {V : Type 0} (good : WireField → Type 0) (value : List WireField → V) (bytes : List ℕ) (v : V) : Type 0 where
   pub fields : List WireField
   pub whole : AreFields fields bytes
   pub each : AllByRecursion good fields
   pub is : v ≡ value fields
 
--- a field, and those of the rest
+-- a field, and the fields of the rest
 abbrev pub first_and : (List ℕ → List WireField) → Result (WireField × List ℕ) WireWhy → List WireField
 first_and others (Ok x) = x.0 ∷ others x.1
 first_and others (Err e) = []
 
--- the prefix of fields, at most so many
+-- the first fields, at most `k`
 unfoldable pub prefix_fields : ℕ → List ℕ → List WireField
 prefix_fields zero bytes = []
 prefix_fields (suc k) bytes = first_and (λ rest. prefix_fields k rest) (field_at bytes)

@@ -6,8 +6,8 @@ use Rattle.pbwire.specs.Wire.{WireField}
 use Rattle.pbmessage.specs.Fields.{AreGood}
 use Rattle.pbmessage.specs.Views.{payload}
 
--- under which numbers a message has texts and embedded messages, and of which schema these are; a payload
--- under any other number is good whatever it is
+-- the numbers of a message's texts and embedded messages, and the schemas of these; any payload is good
+-- under another number
 pub data Schema : Type 0 where
   AnyPayload : Schema
   TextAt : ℕ → Schema → Schema

@@ -36,7 +36,7 @@ beside n (Some p) = Some (n, p)
 abbrev pub member_of : (ℕ → Bool) → WireField → Option (ℕ × List ℕ)
 member_of test e = if test e.number then beside e.number (payload e.part) else None
 
--- what is in a message: the payloads and the varints of each number in order, and the payloads of all
+-- the contents of a message: the payloads and the varints of each number in order, and the payloads of all
 -- numbers that pass a test
 pub record Views : Type 0 where
   pub payloads : ℕ → Payloads
@@ -83,7 +83,7 @@ abbrev pub inner : {V : Type 0} → (List WireField → V) → Payloads → Opti
 inner value [] = None
 inner value (p ∷ ps) = Some (value (joined (p ∷ ps)))
 
--- whether a message is present, of which nothing more is kept
+-- whether a message without kept fields is present
 abbrev pub is_present : Payloads → Bool
 is_present [] = false
 is_present (p ∷ ps) = true

@@ -20,7 +20,7 @@ use std::alloc::{AllocError, Global};
 /// in order. `P` names the package of messages: a type of the crate that says how they are read,
 /// which need not be the one whose types their values are.
 pub trait Message<P>: Drop {
-    /// Which numbers are of texts and embedded messages.
+    /// The numbers of texts and embedded messages.
     ghost schema: { Schema };
 
     /// The value, by what is in the message.
@@ -134,7 +134,7 @@ pub fn merge<P, M: Message<P>>(
     Ok(())
 }
 
-/// What good bytes mean.
+/// The value of good bytes.
 pub fn read<P, M: Message<P>>(alloc: Global, bytes: &[u8]) -> Result<M, AllocError>
     requires { AreGood (GoodField (Good M.schema)) bytes.now }
     ensures { IfOk result (λ message. message ≡ value_of M.of (fields_of bytes.now)) }
@@ -144,8 +144,8 @@ pub fn read<P, M: Message<P>>(alloc: Global, bytes: &[u8]) -> Result<M, AllocErr
     Ok(message)
 }
 
-/// What the bytes mean. Faults are looked for first, so want of memory is answered only where they mean a
-/// value.
+/// The value of the bytes. Faults are looked for first, so want of memory is reported only for bytes that
+/// mean a value.
 #[inline(always)]
 pub fn decode_message<P, M: Message<P>>(alloc: Global, bytes: &[u8]) -> Result<M, DecodeFault>
     ensures ok { IfOk result (Means (GoodField (Good M.schema)) (value_of M.of) bytes.now) }
@@ -161,7 +161,7 @@ pub fn decode_message<P, M: Message<P>>(alloc: Global, bytes: &[u8]) -> Result<M
     }
 }
 
-/// The same, kept apart.
+/// As [`decode_message`], but boxed, so that callers do not move the message.
 pub fn decode_boxed<P, M: Message<P>>(alloc: Global, bytes: &[u8]) -> Result<Boxed<M>, DecodeFault>
     ensures ok { IfOk result (Means (GoodField (Good M.schema)) (value_of M.of) bytes.now) }
     ensures err { IfErr result (Refuses (GoodField (Good M.schema)) bytes.now) }

@@ -19,7 +19,7 @@ pub trait Written<P> {
     /// The fields of the encoding, by their numbers.
     ghost canon: { Self → Rows };
 
-    /// Which values have an encoding. Every value that is written is one.
+    /// The values that have an encoding. Every written value is one of them.
     ghost fits: { Self → Type 0 };
 
     /// Appends the encoding. Where memory is refused a part of it may be there.
@@ -148,7 +148,7 @@ pub fn put_presence(out: &mut Vec<u8>, number: u32, present: bool) -> Result<(),
     put_bytes(out, number, &[])
 }
 
-/// Appends a message.
+/// Appends an embedded message: its tag, its length and its fields.
 pub fn put_message<P, M: Written<P>>(
     out: &mut Vec<u8>,
     number: u32,

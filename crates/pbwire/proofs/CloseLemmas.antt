@@ -33,7 +33,7 @@ unfolding minimal
 some_bytes zero n = omega arith
 some_bytes (suc k) n = elim (ltb n 128) as (λ (b : Bool). 1 ≤ length (cond b (n ∷ []) ((n % 128 + 128) ∷ minimal k (n / 128)))) [ true ↦ omega arith | false ↦ omega arith ]
 
--- a field that was put empty, what was appended after it, and its length set
+-- an empty field, the bytes appended after it, and its length set
 pub closed : (number from : ℕ) (old bytes whole : List ℕ) → whole ≡ (old ++ spelling (record { number = number; part = Payload [] })) ++ bytes → from ≡ length (old ++ spelling (record { number = number; part = Payload [] }))
     → take (from - 1) whole ++ (varint (length whole - from) ++ drop from whole) ≡ old ++ spelling (record { number = number; part = Payload bytes })
 closed number from old bytes whole is at =

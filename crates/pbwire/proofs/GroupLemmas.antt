@@ -3,7 +3,7 @@ use Rattle.std.proofs.Common.{◌≡◌, ℕ, zero, suc, ◌<◌, ◌≤◌, Lis
 use Rattle.std.proofs.lemmas.List.Elements.{All-nil, All-cons, All-head, All-tail}
 use Rattle.pbwire.specs.Wire.{groups_value, IsVarint}
 
--- At most so many bytes are left, and the last that may stand there is at most 1.
+-- At most `left` bytes are left, and the last possible one is at most 1.
 abbrev pub AreGroups : ℕ → List ℕ → Type 0
 AreGroups left [] = ⊥
 AreGroups zero (b ∷ bs) = ⊥

@@ -9,7 +9,7 @@ use Rattle.pbwire.specs.declared.field.WireWhy.TheVariants as why
 use Rattle.pbwire.specs.Reading.{◌>>=◌, with_group, groups_at}
 use Rattle.pbwire.specs.Writing.{minimal}
 
--- what was read before, and what is still read
+-- the bytes read before, and the bytes still read
 abbrev pub with_low : ℕ → ℕ → Result (ℕ × List ℕ) WireWhy → Result (ℕ × List ℕ) WireWhy
 with_low value weight read = read >>= λ x. Ok (value + weight * x.0, x.1)
 
@@ -17,7 +17,7 @@ regroup : (value weight b : ℕ) (read : Result (ℕ × List ℕ) WireWhy) → w
 regroup value weight b (Ok x) = ap (λ (n : ℕ). Ok (n, x.1)) (grind arith)
 regroup value weight b (Err e) = refl
 
--- what stands at an index
+-- the byte at an index
 pub here_is : (i b : ℕ) (bytes : List ℕ) → i < length bytes → b ≡ get_or bytes i b → drop i bytes ≡ b ∷ drop (i + 1) bytes
 here_is i b bytes lt is = rw add-one (drop-cons bytes i b lt ∙ ap (λ (n : ℕ). n ∷ drop (suc i) bytes) (sym is))
 
@@ -118,7 +118,7 @@ length-minimal (suc k) n = elim (ltb n 128) as (λ t. length (cond t (n ∷ []) 
   | false ↦ omega (arith, length-minimal k (n / 128))
 ]
 
--- what is written so far, and the number that is left
+-- the bytes written so far, and the rest of the number
 pub record Writes (start out whole : List ℕ) (rest : ℕ) : Type 0 where
   pub longer : length start ≤ length out
   pub short : length out ≤ length start + 9

@@ -22,7 +22,7 @@ pub record AfterTag (tag : ℕ) (rest bytes : List ℕ) : Type 0 where
 abbrev pub VarintAt : List ℕ → List ℕ → Type 0
 VarintAt rest bytes = (rest ≡ bytes) ⊎ ((tag : ℕ) × AfterTag tag rest bytes × ((tag % 8 ≡ 0) ⊎ (tag % 8 ≡ 2)))
 
--- So many bytes must be where the bytes go on with rest.
+-- `n` bytes must come before rest.
 abbrev pub BytesAt : ℕ → List ℕ → List ℕ → Type 0
 BytesAt n rest bytes =
     ((tag : ℕ) × AfterTag tag rest bytes × (((tag % 8 ≡ 1) × (n ≡ 8)) ⊎ ((tag % 8 ≡ 5) × (n ≡ 4))))

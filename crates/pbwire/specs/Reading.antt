@@ -35,7 +35,7 @@ seen view (Err e) = Err e
 abbrev pub with_group : ℕ → Result (ℕ × List ℕ) WireWhy → Result (ℕ × List ℕ) WireWhy
 with_group b read = read >>= λ x. Ok (b % 128 + 128 * x.0, x.1)
 
--- at most so many groups are left; in the last place that there is, one is at most 1
+-- at most as many groups as the first argument says are left, and the last of them is at most 1
 unfoldable pub groups_at : ℕ → List ℕ → Result (ℕ × List ℕ) WireWhy
 groups_at zero bytes = Err why.Varint
 groups_at (suc zero) [] = Err why.CutShort
@@ -52,7 +52,7 @@ tag_at bytes = do
   tag ← varint_at bytes
   if nat_le (2 ^ 32) tag.0 || nat_lt tag.0 8 then Err why.Tag else Ok tag
 
--- so many bytes, and the rest
+-- `n` bytes, and the rest
 abbrev pub bytes_at : ℕ → List ℕ → Result (List ℕ × List ℕ) WireWhy
 bytes_at n bytes = if nat_lt (length bytes) n then Err why.CutShort else Ok (take n bytes, drop n bytes)
 
@@ -78,7 +78,7 @@ pub record Cursor : Type 0 where
   pub rest : List ℕ
   pub failed : Bool
 
--- where a field, or a fault in its place, leaves the cursor
+-- where a field, or a fault at its place, leaves the cursor
 abbrev pub moved : Cursor → Result (WireField × List ℕ) WireWhy → Option (Result WireField WireFault) × Cursor
 moved c (Ok x) = (Some (Ok x.0), record { at = c.at + (length c.rest - length x.1); rest = x.1; failed = false })
 moved c (Err e) = (Some (Err (record { why = e; at = c.at })), record { at = c.at; rest = c.rest; failed = true })

@@ -1,5 +1,5 @@
--- What bytes encode: varints, fields, and lists of fields. The words are those of the Protocol
--- Buffers encoding guide. Where it leaves a reader a choice, the choice is named.
+-- The values that bytes encode: varints, fields, and lists of fields. The words are the Protocol Buffers
+-- encoding guide's. Where the guide leaves a reader a choice, the choice is named.
 use Rattle.std.specs.Prelude.{◌≡◌, ℕ, ◌+◌, ◌*◌, ◌%◌, ◌^◌, ◌<◌, ◌≤◌, List, [], ◌∷◌, ◌++◌, length, All}
 
 -- ---- "Base 128 Varints"
@@ -9,8 +9,8 @@ abbrev pub groups_value : List ℕ → ℕ
 groups_value [] = 0
 groups_value (b ∷ bs) = b % 128 + 128 * groups_value bs
 
--- The bytes are a varint of n. It need not be the shortest. The guide gives a varint ten bytes, of
--- which the tenth holds the 64th bit alone: here one above 1 is malformed, and no bit is dropped.
+-- The bytes are a varint of n. It need not be the shortest. The guide gives a varint ten bytes, and the
+-- tenth holds the 64th bit alone: here a tenth byte above 1 is malformed, and no bit is dropped.
 pub record IsVarint (bytes : List ℕ) (n : ℕ) : Type 0 where
   pub more : List ℕ
   pub last : ℕ

@@ -2,7 +2,7 @@
 
 use thiserror::Error;
 
-/// What a field holds, by its wire type (Protocol Buffers encoding guide, "Message Structure").
+/// The value of a field, by its wire type (Protocol Buffers encoding guide, "Message Structure").
 #[derive(Clone, Copy, Debug)]
 pub enum Value<'a> {
     /// Wire type 0 (`VARINT`): a number of up to 64 bits.
@@ -20,7 +20,7 @@ pub enum Value<'a> {
 pub struct Field<'a> {
     /// The field's number, from 1 to 536,870,911.
     pub number: u32,
-    /// What the field holds.
+    /// The field's value.
     pub value: Value<'a>,
 }
 
@@ -47,8 +47,8 @@ pub enum WireWhy {
 #[derive(Clone, Copy, Debug, PartialEq, Eq, Error)]
 #[error("{why} at byte {at}")]
 pub struct WireFault {
-    /// What is wrong.
+    /// The rule of the wire format that the bytes break.
     pub why: WireWhy,
-    /// How many bytes of the message come before the field's tag.
+    /// The offset of the field's tag in the message, in bytes.
     pub at: usize,
 }

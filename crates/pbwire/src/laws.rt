@@ -31,8 +31,8 @@ pub fn faulted()
 /// begins with the list's first field, and goes on with the others.
 #[inline(always)]
 pub fn listed()
-    ensures one { (es others : List WireField) (bytes : List ℕ) → AreFields es bytes → AreFields others bytes
-        → es ≡ others }
+    ensures unique { (es others : List WireField) (bytes : List ℕ) → AreFields es bytes
+        → AreFields others bytes → es ≡ others }
     ensures in_order { (e : WireField) (es : List WireField) (bytes : List ℕ) →
         AreFields (e ∷ es) bytes ↔ ((rest : List ℕ) × (field_at bytes ≡ Ok (e, rest)) × AreFields es rest) }
 {}

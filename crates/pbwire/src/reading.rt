@@ -163,7 +163,7 @@ impl<'a> Fields<'a> {
         }
     }
 
-    /// How many bytes the fields that were given up took. After a fault it is the fault's offset.
+    /// The offset after the last field read, in bytes; after a fault, the fault's offset.
     pub fn at(&self) -> usize
         ensures { result ≡ self.now.at }
     {

@@ -97,7 +97,7 @@ impl Message for Response {
     }
 }
 
-// What the argument checks answer.
+// The answer of the argument checks.
 fn checked(request: &Request) -> &'static str {
     match check(request) {
         Ok(()) => "passed",

@@ -57,7 +57,7 @@ impl Bench {
         reply_to(alloc, &self.config, &mut self.keeper, method, message)
     }
 
-    // How many volumes the keeper counts at a node.
+    // The keeper's count of volumes at a node.
     fn count(&mut self, alloc: Global, node: &str) -> Result<String, RowFault> {
         let node = Text::from_str(alloc, node)?;
         let count = self.keeper.count_at(alloc, &node)?;

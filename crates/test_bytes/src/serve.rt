@@ -45,7 +45,7 @@ impl Streams {
                 self.stream
                     .put_fault(alloc, text, &bytes_of(alloc, bytes)?)?;
             }
-            "behind" => self.stream.put_behind(&bytes_of(alloc, rest)?)?,
+            "behind" => self.stream.put_after(&bytes_of(alloc, rest)?)?,
             "run" => {
                 let stream = mem::replace(&mut self.stream, Stream::new(alloc));
                 return run(alloc, Server::Volumes(&self.config), &stream);

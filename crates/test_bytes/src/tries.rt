@@ -60,7 +60,7 @@ impl Said {
 // The words of replies.
 const REPLIES: [&str; 5] = ["done", "exists", "inside", "with-text", "with-body"];
 
-// What an exchange gives, by its word.
+// The outcome of an exchange, by its word.
 #[derive(Clone, Copy)]
 enum Outcome {
     Reply(Said),
@@ -137,7 +137,7 @@ struct Script<'w> {
     alloc: Global,
     words: &'w [&'w str],
     exchanges: Exchanges,
-    // Whether each exchange was given the frame.
+    // Whether each exchange was given the same frame.
     is_same: bool,
 }
 
@@ -184,11 +184,11 @@ fn call_answer(alloc: Global, words: &[&str]) -> Result<String, RowFault> {
         is_same: true,
     };
     let word = word_of(&call_again(&mut line, FRAME, tries));
-    told(alloc, &line, word)
+    reported(alloc, &line, word)
 }
 
-// What the last exchange gave, and what came of the line.
-fn told(alloc: Global, line: &Script<'_>, word: &str) -> Result<String, RowFault> {
+// The last outcome, and the counts of the line.
+fn reported(alloc: Global, line: &Script<'_>, word: &str) -> Result<String, RowFault> {
     let Exchanges {
         made,
         unanswered,

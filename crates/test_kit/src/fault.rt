@@ -18,10 +18,10 @@ pub enum RowFault {
     /// Memory was refused.
     #[error("no memory for the row")]
     NoMemory,
-    /// What was called refused, for a cause with a fixed text.
+    /// The tested call refused, for a cause with a fixed text.
     #[error("{0}")]
     Refused(&'static str),
-    /// What came is not what was wanted.
+    /// The result is not the wanted one.
     #[error("{0}")]
     Differs(String),
 }

@@ -11,7 +11,7 @@ ghost use Rattle.std.specs.Prelude.{◌≡◌, ◌<◌, ◌++◌, [], IfOk, IfSo
 use std::alloc::{AllocError, AllocFailed, Global};
 use std::str;
 
-// How deep parentheses and brackets may nest.
+// The deepest nesting of parentheses and brackets.
 const DEEPEST: u8 = 12;
 
 /// Why a text is no bytes.
@@ -42,11 +42,11 @@ enum Part<'t> {
     Byte(u8),
     // The text between quotation marks.
     Text(&'t [u8]),
-    // What is in parentheses.
+    // The contents of parentheses.
     Sized(&'t [u8]),
-    // What is in square brackets.
+    // The contents of square brackets.
     Group(&'t [u8]),
-    // How many digits the count has.
+    // The number of digits of the count.
     Count(u8),
 }
 
@@ -240,7 +240,7 @@ fn closing(text: &[u8]) -> Option<usize>
     None
 }
 
-// How often the part in front of the text is repeated, and what follows.
+// The count of repetitions after a part, and the rest of the text.
 fn times_of(text: &[u8]) -> Option<(u32, &[u8])> {
     let Some((b'*', rest)) = text.split_first() else {
         return Some((1, text));

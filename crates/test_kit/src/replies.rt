@@ -18,9 +18,9 @@ const TRIES: u8 = 2;
 // Why the body of a listing gives no text.
 const NO_PAGE: &str = "the body is no page";
 
-/// What a call is answered.
+/// The answer to a call.
 pub enum Reply {
-    /// The body.
+    /// The call is done; the body of its response.
     Done(Vec<u8>),
     /// The message means no request.
     Malformed(DecodeFault),

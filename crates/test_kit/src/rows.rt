@@ -7,10 +7,10 @@ use std::process::ExitCode;
 // The exit status where the input cannot be read or the output cannot be written.
 const INPUT_OUTPUT: u8 = 5;
 
-// What begins the line of a section.
+// The first characters of a section's line.
 const HEAD: &str = "@ ";
 
-/// What a row is answered.
+/// The answer to a row.
 #[derive(Drop)]
 pub enum RowAnswer {
     /// Nothing: the row is not written either.
@@ -21,7 +21,7 @@ pub enum RowAnswer {
     Lines(Vec<u8>),
 }
 
-/// What answers the rows of a section, in order.
+/// A section that answers its rows in order.
 pub trait AnswerRow {
     /// The answer to a row.
     ///
@@ -31,7 +31,7 @@ pub trait AnswerRow {
     fn answer_row(&mut self, rt: &HostRuntime, row: &str) -> Result<RowAnswer, RowFault>;
 }
 
-/// What answers sections, in order.
+/// A program that answers sections in order.
 pub trait AnswerSection {
     /// Answers the rows of the section of a name, by [`Rows::answer`].
     ///
@@ -52,12 +52,12 @@ pub struct Rows<'a, W> {
     name: &'a str,
     lines: &'a str,
     out: &'a mut W,
-    // What came of the writing.
+    // The first error of writing, if any.
     end: io::Result<()>,
 }
 
 impl<W: Write> Rows<'_, W> {
-    /// Answers each row.
+    /// Answers the rows of a section, up to the next section.
     pub fn answer<R: AnswerRow>(&mut self, rt: &HostRuntime, section: &mut R) {
         self.end = writeln!(self.out, "{HEAD}{}", self.name);
         for line in self.lines.split('\n') {

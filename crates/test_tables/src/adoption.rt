@@ -40,7 +40,7 @@ fn begin<S: Alter>(conn: &mut Connection<S>, start: &str, statements: &str) -> R
     Ok(())
 }
 
-// What tables are adopted as that begin so, also where they are given back and adopted again.
+// The answers of two adoptions: tables that begin like this are adopted, given back, and adopted again.
 fn adopt_twice<S: Alter + Drop>(
     alloc: Global,
     mut conn: Connection<S>,
@@ -51,9 +51,9 @@ fn adopt_twice<S: Alter + Drop>(
     requires { conn.in_transaction ≡ false }
 {
     begin(&mut conn, start, statements)?;
-    let (first, mut conn) = told(alloc, conn, config);
+    let (first, mut conn) = reported(alloc, conn, config);
     let format = format_of(alloc, &mut conn, start);
-    let (second, _) = told(alloc, conn, config);
+    let (second, _) = reported(alloc, conn, config);
     both(alloc, first?, format?, second?)
 }
 
@@ -80,8 +80,8 @@ fn format_of<S: Alter>(
     Ok(format!(in alloc; ", in format {format}")?)
 }
 
-// What tables are adopted as, or why they are not, and the connection that is given back.
-fn told<S: Alter>(
+// The State of adopted tables or the fault, and the connection.
+fn reported<S: Alter>(
     alloc: Global,
     conn: Connection<S>,
     config: &Config,

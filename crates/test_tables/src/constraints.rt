@@ -49,7 +49,7 @@ fn ask_owners<S: Alter>(alloc: Global, conn: &mut IdleConnection<S>) -> Result<S
         found: None,
     };
     Scan::Owners.over(conn, &mut fold)?;
-    told(
+    reported(
         alloc,
         &fold.found,
         Words::Attachment(AttachmentConstraint::Owner),
@@ -63,10 +63,10 @@ fn ask_places<S: Alter>(alloc: Global, conn: &mut IdleConnection<S>) -> Result<S
         found: None,
     };
     Scan::Places.over(conn, &mut fold)?;
-    told(
+    reported(
         alloc,
         &fold.found,
-        Words::Attachment(AttachmentConstraint::Beside),
+        Words::Attachment(AttachmentConstraint::Coexist),
     )
 }
 
@@ -161,7 +161,7 @@ fn ask_attachments<S: Alter>(
     }
 }
 
-// Whether all rows of a scan meet a constraint.
+// The answer whether all rows of a scan meet a constraint.
 fn ask<S: Alter, T: RowTrial + Drop>(
     alloc: Global,
     conn: &mut IdleConnection<S>,
@@ -181,7 +181,7 @@ fn ask<S: Alter, T: RowTrial + Drop>(
         found: None,
     };
     scan.over(conn, &mut fold)?;
-    told(alloc, &fold.found, words)
+    reported(alloc, &fold.found, words)
 }
 
 // The words for a row that breaks a constraint.
@@ -195,8 +195,8 @@ enum Words {
     Attachment(AttachmentConstraint),
 }
 
-// That rows meet a constraint, or which is the first that does not.
-fn told(alloc: Global, found: &Option<RowName>, words: Words) -> Result<String, RowFault> {
+// The answer that rows meet a constraint, or the name of the first row that does not.
+fn reported(alloc: Global, found: &Option<RowName>, words: Words) -> Result<String, RowFault> {
     match found {
         Some(row) => broken_text(alloc, row, words),
         None => Ok(String::from_str(alloc, "holds")?),

@@ -22,7 +22,7 @@ pub(crate) fn without_tables(alloc: Global) -> Result<Connection<MemStore>, RowF
     Ok(Connection::open_in_memory(alloc)?)
 }
 
-/// Makes our tables.
+/// Makes our tables in an empty database.
 pub(crate) fn make<S: Alter>(conn: &mut Connection<S>) -> Result<(), RowFault>
     requires { conn.old.in_transaction ≡ false }
 {
@@ -37,7 +37,7 @@ pub(crate) fn idle<S: Alter + Drop>(conn: Connection<S>) -> Result<IdleConnectio
     Ok(IdleConnection::new(conn))
 }
 
-/// Carries out statements.
+/// Runs SQL statements in order.
 pub(crate) fn run<S: Alter>(conn: &mut Connection<S>, statements: &str) -> Result<(), RowFault> {
     conn.execute_batch(statements).map_err(refused)
 }

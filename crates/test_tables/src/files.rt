@@ -21,7 +21,7 @@ pub(crate) struct Bench<D> {
 }
 
 impl<D: TestDisk> Bench<D> {
-    /// New files.
+    /// A bench over new, empty files.
     pub(crate) fn new(alloc: Global) -> Result<Bench<D>, RowFault> {
         Ok(Bench {
             stops: stops::Bench::new(alloc)?,
@@ -35,7 +35,7 @@ impl<D: TestDisk> Bench<D> {
         Ok(format!(in alloc; "{} bytes", self.page.len())?)
     }
 
-    // What becomes of a log and a database file with these bytes.
+    // The result of laying out a database over a log and a file with these bytes.
     fn lay(&self, alloc: Global, words: &str) -> Result<String, RowFault> {
         let (log, db) = words.split_once(" / ").ok_or(RowFault::NotRow)?;
         let log = bytes_of(alloc, log)?;

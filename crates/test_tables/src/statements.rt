@@ -54,7 +54,7 @@ fn answer<S: Alter + Drop>(
     }
 }
 
-// What no change and no read does.
+// Answers the rows that are no change and no read.
 fn on_connection<S: Alter>(
     alloc: Global,
     conn: &mut Connection<S>,
@@ -243,7 +243,7 @@ fn both(alloc: Global, volumes: &[Row], places: &[Row]) -> Result<String, RowFau
     Ok(format!(in alloc; "{numbers}; {places}")?)
 }
 
-// Of each attachment its node, its capability, and whether it is readonly.
+// The attachments as a text: node, capability, and whether it is read-only.
 fn attachments(alloc: Global, rows: Result<Vec<Row>, SqlError>) -> Result<String, RowFault> {
     let mut text = String::new(alloc);
     for row in &rows.map_err(refused)? {

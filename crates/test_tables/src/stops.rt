@@ -21,10 +21,10 @@ use test_kit::{AnswerRow, RowAnswer, RowFault, bytes_of, number_at};
 use trials::{Trials, Way};
 use troubled::{Trouble, lying};
 
-/// How a database is left.
+/// The state that a database is left in.
 #[derive(Clone, Copy)]
 pub(crate) enum Ending {
-    /// Closed.
+    /// The connection was closed.
     Closed,
     /// The committed changes are in the WAL alone.
     Open,
@@ -43,7 +43,7 @@ pub(crate) struct Bench<D> {
 }
 
 impl<D: TestDisk> Bench<D> {
-    /// New files.
+    /// A bench over new, empty files.
     pub(crate) fn new(alloc: Global) -> Result<Bench<D>, RowFault> {
         Ok(Bench {
             config: Config::sample(alloc)?,
@@ -131,7 +131,7 @@ impl<D: TestDisk> Bench<D> {
         Ok(made.after)
     }
 
-    // What comes of a call over the files, or over new ones where no database was made in them.
+    // The outcome of a call over the files, or over new ones if no database was made in them.
     fn outcome_of(&self, alloc: Global, call: &[u8]) -> Result<Outcome, RowFault> {
         if self.is_made {
             outcome_of::<D>(alloc, &self.config, &self.files, call)

@@ -24,7 +24,7 @@ pub(crate) struct Bench {
 }
 
 impl Bench {
-    /// No volumes.
+    /// A bench without volumes.
     pub(crate) fn new(alloc: Global) -> Result<Bench, RowFault> {
         Ok(Bench {
             config: Config::sample(alloc)?,
@@ -36,7 +36,7 @@ impl Bench {
         match row {
             "begin" => begin(alloc, &mut self.tables, new_tables(alloc)),
             "make" => remake(alloc, &mut self.tables, new_tables(alloc)),
-            _ => told(alloc, &self.config, &mut self.tables, row),
+            _ => reported(alloc, &self.config, &mut self.tables, row),
         }
     }
 }
@@ -85,7 +85,7 @@ fn next_in<S: Alter>(alloc: Global, conn: &mut IdleConnection<S>) -> Result<Stri
 }
 
 // A request, a page of a listing in words, or a call of the keeper itself.
-fn told<K: Keeper>(
+fn reported<K: Keeper>(
     alloc: Global,
     config: &Config,
     keeper: &mut K,

@@ -1,4 +1,4 @@
--- What is written of keys and of parameters, field by field, is the encoding of the request of these alone.
+-- Keys and parameters written field by field are the encoding of a request with these fields alone.
 use Rattle.std.proofs.Common.{◌≡◌, ◌∙◌, refl, sym, ap, subst, arith, ℕ, List, [], ◌++◌, map, Ok}
 use Rattle.std.proofs.lemmas.List.{append-nil, nil_from_length}
 use Rattle.std.proofs.lemmas.Str.{IsUtf8-nil}

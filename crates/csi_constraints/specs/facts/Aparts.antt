@@ -7,7 +7,7 @@ use Rattle.sqlite_trees.proofs.ListLemmas.{all-append, all_both, all_weaker}
 use Rattle.csi_constraints.specs.Apart.{apart_named, are_apart, first_apart, NoneApart}
 use Rattle.csi_constraints.specs.Named.{name_of}
 
--- a row is apart from none of some
+-- a row conflicts with none of these rows
 abbrev FarFrom : List Row → Row → Type 0
 FarFrom earlier r = AllByRecursion (λ e. are_apart e r ≡ false) earlier
 

@@ -1,4 +1,4 @@
--- What is so of a list without its last.
+-- Facts of a list without its last item.
 use Rattle.std.proofs.Common.{List, [], ◌∷◌, ◌++◌}
 use Rattle.std.specs.List.{AllByRecursion}
 use Rattle.sqlite.specs.Tree.{IsAscending}

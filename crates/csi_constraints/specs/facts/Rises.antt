@@ -1,4 +1,4 @@
--- Rows in order of which no two neighbours share their first value rise.
+-- Ordered rows rise if no two neighbours share their first value.
 use Rattle.std.proofs.Common.{◌≡◌, ◌≢◌, subst, ℕ, suc, ◌+◌, ◌<◌, arith, true, false, true≢false, List, [], ◌∷◌, length, map, slice_index_or, None, IsSorted}
 use Rattle.std.specs.List.{AllByRecursion}
 use Rattle.std.specs.declared.cmp.Ordering.{Ordering}

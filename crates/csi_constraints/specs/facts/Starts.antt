@@ -1,4 +1,4 @@
--- Over no row a fold stays what it is, and a test is what it was.
+-- A fold over no rows changes nothing, and a test keeps its outcome.
 use Rattle.std.proofs.Common.{◌≡◌, refl, ℕ, ℤ, ◌+◌, ◌-◌, ◌<◌, ◌^◌, min, Bool, List, [], ◌∷◌, Option, Some, None, arith}
 use Rattle.std.specs.List.{AllZip}
 use Rattle.std.specs.Option.{option_or}

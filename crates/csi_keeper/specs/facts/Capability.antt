@@ -2,7 +2,7 @@
 use Rattle.std.proofs.Common.{◌≡◌, ◌∙◌, refl, ap, sym, ℕ, pos, ℤ, ◌==◌, eqb-true, Bool, true, false, not, ◌&&◌, ◌||◌, cond, List, [], ◌∷◌, Option, Some, None}
 use Rattle.std.specs.List.{list_all}
 use Rattle.std.specs.Option.{option_map}
-use Rattle.csi_types.specs.Checks.{is_known_mode, is_supported_access, writes_beside_others}
+use Rattle.csi_types.specs.Checks.{is_known_mode, is_supported_access, is_multi_node_writer}
 use Rattle.csi_types.specs.declared.capability.Access.{Access}
 use Rattle.csi_types.specs.declared.capability.Access.TheVariants as access
 use Rattle.csi_keeper.specs.Capability.{access_of, has_key, has_same, is_supported_key, same_key, wider_key}
@@ -25,7 +25,7 @@ both false b e = absurd (cc)
 pub supported_known : (a : Access) (m : Option ℤ) → is_supported_access a m ≡ true → is_known_mode m ≡ true
 supported_known access.Missing m e = absurd (cc (e))
 supported_known access.Block m e = e
-supported_known (access.Mount t) m e = (both (is_known_mode m) (not (writes_beside_others m)) e).0
+supported_known (access.Mount t) m e = (both (is_known_mode m) (not (is_multi_node_writer m)) e).0
 
 -- one of supported keys is supported
 same_supported : (ks : List CapKey) (k : CapKey) → has_same ks (Some k) ≡ true → list_all is_supported_key ks ≡ true → is_supported_key k ≡ true

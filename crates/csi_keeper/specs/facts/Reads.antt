@@ -1,7 +1,7 @@
 -- What reads leave of a keeper, in order.
 use Rattle.std.proofs.Common.{◌≡◌, ◌≤◌, ◌∙◌, arith, refl, false, Result, Ok, Err, IfOk}
 use Rattle.csi_keeper.specs.State.{State}
-use Rattle.csi_keeper.specs.Keeper.{IsQuiet, Reads, Tells}
+use Rattle.csi_keeper.specs.Keeper.{IsQuiet, Reads, Reports}
 use Rattle.csi_keeper.specs.Model.{Model}
 
 pub quiet_same : (a : Model State) → IsQuiet a a
@@ -20,8 +20,8 @@ quiet_then {a} {b} {c} p q =
     }
 
 -- a read that leaves a keeper that is not down as it is
-pub read_same : {X : Type 0} (a : Model State) (x : X) {IsSo : State → X → Type 0} → a.is_down ≡ false → Tells a a (λ s. IsSo s x) → Reads a a (Ok x) IsSo
-read_same a x up told = record { value = told; quiet = quiet_same a; count = refl; down = (λ e. absurd (cc (e)), λ is. absurd (cc (is, up))) }
+pub read_same : {X : Type 0} (a : Model State) (x : X) {IsSo : State → X → Type 0} → a.is_down ≡ false → Reports a a (λ s. IsSo s x) → Reads a a (Ok x) IsSo
+read_same a x up reported = record { value = reported; quiet = quiet_same a; count = refl; down = (λ e. absurd (cc (e)), λ is. absurd (cc (is, up))) }
 
 -- a property of each answer
 pub if_ok : {X E : Type 0} {P Q : X → Type 0} → ((x : X) → P x → Q x) → (r : Result X E) → IfOk r P → IfOk r Q

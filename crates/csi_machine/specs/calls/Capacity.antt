@@ -27,15 +27,15 @@ greatest xs = fold max 0 xs
 abbrev pub greatest_size : Config → List Room → ℕ
 greatest_size config rs = min config.sizes.greatest_bytes (greatest (map free rs))
 
-abbrev pub tell_capacity : ℕ → ℕ → Plan
-tell_capacity available maximum = respond (response.Capacity (pos available) (Some (pos maximum)))
+abbrev pub report_capacity : ℕ → ℕ → Plan
+report_capacity available maximum = respond (response.Capacity (pos available) (Some (pos maximum)))
 
 -- nothing is available for a capability that is not supported
 abbrev pub capacity_of : Config → List Room → GetCapacity → Plan
 capacity_of config rs r =
     if list_all is_supported r.capabilities
-    then tell_capacity (sum_by free (served rs r.topology)) (greatest_size config (served rs r.topology))
-    else tell_capacity 0 0
+    then report_capacity (sum_by free (served rs r.topology)) (greatest_size config (served rs r.topology))
+    else report_capacity 0 0
 
 abbrev pub capacity : Config → State → GetCapacity → Plan
 capacity config s r = capacity_of config (rooms config s) r

@@ -11,7 +11,7 @@ use Rattle.csi_config.specs.declared.nodes.Node.{Node}
 use Rattle.csi_keeper.specs.Lookup.{node_of}
 use Rattle.csi_keeper.specs.declared.capability.CapKey.{CapKey}
 use Rattle.csi_keeper.specs.declared.change.Change.TheVariants.{Attach}
-use Rattle.csi_machine.specs.declared.calls.publish.Target as lent
+use Rattle.csi_machine.specs.declared.calls.publish.Target as borrowed
 use Rattle.csi_machine.specs.declared.plan.Plan.{Plan}
 use Rattle.csi_keeper.specs.declared.volume.Attachment.{Attachment}
 use Rattle.csi_keeper.specs.declared.volume.Volume.{Volume}
@@ -45,8 +45,8 @@ pub record Target : Type 0 where
   pub node : Node
   pub there : ℕ
 
-abbrev pub lent_target : lent.Target → Target
-lent_target t = record { number = t.number; caps = t.caps.now; attachments = t.attachments.now; node = t.node.now; there = t.there }
+abbrev pub borrowed_target : borrowed.Target → Target
+borrowed_target t = record { number = t.number; caps = t.caps.now; attachments = t.attachments.now; node = t.node.now; there = t.there }
 
 -- the volume is not attached at the node
 abbrev pub attach : Target → Attachment → Plan

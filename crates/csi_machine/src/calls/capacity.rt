@@ -5,7 +5,7 @@ ghost use Rattle.std.specs.List.{list_all};
 ghost use Rattle.csi_types.specs.Checks.{is_supported};
 ghost use Rattle.csi_rules.specs.Choice.{room_value, free};
 ghost use Rattle.csi_keeper.specs.State.{up_to_u64};
-ghost use Rattle.csi_machine.specs.calls.Capacity.{is_served, served, greatest, tell_capacity, capacity_of, capacity};
+ghost use Rattle.csi_machine.specs.calls.Capacity.{is_served, served, greatest, report_capacity, capacity_of, capacity};
 
 use crate::plan::{Plan, Planning, respond};
 use crate::planned::Planned;
@@ -52,10 +52,10 @@ fn free_in(rooms: &[Room<'_>], topology: &Option<Map>) -> (u64, u64)
     (sum, greatest)
 }
 
-fn tell_capacity(alloc: Global, available: u64, maximum: u64) -> Result<Plan, AllocError>
+fn report_capacity(alloc: Global, available: u64, maximum: u64) -> Result<Plan, AllocError>
     requires available { available ≤ 2 ^ 62 }
     requires maximum { maximum ≤ 2 ^ 62 }
-    ensures { IfOk result (λ p. p ≡ tell_capacity available maximum) }
+    ensures { IfOk result (λ p. p ≡ report_capacity available maximum) }
 {
     Ok(respond(PlannedResponse::of(
         alloc,
@@ -66,7 +66,7 @@ fn tell_capacity(alloc: Global, available: u64, maximum: u64) -> Result<Plan, Al
     )?))
 }
 
-#[tactic(auto, using(crate::proofs::CapacityLemmas::sum_small, crate::proofs::CapacityLemmas::served_told))]
+#[tactic(auto, using(crate::proofs::CapacityLemmas::sum_small, crate::proofs::CapacityLemmas::served_reported))]
 fn capacity_of(
     alloc: Global,
     config: &Config,
@@ -79,10 +79,10 @@ fn capacity_of(
 {
     sizes_whole(config);
     if !all_supported(request.capabilities.as_slice()) {
-        return tell_capacity(alloc, 0, 0);
+        return report_capacity(alloc, 0, 0);
     }
     let (sum, greatest) = free_in(rooms, &request.topology);
-    tell_capacity(alloc, sum, config.sizes().greatest_bytes.min(greatest))
+    report_capacity(alloc, sum, config.sizes().greatest_bytes.min(greatest))
 }
 
 /// Answers the free bytes of the pools that serve the topology, and the greatest size that a volume can have

@@ -48,19 +48,19 @@ fn is_compatible(
 fn again<'a>(
     alloc: Global,
     config: &'a Config,
-    nowhere: &'a Map,
+    no_segments: &'a Map,
     request: &CreateVolume,
     volume: Volume,
 ) -> Result<Creation<'a>, AllocError>
-    requires { nowhere.now ≡ empty }
+    requires { no_segments.now ≡ empty }
     ensures value { IfOk result (λ creation. plan_of creation ≡ again config.now request.now volume) }
     ensures none { IfOk result (λ creation. (plan_of creation).change ≡ None) }
 {
-    let segments = segments_at(config, &volume.pool, nowhere);
+    let segments = segments_at(config, &volume.pool, no_segments);
     if !is_compatible(alloc, segments, &volume, request)? {
         return Ok(Creation::Refused(Reason::VolumeNotCompatible));
     }
-    Ok(Creation::Standing(volume, segments))
+    Ok(Creation::Existing(volume, segments))
 }
 
 fn made(
@@ -155,8 +155,8 @@ fn create_fresh<'a, K: Keeper>(
     Ok(fresh(alloc, config, &rooms, next, request)?)
 }
 
-/// The plan of a create, made by reads of the keeper alone; `nowhere` is an empty map, the segments of a pool
-/// that is not configured.
+/// The plan of a create, made by reads of the keeper alone; `no_segments` is an empty map, the segments of
+/// a pool that is not configured.
 ///
 /// A volume of the name is answered again if it is as the request asks, and refused otherwise.
 /// Without one a volume is made in the chosen pool, unless the size is out of range, there are too
@@ -164,17 +164,17 @@ fn create_fresh<'a, K: Keeper>(
 pub(crate) fn create<'a, K: Keeper>(
     alloc: Global,
     config: &'a Config,
-    nowhere: &'a Map,
+    no_segments: &'a Map,
     keeper: &mut K,
     request: &CreateVolume,
 ) -> Result<Creation<'a>, StoreFault>
-    requires { nowhere.now ≡ empty }
+    requires { no_segments.now ≡ empty }
     ensures bounded { IfOk result (λ creation. IfSome (plan_of creation).change IsBounded) }
     ensures finds { Finds (K.model keeper.old) (K.model keeper.new) result
         (λ s creation. plan_of creation ≡ create config.now s request.now) }
 {
     if let Some(volume) = keeper.by_name(alloc, request.name.as_str())? {
-        return Ok(again(alloc, config, nowhere, request, volume)?);
+        return Ok(again(alloc, config, no_segments, request, volume)?);
     }
     create_fresh(alloc, config, keeper, request)
 }

@@ -13,7 +13,7 @@ ghost use Rattle.csi_machine.specs.Pages.{IsPage, token_when};
 ghost use Rattle.csi_machine.specs.calls.Listing.{start_of, entries_for, list_after, list_volumes};
 
 use crate::body::{Verdict, limit_body};
-use crate::page::{Page, Presence};
+use crate::page::{AnyVolume, Page};
 use csi_codec::encode_response;
 use csi_config::Config;
 use csi_keeper::{Keeper, StoreFault};
@@ -74,7 +74,7 @@ fn write_page<K: Keeper>(
     ensures kept { Keeps page.old.body.items page.new.body.items }
 {
     keeper.fold_page(alloc, page.last, entries_for(most), page)?;
-    let mut rest = Presence { is_any: false };
+    let mut rest = AnyVolume { is_any: false };
     keeper.fold_page(alloc, page.last, 1, &mut rest)?;
     Ok(put_token(alloc, page.last, rest.is_any, &mut page.body)?)
 }

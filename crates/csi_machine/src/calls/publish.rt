@@ -5,7 +5,7 @@ ghost use Rattle.std.specs.Option.{option_copied};
 ghost use Rattle.csi_keeper.specs.State.{IsBounded};
 ghost use Rattle.csi_rules.specs.Finding.{Finds};
 ghost use Rattle.csi_rules.specs.Ids.{number_of_id};
-ghost use Rattle.csi_machine.specs.calls.Publish.{is_at, publish_again, attach, lent_target, publish, publish_node, publish_at, requested_key};
+ghost use Rattle.csi_machine.specs.calls.Publish.{is_at, publish_again, attach, borrowed_target, publish, publish_node, publish_at, requested_key};
 ghost use Rattle.csi_keeper.specs.Lookup.{node_of};
 
 use crate::plan::{Plan, Planning, make, refuse, respond};
@@ -40,7 +40,7 @@ struct Target<'a> {
 
 fn attach(alloc: Global, target: &Target, mine: Attachment) -> Result<Plan, AllocError>
     ensures bounded { IfOk result (λ p. IfSome p.change IsBounded) }
-    ensures value { IfOk result (λ p. p ≡ attach (lent_target target.now) mine) }
+    ensures value { IfOk result (λ p. p ≡ attach (borrowed_target target.now) mine) }
 {
     if !has_key(target.caps, &mine.cap) {
         return Ok(refuse(Reason::CapabilityNotOfVolume));
@@ -74,7 +74,7 @@ fn publish_key(
     key: CapKey,
 ) -> Result<Plan, AllocError>
     ensures bounded { IfOk result (λ p. IfSome p.change IsBounded) }
-    ensures value { IfOk result (λ p. p ≡ publish_at (lent_target target.now) request.now (Some key)) }
+    ensures value { IfOk result (λ p. p ≡ publish_at (borrowed_target target.now) request.now (Some key)) }
 {
     if let Some(attachment) = attachment_at(target.attachments, &request.node_id) {
         return Ok(publish_again(&key, request.readonly, attachment));
@@ -102,7 +102,7 @@ fn requested_key(
 fn publish_at(alloc: Global, target: &Target, request: &Publish) -> Result<Plan, AllocError>
     ensures bounded { IfOk result (λ p. IfSome p.change IsBounded) }
     ensures value { IfOk result (λ p.
-        p ≡ publish_at (lent_target target.now) request.now (requested_key request.now.capability)) }
+        p ≡ publish_at (borrowed_target target.now) request.now (requested_key request.now.capability)) }
 {
     match requested_key(alloc, &request.capability)? {
         Some(key) => publish_key(alloc, target, request, key),

@@ -76,7 +76,7 @@ module _ {K X : Type 0} {R : K → K → Rattle.std.specs.declared.cmp.Ordering.
   put_first k v [] h = refl
   put_first k v (e ∷ es) h = ap (λ r. by_order r ((k, v) ∷ e ∷ es) ((e.0, v) ∷ es) (e ∷ fin.put R k v es)) h.0.0
 
-  -- entries in order are those of their map
+  -- ordered entries are the entries of their map
   pub entries_are : (es : List (K × X)) → IsStrictlySortedBy R (keys_of es) → fin.entries (fin.from_entries {R = R} es) ≡ es
   entries_are [] h = none_listed R
   entries_are (e ∷ es) h =

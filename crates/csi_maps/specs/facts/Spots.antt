@@ -89,7 +89,7 @@ spotted_more es fs spots ts place v more here full old = record {
     by true o = refl
     by false o = refl
 
--- a spot that was put where there is nothing, and taken out again
+-- a spot put where the index has no spot, and removed again
 pub spotted_again : (es : List Row) (spots ts us : Nodes) (place : AttachmentKey) → fin.get (places_of es) place ≡ None
     → IsSpotSet (place.1, place.0) true spots ts → IsSpotSet (place.1, place.0) false ts us → (HasNoEmpty spots → HasNoEmpty us) → AreSpotted es spots
     → AreSpotted es us
@@ -169,7 +169,7 @@ module _ {K X : Type 0} (R : K → K → Ordering) (p : K × X → Bool) (f : K 
       by false t true u more = let passes = key e u in absurd (cc (passes, t))
       by false t false u more = more
 
--- lists that rise, in which the same is found
+-- rising lists with equal look-ups
 same_list : (us vs : List (ℕ × Unit {0})) → T (fin.is_sorted nat_cmp us) → T (fin.is_sorted nat_cmp vs)
     → ((n : ℕ) → fin.find nat_cmp n us ≡ fin.find nat_cmp n vs) → us ≡ vs
 same_list us vs a b h =
@@ -233,7 +233,7 @@ module _ (attachments : List Row) (spots : Nodes) (node : Text) where
           let same : (n, node) ≡ e.0 = place_exact (n, node) e.0 (tied _ t) in
           sym (ap (λ (q : AttachmentKey). same_text q.1 node) same) ∙ (bytes_decides node node).1 refl
 
-  -- the index says what is attached at the node
+  -- the index gives the node's attachments
   pub numbers_spotted : AreSpotted attachments spots → IsStrictlySortedBy nat_cmp (numbers_by spots node)
       → numbers_by spots node ≡ map (λ e. e.0.0) (filter (λ e. same_text e.0.1 node) (fin.entries (places_of attachments)))
   numbers_spotted spotted ordered =

@@ -18,7 +18,7 @@ use Rattle.csi_maps.specs.declared.stored.StoredVolume.{StoredVolume}
 use Rattle.csi_maps.specs.facts.Listing.{rows_are}
 use Rattle.csi_maps.specs.facts.Trees.{get_number, one_volume, no_volume}
 
--- what is found under a number
+-- a look-up by number
 pub found_stored : (es : List (ℕ × StoredVolume)) (k : ℕ)
     → lookup (is_at (nat_cmp k)) (as_volumes es) ≡ option_map (as_volume k) (lookup (is_at (nat_cmp k)) es)
 found_stored [] k = refl

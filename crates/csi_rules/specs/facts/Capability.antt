@@ -181,7 +181,7 @@ same_ordered : (ks : List CapKey) (o : Option CapKey) → has_same (ordered ks) 
 same_ordered ks None = has_same_none (ordered ks) ∙ sym (has_same_none ks)
 same_ordered ks (Some k) = any_ordered k ks
 
--- a set has the keys that those have of which it was made
+-- a set has the keys of the capabilities that made it
 has_ordered : (ks : List CapKey) (o : Option CapKey) → has_key (ordered ks) o ≡ has_key ks o
 has_ordered ks o = ap₂ (λ a b. a || b) (same_ordered ks o) (same_ordered ks (option_and_then wider_key o))
 

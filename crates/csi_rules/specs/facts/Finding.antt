@@ -1,31 +1,31 @@
--- What is found by reads, in order.
+-- Results of reads, in order.
 use Rattle.std.proofs.Common.{◌≡◌, ◌∙◌, sym, arith, subst, refl, ap, ℕ, List, Bool, true, false, is_some, Option, None, Some, Result, Ok}
 use Rattle.csi_keeper.specs.Keeper.{Reads, count_after}
 use Rattle.csi_keeper.specs.Model.{Model}
 use Rattle.csi_keeper.specs.State.{State}
 use Rattle.csi_keeper.specs.declared.change.StoreFault.{StoreFault}
 use Rattle.csi_keeper.specs.facts.Reads.{if_ok, quiet_then}
-use Rattle.csi_rules.specs.Down.{TellsDown}
+use Rattle.csi_rules.specs.Down.{ReportsDown}
 use Rattle.csi_keeper.specs.declared.capability.CapKey.{CapKey}
 use Rattle.csi_keeper.specs.declared.volume.Volume.{Volume}
 use Rattle.csi_rules.specs.Finding.{Finds, keys_found, number_found, numbered}
 
--- what is reported of a keeper that is down, where an answer says more
-told_more : {X : Type 0} {P Q : X → Type 0} {is_down : Bool} (result : Result X StoreFault) → ((x : X) → P x → Q x) → TellsDown is_down P result
-    → TellsDown is_down Q result
-told_more result f told = record { down = told.down; refused = told.refused; unasked = λ is. if_ok f result (told.unasked is) }
+-- the answer of a keeper that is down, if the answer carries more
+reported_more : {X : Type 0} {P Q : X → Type 0} {is_down : Bool} (result : Result X StoreFault) → ((x : X) → P x → Q x) → ReportsDown is_down P result
+    → ReportsDown is_down Q result
+reported_more result f reported = record { down = reported.down; refused = reported.refused; unasked = λ is. if_ok f result (reported.unasked is) }
 
--- what is found, as something that follows from it
+-- a consequence of a found value
 pub found_as : {X : Type 0} {P Q : State → X → Type 0} {a b : Model State} {result : Result X StoreFault} → ((s : State) (x : X) → P s x → Q s x)
     → Finds a b result P → Finds a b result Q
 found_as {result = result} f found = record {
-  value = if_ok (λ x told d s h. f s x (told d s h)) result found.value;
+  value = if_ok (λ x reported d s h. f s x (reported d s h)) result found.value;
   quiet = found.quiet;
   count = found.count;
-  down = told_more result (λ x so s. f s x (so s)) found.down;
+  down = reported_more result (λ x so s. f s x (so s)) found.down;
 }
 
--- what is made of what is found
+-- a value made from a found value
 pub found_so : {X Y : Type 0} {P : State → X → Type 0} {Q : State → Y → Type 0} {a b : Model State} {x : X} {y : Y} → Finds a b (Ok x) P
     → ((s : State) → P s x → Q s y) → Finds a b (Ok y) Q
 found_so found f = record {
@@ -35,14 +35,14 @@ found_so found f = record {
   down = record { down = λ e. absurd (cc); refused = λ e. absurd (cc); unasked = λ is s. f s (found.down.unasked is s) };
 }
 
--- what is found after what was found
+-- a read after a read
 pub found_then : {X Y : Type 0} {P : State → X → Type 0} {Q R : State → Y → Type 0} {a b c : Model State} {x : X} {result : Result Y StoreFault}
     → Finds a b (Ok x) P → Finds b c result Q
     → ((s : State) → P s x → (y : Y) → Q s y → R s y) → Finds a c result R
 found_then {a = a} {b = b} {c = c} {result = result} read found f =
     let mid : c.doubt ≡ 0 → b.doubt ≡ 0 = λ d. let clean = found.quiet.clean in omega (arith, clean, d) in
     record {
-      value = if_ok (λ y told d s h. f s (read.value (mid d) s h) y (told d s (read.quiet.state (mid d) s h))) result found.value;
+      value = if_ok (λ y reported d s h. f s (read.value (mid d) s h) y (reported d s (read.quiet.state (mid d) s h))) result found.value;
       quiet = quiet_then read.quiet found.quiet;
       count = subst (λ n. c.refusals ≡ count_after n result) read.count found.count;
       down = record {
@@ -66,7 +66,7 @@ pub none_found : (o : Option (ℕ × Volume)) → keys_found o ≡ None → o �
 none_found None none = refl
 none_found (Some found) none = absurd (cc)
 
--- what is said of the keys that are found of a volume
+-- a fact of the keys found for a volume
 pub keys_so : {Y : Type 0} (f : Option (ℕ × Volume) → Y) (g : ℕ → List CapKey → Y) (o : Option (ℕ × Volume)) (n : ℕ) (keys : List CapKey)
     → ((m : ℕ) (v : Volume) → f (Some (m, v)) ≡ g m v.caps) → Some (n, keys) ≡ keys_found o → g n keys ≡ f o
 keys_so f g None n keys so is = absurd (cc)
@@ -75,7 +75,7 @@ keys_so {Y} f g (Some found) n keys so is = ap (λ (e : ℕ × List CapKey). g e
     same : (x y : ℕ × List CapKey) → Some x ≡ Some y → x ≡ y
     same x y e = cc
 
--- the number of a volume that exists, and of one that does not
+-- the number of a volume that exists, and of a volume that does not
 pub number_has : (n : ℕ) (o : Option Volume) → true ≡ is_some o → Some n ≡ number_found (numbered n o)
 number_has n None has = absurd (cc)
 number_has n (Some v) has = refl
@@ -89,7 +89,7 @@ pub none_numbered : (o : Option (ℕ × Volume)) → number_found o ≡ None →
 none_numbered None none = refl
 none_numbered (Some found) none = absurd (cc)
 
--- what is said of the number that is found of a volume
+-- a fact of the number found for a volume
 pub number_so : {Y : Type 0} (f : Option (ℕ × Volume) → Y) (g : ℕ → Y) (o : Option (ℕ × Volume)) (n : ℕ)
     → ((m : ℕ) (v : Volume) → f (Some (m, v)) ≡ g m) → Some n ≡ number_found o → g n ≡ f o
 number_so f g None n so is = absurd (cc)

@@ -42,7 +42,7 @@ number_is text n e = go (nat_lt (digits_value 10 text) (2 ^ 64)) refl (same_text
     go true a false b h = absurd (cc)
     go true a true b h = subst (λ (m : ℕ). (m < 2 ^ 64) × (decimal m ≡ text)) (same n h) (below _ _ a, (bytes_decides _ text).0 b)
 
--- a text that is not the decimal of what it is parsed as is none's
+-- a text other than the decimal form of its parsed number is no volume's id
 pub no_decimal : {E : Type 0} (text : List ℕ) (r : Result ℕ E) → ParsesUnsigned 64 10 text r
     → ((n : ℕ) → r ≡ Ok n → same_text (decimal n) text ≡ false) → None ≡ number_of text
 no_decimal text r parses none = go (number_of text) refl

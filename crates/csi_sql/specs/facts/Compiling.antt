@@ -1,5 +1,5 @@
--- What a text is compiled to, computed once: everything else that is said of a fixed text under the schema
--- follows from it.
+-- The compiled form of a text, computed once: every other fact of a fixed text under the schema follows
+-- from it.
 use Rattle.std.proofs.Common.{◌≡◌, refl, sym, ap, subst, if◌then◌else◌, [], ◌∷◌, arith, codes, length, take, List, None, Ok, ℕ}
 use Rattle.sqlite.specs.Command.{Command}
 use Rattle.sqlite.specs.Command.TheVariants.{Select}
@@ -13,7 +13,7 @@ use Rattle.csi_sql.specs.Tables.{schema}
 use Rattle.csi_sql.specs.facts.Failing.{IsAlone, IsAloneWrite, IsSelect}
 use Rattle.csi_sql.specs.facts.Writes.{IsCommand}
 
--- the names of so many parameters
+-- the names of `count` parameters
 abbrev pub parameters : ℕ → List (List ℕ)
 parameters count = take count (codes "?1" ∷ codes "?2" ∷ codes "?3" ∷ codes "?4" ∷ codes "?5" ∷ codes "?6" ∷ [])
 
@@ -29,7 +29,7 @@ whole text command count = record {
   tail = length text;
 }
 
--- what is computed: `refl` finds it, under `unfolding everything` of `sqlite_tied`
+-- the computed form: `refl` finds it, under `unfolding everything` of `sqlite_tied`
 pub record Compiles (text : List ℕ) (command : Command) (count : ℕ) : Type 0 where
   pub is : compiled schema text ≡ Ok (whole text command count)
 

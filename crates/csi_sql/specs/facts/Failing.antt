@@ -41,7 +41,7 @@ fails_weaker P Q old new e f (as_shut is shut) = as_shut is shut
 fails_weaker P Q old new e f (at_limit is some) = at_limit is some
 fails_weaker P Q old new e f (as_refused why) = as_refused (f why)
 
--- what is done after the error forgets no fault
+-- later steps forget no fault of the error
 pub fails_before : (P : Error → Type 0) (old mid new : State) (e : Error) → mid.faults ≤ new.faults → FailsFor P old mid e → FailsFor P old new e
 fails_before P old mid new e up (for_memory is) = for_memory is
 fails_before P old mid new e up (by_disk is more) = by_disk is (omega (arith, up, more))
@@ -49,14 +49,14 @@ fails_before P old mid new e up (as_shut is shut) = as_shut is shut
 fails_before P old mid new e up (at_limit is some) = at_limit is some
 fails_before P old mid new e up (as_refused why) = as_refused why
 
--- what was done before it left the connection open
-pub fails_behind : (P Q : Error → Type 0) (old mid new : State) (e : Error) → old.faults ≤ mid.faults → IsTrue mid.is_open
+-- the earlier steps left the connection open
+pub fails_after : (P Q : Error → Type 0) (old mid new : State) (e : Error) → old.faults ≤ mid.faults → IsTrue mid.is_open
     → mid.step_limit ≡ old.step_limit → (P e → Q e) → FailsFor P mid new e → FailsFor Q old new e
-fails_behind P Q old mid new e up is_open limit f (for_memory is) = for_memory is
-fails_behind P Q old mid new e up is_open limit f (by_disk is more) = by_disk is (omega (arith, up, more))
-fails_behind P Q old mid new e up is_open limit f (as_shut is shut) = absurd (true≢false (sym is_open ∙ shut))
-fails_behind P Q old mid new e up is_open limit f (at_limit is some) = at_limit is (subst IsSome limit some)
-fails_behind P Q old mid new e up is_open limit f (as_refused why) = as_refused (f why)
+fails_after P Q old mid new e up is_open limit f (for_memory is) = for_memory is
+fails_after P Q old mid new e up is_open limit f (by_disk is more) = by_disk is (omega (arith, up, more))
+fails_after P Q old mid new e up is_open limit f (as_shut is shut) = absurd (true≢false (sym is_open ∙ shut))
+fails_after P Q old mid new e up is_open limit f (at_limit is some) = at_limit is (subst IsSome limit some)
+fails_after P Q old mid new e up is_open limit f (as_refused why) = as_refused (f why)
 
 -- ---- an error that is handed on
 
@@ -94,7 +94,7 @@ commit_fails old new e inside (inr h) = absurd (true≢false (sym inside ∙ h.1
 
 -- ---- a write of a fixed text
 
--- one statement and nothing after it, with so many parameters, that does not read the time
+-- one statement alone, with `count` parameters, that does not read the time
 abbrev pub IsAlone : List ℕ → ℕ → Result Compiled CompileError → Type 0
 IsAlone text count (Ok c) = (length text ≤ c.tail) × (length c.names ≡ count) × (c.formats ≡ [])
 IsAlone text count (Err e) = ⊥
@@ -132,7 +132,7 @@ module _ (text : List ℕ) (params : Row) (old new : State) (e : Error) (alone :
       elim ran [
         | inl (inl misplaced, same) ↦ absurd (never_misplaced old c.command e it.3 misplaced)
         | inl (inr refused, same) ↦ as_refused (c, is, inl refused.1)
-        | inr failed ↦ store_fails (SqlRefuses text params old) old new _ e (λ big told. (c, is, inr (told, big))) failed
+        | inr failed ↦ store_fails (SqlRefuses text params old) old new _ e (λ big reported. (c, is, inr (reported, big))) failed
       ]
 
   executes_fails : ExecutesIn false text params old new (Err e) → FailsFor (SqlRefuses text params old) old new e
@@ -281,7 +281,7 @@ module _ {S : Type 0} (g : Ghosts S) (before : Schema) (old : Held S) where
   pub later_fails : (P Q : Error → Type 0) (Effect : Database → Database → Type 0) (mid : State) (new : State) (e : Error)
       → Survives begun mid (λ _. ⊥) → StepsFrom before Effect begun mid
       → (P e → Q e) → FailsFor P mid new e → FailsFor Q (state g old) new e
-  later_fails P Q Effect mid new e left step f h = fails_begun g old Q new e (fails_behind P Q begun mid new e left.counts step.shown.is_open left.limit f h)
+  later_fails P Q Effect mid new e left step f h = fails_begun g old Q new e (fails_after P Q begun mid new e left.counts step.shown.is_open left.limit f h)
 
   undone_as : (mid new : State) → KeepsCommit begun mid → IsRolledBack mid new → IsUndone (state g old) new
   undone_as mid new kept h = record {
@@ -313,7 +313,7 @@ module _ {S : Type 0} (g : Ghosts S) (before : Schema) (old : Held S) where
   not_committed Q Effect mid new (Ok x) left step h = tt
   not_committed Q Effect mid new (Err e) left step h = later_fails (λ _. ⊥) Q Effect mid new e left step absurd (commit_fails mid new e step.shown.mode h)
 
-  -- what the clauses of a commit say, and those of the end of a transaction that was not committed
+  -- the facts from the clauses of a commit, and from the end of a transaction that was not committed
   abbrev pub Committed : Held S → Held S → Result (Unit {0}) Error → Type 0
   Committed mid end r = record {
     ended : end.in_transaction ≡ false;

@@ -51,7 +51,7 @@ module _ (text : List ℕ) (params : Row) (old new : State) (count : ℕ) (has :
   changed command tally = subst (λ s. Does old.step_limit (mode_of old) params (record old.now { schema = s })
       (statement_of text (understood schema text)) None command (Ok (tally, new.now))) has
 
-  -- a query gave rows, and one edit of them was made, to which no foreign key added
+  -- a query gave rows, and one edit of them was made, without an addition by a foreign key
   edited : (q : Query) (edit : List Row → Edit) (wrote : List Row → List Row) (tally : Tally)
       → ((rows : List Row) → works schema (mode_of old).keys 0 (edit rows).table.tree (taken_by old.now.trees (edit rows)) (edit rows).news ≡ [])
       → IsDatabase new.now

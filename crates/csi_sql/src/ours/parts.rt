@@ -46,7 +46,7 @@ pub(super) fn is_column(column: &Column, name: &[u8], kind: Kind, not_null: bool
         & (column.collation == Collation::Binary)
 }
 
-// One key, over these columns.
+// Whether there is one key, over these columns.
 fn is_one_key(uniques: &Items<Items<usize>>, places: &[usize]) -> bool
     ensures true_only_if { IsTrue result → uniques.now ≡ places.now ∷ [] }
     ensures true_if { uniques.now ≡ places.now ∷ [] → IsTrue result }
@@ -57,7 +57,7 @@ fn is_one_key(uniques: &Items<Items<usize>>, places: &[usize]) -> bool
     are_places(one.as_slice(), places)
 }
 
-// One index, ascending in each of its columns.
+// Whether there is one index, ascending in each of its columns.
 fn is_one_ascending(orders: &Items<Order>) -> bool
     ensures true_only_if { IsTrue result → orders.now ≡ plain ∷ [] }
     ensures true_if { orders.now ≡ plain ∷ [] → IsTrue result }

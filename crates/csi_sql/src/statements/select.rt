@@ -6,7 +6,7 @@
 ghost use Rattle.std.specs.Prelude.{◌≡◌};
 ghost use Rattle.csi_sql.specs.Refusing.{NothingRefuses};
 ghost use Rattle.csi_sql.specs.Effects.{Selects};
-ghost use Rattle.csi_sql.specs.Selecting.{IsAsked, Tells, asked};
+ghost use Rattle.csi_sql.specs.Selecting.{IsAsked, Reports, asked};
 
 use crate::values::integer;
 use sqlite::types::ValueRef;
@@ -58,7 +58,7 @@ pub(crate) fn select_rows<S: Alter>(
     requires { IsAsked read.now }
     ensures same_reference { tx.new.conn.ghost_name ≡ tx.old.conn.ghost_name }
     ensures selects { Selects S.Store tx.old.conn.now tx.new.conn.now
-        (λ db rows. Tells read.now db rows.items) NothingRefuses result }
+        (λ db rows. Reports read.now db rows.items) NothingRefuses result }
 {
     let text = text_of(read);
     match *read {

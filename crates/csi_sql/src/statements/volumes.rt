@@ -4,7 +4,7 @@ ghost use Rattle.std.specs.Prelude.{◌≡◌, ◌<◌, ◌^◌};
 ghost use Rattle.csi_sql.specs.Transactions.{RunsOver};
 ghost use Rattle.csi_sql.specs.Deletes.{Drops, is_numbered};
 ghost use Rattle.csi_sql.specs.Refusing.{RefusesParams, RefusesRemoval, RefusesVolume};
-ghost use Rattle.csi_sql.specs.Lent.{lent_row};
+ghost use Rattle.csi_sql.specs.Borrowed.{borrowed_row};
 ghost use Rattle.csi_sql.specs.Effects.{AddsVolume};
 ghost use Rattle.csi_sql.specs.Rows.{seen_volume};
 ghost use Rattle.csi_sql.specs.Tables.{schema};
@@ -22,7 +22,7 @@ pub struct VolumeRow<'a> {
     pub number: u64,
     /// The name, which no other has.
     pub name: &'a str,
-    /// The size.
+    /// The size in bytes, below 2^63.
     pub bytes: u64,
     /// The pool that it is in.
     pub pool: &'a str,
@@ -37,8 +37,8 @@ pub fn insert_volume<S: Alter>(tx: &mut Transaction<'_, S>, row: &VolumeRow<'_>)
     requires number { row.now.number < 2 ^ 63 }
     requires bytes { row.now.bytes < 2 ^ 63 }
     ensures same_reference { tx.new.conn.ghost_name ≡ tx.old.conn.ghost_name }
-    ensures runs { RunsOver S.Store tx.old.conn.now tx.new.conn.now schema (AddsVolume (lent_row row.now))
-        (RefusesVolume (lent_row row.now)) result }
+    ensures runs { RunsOver S.Store tx.old.conn.now tx.new.conn.now schema (AddsVolume (borrowed_row row.now))
+        (RefusesVolume (borrowed_row row.now)) result }
 {
     tx.execute(
         "INSERT INTO volumes (number, name, bytes, pool, caps, params) VALUES (?1, ?2, ?3, ?4, ?5, ?6)",

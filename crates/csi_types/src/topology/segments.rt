@@ -17,9 +17,9 @@ pub(crate) const MOST_SEGMENTS: usize = 2_113;
 /// A segment of a topology. Segments are compared by their keys, with ASCII letters folded.
 #[derive(Clone, Copy)]
 pub(crate) struct Segment<'m> {
-    /// The key.
+    /// The key, as the topology has it.
     pub key: &'m Text,
-    /// The value.
+    /// The value under that key.
     pub value: &'m Text,
 }
 

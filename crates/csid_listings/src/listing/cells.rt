@@ -13,7 +13,7 @@ pub(crate) fn mode_name(mode: u8) -> &'static str {
     }
 }
 
-// What a volume may be used as.
+// A capability in words.
 fn capability(alloc: Global, key: &CapKey) -> Result<String, AllocError> {
     let mode = mode_name(key.mode);
     match &key.kind {

@@ -5,7 +5,7 @@ use csi_types::{Items, Text};
 use std::alloc::{AllocError, Global};
 use std::collections::BTreeMap;
 
-/// How many volumes there are, and the sum of their bytes, each up to the greatest `u64`.
+/// A count of volumes, and the sum of their bytes, each up to the greatest `u64`.
 #[derive(Clone, Copy)]
 pub(crate) struct Sum {
     pub(crate) volumes: u64,

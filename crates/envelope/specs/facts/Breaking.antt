@@ -3,14 +3,14 @@ use Rattle.std.proofs.Common.{◌≡◌, ℕ, ◌+◌, ◌-◌, ◌<◌, ◌≤�
 use Rattle.std.proofs.Common.{inr, true, false}
 use Rattle.std.proofs.lemmas.List.{get_or_append_left, take-append-drop, length-take}
 use Rattle.std.proofs.lemmas.Bool.{cases_lt}
-use Rattle.envelope.specs.declared.kind.Kind.{Kind}
+use Rattle.envelope.specs.declared.kind.FrameKind.{FrameKind}
 use Rattle.envelope.specs.declared.kind.Part.{Part}
 use Rattle.envelope.specs.declared.kind.Part.TheVariants.{Status, TextLength, Text, Flag, BodyLength, Missing}
 use Rattle.envelope.specs.Envelope.{is_status}
 use Rattle.envelope.specs.Grammar.{lead, least_text, most_text, most_body, IsGoodByte, text_length, body_length, Breaks, IsUnbroken, BreaksFirst}
 
 -- how many bytes must have come for a break to be seen
-abbrev pub seen : Kind → Part → ℕ → ℕ
+abbrev pub seen : FrameKind → Part → ℕ → ℕ
 seen kind Status at = 1
 seen kind TextLength at = lead kind + 2
 seen kind Text at = at + 1
@@ -18,14 +18,14 @@ seen kind Flag at = at + 1
 seen kind BodyLength at = at + 4
 seen kind Missing at = 0
 
-pub text_length-append : (kind : Kind) (bytes more : List ℕ) → lead kind + 2 ≤ length bytes → text_length kind (bytes ++ more) ≡ text_length kind bytes
+pub text_length-append : (kind : FrameKind) (bytes more : List ℕ) → lead kind + 2 ≤ length bytes → text_length kind (bytes ++ more) ≡ text_length kind bytes
 unfolding text_length
 text_length-append kind bytes more two =
     let zero-th = get_or_append_left bytes more 0 (lead kind) (omega arith) in
     let first = get_or_append_left bytes more 0 (lead kind + 1) (omega arith) in
     rw (zero-th, first) refl
 
-pub body_length-append : (kind : Kind) (bytes more : List ℕ) → lead kind + 2 ≤ length bytes → lead kind + 7 + text_length kind bytes ≤ length bytes
+pub body_length-append : (kind : FrameKind) (bytes more : List ℕ) → lead kind + 2 ≤ length bytes → lead kind + 7 + text_length kind bytes ≤ length bytes
     → body_length kind (bytes ++ more) ≡ body_length kind bytes
 unfolding body_length
 body_length-append kind bytes more two all =
@@ -37,7 +37,7 @@ body_length-append kind bytes more two all =
     let d = get_or_append_left bytes more 0 (at + 3) (omega arith) in
     rw (e, a, b, c, d) refl
 
-pub Breaks-seen : (kind : Kind) (bytes : List ℕ) (part : Part) (at : ℕ) → Breaks kind bytes part at → seen kind part at ≤ length bytes
+pub Breaks-seen : (kind : FrameKind) (bytes : List ℕ) (part : Part) (at : ℕ) → Breaks kind bytes part at → seen kind part at ≤ length bytes
 unfolding Breaks
 Breaks-seen kind bytes Status at h = omega (arith, h.1.1)
 Breaks-seen kind bytes TextLength at h = h.1
@@ -46,7 +46,7 @@ Breaks-seen kind bytes Flag at h = omega (arith, h.1)
 Breaks-seen kind bytes BodyLength at h = h.1
 Breaks-seen kind bytes Missing at h = absurd h
 
-pub Breaks-longer : (kind : Kind) (bytes more : List ℕ) (part : Part) (at : ℕ) → Breaks kind bytes part at → Breaks kind (bytes ++ more) part at
+pub Breaks-longer : (kind : FrameKind) (bytes more : List ℕ) (part : Part) (at : ℕ) → Breaks kind bytes part at → Breaks kind (bytes ++ more) part at
 unfolding Breaks
 Breaks-longer kind bytes more Status at h =
     let first = get_or_append_left bytes more 0 0 h.1.1 in
@@ -70,7 +70,7 @@ Breaks-longer kind bytes more BodyLength at h =
     (omega (arith, h.0), omega (arith, h.1, length-append bytes more), omega (arith, h.2))
 Breaks-longer kind bytes more Missing at h = absurd h
 
-pub Breaks-shorter : (kind : Kind) (bytes more : List ℕ) (part : Part) (at : ℕ) → Breaks kind (bytes ++ more) part at
+pub Breaks-shorter : (kind : FrameKind) (bytes more : List ℕ) (part : Part) (at : ℕ) → Breaks kind (bytes ++ more) part at
     → seen kind part at ≤ length bytes → Breaks kind bytes part at
 unfolding Breaks
 Breaks-shorter kind bytes more Status at h s =
@@ -98,7 +98,7 @@ Breaks-shorter kind bytes more BodyLength at h s =
 Breaks-shorter kind bytes more Missing at h s = absurd h
 
 -- a break that the prefix doesn't have is seen with the last byte
-pub Breaks_last : (kind : Kind) (bytes : List ℕ) (part : Part) (at : ℕ) → 0 < length bytes → IsUnbroken kind (take (length bytes - 1) bytes)
+pub Breaks_last : (kind : FrameKind) (bytes : List ℕ) (part : Part) (at : ℕ) → 0 < length bytes → IsUnbroken kind (take (length bytes - 1) bytes)
     → Breaks kind bytes part at → seen kind part at ≡ length bytes
 unfolding IsUnbroken
 Breaks_last kind bytes part at some prefix h =
@@ -112,7 +112,7 @@ Breaks_last kind bytes part at some prefix h =
     ]
 
 -- of two breaks that are seen with the same byte, neither has the lesser place
-seen_alike : (kind : Kind) (bytes : List ℕ) (part : Part) (at : ℕ) (other : Part) (place : ℕ) → Breaks kind bytes part at
+seen_alike : (kind : FrameKind) (bytes : List ℕ) (part : Part) (at : ℕ) (other : Part) (place : ℕ) → Breaks kind bytes part at
     → Breaks kind bytes other place → seen kind part at ≡ length bytes → seen kind other place ≡ length bytes → at ≤ place
 unfolding Breaks
 seen_alike kind bytes Missing at other place h g s t = absurd h
@@ -139,7 +139,7 @@ seen_alike kind bytes BodyLength at Text place h g s t = omega (arith, h.0, g.1)
 seen_alike kind bytes BodyLength at Flag place h g s t = omega (arith, h.0, g.0)
 seen_alike kind bytes BodyLength at BodyLength place h g s t = omega arith
 
-pub BreaksFirst_last : (kind : Kind) (bytes : List ℕ) (part : Part) (at : ℕ) → 0 < length bytes → IsUnbroken kind (take (length bytes - 1) bytes)
+pub BreaksFirst_last : (kind : FrameKind) (bytes : List ℕ) (part : Part) (at : ℕ) → 0 < length bytes → IsUnbroken kind (take (length bytes - 1) bytes)
     → Breaks kind bytes part at → BreaksFirst kind bytes part at
 BreaksFirst_last kind bytes part at some prefix h = record {
   breaks = h;
@@ -147,7 +147,7 @@ BreaksFirst_last kind bytes part at some prefix h = record {
       (Breaks_last kind bytes other place some prefix g);
 }
 
-pub record LastIsRight (kind : Kind) (bytes : List ℕ) : Type 0 where
+pub record LastIsRight (kind : FrameKind) (bytes : List ℕ) : Type 0 where
   pub status_right : length bytes ≡ 1 → 0 < lead kind → is_status (get_or bytes 0 0) ≡ true
   pub text_length_right : length bytes ≡ lead kind + 2 → (least_text kind ≤ text_length kind bytes)
       × (text_length kind bytes ≤ most_text kind (get_or bytes 0 0))
@@ -159,7 +159,7 @@ pub record LastIsRight (kind : Kind) (bytes : List ℕ) : Type 0 where
 pub true_not_false : (number : ℕ) → is_status number ≡ true → is_status number ≡ false → ⊥
 true_not_false number yes_ no_ = let e : true ≡ false = sym yes_ ∙ no_ in cc
 
-right_not_broken : (kind : Kind) (bytes : List ℕ) (part : Part) (at : ℕ) → LastIsRight kind bytes → seen kind part at ≡ length bytes
+right_not_broken : (kind : FrameKind) (bytes : List ℕ) (part : Part) (at : ℕ) → LastIsRight kind bytes → seen kind part at ≡ length bytes
     → Breaks kind bytes part at → ⊥
 unfolding Breaks
 right_not_broken kind bytes Status at right s h =
@@ -176,12 +176,12 @@ right_not_broken kind bytes BodyLength at right s h =
     let r = right.body_length_right (omega (arith, h.0)) in omega (arith, h.2)
 right_not_broken kind bytes Missing at right s h = h
 
-pub IsUnbroken_last : (kind : Kind) (bytes : List ℕ) → 0 < length bytes → IsUnbroken kind (take (length bytes - 1) bytes) → LastIsRight kind bytes
+pub IsUnbroken_last : (kind : FrameKind) (bytes : List ℕ) → 0 < length bytes → IsUnbroken kind (take (length bytes - 1) bytes) → LastIsRight kind bytes
     → IsUnbroken kind bytes
 unfolding IsUnbroken
 IsUnbroken_last kind bytes some prefix right part at h = right_not_broken kind bytes part at right (Breaks_last kind bytes part at some prefix h) h
 
-pub nil_unbroken : (kind : Kind) → IsUnbroken kind []
+pub nil_unbroken : (kind : FrameKind) → IsUnbroken kind []
 unfolding IsUnbroken Breaks
 nil_unbroken kind Status at h = omega (arith, h.1.1)
 nil_unbroken kind TextLength at h = omega (arith, h.1)
@@ -191,7 +191,7 @@ nil_unbroken kind BodyLength at h = omega (arith, h.1)
 nil_unbroken kind Missing at h = h
 
 -- a break that comes no later than another needs no more bytes to be seen
-seen_no_later : (kind : Kind) (bytes : List ℕ) (part : Part) (at : ℕ) (other : Part) (place : ℕ) → Breaks kind bytes part at
+seen_no_later : (kind : FrameKind) (bytes : List ℕ) (part : Part) (at : ℕ) (other : Part) (place : ℕ) → Breaks kind bytes part at
     → Breaks kind bytes other place → place < at → seen kind other place ≤ seen kind part at
 unfolding Breaks
 seen_no_later kind bytes Missing at other place h g lt = absurd h
@@ -219,7 +219,8 @@ seen_no_later kind bytes BodyLength at Flag place h g lt = omega arith
 seen_no_later kind bytes BodyLength at BodyLength place h g lt = omega arith
 
 -- longer bytes keep the first break
-pub BreaksFirst-longer : (kind : Kind) (bytes more : List ℕ) (part : Part) (at : ℕ) → BreaksFirst kind bytes part at → BreaksFirst kind (bytes ++ more) part at
+pub BreaksFirst-longer : (kind : FrameKind) (bytes more : List ℕ) (part : Part) (at : ℕ)
+    → BreaksFirst kind bytes part at → BreaksFirst kind (bytes ++ more) part at
 BreaksFirst-longer kind bytes more part at h = record {
   breaks = Breaks-longer kind bytes more part at h.breaks;
   least = λ other place g. elim (cases_lt place at) [
@@ -231,7 +232,7 @@ BreaksFirst-longer kind bytes more part at h = record {
   ];
 }
 
-pub Breaks_within : (kind : Kind) (bytes : List ℕ) (part : Part) (at : ℕ) → Breaks kind bytes part at → at < length bytes
+pub Breaks_within : (kind : FrameKind) (bytes : List ℕ) (part : Part) (at : ℕ) → Breaks kind bytes part at → at < length bytes
 unfolding Breaks
 Breaks_within kind bytes Status at h = omega (arith, h.0, h.1.1)
 Breaks_within kind bytes TextLength at h = omega (arith, h.0, h.1)

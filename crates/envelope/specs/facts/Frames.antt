@@ -6,8 +6,8 @@ use Rattle.std.proofs.lemmas.List.{length-take, length-drop, drop-drop, drop_mor
 use Rattle.std.proofs.lemmas.Bool.{cases_lt}
 use Rattle.std.proofs.lemmas.Nat.{be_bytes_2, be_bytes_4, from_be_bytes-to_be_bytes_2, from_be_bytes-to_be_bytes_4}
 use Rattle.std.specs.Int.{w16, w32, to_be_bytes, from_be_bytes}
-use Rattle.envelope.specs.declared.kind.Kind.{Kind}
-use Rattle.envelope.specs.declared.kind.Kind.TheVariants.{Calls, Replies}
+use Rattle.envelope.specs.declared.kind.FrameKind.{FrameKind}
+use Rattle.envelope.specs.declared.kind.FrameKind.TheVariants.{Calls, Replies}
 use Rattle.envelope.specs.declared.kind.Part.{Part}
 use Rattle.envelope.specs.declared.kind.Part.TheVariants.{Status, TextLength, Text, Flag, BodyLength, Missing}
 use Rattle.envelope.specs.Envelope.{CallBytes, ReplyBytes, frame, reply, is_status}
@@ -35,37 +35,37 @@ nil_of_length (b ∷ bs) none = absurd (omega arith)
 
 -- ---- the table's numbers
 
-lead_small : (kind : Kind) → lead kind ≤ 1
+lead_small : (kind : FrameKind) → lead kind ≤ 1
 lead_small Calls = omega arith
 lead_small Replies = omega arith
 
-pub most_text_small : (kind : Kind) (first : ℕ) → most_text kind first ≤ 1024
+pub most_text_small : (kind : FrameKind) (first : ℕ) → most_text kind first ≤ 1024
 most_text_small Calls first = omega arith
 most_text_small Replies zero = omega arith
 most_text_small Replies (suc n) = omega arith
 
-most_body_small : (kind : Kind) (first : ℕ) → most_body kind first ≤ 4194304
+most_body_small : (kind : FrameKind) (first : ℕ) → most_body kind first ≤ 4194304
 most_body_small Calls first = omega arith
 most_body_small Replies zero = omega arith
 most_body_small Replies (suc n) = omega arith
 
-pub head_fits : (kind : Kind) (first : ℕ) → lead kind + 7 + most_text kind first ≤ most_head kind
+pub head_fits : (kind : FrameKind) (first : ℕ) → lead kind + 7 + most_text kind first ≤ most_head kind
 head_fits Calls first = omega arith
 head_fits Replies zero = omega arith
 head_fits Replies (suc n) = omega arith
 
-pub frame_fits : (kind : Kind) (first : ℕ) → lead kind + 7 + most_text kind first + most_body kind first ≤ most_frame kind
+pub frame_fits : (kind : FrameKind) (first : ℕ) → lead kind + 7 + most_text kind first + most_body kind first ≤ most_frame kind
 frame_fits Calls first = omega arith
 frame_fits Replies zero = omega arith
 frame_fits Replies (suc n) = omega arith
 
-pub head_within : (kind : Kind) → (lead kind + 9 ≤ most_head kind) × (most_head kind ≤ most_frame kind)
+pub head_within : (kind : FrameKind) → (lead kind + 9 ≤ most_head kind) × (most_head kind ≤ most_frame kind)
 head_within Calls = (omega arith, omega arith)
 head_within Replies = (omega arith, omega arith)
 
 -- ---- what breaks nothing has these parts
 
-pub record Parts (kind : Kind) (bytes : List ℕ) : Type 0 where
+pub record Parts (kind : FrameKind) (bytes : List ℕ) : Type 0 where
   pub status_good : 0 < lead kind → is_status (get_or bytes 0 0) ≡ true
   pub text_least : least_text kind ≤ text_length kind bytes
   pub text_short : text_length kind bytes ≤ most_text kind (get_or bytes 0 0)
@@ -80,10 +80,10 @@ true_of_not : (b : Bool) → (b ≡ false → ⊥) → b ≡ true
 true_of_not true h = refl
 true_of_not false h = absurd (h refl)
 
-pub good_status : (kind : Kind) (bytes : List ℕ) → (HasBadStatus kind bytes → ⊥) → 0 < lead kind → 0 < length bytes → is_status (get_or bytes 0 0) ≡ true
+pub good_status : (kind : FrameKind) (bytes : List ℕ) → (HasBadStatus kind bytes → ⊥) → 0 < lead kind → 0 < length bytes → is_status (get_or bytes 0 0) ≡ true
 good_status kind bytes h some there = true_of_not (is_status (get_or bytes 0 0)) (λ bad. h (some, there, bad))
 
-pub good_byte_of_not : (kind : Kind) (b : ℕ) → ((IsGoodByte kind b → ⊥) → ⊥) → IsGoodByte kind b
+pub good_byte_of_not : (kind : FrameKind) (b : ℕ) → ((IsGoodByte kind b → ⊥) → ⊥) → IsGoodByte kind b
 good_byte_of_not kind b h =
     elim (cases_lt b (least_byte kind)) [
       | inl low ↦ absurd (h (λ p. omega (arith, p.0)))
@@ -93,7 +93,7 @@ good_byte_of_not kind b h =
       ]
     ]
 
-pub Parts_of : (kind : Kind) (bytes : List ℕ) → IsUnbroken kind bytes → lead kind + 7 + text_length kind bytes ≤ length bytes → Parts kind bytes
+pub Parts_of : (kind : FrameKind) (bytes : List ℕ) → IsUnbroken kind bytes → lead kind + 7 + text_length kind bytes ≤ length bytes → Parts kind bytes
 unfolding IsUnbroken Breaks
 Parts_of kind bytes unbroken all = record {
   status_good = λ some. true_of_not (is_status (get_or bytes 0 0)) (λ bad. unbroken Status 0 (refl, (some, omega arith, bad)));
@@ -140,23 +140,23 @@ spelled_by text body n m first third tl bl f t =
     ∙ ap (λ (x : List ℕ). spell first text x body) (ap (λ (k : ℕ). to_be_bytes w32 k) bl ∙ t)
 
 -- the bytes before the length of the text
-abbrev pub status_bytes : Kind → ℕ → List ℕ
+abbrev pub status_bytes : FrameKind → ℕ → List ℕ
 status_bytes Calls status = []
 status_bytes Replies status = status ∷ []
 
-item_spelled : (kind : Kind) (status : ℕ) (text body : List ℕ)
+item_spelled : (kind : FrameKind) (status : ℕ) (text body : List ℕ)
     → spelling kind (item kind status text body)
     ≡ status_bytes kind status ++ spell (to_be_bytes w16 (length text)) text (to_be_bytes w32 (length body)) body
 unfolding frame reply spell
 item_spelled Calls status text body = refl
 item_spelled Replies status text body = refl
 
-first_bytes : (kind : Kind) (bytes : List ℕ) → 0 < length bytes → status_bytes kind (get_or bytes 0 0) ≡ take (lead kind) bytes
+first_bytes : (kind : FrameKind) (bytes : List ℕ) → 0 < length bytes → status_bytes kind (get_or bytes 0 0) ≡ take (lead kind) bytes
 first_bytes Calls bytes some = refl
 first_bytes Replies [] some = absurd (omega arith)
 first_bytes Replies (b ∷ bs) some = refl
 
-item_good : (kind : Kind) (status : ℕ) (text body : List ℕ) → (0 < lead kind → is_status status ≡ true) → least_text kind ≤ length text
+item_good : (kind : FrameKind) (status : ℕ) (text body : List ℕ) → (0 < lead kind → is_status status ≡ true) → least_text kind ≤ length text
     → length text ≤ most_text kind status → All (IsGoodByte kind) text → length body ≤ most_body kind status
     → IsItem kind (item kind status text body)
 item_good Calls status text body good least short bytes body-short = record {
@@ -182,7 +182,7 @@ item_good Replies (suc n) text body good least short bytes body-short = record {
   refused = λ ne. nil_of_length body body-short;
 }
 
--- ---- what is whole is a frame
+-- ---- whole frames
 
 text_from : (bytes : List ℕ) (o n : ℕ) → n ≡ 256 * get_or bytes o 0 + get_or bytes (o + 1) 0 → n ≡ from_be_bytes w16 (take 2 (drop o bytes))
 text_from bytes o n is =
@@ -190,11 +190,12 @@ text_from bytes o n is =
     λ k lt. get_or-take 2 (drop o bytes) k 0 lt ∙ get_or-drop o bytes k 0 in
     omega (arith, is, read 0 (omega arith) ∙ ap (λ (k : ℕ). get_or bytes k 0) (add-zero o), read 1 (omega arith))
 
-text_length-drop : (kind : Kind) (bytes : List ℕ) → text_length kind bytes ≡ from_be_bytes w16 (take 2 (drop (lead kind) bytes))
+text_length-drop : (kind : FrameKind) (bytes : List ℕ) → text_length kind bytes ≡ from_be_bytes w16 (take 2 (drop (lead kind) bytes))
 unfolding text_length
 text_length-drop kind bytes = text_from bytes (lead kind) (256 * get_or bytes (lead kind) 0 + get_or bytes (lead kind + 1) 0) refl
 
-body_length-drop : (kind : Kind) (bytes : List ℕ) → body_length kind bytes ≡ from_be_bytes w32 (take 4 (drop (lead kind + 3 + text_length kind bytes) bytes))
+body_length-drop : (kind : FrameKind) (bytes : List ℕ)
+    → body_length kind bytes ≡ from_be_bytes w32 (take 4 (drop (lead kind + 3 + text_length kind bytes) bytes))
 unfolding body_length
 body_length-drop kind bytes =
     let at = lead kind + 3 + text_length kind bytes in
@@ -202,7 +203,7 @@ body_length-drop kind bytes =
     λ k lt. get_or-take 4 (drop at bytes) k 0 lt ∙ get_or-drop at bytes k 0 in
     omega (arith, read 0 (omega arith) ∙ ap (λ (k : ℕ). get_or bytes k 0) (add-zero at), read 1 (omega arith), read 2 (omega arith), read 3 (omega arith))
 
-text_in : (kind : Kind) (bytes : List ℕ) (n : ℕ) → Parts kind bytes → text_length kind bytes ≡ n → length (take n (drop (lead kind + 2) bytes)) ≡ n
+text_in : (kind : FrameKind) (bytes : List ℕ) (n : ℕ) → Parts kind bytes → text_length kind bytes ≡ n → length (take n (drop (lead kind + 2) bytes)) ≡ n
     → All (IsGoodByte kind) (take n (drop (lead kind + 2) bytes))
 text_in kind bytes n parts is len k d lt =
     let at : get_or (take n (drop (lead kind + 2) bytes)) k d ≡ get_or bytes (lead kind + 2 + k) 0 =
@@ -210,7 +211,7 @@ text_in kind bytes n parts is len k d lt =
     ∙ (get_or-take n (drop (lead kind + 2) bytes) k 0 (omega arith) ∙ get_or-drop (lead kind + 2) bytes k 0) in
     rw at (parts.text_bytes (lead kind + 2 + k) (omega arith) (omega arith))
 
-pub whole_is_frame : (kind : Kind) (bytes : List ℕ) → IsBytes bytes → IsUnbroken kind bytes → IsWhole kind bytes → IsItem kind (item_in kind bytes)
+pub whole_is_frame : (kind : FrameKind) (bytes : List ℕ) → IsBytes bytes → IsUnbroken kind bytes → IsWhole kind bytes → IsItem kind (item_in kind bytes)
     × (bytes ≡ spelling kind (item_in kind bytes))
 unfolding IsWhole
 whole_is_frame kind bytes fits unbroken whole =
@@ -254,11 +255,11 @@ whole_is_frame kind bytes fits unbroken whole =
     ∙ (ap (λ (x : List ℕ). take o bytes ++ x) behind-status ∙ take-append-drop o bytes)) in
     (good, sym spelled)
 
-pub whole_frame : (kind : Kind) (bytes : List ℕ) → IsBytes bytes → IsUnbroken kind bytes → IsWhole kind bytes → IsFrame kind bytes
+pub whole_frame : (kind : FrameKind) (bytes : List ℕ) → IsBytes bytes → IsUnbroken kind bytes → IsWhole kind bytes → IsFrame kind bytes
 whole_frame kind bytes fits unbroken whole = let w = whole_is_frame kind bytes fits unbroken whole in (item_in kind bytes, w.0, w.1)
 
 -- the text and the body that a whole frame has are what it says
-pub said_by : (kind : Kind) (bytes text body : List ℕ) → IsBytes bytes → IsUnbroken kind bytes → IsWhole kind bytes
+pub said_by : (kind : FrameKind) (bytes text body : List ℕ) → IsBytes bytes → IsUnbroken kind bytes → IsWhole kind bytes
     → text ≡ take (text_length kind bytes) (drop (lead kind + 2) bytes) → body ≡ drop (lead kind + 7 + text_length kind bytes) bytes
     → Says kind bytes (item kind (get_or bytes 0 0) text body)
 said_by kind bytes text body fits unbroken whole text_is body_is =
@@ -268,15 +269,15 @@ said_by kind bytes text body fits unbroken whole text_is body_is =
 
 -- ---- what a frame is, as a prefix of a stream
 
-abbrev pub status_of : (kind : Kind) → Item kind → ℕ
+abbrev pub status_of : (kind : FrameKind) → Item kind → ℕ
 status_of Calls call = 0
 status_of Replies r = r.status
 
-abbrev pub text_of : (kind : Kind) → Item kind → List ℕ
+abbrev pub text_of : (kind : FrameKind) → Item kind → List ℕ
 text_of Calls call = call.path
 text_of Replies r = r.text
 
-abbrev pub body_of : (kind : Kind) → Item kind → List ℕ
+abbrev pub body_of : (kind : FrameKind) → Item kind → List ℕ
 body_of Calls call = call.message
 body_of Replies r = r.body
 
@@ -294,12 +295,12 @@ unfolding reply block
 reply-append r more = ap (λ (x : List ℕ). r.status ∷ (to_be_bytes w16 (length r.text) ++ x))
     (append_assoc r.text (0 ∷ (to_be_bytes w32 (length r.body) ++ r.body)) more)
 
-pub spelling-append : (kind : Kind) (i : Item kind) (more : List ℕ)
+pub spelling-append : (kind : FrameKind) (i : Item kind) (more : List ℕ)
     → spelling kind i ++ more ≡ status_bytes kind (status_of kind i) ++ block (text_of kind i) (body_of kind i) more
 spelling-append Calls call more = frame-append call more
 spelling-append Replies r more = reply-append r more
 
-pub length-status : (kind : Kind) (status : ℕ) → length (status_bytes kind status) ≡ lead kind
+pub length-status : (kind : FrameKind) (status : ℕ) → length (status_bytes kind status) ≡ lead kind
 length-status Calls status = refl
 length-status Replies status = refl
 
@@ -307,7 +308,7 @@ length-block : (text body more : List ℕ) → length (block text body more) ≡
 unfolding block
 length-block text body more = omega (arith, length-append text (0 ∷ (to_be_bytes w32 (length body) ++ (body ++ more))), length-append body more)
 
-pub length-spelling : (kind : Kind) (i : Item kind) → length (spelling kind i) ≡ lead kind + 7 + length (text_of kind i) + length (body_of kind i)
+pub length-spelling : (kind : FrameKind) (i : Item kind) → length (spelling kind i) ≡ lead kind + 7 + length (text_of kind i) + length (body_of kind i)
 length-spelling kind i =
     let whole = sym (append-nil (spelling kind i)) ∙ spelling-append kind i [] in
     omega (
@@ -336,8 +337,8 @@ block_first : (text body more : List ℕ) → length text < 2 ^ 16 → 256 * get
 unfolding block
 block_first text body more fits = omega (arith, from_be_bytes-to_be_bytes_2 (length text) fits)
 
--- the bytes of a frame are those of its block, after the status
-frame_at : (kind : Kind) (i : Item kind) (more : List ℕ) (j k : ℕ) → j ≡ lead kind + k
+-- a frame is its status and the bytes of its block
+frame_at : (kind : FrameKind) (i : Item kind) (more : List ℕ) (j k : ℕ) → j ≡ lead kind + k
     → get_or (spelling kind i ++ more) j 0 ≡ get_or (block (text_of kind i) (body_of kind i) more) k 0
 frame_at kind i more j k e =
     let at : j ≡ length (status_bytes kind (status_of kind i)) + k = omega (arith, length-status kind (status_of kind i)) in
@@ -345,7 +346,7 @@ frame_at kind i more j k e =
     ∙ (ap (λ (n : ℕ). get_or (status_bytes kind (status_of kind i) ++ block (text_of kind i) (body_of kind i) more) n 0) at
     ∙ get_or-append-add (status_bytes kind (status_of kind i)) (block (text_of kind i) (body_of kind i) more) k 0)
 
-spelled_first : (kind : Kind) (i : Item kind) (more : List ℕ) → length (text_of kind i) < 2 ^ 16
+spelled_first : (kind : FrameKind) (i : Item kind) (more : List ℕ) → length (text_of kind i) < 2 ^ 16
     → text_length kind (spelling kind i ++ more) ≡ length (text_of kind i)
 unfolding text_length
 spelled_first kind i more fits =
@@ -353,7 +354,7 @@ spelled_first kind i more fits =
     let b = frame_at kind i more (lead kind + 1) 1 refl in
     omega (arith, a, b, block_first (text_of kind i) (body_of kind i) more fits)
 
-spelled_second : (kind : Kind) (i : Item kind) (more : List ℕ) → length (text_of kind i) < 2 ^ 16 → length (body_of kind i) < 2 ^ 32
+spelled_second : (kind : FrameKind) (i : Item kind) (more : List ℕ) → length (text_of kind i) < 2 ^ 16 → length (body_of kind i) < 2 ^ 32
     → body_length kind (spelling kind i ++ more) ≡ length (body_of kind i)
 unfolding body_length
 spelled_second kind i more text-fits fits =
@@ -374,19 +375,19 @@ spelled_second kind i more text-fits fits =
       read (lead kind + 3 + text_length kind (spelling kind i ++ more) + 3) 4 (omega arith),
     )
 
-pub record BeginsWith (kind : Kind) (bytes : List ℕ) (i : Item kind) : Type 0 where
+pub record BeginsWith (kind : FrameKind) (bytes : List ℕ) (i : Item kind) : Type 0 where
   pub status_is : 0 < lead kind → get_or bytes 0 0 ≡ status_of kind i
   pub text_is : text_length kind bytes ≡ length (text_of kind i)
   pub body_is : body_length kind bytes ≡ length (body_of kind i)
   pub text_has : (k : ℕ) → k < length (text_of kind i) → get_or bytes (lead kind + 2 + k) 0 ≡ get_or (text_of kind i) k 0
   pub flag_is : get_or bytes (lead kind + 2 + length (text_of kind i)) 0 ≡ 0
 
-first_is : (kind : Kind) (i : Item kind) (more : List ℕ) → 0 < lead kind → get_or (spelling kind i ++ more) 0 0 ≡ status_of kind i
+first_is : (kind : FrameKind) (i : Item kind) (more : List ℕ) → 0 < lead kind → get_or (spelling kind i ++ more) 0 0 ≡ status_of kind i
 first_is Calls call more some = absurd (omega arith)
 first_is Replies r more some = ap (λ (x : List ℕ). get_or x 0 0) (spelling-append Replies r more)
 
 -- what has a frame fits the table
-record Fits (kind : Kind) (i : Item kind) : Type 0 where
+record Fits (kind : FrameKind) (i : Item kind) : Type 0 where
   pub status_good : 0 < lead kind → is_status (status_of kind i) ≡ true
   pub text_least : least_text kind ≤ length (text_of kind i)
   pub text_short : (first : ℕ) → (0 < lead kind → first ≡ status_of kind i) → length (text_of kind i) ≤ most_text kind first
@@ -402,7 +403,7 @@ reply_body_short : (first status : ℕ) (body : List ℕ) → first ≡ status �
 reply_body_short zero status body e short refused = short
 reply_body_short (suc n) status body e short refused = omega (arith, ap length (refused (λ none. let one : suc n ≡ 0 = e ∙ none in omega arith)))
 
-fits : (kind : Kind) (i : Item kind) → IsItem kind i → Fits kind i
+fits : (kind : FrameKind) (i : Item kind) → IsItem kind i → Fits kind i
 fits Calls call good = record {
   status_good = λ some. absurd (omega arith);
   text_least = good.path_given;
@@ -418,7 +419,7 @@ fits Replies r good = record {
   body_short = λ first e. reply_body_short first r.status r.body (e (omega arith)) good.body_short good.refused;
 }
 
-pub begins_with : (kind : Kind) (i : Item kind) (more : List ℕ) → IsItem kind i → BeginsWith kind (spelling kind i ++ more) i
+pub begins_with : (kind : FrameKind) (i : Item kind) (more : List ℕ) → IsItem kind i → BeginsWith kind (spelling kind i ++ more) i
 begins_with kind i more good =
     let f = fits kind i good in
     let text : length (text_of kind i) < 2 ^ 16 = omega (arith, f.text_short (status_of kind i) (λ some. refl), most_text_small kind (status_of kind i)) in
@@ -432,7 +433,7 @@ begins_with kind i more good =
           ∙ block_tail (text_of kind i) (body_of kind i) more 0;
     }
 
-broken_no_frame : (kind : Kind) (bytes : List ℕ) (i : Item kind) (part : Part) (at : ℕ) → IsItem kind i → BeginsWith kind bytes i
+broken_no_frame : (kind : FrameKind) (bytes : List ℕ) (i : Item kind) (part : Part) (at : ℕ) → IsItem kind i → BeginsWith kind bytes i
     → Breaks kind bytes part at → ⊥
 unfolding Breaks
 broken_no_frame kind bytes i Status at good begins h =
@@ -453,22 +454,23 @@ broken_no_frame kind bytes i BodyLength at good begins h = omega (arith, h.2, be
 broken_no_frame kind bytes i Missing at good begins h = h
 
 -- where bytes are short of a frame, no prefix of them is one
-pub short_no_frame : (kind : Kind) (bytes : List ℕ) (i : Item kind) (more : List ℕ) → IsShort kind bytes → IsItem kind i → bytes ≡ spelling kind i ++ more → ⊥
+pub short_no_frame : (kind : FrameKind) (bytes : List ℕ) (i : Item kind) (more : List ℕ)
+    → IsShort kind bytes → IsItem kind i → bytes ≡ spelling kind i ++ more → ⊥
 unfolding IsShort
 short_no_frame kind bytes i more short good e =
     let b : BeginsWith kind bytes i = rw e (begins_with kind i more good) in
     let len : length bytes ≡ length (spelling kind i) + length more = ap length e ∙ length-append (spelling kind i) more in
     short (omega (arith, b.text_is, length-spelling kind i)) (omega (arith, b.text_is, b.body_is, length-spelling kind i))
 
-pub nil_short : (kind : Kind) → IsShort kind []
+pub nil_short : (kind : FrameKind) → IsShort kind []
 unfolding IsShort
 nil_short kind a b = omega arith
 
-pub is_unfinished : (kind : Kind) (bytes : List ℕ) → IsUnbroken kind bytes → IsShort kind bytes → IsUnfinished kind bytes
+pub is_unfinished : (kind : FrameKind) (bytes : List ℕ) → IsUnbroken kind bytes → IsShort kind bytes → IsUnfinished kind bytes
 is_unfinished kind bytes unbroken short = record { unbroken = unbroken; frameless = λ b. short_no_frame kind bytes b.0 b.1 short b.2 b.3 }
 
 -- the first break is the fault of the rest
-pub fault_of_break : (kind : Kind) (rest : List ℕ) (part : Part) (at : ℕ) → BreaksFirst kind rest part at → FaultAt kind rest part at
+pub fault_of_break : (kind : FrameKind) (rest : List ℕ) (part : Part) (at : ℕ) → BreaksFirst kind rest part at → FaultAt kind rest part at
 unfolding Breaks
 fault_of_break kind rest Status at h = h
 fault_of_break kind rest TextLength at h = h
@@ -477,10 +479,10 @@ fault_of_break kind rest Flag at h = h
 fault_of_break kind rest BodyLength at h = h
 fault_of_break kind rest Missing at h = absurd h.breaks
 
-pub broken_rest : (kind : Kind) (rest : List ℕ) (part : Part) (at : ℕ) → BreaksFirst kind rest part at → BeginsFrame kind rest → ⊥
+pub broken_rest : (kind : FrameKind) (rest : List ℕ) (part : Part) (at : ℕ) → BreaksFirst kind rest part at → BeginsFrame kind rest → ⊥
 broken_rest kind rest part at h b = broken_no_frame kind rest b.0 part at b.2 (rw b.3 (begins_with kind b.0 b.1 b.2)) h.breaks
 
-pub fault_no_frame : (kind : Kind) (rest : List ℕ) (part : Part) (at : ℕ) → FaultAt kind rest part at → BeginsFrame kind rest → ⊥
+pub fault_no_frame : (kind : FrameKind) (rest : List ℕ) (part : Part) (at : ℕ) → FaultAt kind rest part at → BeginsFrame kind rest → ⊥
 fault_no_frame kind rest Missing at h b = h.1.1.frameless b
 fault_no_frame kind rest Status at h b = broken_rest kind rest Status at h b
 fault_no_frame kind rest TextLength at h b = broken_rest kind rest TextLength at h b
@@ -488,17 +490,17 @@ fault_no_frame kind rest Text at h b = broken_rest kind rest Text at h b
 fault_no_frame kind rest Flag at h b = broken_rest kind rest Flag at h b
 fault_no_frame kind rest BodyLength at h b = broken_rest kind rest BodyLength at h b
 
-pub frame_begins : (kind : Kind) (bytes : List ℕ) (i : Item kind) → IsItem kind i → bytes ≡ spelling kind i → BeginsFrame kind bytes
+pub frame_begins : (kind : FrameKind) (bytes : List ℕ) (i : Item kind) → IsItem kind i → bytes ≡ spelling kind i → BeginsFrame kind bytes
 frame_begins kind bytes i good e = (i, [], good, e ∙ sym (append-nil (spelling kind i)))
 
-pub text_short_of : (kind : Kind) (bytes : List ℕ) → IsUnbroken kind bytes → lead kind + 2 ≤ length bytes
+pub text_short_of : (kind : FrameKind) (bytes : List ℕ) → IsUnbroken kind bytes → lead kind + 2 ≤ length bytes
     → text_length kind bytes ≤ most_text kind (get_or bytes 0 0)
 unfolding IsUnbroken Breaks
 text_short_of kind bytes unbroken two = le_of_not (text_length kind bytes) (most_text kind (get_or bytes 0 0))
     (λ lt. unbroken TextLength (lead kind) (refl, two, inr lt))
 
--- what is short has fewer bytes than the longest frame
-pub short_room : (kind : Kind) (bytes : List ℕ) → IsUnbroken kind bytes → IsShort kind bytes → length bytes < most_frame kind
+-- a short prefix has fewer bytes than the longest frame
+pub short_room : (kind : FrameKind) (bytes : List ℕ) → IsUnbroken kind bytes → IsShort kind bytes → length bytes < most_frame kind
 unfolding IsShort
 short_room kind bytes unbroken short =
     let first = get_or bytes 0 0 in
@@ -517,8 +519,8 @@ short_room kind bytes unbroken short =
           ]
     ]
 
--- what is wrong is a part that frames of the kind have: that of a call has no status
-pub breaks_has : (kind : Kind) (bytes : List ℕ) (part : Part) (at : ℕ) → Breaks kind bytes part at → HasPart kind part
+-- a fault names a part that frames of the kind have: a call has no status
+pub breaks_has : (kind : FrameKind) (bytes : List ℕ) (part : Part) (at : ℕ) → Breaks kind bytes part at → HasPart kind part
 unfolding Breaks
 breaks_has Calls bytes Status at h = omega (arith, h.1.0)
 breaks_has Calls bytes TextLength at h = tt

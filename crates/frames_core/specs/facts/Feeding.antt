@@ -5,7 +5,7 @@ use Rattle.std.specs.Prelude.{IfSome, IsSome}
 use Rattle.std.proofs.Math.Seq.{take-add}
 use Rattle.std.proofs.lemmas.Bool.{cases_lt}
 use Rattle.std.proofs.lemmas.List.{take-append-drop, length-take}
-use Rattle.envelope.specs.declared.kind.Kind.{Kind}
+use Rattle.envelope.specs.declared.kind.FrameKind.{FrameKind}
 use Rattle.envelope.specs.declared.kind.Part.{Part}
 use Rattle.envelope.specs.declared.kind.Part.TheVariants.{Missing}
 use Rattle.envelope.specs.Grammar.{Breaks, IsUnfinished}
@@ -21,11 +21,11 @@ none_some None none some = absurd cc
 none_some (Some x) none some = absurd cc
 
 -- what may yet become a frame is not settled
-pub not_settled : {F : Type 0} (kind : Kind) (s : CutterState F) → s.fault ≡ None → IsUnfinished kind s.held → IsSettledAs kind s → ⊥
+pub not_settled : {F : Type 0} (kind : FrameKind) (s : CutterState F) → s.fault ≡ None → IsUnfinished kind s.held → IsSettledAs kind s → ⊥
 not_settled kind s none open_ (inl f) = open_.frameless (frame_begins kind s.held f.0 f.1 f.2)
 not_settled kind s none open_ (inr some) = none_some s.fault none some
 
-pub some_fed : {F : Type 0} (kind : Kind) (wrong : F → Part) (at : F → ℕ) (old new : CutterState F) (rest : List ℕ) (n : ℕ) → old.fault ≡ None
+pub some_fed : {F : Type 0} (kind : FrameKind) (wrong : F → Part) (at : F → ℕ) (old new : CutterState F) (rest : List ℕ) (n : ℕ) → old.fault ≡ None
     → IsUnfinished kind old.held → FedAs kind wrong at old new rest n → 0 < length rest → 0 < n
 some_fed kind wrong at old new rest n none open_ f some =
     elim (cases_lt 0 n) [
@@ -36,7 +36,7 @@ some_fed kind wrong at old new rest n none open_ f some =
     ]
 
 -- a framer that is not settled took all
-pub took_all : {F : Type 0} (kind : Kind) (wrong : F → Part) (at : F → ℕ) (old new : CutterState F) (rest : List ℕ) (n : ℕ) → new.fault ≡ None
+pub took_all : {F : Type 0} (kind : FrameKind) (wrong : F → Part) (at : F → ℕ) (old new : CutterState F) (rest : List ℕ) (n : ℕ) → new.fault ≡ None
     → IsUnfinished kind new.held → FedAs kind wrong at old new rest n → n ≡ length rest
 took_all kind wrong at old new rest n none open_ f =
     elim (cases_lt n (length rest)) [
@@ -44,13 +44,13 @@ took_all kind wrong at old new rest n none open_ f =
       | inr ge ↦ omega (arith, f.within)
     ]
 
-pub fed_count : {F : Type 0} (kind : Kind) (wrong : F → Part) (at : F → ℕ) (old new : CutterState F) (rest : List ℕ) (n : ℕ)
+pub fed_count : {F : Type 0} (kind : FrameKind) (wrong : F → Part) (at : F → ℕ) (old new : CutterState F) (rest : List ℕ) (n : ℕ)
     → FedAs kind wrong at old new rest n → new.past + length new.held ≡ old.past + length old.held + n
 fed_count kind wrong at old new rest n f = omega (arith, f.within, f.past, ap length f.held, length-append old.held (take n rest), length-take n rest)
 
--- ---- what was read, by what is given up, held and not fed yet
+-- ---- the bytes read: given up, held, and not fed yet
 
-pub all_of : {F : Type 0} (kind : Kind) (wrong : F → Part) (at : F → ℕ) (read given : List ℕ) (old new : CutterState F) (rest : List ℕ) (n : ℕ)
+pub all_of : {F : Type 0} (kind : FrameKind) (wrong : F → Part) (at : F → ℕ) (read given : List ℕ) (old new : CutterState F) (rest : List ℕ) (n : ℕ)
     → read ≡ given ++ old.held → FedAs kind wrong at old new rest n → read ++ rest ≡ given ++ (new.held ++ drop n rest)
 all_of kind wrong at read given old new rest n e f =
     ap (λ (x : List ℕ). x ++ rest) e
@@ -58,29 +58,29 @@ all_of kind wrong at read given old new rest n e f =
     ∙ ap (λ (x : List ℕ). given ++ x) (ap (λ (x : List ℕ). old.held ++ x) (sym (take-append-drop n rest))
     ∙ (sym (append_assoc old.held (take n rest) (drop n rest)) ∙ ap (λ (x : List ℕ). x ++ drop n rest) (sym f.held))))
 
-pub taken_of : {F : Type 0} (kind : Kind) (wrong : F → Part) (at : F → ℕ) (read given : List ℕ) (old new : CutterState F) (rest : List ℕ) (n : ℕ)
+pub taken_of : {F : Type 0} (kind : FrameKind) (wrong : F → Part) (at : F → ℕ) (read given : List ℕ) (old new : CutterState F) (rest : List ℕ) (n : ℕ)
     → read ≡ given ++ old.held → FedAs kind wrong at old new rest n → read ++ take n rest ≡ given ++ new.held
 taken_of kind wrong at read given old new rest n e f =
     ap (λ (x : List ℕ). x ++ take n rest) e ∙ (append_assoc given old.held (take n rest) ∙ ap (λ (x : List ℕ). given ++ x) (sym f.held))
 
 -- ---- the fault that is known then
 
-pub known_break : {F : Type 0} (kind : Kind) (wrong : F → Part) (at : F → ℕ) (old new : CutterState F) (rest : List ℕ) (n : ℕ) (f : F)
+pub known_break : {F : Type 0} (kind : FrameKind) (wrong : F → Part) (at : F → ℕ) (old new : CutterState F) (rest : List ℕ) (n : ℕ) (f : F)
     → old.fault ≡ None → FedAs kind wrong at old new rest n → new.fault ≡ Some f → IsBreakIn kind new.past new.held (wrong f) (at f)
 known_break {F} kind wrong at old new rest n f none fed is = subst
     (λ (o : Option F). IfSome o (λ g. IsBreakIn kind new.past new.held (wrong g) (at g))) is (fed.known none)
 
 -- it is one of any longer bytes
-pub fault_of : (kind : Kind) (past : ℕ) (held more : List ℕ) (part : Part) (at : ℕ) → IsBreakIn kind past held part at
+pub fault_of : (kind : FrameKind) (past : ℕ) (held more : List ℕ) (part : Part) (at : ℕ) → IsBreakIn kind past held part at
     → IsFaultIn kind past (held ++ more) part at
 fault_of kind past held more part at k = (k.0, fault_of_break kind (held ++ more) part (at - past) (k.1 more))
 
-nothing_breaks : (kind : Kind) (bytes : List ℕ) (at : ℕ) → Breaks kind bytes Missing at → ⊥
+nothing_breaks : (kind : FrameKind) (bytes : List ℕ) (at : ℕ) → Breaks kind bytes Missing at → ⊥
 unfolding Breaks
 nothing_breaks kind bytes at h = h
 
 -- and not of their end
-pub not_at_end : (kind : Kind) (past : ℕ) (held : List ℕ) (part : Part) (at : ℕ) → IsBreakIn kind past held part at → part ≡ Missing → ⊥
+pub not_at_end : (kind : FrameKind) (past : ℕ) (held : List ℕ) (part : Part) (at : ℕ) → IsBreakIn kind past held part at → part ≡ Missing → ⊥
 not_at_end kind past held part at k e = nothing_breaks kind (held ++ []) (at - past)
     (subst (λ (p : Part). Breaks kind (held ++ []) p (at - past)) e (k.1 []).breaks)
 

@@ -1,4 +1,4 @@
--- A list of fields is what is read from the left, and there is one such list.
+-- Reading from the left gives a list of fields, and the list is unique.
 use Rattle.std.proofs.Common.{◌≡◌, ℕ, zero, suc, ◌<◌, ◌≤◌, List, [], ◌∷◌, length, Result, Ok, Err, refl, sym, ap, ◌∙◌, arith}
 use Rattle.pbwire.specs.declared.field.WireWhy.{WireWhy}
 use Rattle.pbwire.specs.declared.field.WireWhy.TheVariants as why

@@ -21,7 +21,7 @@ pub record Stops (good : WireField → Type 0) (bytes : List ℕ) (at : ℕ) : T
   pub more : rest ≢ []
   pub bad : (e : WireField) (mid : List ℕ) → field_at rest ≡ Ok (e, mid) → good e → ⊥
 
--- what was read is a prefix, whatever follows
+-- the bytes read are a prefix, whichever bytes follow
 prefix_of : FieldLaws → (fs : List WireField) (bytes rest : List ℕ) → Reads fs bytes rest → (prefix : List ℕ) × (bytes ≡ prefix ++ rest)
     × ((tail : List ℕ) → Reads fs (prefix ++ tail) tail)
 prefix_of l [] bytes rest r = ([], r, λ tail. refl)

@@ -16,7 +16,7 @@ use Rattle.pbmessage.specs.Canon.{above, rises}
 use Rattle.pbmessage.specs.facts.Laws.{SpellingLaws}
 use Rattle.pbmessage.specs.facts.Fields.{Reads, read_are}
 
--- what is in a table
+-- the entries of a table
 abbrev pub payloads_at : ℕ → Rows → Payloads
 payloads_at n Start = []
 payloads_at n (rs ▸ Numbers k xs) = payloads_at n rs

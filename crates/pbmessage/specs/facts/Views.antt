@@ -116,13 +116,13 @@ one_of_push k p ms =
 pub joined-push : (ps : Payloads) (p : List ℕ) → joined (ps ++ p ∷ []) ≡ joined ps ++ fields_of p
 joined-push ps p = flat_map-append fields_of ps (p ∷ []) ∙ ap (λ (es : List WireField). joined ps ++ es) (append-nil (fields_of p))
 
--- ---- presence, and what is so after a success
+-- ---- presence, and facts after a success
 
 pub present_after : (ps : Payloads) (p : List ℕ) → is_present (ps ++ p ∷ []) ≡ true
 present_after [] p = refl
 present_after (q ∷ qs) p = refl
 
--- what follows of what is so after a success
+-- a consequence of a fact after a success
 pub then_ok : {X E : Type 0} {P Q : Type 0} (r : Result X E) → (P → Q) → OnOk r P → OnOk r Q
 then_ok (Ok x) f p = f p
 then_ok (Err e) f p = p

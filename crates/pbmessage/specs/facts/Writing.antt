@@ -27,12 +27,12 @@ closed_keeps (Err e) old mid new closed tail is kept done undone = subst (λ (bs
 pub wrote_next : (old mid new : List ℕ) (es fs : List WireField) → mid ≡ old ++ spellings es → new ≡ mid ++ spellings fs → new ≡ old ++ spellings (es ++ fs)
 wrote_next old mid new es fs one two = two ∙ ap (λ (bs : List ℕ). bs ++ spellings fs) one ∙ wrote_two old es fs
 
--- a signed number after what is there, which came through its 64 bits
+-- a signed number after the bytes there, by its 64 bits
 pub wrote_signed : (old new : List ℕ) (k : ℕ) (z : ℤ) → FitsI64 z → new ≡ old ++ spellings (row_fields (signed_row k (to_z w64 (of_z w64 z))))
     → new ≡ old ++ spellings (row_fields (signed_row k z))
 wrote_signed old new k z fits is = is ∙ ap (λ (x : ℤ). old ++ spellings (row_fields (signed_row k x))) (to_z-of_z w64 z fits)
 
--- what is after what was kept, whether or not there was room for it
+-- the bytes after the kept ones, whether or not there was room for them
 pub extended_keeps : {A E : Type 0} (r : Result A E) (old mid new tail : List ℕ) → Keeps old mid → OnOk r (new ≡ mid ++ tail) → OnErr r (new ≡ mid)
     → Keeps old new
 extended_keeps (Ok x) old mid new tail kept done undone = keeps_on old mid new (record { tail = tail; is = done }) kept
@@ -50,7 +50,7 @@ pub wrote_then : {A E : Type 0} (r : Result A E) (old mid new : List ℕ) (es fs
 wrote_then (Ok x) old mid new es fs one two = wrote_next old mid new es fs one two
 wrote_then (Err e) old mid new es fs one two = two
 
--- a text in two parts, of which the first is not empty, is written
+-- a text in two parts, the first not empty, is written
 present_both : (first second : List ℕ) → 1 ≤ length first → present (first ++ second) ≡ (first ++ second) ∷ []
 present_both [] second some = absurd (omega (arith, some))
 present_both (b ∷ first) second some = refl

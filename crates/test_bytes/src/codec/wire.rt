@@ -59,7 +59,7 @@ fn field_text(alloc: Global, field: &Field<'_>) -> Result<String, RowFault> {
     })
 }
 
-/// How many prefixes of a field, of one byte to all but one, are cut short at byte 0.
+/// The number of proper prefixes of a field that are cut short at byte 0.
 pub(crate) fn prefixes_answer(alloc: Global, notation: &str) -> Result<String, RowFault> {
     let bytes = bytes_of(alloc, notation)?;
     let count = cut_short_of(&bytes);

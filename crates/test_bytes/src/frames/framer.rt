@@ -44,7 +44,7 @@ impl AnyFramer {
         }
     }
 
-    /// How many bytes are taken of the stream.
+    /// The bytes taken of the stream.
     pub(crate) fn taken(&self) -> u64 {
         match self {
             AnyFramer::Calls(framer) => framer.taken(),

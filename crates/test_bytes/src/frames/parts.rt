@@ -46,7 +46,7 @@ pub(crate) fn parts_answer(alloc: Global, kind: Kind, notation: &str) -> Result<
     Ok(out)
 }
 
-/// How many prefixes of a frame, of one byte to all but one, are an input that ends early.
+/// The number of proper prefixes of a frame that are an input that ends early.
 pub(crate) fn prefixes_answer(
     alloc: Global,
     kind: Kind,
@@ -71,7 +71,7 @@ fn ends_early(alloc: Global, kind: Kind, prefix: &[u8]) -> Result<bool, RowFault
     }
 }
 
-// What bytes begin with that begin at this place of a stream.
+// The first frame or fault of bytes that begin at this place of a stream.
 fn part_of(alloc: Global, kind: Kind, bytes: &[u8], from: u64) -> Result<Part, RowFault> {
     match kind {
         Kind::Calls => call_part(alloc, bytes, from),

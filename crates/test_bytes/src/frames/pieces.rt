@@ -55,8 +55,8 @@ fn put_end(alloc: Global, framer: &AnyFramer, out: &mut String) -> Result<(), Ro
     }
 }
 
-/// What a framer makes of steps: `next`, `end`, or bytes that it is fed. Of these it is shown how many were
-/// taken; and after them how much it took, and a frame, a fault or neither.
+/// The results of steps of a framer: `next`, `end`, or bytes that it is fed. For fed bytes the number
+/// taken is shown; at the end the bytes taken in all, and a frame, a fault or neither.
 pub(crate) fn steps_answer(alloc: Global, kind: Kind, steps: &str) -> Result<String, RowFault> {
     let mut framer = AnyFramer::new(alloc, kind)?;
     let mut out = String::new(alloc);

@@ -10,7 +10,7 @@ use envelope::{
 use std::alloc::Global;
 use test_kit::{RowFault, bytes_text, number_of, put_part};
 
-/// What comes before a body of a length.
+/// The bytes before a body of this length.
 pub(crate) fn head_answer(alloc: Global, length: &str) -> Result<String, RowFault> {
     let length: u32 = number_of(length)?;
     bytes_text(alloc, reply_head(length).bytes())

@@ -4,7 +4,7 @@ use csi_server::RunEnd;
 use std::alloc::{AllocError, Global};
 use test_kit::RowFault;
 
-/// How a run is to end.
+/// The wanted end of a run.
 #[derive(Clone, Copy)]
 pub(crate) enum End<'a> {
     Done,
@@ -26,7 +26,7 @@ pub(crate) struct Wanted<'a> {
     pub(crate) kept: &'a str,
 }
 
-/// What came of a run.
+/// The outcome of a run.
 #[derive(Drop)]
 pub(crate) struct Served {
     pub(crate) end: RunEnd,
@@ -57,11 +57,11 @@ pub(crate) fn compare(
     if is_end(alloc, came.end, wanted.end)? && is_written(came, wanted) && is_kept {
         return Ok(());
     }
-    Err(RowFault::Differs(told(alloc, trial, came)?))
+    Err(RowFault::Differs(reported(alloc, trial, came)?))
 }
 
-// What came of a trial.
-fn told(alloc: Global, trial: Trial, came: &Served) -> Result<String, AllocError> {
+// The outcome of a trial, as a text.
+fn reported(alloc: Global, trial: Trial, came: &Served) -> Result<String, AllocError> {
     let written = hex::encode(alloc, &came.written)?;
     format!(in alloc;
         "{} {}: {:?} {written} {}",

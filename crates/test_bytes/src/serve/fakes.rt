@@ -8,10 +8,10 @@ use std::io::{ErrorKind, Read, Write};
 /// The most bytes that the server reads at once, and so the greatest piece.
 pub(crate) const GREATEST_PIECE: usize = 4096;
 
-/// What the reader and the writer of one run see of each other.
+/// The state that the reader and the writer of one run share.
 #[derive(Drop)]
 pub(crate) struct Watch {
-    // Whether all is flushed that was written.
+    // Whether all written bytes are flushed.
     is_flushed: Cell<bool>,
     // Whether a fault is known, or writing failed.
     is_over: Cell<bool>,
@@ -44,7 +44,7 @@ pub(crate) struct Pieces<'a> {
     size: usize,
     // The number of reads before a read fails; `None` if no read fails.
     fails_after: Option<u64>,
-    // How many bytes are still to come until a fault is known, if there is one.
+    // The bytes that still come before a fault is known, if there is one.
     until_fault: Option<usize>,
 }
 
@@ -158,10 +158,10 @@ impl Read for Reader<'_> {
     }
 }
 
-/// What a writer does at a set call.
+/// The trouble of a writer at a set call.
 #[derive(Clone, Copy, PartialEq, Eq)]
 pub(crate) enum Trouble {
-    /// Nothing.
+    /// No trouble.
     Never,
     /// The write fails.
     Write,
@@ -171,7 +171,7 @@ pub(crate) enum Trouble {
     Flush,
 }
 
-/// How a writer takes bytes: up to a limit a write, and with trouble once, at a given call of its kind.
+/// The behaviour of a writer: a limit of bytes a write, and trouble once, at a given call of its kind.
 #[derive(Clone, Copy)]
 pub(crate) struct Takes {
     size: usize,
@@ -195,7 +195,7 @@ impl Takes {
     }
 }
 
-/// Takes bytes.
+/// A writer that keeps the bytes it takes.
 #[derive(Drop)]
 pub(crate) struct Writer<'a> {
     takes: Takes,
@@ -213,7 +213,7 @@ impl<'a> Writer<'a> {
         }
     }
 
-    /// What it took.
+    /// The bytes that the writer took.
     pub(crate) fn into_bytes(self) -> Vec<u8> {
         self.bytes
     }

@@ -13,7 +13,7 @@ use test_kit::RowFault;
 // The most bytes of a name and of a version.
 const MAX_NAME_BYTES: usize = 128;
 
-/// What serves.
+/// The service under test.
 #[derive(Clone, Copy)]
 pub(crate) enum Server<'a> {
     /// All calls, under a configuration.

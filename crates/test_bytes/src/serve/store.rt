@@ -27,7 +27,7 @@ pub(super) struct Run {
     refusals: u64,
 }
 
-/// What came of a run over a store that refuses a call.
+/// The outcome of a run over a store that refuses a call.
 #[derive(Drop)]
 pub(super) struct Refused {
     pub(super) served: Served,
@@ -62,7 +62,7 @@ impl Trials<'_> {
         Err(RowFault::Refused("the store was asked too often"))
     }
 
-    // How many calls are known to be refused where they ask, with one more that was.
+    // The number of asking calls known to be refused, after one more refusal.
     fn seen_with(&self, seen: usize, call: usize) -> Result<usize, RowFault> {
         let next = call.saturating_add(1);
         if next == seen || self.first_asking(seen) == Some(call) {
@@ -142,7 +142,7 @@ impl Trials<'_> {
         })
     }
 
-    /// What came of a run, with whether the store is down after it and what a keeper keeps then.
+    /// The outcome of a run, with whether the store is down and the State of a keeper after it.
     ///
     /// # Errors
     ///
@@ -179,7 +179,7 @@ impl Trials<'_> {
 
     // The wanted outcome if the change of a call is refused: the store is down for later calls that ask it.
     fn after_change(&self, call: usize) -> Result<Replies, AllocError> {
-        let mut bytes = self.refused_behind(call)?;
+        let mut bytes = self.refused_after(call)?;
         let refused = self.put_refused(call.saturating_add(1), STORE_DOWN, &mut bytes)?;
         Ok(Replies {
             bytes,
@@ -209,7 +209,7 @@ impl Trials<'_> {
     }
 
     // The replies to the first calls, and the refusal of the next.
-    fn refused_behind(&self, calls: usize) -> Result<Vec<u8>, AllocError> {
+    fn refused_after(&self, calls: usize) -> Result<Vec<u8>, AllocError> {
         let mut bytes = Vec::from_slice(self.alloc, self.stream.replies(calls))?;
         bytes.extend_from_slice(STORE_REFUSED)?;
         Ok(bytes)
@@ -221,7 +221,7 @@ impl Trials<'_> {
         let pieces = Pieces::new(&input, GREATEST_PIECE);
         let served = self.server.run(self.alloc, pieces, Takes::all())?;
         let (_, from) = self.stream.ends_of(call);
-        let mut bytes = self.refused_behind(call)?;
+        let mut bytes = self.refused_after(call)?;
         bytes.extend_from_slice(served.written.get(from..).unwrap_or(&[]))?;
         Ok(Replies {
             bytes,

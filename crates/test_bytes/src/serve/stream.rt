@@ -15,7 +15,7 @@ pub(crate) struct Call {
 #[derive(Drop)]
 pub(crate) struct StreamFault {
     pub(crate) text: String,
-    /// How many bytes of the stream make it known.
+    /// The bytes of the stream that make the fault known.
     pub(crate) known_at: usize,
     /// The frame that answers it.
     pub(crate) frame: Vec<u8>,
@@ -51,7 +51,7 @@ impl Stream {
         }
     }
 
-    /// Appends a call.
+    /// Appends a call and its reply.
     pub(crate) fn put_call(
         &mut self,
         asks: bool,
@@ -81,12 +81,12 @@ impl Stream {
     }
 
     /// Appends bytes after a fault, which are not read.
-    pub(crate) fn put_behind(&mut self, bytes: &[u8]) -> Result<(), AllocError> {
+    pub(crate) fn put_after(&mut self, bytes: &[u8]) -> Result<(), AllocError> {
         self.input.extend_from_slice(bytes)?;
         Ok(())
     }
 
-    /// How many calls are whole in the first bytes.
+    /// The number of whole calls in the first bytes.
     pub(crate) fn calls_within(&self, bytes: usize) -> usize {
         self.calls
             .iter()
@@ -127,7 +127,7 @@ impl Stream {
         }
     }
 
-    /// How many bytes make the fault known, if there is one.
+    /// The number of bytes that make the fault known, if there is one.
     pub(crate) fn fault_known_at(&self) -> Option<usize> {
         match &self.fault {
             Some(fault) => Some(fault.known_at),

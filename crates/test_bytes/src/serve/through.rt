@@ -76,13 +76,13 @@ impl Trials<'_> {
         if is_current {
             return Ok(self.judge(trial, came)?.is_some());
         }
-        self.judge_behind(trial, came)?;
+        self.judge_after(trial, came)?;
         Ok(true)
     }
 
     // The memory lacks a change that was answered with OK: each later call that asks it is refused, and
     // changes nothing.
-    fn judge_behind(&self, trial: Trial, came: &Refused) -> Result<(), RowFault> {
+    fn judge_after(&self, trial: Trial, came: &Refused) -> Result<(), RowFault> {
         let calls = self.answered(&came.served.written);
         let mut replies = Vec::from_slice(self.alloc, self.stream.replies(calls))?;
         let refused = self.put_refused(calls, STORE_REFUSED, &mut replies)?;

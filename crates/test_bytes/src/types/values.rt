@@ -87,37 +87,37 @@ pub(crate) fn name_answer(alloc: Global, words: &[&str]) -> Result<String, RowFa
     }
 }
 
-fn bytes_behind<T: AsStr>(text: &T) -> usize {
+fn bytes_after<T: AsStr>(text: &T) -> usize {
     text.as_str().len()
 }
 
 /// Of `text TEXT`: the text in a column of eight characters, and its bytes.
 pub(crate) fn text_answer(alloc: Global, words: &[&str]) -> Result<String, RowFault> {
     let text = text_at(alloc, words, 0)?;
-    Ok(format!(in alloc; "[{text:>8}] of {} bytes", bytes_behind(&text))?)
+    Ok(format!(in alloc; "[{text:>8}] of {} bytes", bytes_after(&text))?)
 }
 
 /// Of `list TEXT ..`: its texts as they come out.
 pub(crate) fn list_answer(alloc: Global, words: &[&str]) -> Result<String, RowFault> {
     let texts = texts_of(alloc, words)?;
-    let mut told = String::new(alloc);
+    let mut reported = String::new(alloc);
     for text in &texts {
-        write!(told, "[{text}]")?;
+        write!(reported, "[{text}]")?;
     }
-    Ok(told)
+    Ok(reported)
 }
 
 /// Of `map KEY VALUE ..`: the entries of a copy, as they come out.
 pub(crate) fn map_answer(alloc: Global, words: &[&str]) -> Result<String, RowFault> {
-    entries_told(alloc, &copy_map(alloc, &map_of(alloc, words)?)?)
+    entries_reported(alloc, &copy_map(alloc, &map_of(alloc, words)?)?)
 }
 
-fn entries_told(alloc: Global, map: &Map) -> Result<String, RowFault> {
-    let mut told = String::new(alloc);
+fn entries_reported(alloc: Global, map: &Map) -> Result<String, RowFault> {
+    let mut reported = String::new(alloc);
     for (key, value) in map {
-        write!(told, "[{key}={value}]")?;
+        write!(reported, "[{key}={value}]")?;
     }
-    Ok(told)
+    Ok(reported)
 }
 
 /// Of `over KEY VALUE .. under KEY VALUE ..`: the entries of the second map with the first laid over it, as
@@ -128,13 +128,13 @@ pub(crate) fn over_answer(alloc: Global, words: &[&str]) -> Result<String, RowFa
     let given = map_of(alloc, words.get(..place).unwrap_or_default())?;
     let map = map_of(alloc, words.get(place + 1..).unwrap_or_default())?;
     let laid = laid_over(alloc, &map, &given)?;
-    let told = entries_told(alloc, &laid)?;
+    let reported = entries_reported(alloc, &laid)?;
     let had = if has_each(&map, &given) {
         "had"
     } else {
         "had not"
     };
-    Ok(format!(in alloc; "{told} of {} bytes; {had} each", map_bytes(&laid))?)
+    Ok(format!(in alloc; "{reported} of {} bytes; {had} each", map_bytes(&laid))?)
 }
 
 /// Of `capability none`, `capability block` or `capability mount TYPE GROUP MODE FLAG ..`: the value of a

@@ -149,7 +149,7 @@ pub(crate) trait TestDisk: Crash + Drop {
     /// given.
     fn over(file: Memory, calls: u64, writes: u64, lie: Option<Lie>) -> Self;
 
-    /// The file.
+    /// The file in memory below the troubles.
     fn memory(&self) -> &Memory;
 
     /// Whether a write found no room.

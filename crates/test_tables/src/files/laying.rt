@@ -14,7 +14,7 @@ const SEED: u64 = 1;
 // The least log that has a change: its header, and a frame of a page of 512 bytes.
 const FRAME_BYTES: usize = 32 + 24 + 512;
 
-/// How many files came to what.
+/// The counts of files by their outcome.
 #[derive(Clone, Copy)]
 pub(crate) struct Laid {
     made: usize,
@@ -24,7 +24,7 @@ pub(crate) struct Laid {
 }
 
 impl Laid {
-    /// None yet.
+    /// The counts before the first file.
     pub(crate) fn none() -> Laid {
         Laid {
             made: 0,

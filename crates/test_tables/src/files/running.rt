@@ -41,7 +41,7 @@ fn end_word(end: RunEnd) -> &'static str {
     }
 }
 
-// How calls were served.
+// The report of a run, as a text.
 fn report_text(alloc: Global, word: &str, report: &RunReport) -> Result<String, AllocError> {
     let end = end_word(report.end);
     let made = if report.is_new { ", made" } else { "" };

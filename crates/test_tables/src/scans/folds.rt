@@ -8,9 +8,9 @@ use std::alloc::Global;
 /// The rows as a text.
 #[derive(Drop)]
 pub(crate) struct Showing {
-    /// What holds the text.
+    /// The allocator of the text.
     pub(crate) alloc: Global,
-    /// The text.
+    /// The rows so far, as a text.
     pub(crate) text: String,
 }
 

@@ -31,13 +31,13 @@ pub(crate) enum Which {
 /// The moment of a stop, and the fate of the writes before it.
 #[derive(Clone, Copy)]
 pub(crate) struct Stop {
-    /// What stops.
+    /// The file that stops, or both.
     pub(crate) which: Which,
     /// After this number of calls of the disk.
     pub(crate) calls: u64,
     /// The connection is closed in the end, and not dropped.
     pub(crate) closes: bool,
-    /// Whether writes are lost that were not synchronised.
+    /// Whether unsynchronised writes are lost.
     pub(crate) loses: bool,
     /// The trouble of the files in a run of `csi_files`. Without one, tables are adopted on a connection to
     /// files that stop.
@@ -76,7 +76,7 @@ impl fmt::Display for Stop {
     }
 }
 
-/// Two new files.
+/// Two empty files.
 pub(crate) fn new_files(alloc: Global) -> Files<Memory> {
     Files {
         log: Memory::new(alloc),
@@ -130,7 +130,7 @@ pub(crate) fn copies<D: TestDisk>(
     Ok(fused(copied_files(alloc, &files.log, &files.db)?, calls))
 }
 
-/// Whether files have the same bytes.
+/// Whether two pairs of files have the same bytes.
 pub(crate) fn are_same(one: &Files<Memory>, other: &Files<Memory>) -> bool {
     one.log.bytes() == other.log.bytes() && one.db.bytes() == other.db.bytes()
 }
@@ -140,7 +140,7 @@ pub(crate) fn has_stopped<D: TestDisk>(disks: &mut Files<D>) -> bool {
     !disks.may_be_used() || disks.log.len().is_err() || disks.db.len().is_err()
 }
 
-/// What the next start finds of files.
+/// The files that the next start finds.
 pub(crate) fn left_of<D: TestDisk>(
     alloc: Global,
     disks: &mut Files<D>,

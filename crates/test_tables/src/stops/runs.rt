@@ -30,7 +30,7 @@ pub(crate) struct Wanted<'a> {
 /// The reply and the files of a run with a stop.
 #[derive(Drop)]
 pub(crate) struct Left {
-    /// The disk stopped.
+    /// Whether the disk stopped in the run.
     pub(crate) is_stopped: bool,
     pub(crate) reply: Vec<u8>,
     pub(crate) files: Files<Memory>,
@@ -43,7 +43,7 @@ pub(crate) struct Found {
     pub(crate) outcome: Outcome,
 }
 
-/// What came of a run.
+/// The facts of a run that are compared.
 #[derive(Clone, Copy)]
 pub(crate) struct Came {
     /// The call had its reply.
@@ -136,7 +136,7 @@ impl Wanted<'_> {
         })
     }
 
-    // What the next start finds where a run of `csi_files` was in trouble.
+    // The outcome of the next start after a run of `csi_files` in trouble.
     fn find_after_trouble<D: TestDisk>(
         &self,
         stop: Stop,
@@ -151,7 +151,7 @@ impl Wanted<'_> {
         outcome_of::<D>(self.alloc, self.config, &opened, self.call)
     }
 
-    /// What the next start finds.
+    /// The outcome of the next start.
     pub(crate) fn find<D: TestDisk>(
         &self,
         stop: Stop,
@@ -167,7 +167,7 @@ impl Wanted<'_> {
         }
     }
 
-    /// What came of a run.
+    /// The facts of a run.
     ///
     /// # Errors
     ///

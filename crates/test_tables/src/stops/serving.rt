@@ -16,12 +16,12 @@ use std::alloc::Global;
 use std::fmt;
 use test_kit::RowFault;
 
-/// What calls are answered over files that never stop, and the State before and after them.
+/// The replies to calls over files that never stop, and the State before and after them.
 #[derive(Drop)]
 pub(crate) struct Outcome {
     /// The State that the tables are adopted with.
     pub(crate) before: String,
-    /// The replies.
+    /// The replies, as the bytes of their frames.
     pub(crate) replies: Vec<u8>,
     /// The State after the calls.
     pub(crate) after: String,
@@ -115,7 +115,7 @@ fn answered<K: Keeper>(
 
 // Calls over tables that must be adopted, and what came of them.
 #[derive(Drop)]
-struct Telling<'a> {
+struct Reporting<'a> {
     alloc: Global,
     config: &'a Config,
     calls: &'a [u8],
@@ -123,7 +123,7 @@ struct Telling<'a> {
     outcome: Result<Outcome, RowFault>,
 }
 
-impl Telling<'_> {
+impl Reporting<'_> {
     fn make_older<S: Alter>(&mut self, conn: &mut Connection<S>) {
         if self.is_older {
             if let Err(fault) = make_older(conn) {
@@ -133,7 +133,7 @@ impl Telling<'_> {
     }
 }
 
-impl Task for Telling<'_> {
+impl Task for Reporting<'_> {
     fn run<S: Alter + Drop>(&mut self, conn: Connection<S>) -> Connection<S> {
         match adopt(self.alloc, conn, self.config) {
             Ok(mut tables) => {
@@ -150,7 +150,7 @@ impl Task for Telling<'_> {
     }
 }
 
-/// What calls are answered over files, and these as they are left then, in this way.
+/// The outcome of calls over files, and the files as this ending leaves them.
 pub(crate) fn left_by<D: Disk + Drop>(
     alloc: Global,
     config: &Config,
@@ -158,7 +158,7 @@ pub(crate) fn left_by<D: Disk + Drop>(
     calls: &[u8],
     ending: Ending,
 ) -> Result<(Outcome, Files<D>), RowFault> {
-    let mut telling = Telling {
+    let mut reporting = Reporting {
         alloc,
         config,
         calls,
@@ -166,14 +166,14 @@ pub(crate) fn left_by<D: Disk + Drop>(
         outcome: Err(RowFault::Refused("not opened")),
     };
     let closes = !matches!(ending, Ending::Open);
-    let (files, opened) = over(alloc, files, closes, &mut telling);
+    let (files, opened) = over(alloc, files, closes, &mut reporting);
     match opened {
-        Ok(()) => Ok((telling.outcome?, files)),
+        Ok(()) => Ok((reporting.outcome?, files)),
         Err(error) => Err(unlike(alloc, &"files", &error)),
     }
 }
 
-/// What calls are answered over copies of files.
+/// The outcome of calls over copies of files.
 pub(crate) fn outcome_of<D: TestDisk>(
     alloc: Global,
     config: &Config,

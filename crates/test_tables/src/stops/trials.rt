@@ -11,7 +11,7 @@ use test_kit::RowFault;
 // More calls of the disk than any row makes.
 const MOST_CALLS: u64 = 1_000_000;
 
-/// What the runs left, each at least once or never.
+/// The outcomes that some run of a row had.
 #[derive(Clone, Copy)]
 pub(crate) struct Seen {
     before: bool,
@@ -43,10 +43,10 @@ impl fmt::Display for Seen {
     }
 }
 
-/// How the disk stops.
+/// The kind of stop.
 #[derive(Clone, Copy)]
 pub(crate) enum Way {
-    /// In the call.
+    /// In the call alone.
     Once,
     /// In the call, and the next start stops at the same place.
     Twice,
@@ -79,7 +79,7 @@ pub(crate) struct Trials<'a> {
 }
 
 impl<'a> Trials<'a> {
-    /// No run yet.
+    /// The trials of a row, before the first run.
     pub(crate) fn new(wanted: Wanted<'a>, step: u64, way: Way) -> Trials<'a> {
         Trials {
             wanted,
@@ -140,7 +140,7 @@ impl<'a> Trials<'a> {
         }
     }
 
-    // One run, and whether the disk stopped in it.
+    // Makes one run. Returns whether the disk stopped in it.
     fn stop<D: TestDisk>(&mut self, stop: Stop) -> Result<bool, RowFault> {
         let Left {
             is_stopped,

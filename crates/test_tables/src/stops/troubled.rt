@@ -7,7 +7,7 @@ use sqlite_disk::{Disk, Files, Memory};
 use std::alloc::Global;
 use test_kit::RowFault;
 
-/// What becomes of a disk.
+/// The trouble of a disk.
 #[derive(Clone, Copy)]
 pub(crate) enum Trouble {
     /// Each call fails from some call on.

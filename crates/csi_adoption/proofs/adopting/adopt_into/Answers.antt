@@ -10,7 +10,7 @@ pub returns-in-Ok-clause-adopted : goal.returns-in-Ok-clause-adopted
 returns-in-Ok-clause-adopted g c =
     let settled = is_settled g.S.Store c.args.conn c.set_step_limit.new.self c.roll_back.new.conn c.set_step_limit.ensures c.roll_back.ensures.undone c.roll_back.ensures.survives in
     let blank : c.roll_back.new.conn.schema ≡ no_schema = sym c.schema.ensures.value ∙ c.is_blank.ensures.0 c.if-is_blank.true in
-    is_made g.S.Store c.args.config.now c.args.conn c.roll_back.new.conn settled blank c.rows_tell.ensures.new c.in-Ok.tables c.in-Ok.ensures.made c.in-Ok.ensures.was_open
+    is_made g.S.Store c.args.config.now c.args.conn c.roll_back.new.conn settled blank c.rows_report.ensures.new c.in-Ok.tables c.in-Ok.ensures.made c.in-Ok.ensures.was_open
 
 pub returns-in-Err-clause-unadopted : goal.returns-in-Err-clause-unadopted
 returns-in-Err-clause-unadopted g c =

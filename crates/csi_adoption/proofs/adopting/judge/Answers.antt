@@ -22,8 +22,8 @@ returns-in_err-volumes-clause-sound g c = λ clean.
     let answer : c.from_residual.result ≡ Err fault = is_err c.from_residual.result fault c.from_residual.ensures.1 in
     let db = (state g.S.Store c.args.conn.now).now in
     subst (λ r. IfErr r (IsNotRefused c.args.config.now db)) (sym answer) (λ s _ rows invariant. must_fail fault (λ known. elim (c.in_err-volumes.ensures.judged clean known) [
-      | inl it ↦ c.rows_tell.ensures.no_meta_fault db.trees s rows invariant fault it
-      | inr it ↦ c.rows_tell.ensures.no_fault db.trees s rows invariant fault it
+      | inl it ↦ c.rows_report.ensures.no_meta_fault db.trees s rows invariant fault it
+      | inr it ↦ c.rows_report.ensures.no_fault db.trees s rows invariant fault it
     ]))
 
 pub returns-in_err-totals-clause-scans : goal.returns-in_err-totals-clause-scans
@@ -41,7 +41,7 @@ returns-clause-found g c = λ clean.
     record {
       schema_is = ours;
       found = λ sound.
-          let it = c.rows_tell.ensures.found db.trees c.in_ok-volumes.volumes sound (c.in_ok-volumes.ensures.judged clean) in (
+          let it = c.rows_report.ensures.found db.trees c.in_ok-volumes.volumes sound (c.in_ok-volumes.ensures.judged clean) in (
             it.known,
             it.state,
             it.rows,

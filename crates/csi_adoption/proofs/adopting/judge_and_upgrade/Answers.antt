@@ -6,7 +6,7 @@ use Rattle.csi_adoption.specs.Failing.{IsOfShut}
 use Rattle.csi_adoption.specs.Judging.{IsFaultOf}
 use Rattle.csi_adoption.proofs.FaultLemmas.{error_fails}
 use Rattle.csi_adoption.proofs.TakeLemmas.{is_taken, taken_survives}
-use Rattle.csi_adoption.proofs.FailingLemmas.{cause_behind, format_cause, handed_fault, if_err, ours, told_behind}
+use Rattle.csi_adoption.proofs.FailingLemmas.{cause_after, format_cause, handed_fault, if_err, ours, reported_after}
 use Rattle.csi_adoption.proofs.adopting.judge_and_upgrade.Goals as goal
 
 pub returns-in_err-upgrade-clause-survives : goal.returns-in_err-upgrade-clause-survives
@@ -29,8 +29,8 @@ returns-clause-survives g c =
 pub returns-in_err-upgrade-clause-failed : goal.returns-in_err-upgrade-clause-failed
 returns-in_err-upgrade-clause-failed g c =
     let judged = c.in_ok-judged.ensures in
-    told_behind g.S.Store c.args.conn.now c.upgrade.new.conn c.from_residual-in_err-upgrade.result c.in_err-upgrade.field-0.0 c.from_residual-in_err-upgrade.ensures.1
-    (cause_behind g.S.Store c.args.conn.now c.judge.new.conn c.upgrade.new.conn c.in_ok-judged.judged c.in_err-upgrade.field-0.0 judged.scans c.upgrade.ensures.survives
+    reported_after g.S.Store c.args.conn.now c.upgrade.new.conn c.from_residual-in_err-upgrade.result c.in_err-upgrade.field-0.0 c.from_residual-in_err-upgrade.ensures.1
+    (cause_after g.S.Store c.args.conn.now c.judge.new.conn c.upgrade.new.conn c.in_ok-judged.judged c.in_err-upgrade.field-0.0 judged.scans c.upgrade.ensures.survives
     (format_cause g.S.Store c.judge.new.conn c.upgrade.new.conn c.in_err-upgrade.field-0.0 (λ clean.
     let before : HasCleanDisk (state g.S.Store c.judge.new.conn) = omega (arith, clean, c.upgrade.ensures.survives.clean) in
     let same = judged.scans.same before in

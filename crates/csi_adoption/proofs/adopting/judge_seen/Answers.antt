@@ -3,7 +3,7 @@ use Rattle.sqlite.specs.Held.{state}
 use Rattle.csi_adoption.specs.Judging.{JudgesRows, volumes_unless}
 use Rattle.csi_adoption.proofs.JudgedLemmas.{judged_err, table_fault}
 use Rattle.csi_adoption.proofs.FaultLemmas.{is_err, not_memory}
-use Rattle.csi_adoption.proofs.FailingLemmas.{no_store, told_if}
+use Rattle.csi_adoption.proofs.FailingLemmas.{no_store, reported_if}
 use Rattle.csi_adoption.proofs.adopting.judge_seen.Goals as goal
 
 pub returns-in_err-check_tables-clause-judged : goal.returns-in_err-check_tables-clause-judged
@@ -22,7 +22,7 @@ pub returns-in_err-check_tables-clause-failed : goal.returns-in_err-check_tables
 returns-in_err-check_tables-clause-failed g c = no_store g.S.Store c.args.conn.now c.args.conn.now c.from_residual.result c.in_err-check_tables.field-0.0 c.from_residual.ensures.1 c.in_err-check_tables.ensures.2
 
 pub returns-in_err-check_tables-clause-open : goal.returns-in_err-check_tables-clause-open
-returns-in_err-check_tables-clause-open g c = λ is_open clean. told_if _ c.from_residual.result c.in_err-check_tables.field-0.0 c.from_residual.ensures.1 (λ known. is_open)
+returns-in_err-check_tables-clause-open g c = λ is_open clean. reported_if _ c.from_residual.result c.in_err-check_tables.field-0.0 c.from_residual.ensures.1 (λ known. is_open)
 
 pub returns-clause-open : goal.returns-clause-open
 returns-clause-open g c = λ is_open clean. c.judge_joined.ensures.open clean

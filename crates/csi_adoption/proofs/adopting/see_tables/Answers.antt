@@ -2,7 +2,7 @@ use Rattle.std.proofs.Common.{map, subst}
 use Rattle.sqlite.specs.Tree.{Trees}
 use Rattle.csi_constraints.specs.Scans.{keyed_attachment, IsInOrder}
 use Rattle.csi_adoption.proofs.ChainLemmas.{clean_before, ended, failed, same_trees, chained}
-use Rattle.csi_adoption.proofs.FailingLemmas.{cause_behind, handed_error}
+use Rattle.csi_adoption.proofs.FailingLemmas.{cause_after, handed_error}
 use Rattle.csi_adoption.proofs.adopting.see_tables.Goals as goal
 
 pub returns-in_err-attachments-clause-scans : goal.returns-in_err-attachments-clause-scans
@@ -33,7 +33,7 @@ returns-clause-seen g c = λ clean.
 pub returns-in_err-attachments-clause-failed : goal.returns-in_err-attachments-clause-failed
 returns-in_err-attachments-clause-failed g c =
     handed_error g.S.Store c.args.conn.now c.see_attachments.new.conn c.from_residual-in_err-attachments.result c.in_err-attachments.field-0.0 c.from_residual-in_err-attachments.ensures.1
-    (cause_behind g.S.Store c.args.conn.now c.see_volumes.new.conn c.see_attachments.new.conn c.in_ok-volumes.volumes c.in_err-attachments.field-0.0 c.in_ok-volumes.ensures.scans c.in_err-attachments.ensures.scans.survives c.in_err-attachments.ensures.failed)
+    (cause_after g.S.Store c.args.conn.now c.see_volumes.new.conn c.see_attachments.new.conn c.in_ok-volumes.volumes c.in_err-attachments.field-0.0 c.in_ok-volumes.ensures.scans c.in_err-attachments.ensures.scans.survives c.in_err-attachments.ensures.failed)
 
 pub returns-in_err-volumes-clause-failed : goal.returns-in_err-volumes-clause-failed
 returns-in_err-volumes-clause-failed g c = handed_error g.S.Store c.args.conn.now c.see_volumes.new.conn c.from_residual.result c.in_err-volumes.field-0.0 c.from_residual.ensures.1 c.in_err-volumes.ensures.failed

@@ -2,7 +2,7 @@ use Rattle.std.proofs.Common.{rules, ℕ, [], ◌++◌, ◌≤◌, ◌<◌, List
 use Rattle.std.specs.Io.KnownBytes.{Consumes, IsAtEnd}
 use Rattle.std.proofs.KnownBytes.{Consumes-nil, Consumes-trans}
 use Rattle.frames_core.specs.Framer.{ReplyFramerState}
-use Rattle.envelope.specs.declared.kind.Kind.TheVariants.{Replies}
+use Rattle.envelope.specs.declared.kind.FrameKind.TheVariants.{Replies}
 use Rattle.envelope.specs.Faults.{reply_part, reply_place}
 use Rattle.frames_core.specs.Feeding.{ReplyFed}
 use Rattle.frames_core.specs.facts.Feeding.{fed_count}
@@ -43,7 +43,7 @@ loop-turn-preserved g c =
     let run = c.loop-turn.invariant.run in
     let f : ReplyFed c.loop-turn.framer c.feed.new.self c.split_at.result.0.now c.feed.result = record { within = c.feed.ensures.within; past = c.feed.ensures.past; held = c.feed.ensures.held; all = c.feed.ensures.all; known = c.feed.ensures.known; idle = c.feed.ensures.idle } in
     let open_ = c.if-is_settled.ensures.open refl in
-    let more = one_more run.0 c.split_at.result.0.now c.loop-turn.framer c.feed.new.self c.feed.result run.3 f open_.0 open_.1 (c.feed.ensures.few open_.0 open_.1) in
+    let more = one_more run.0 c.split_at.result.0.now c.loop-turn.framer c.feed.new.self c.feed.result run.3 f open_.0 open_.1 (c.feed.ensures.bounded open_.0 open_.1) in
     record {
       few = (let b : c.in_ok-count.count ≤ 4096 = search rules in let i = c.loop-turn.invariant.few in omega (arith, c.feed.ensures.within, c.split_at.ensures.front_len, fed_count Replies reply_part reply_place c.loop-turn.framer c.feed.new.self c.split_at.result.0.now c.feed.result f));
       run = (

@@ -1,4 +1,5 @@
-use Rattle.csi_clients.proofs.LinearizabilityLemmas.{Stays, begun, finished}
+use Rattle.csi_clients.proofs.DoneLemmas.{Stays}
+use Rattle.csi_clients.proofs.LinearizabilityLemmas.{begun, finished}
 use Rattle.csi_clients.proofs.StaysLemmas.{AreLaws, done_step, stays_one, step_done}
 use Rattle.csi_clients.proofs.laws.linearizable.Goals as goal
 

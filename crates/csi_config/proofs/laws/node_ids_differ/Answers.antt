@@ -4,6 +4,6 @@ use Rattle.csi_config.proofs.laws.node_ids_differ.Goals as goal
 
 pub returns : goal.returns
 returns c = record {
-  few = up_to _ _ (good c.args.config.now).few_nodes;
+  bounded = up_to _ _ (good c.args.config.now).few_nodes;
   differ = nodes_apart c.pairs.ensures _ (good c.args.config.now).ids_apart;
 }

@@ -9,6 +9,6 @@ use Rattle.csi_config.proofs.laws.pool_keys_differ.Goals as goal
 
 pub returns : goal.returns
 returns c = record {
-  few = λ p h. up_to _ _ (each_passes (λ (p : Pool). nat_lt MAX_SEGMENTS (len p.segments)) _ (good c.args.config.now).few_segments p h);
+  bounded = λ p h. up_to _ _ (each_passes (λ (p : Pool). nat_lt MAX_SEGMENTS (len p.segments)) _ (good c.args.config.now).few_segments p h);
   differ = each_passes (λ (p : Pool). has_alike_keys p.segments) _ (good c.args.config.now).keys_apart;
 }

@@ -8,6 +8,6 @@ use Rattle.csi_config.proofs.laws.pools_named.Goals as goal
 pub returns : goal.returns
 returns c = record {
   positive = above_none _ (good c.args.config.now).some_pools;
-  few = up_to _ _ (good c.args.config.now).few_pools;
+  bounded = up_to _ _ (good c.args.config.now).few_pools;
   names = λ p h. not_off _ (each_passes (λ (p : Pool). not (is_pool_name p.name)) _ (good c.args.config.now).names p h);
 }

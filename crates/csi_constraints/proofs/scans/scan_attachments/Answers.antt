@@ -7,7 +7,7 @@ use Rattle.csi_constraints.proofs.ScanLemmas.{looks_as}
 use Rattle.csi_constraints.proofs.scans.scan_attachments.Goals as goal
 
 pub each_row-requires : goal.each_row-requires
-each_row-requires g c = record { plain = λ clean. subst (λ s. IsPlain (understood s (text Attachments))) (sym (c.requires.ours clean)) (is_sure Attachments).plain }
+each_row-requires g c = record { plain = λ clean. subst (λ s. IsPlain (understood s (text Attachments))) (sym (c.requires.has_schema clean)) (is_sure Attachments).plain }
 
 pub returns : goal.returns
-returns g c = looks_as Attachments (is_sure Attachments) c.requires.ours (λ rows. attachment_rows _ _ rows) c.each_row.ensures
+returns g c = looks_as Attachments (is_sure Attachments) c.requires.has_schema (λ rows. attachment_rows _ _ rows) c.each_row.ensures

@@ -8,7 +8,7 @@ use Rattle.csi_constraints.proofs.ScanLemmas.{looks_as}
 use Rattle.csi_constraints.proofs.scans.scan_owners.Goals as goal
 
 pub each_row-requires : goal.each_row-requires
-each_row-requires g c = record { plain = λ clean. subst (λ s. IsPlain (understood s (text Owners))) (sym (c.requires.ours clean)) (is_sure Owners).plain }
+each_row-requires g c = record { plain = λ clean. subst (λ s. IsPlain (understood s (text Owners))) (sym (c.requires.has_schema clean)) (is_sure Owners).plain }
 
 pub returns : goal.returns
-returns g c = looks_as Owners (is_sure Owners) c.requires.ours (λ rows. owner_rows _ _ rows) c.each_row.ensures
+returns g c = looks_as Owners (is_sure Owners) c.requires.has_schema (λ rows. owner_rows _ _ rows) c.each_row.ensures

@@ -7,7 +7,7 @@ use Rattle.csi_constraints.proofs.ScanLemmas.{looks_as}
 use Rattle.csi_constraints.proofs.scans.scan_places.Goals as goal
 
 pub each_row-requires : goal.each_row-requires
-each_row-requires g c = record { plain = λ clean. subst (λ s. IsPlain (understood s (text Places))) (sym (c.requires.ours clean)) (is_sure Places).plain }
+each_row-requires g c = record { plain = λ clean. subst (λ s. IsPlain (understood s (text Places))) (sym (c.requires.has_schema clean)) (is_sure Places).plain }
 
 pub returns : goal.returns
-returns g c = looks_as Places (is_sure Places) c.requires.ours (λ rows. place_rows _ _ rows) c.each_row.ensures
+returns g c = looks_as Places (is_sure Places) c.requires.has_schema (λ rows. place_rows _ _ rows) c.each_row.ensures

@@ -22,7 +22,7 @@ returns g c =
     let did = c.finish.ensures in
     performed c.args.config.now c.args.request.now _ _ _ _ _
     (λ of_plugin.
-    let none = limited_none _ (c.in_ok-plan.ensures.still of_plugin) in
+    let none = limited_none _ (c.in_ok-plan.ensures.changes_nothing of_plugin) in
     (quiet_then found.quiet (did.carries.quiet none), did.carries.alone none))
     (λ names.
     let none = limited_none _ (c.in_ok-plan.ensures.done names) in

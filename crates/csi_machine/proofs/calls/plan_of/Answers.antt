@@ -27,22 +27,22 @@ pub returns-in-Validate-clause-finds : goal.returns-in-Validate-clause-finds
 returns-in-Validate-clause-finds g c = found_as (λ s p so. so ∙ ap (validate s) c.get.ensures ∙ ap (plan c.args.config.now s) (sym c.in-Validate.is)) c.plan_validate.ensures.finds
 
 pub returns-in-Delete-clause-unnamed : goal.returns-in-Delete-clause-unnamed
-returns-in-Delete-clause-unnamed g c = λ none. (c.plan.ensures.unasked (subst NamesNone c.in-Delete.is none)).1
+returns-in-Delete-clause-unnamed g c = λ none. (c.plan.ensures.asks_nothing (subst NamesNone c.in-Delete.is none)).1
 
 pub returns-in-Delete-clause-done : goal.returns-in-Delete-clause-done
-returns-in-Delete-clause-done g c = λ none. c.plan.ensures.still (subst NamesNone c.in-Delete.is none)
+returns-in-Delete-clause-done g c = λ none. c.plan.ensures.changes_nothing (subst NamesNone c.in-Delete.is none)
 
 pub returns-in-Publish-clause-unnamed : goal.returns-in-Publish-clause-unnamed
-returns-in-Publish-clause-unnamed g c = λ none. (c.plan-in-Publish.ensures.unasked (subst NamesNone c.in-Publish.is none)).1
+returns-in-Publish-clause-unnamed g c = λ none. (c.plan-in-Publish.ensures.asks_nothing (subst NamesNone c.in-Publish.is none)).1
 
 pub returns-in-Publish-clause-done : goal.returns-in-Publish-clause-done
-returns-in-Publish-clause-done g c = λ none. c.plan-in-Publish.ensures.still (subst NamesNone c.in-Publish.is none)
+returns-in-Publish-clause-done g c = λ none. c.plan-in-Publish.ensures.changes_nothing (subst NamesNone c.in-Publish.is none)
 
 pub returns-in-Unpublish-clause-unnamed : goal.returns-in-Unpublish-clause-unnamed
-returns-in-Unpublish-clause-unnamed g c = λ none. (c.plan-in-Unpublish.ensures.unasked (subst NamesNone c.in-Unpublish.is none)).1
+returns-in-Unpublish-clause-unnamed g c = λ none. (c.plan-in-Unpublish.ensures.asks_nothing (subst NamesNone c.in-Unpublish.is none)).1
 
 pub returns-in-Unpublish-clause-done : goal.returns-in-Unpublish-clause-done
-returns-in-Unpublish-clause-done g c = λ none. c.plan-in-Unpublish.ensures.still (subst NamesNone c.in-Unpublish.is none)
+returns-in-Unpublish-clause-done g c = λ none. c.plan-in-Unpublish.ensures.changes_nothing (subst NamesNone c.in-Unpublish.is none)
 
 pub returns-in-Capacity-clause-unnamed : goal.returns-in-Capacity-clause-unnamed
 returns-in-Capacity-clause-unnamed g c = λ none. absurd (subst NamesNone c.in-Capacity.is none)
@@ -52,20 +52,20 @@ returns-in-Capacity-clause-done g c = λ none. absurd (subst NamesNone c.in-Capa
 
 pub returns-in-Modify-clause-unnamed : goal.returns-in-Modify-clause-unnamed
 returns-in-Modify-clause-unnamed g c = λ none.
-    let so = c.plan_modify.ensures.unasked (ap (λ (r : Modify). number_of_id r.volume_id) c.get-in-Modify.ensures ∙ subst NamesNone c.in-Modify.is none) in
+    let so = c.plan_modify.ensures.asks_nothing (ap (λ (r : Modify). number_of_id r.volume_id) c.get-in-Modify.ensures ∙ subst NamesNone c.in-Modify.is none) in
     subst (λ (r : Result Plan StoreFault). IfErr r (λ e. e ≡ NoMemory)) (sym so.1) tt
 
 pub returns-in-Modify-clause-done : goal.returns-in-Modify-clause-done
 returns-in-Modify-clause-done g c = λ none.
-    let so = c.plan_modify.ensures.unasked (ap (λ (r : Modify). number_of_id r.volume_id) c.get-in-Modify.ensures ∙ subst NamesNone c.in-Modify.is none) in
+    let so = c.plan_modify.ensures.asks_nothing (ap (λ (r : Modify). number_of_id r.volume_id) c.get-in-Modify.ensures ∙ subst NamesNone c.in-Modify.is none) in
     subst (λ (r : Result Plan StoreFault). IfOk r (λ p. p.change ≡ None)) (sym so.1) refl
 
 pub returns-in-Validate-clause-unnamed : goal.returns-in-Validate-clause-unnamed
 returns-in-Validate-clause-unnamed g c = λ none.
-    let so = c.plan_validate.ensures.unasked (ap (λ (r : Validate). number_of_id r.volume_id) c.get.ensures ∙ subst NamesNone c.in-Validate.is none) in
+    let so = c.plan_validate.ensures.asks_nothing (ap (λ (r : Validate). number_of_id r.volume_id) c.get.ensures ∙ subst NamesNone c.in-Validate.is none) in
     subst (λ (r : Result Plan StoreFault). IfErr r (λ e. e ≡ NoMemory)) (sym so.1) tt
 
 pub returns-in-Validate-clause-done : goal.returns-in-Validate-clause-done
 returns-in-Validate-clause-done g c = λ none.
-    let so = c.plan_validate.ensures.unasked (ap (λ (r : Validate). number_of_id r.volume_id) c.get.ensures ∙ subst NamesNone c.in-Validate.is none) in
+    let so = c.plan_validate.ensures.asks_nothing (ap (λ (r : Validate). number_of_id r.volume_id) c.get.ensures ∙ subst NamesNone c.in-Validate.is none) in
     subst (λ (r : Result Plan StoreFault). IfOk r (λ p. p.change ≡ None)) (sym so.1) refl

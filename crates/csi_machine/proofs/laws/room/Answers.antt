@@ -9,5 +9,5 @@ returns c =
       chosen = offers config good;
       made = offered config good;
       exact = asked_exactly config good;
-      answered = answered config good c.pools_named.ensures.names c.pool_keys_differ.ensures.few;
+      answered = answered config good c.pools_named.ensures.names c.pool_keys_differ.ensures.bounded;
     }

@@ -6,7 +6,7 @@ use Rattle.csi_maps.proofs.rows.nodes_after.Given as goal
 
 abbrev pub invariant-loop-number : goal.invariant-loop-number
 invariant-loop-number l = record {
-  told : l.nodes ≡ map (λ e. nodes_in l.attachments.entries e.0) (map deref_pair l.yielded);
+  reported : l.nodes ≡ map (λ e. nodes_in l.attachments.entries e.0) (map deref_pair l.yielded);
   most : length l.nodes ≤ l.count;
   over : IsOver l.attachments.entries l.walk;
 }

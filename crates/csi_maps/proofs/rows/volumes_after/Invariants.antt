@@ -5,6 +5,6 @@ use Rattle.csi_maps.proofs.rows.volumes_after.Given as goal
 
 abbrev pub invariant-loop-number : goal.invariant-loop-number
 invariant-loop-number l = record {
-  told : l.copies ≡ map (λ e. as_volume e.0 e.1) (map deref_pair l.yielded);
+  reported : l.copies ≡ map (λ e. as_volume e.0 e.1) (map deref_pair l.yielded);
   most : length l.copies ≤ l.count;
 }

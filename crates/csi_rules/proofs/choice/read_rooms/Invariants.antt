@@ -1,6 +1,6 @@
 use Rattle.std.proofs.Common.{◌≡◌, true, map, take}
 use Rattle.csi_keeper.specs.State.{State, used}
-use Rattle.csi_keeper.specs.Keeper.{IsQuiet, Tells}
+use Rattle.csi_keeper.specs.Keeper.{IsQuiet, Reports}
 use Rattle.csi_rules.specs.Choice.{room_value}
 use Rattle.csi_rules.proofs.choice.read_rooms.Given as goal
 
@@ -12,6 +12,6 @@ invariant-loop-pool g l =
       quiet : IsQuiet old new;
       count : new.refusals ≡ old.refusals;
       pools : map (λ r. r.pool.now) l.rooms.items ≡ take l.pool-index l.config.pools;
-      told : Tells old new (λ s. map room_value l.rooms.items ≡ map (λ p. (p, used s p.name)) (take l.pool-index l.config.pools));
+      reported : Reports old new (λ s. map room_value l.rooms.items ≡ map (λ p. (p, used s p.name)) (take l.pool-index l.config.pools));
       alone : old.is_down ≡ true → (s : State) → map room_value l.rooms.items ≡ map (λ p. (p, used s p.name)) (take l.pool-index l.config.pools);
     }

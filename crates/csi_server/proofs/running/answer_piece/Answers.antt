@@ -38,7 +38,7 @@ pub returns-in-Some-clause-replies : goal.returns-in-Some-clause-replies
 returns-in-Some-clause-replies g c read held replying =
     let w = g.W.Write.contents in
     let f : Fed c.loop-at.framer c.feed-at.new.self c.split_at.result.1.now c.feed-at.result = let e = c.feed-at.ensures in record { within = e.within; past = e.past; held = e.held; all = e.all; known = e.known; idle = e.idle } in
-    let h = replying_fault (read ++ take c.loop-at.at c.args.piece.now) c.loop-at.framer c.feed-at.new.self c.split_at.result.1.now c.feed-at.result held (w c.loop-at.writer) c.in-Some.fault (c.loop-at.invariant.replying read held replying) f (omega (arith, c.requires.one, c.split_at.ensures.back_len)) (sym c.in-Some.ensures.value) in
+    let h = replying_fault (read ++ take c.loop-at.at c.args.piece.now) c.loop-at.framer c.feed-at.new.self c.split_at.result.1.now c.feed-at.result held (w c.loop-at.writer) c.in-Some.fault (c.loop-at.invariant.replying read held replying) f (omega (arith, c.requires.within_piece, c.split_at.ensures.back_len)) (sym c.in-Some.ensures.value) in
     let whole = whole_piece read c.args.piece.now c.loop-at.at c.split_at.result.1.now c.split_at.ensures.back in (
       h.0,
       subst (λ (x : List ℕ). Replied held (w c.loop-at.writer) (λ calls. HasFault x calls c.in-Some.fault.why c.in-Some.fault.at) []) whole h.1,
@@ -51,7 +51,7 @@ returns-in_default-put_reply-clause-replies g c read held replying =
     let f : Fed c.loop-at.framer c.feed-at.new.self c.split_at.result.1.now c.feed-at.result = let e = c.feed-at.ensures in record { within = e.within; past = e.past; held = e.held; all = e.all; known = e.known; idle = e.idle } in
     subst (λ (x : List ℕ). Broken x ⊥ held (w c.put_reply.new.writer)) (whole_piece read c.args.piece.now c.loop-at.at c.split_at.result.1.now c.split_at.ensures.back)
     (replying_cut (read ++ take c.loop-at.at c.args.piece.now) c.loop-at.framer c.feed-at.new.self c.split_at.result.1.now c.feed-at.result (bytes_of c.in-Some-frame.call) (reply_of c.answer-answer.result c.answer-answer.new.reply.items) held (w c.loop-at.writer) (w c.put_reply.new.writer)
-    (c.loop-at.invariant.replying read held replying) f (omega (arith, c.split_at.ensures.back_len, c.loop-at-test.true)) (omega (arith, c.requires.one, c.split_at.ensures.back_len)) c.in-Some-frame.ensures.0 c.in-Some-frame.ensures.1 c.put_reply.ensures.formed c.put_reply.ensures.part)
+    (c.loop-at.invariant.replying read held replying) f (omega (arith, c.split_at.ensures.back_len, c.loop-at-test.true)) (omega (arith, c.requires.within_piece, c.split_at.ensures.back_len)) c.in-Some-frame.ensures.0 c.in-Some-frame.ensures.1 c.put_reply.ensures.formed c.put_reply.ensures.part)
 
 pub loop-at-preserved-in_default-frame : goal.loop-at-preserved-in_default-frame
 loop-at-preserved-in_default-frame g c =

@@ -62,7 +62,7 @@ returns-in-Cut-clause-serves g c =
       λ clean s h. cut_at (g.S.Service.machine c.args.config.now) (g.S.Service.model c.args.config.now c.args.service.now) (g.S.Service.model c.args.config.now c.answer_piece.new.service) s (run.0 ++ c.split_at.result.0.now) (w c.args.writer.now) (w c.answer_piece.new.writer) (IsAtEnd (r c.read.new.self)) (c.in-Cut.ensures.steps c.args.service.now s run.0 (w c.args.writer.now) (run.3 s h) clean),
     )
 
--- ---- what is written, whatever the service
+-- ---- the written bytes, for every service
 
 pub returns-in-Err-clause-writes : goal.returns-in-Err-clause-writes
 returns-in-Err-clause-writes g c =

@@ -6,7 +6,7 @@ use Rattle.sqlite.proofs.StateLemmas.{survives_then}
 use Rattle.csi_sql.specs.Failing.{as_refused, SqlRefusesToRead}
 use Rattle.csi_sql.specs.facts.Failing.{fails_weaker, handed, query_fails}
 use Rattle.csi_sql.specs.Folding.{RefusesRows}
-use Rattle.csi_sql.proofs.StreamLemmas.{behind_rows, dropped, never_ok, one_longer, commits_nothing, fails_keeps, unchanged_keeps, failed_keeps, keeps_then, query_told, shown_from, told_behind, told_rows}
+use Rattle.csi_sql.proofs.StreamLemmas.{behind_rows, dropped, never_ok, one_longer, commits_nothing, fails_keeps, unchanged_keeps, failed_keeps, keeps_then, query_reported, shown_from, reported_after, reported_rows}
 use Rattle.csi_sql.proofs.fold.each_row.Goals as goal
 
 pub returns-in_err-rows : goal.returns-in_err-rows
@@ -21,7 +21,7 @@ returns-in_err-rows g c =
     record {
       ok = λ clean. never_ok r e _ is;
       failed = λ clean. handed r e _ is (fails_weaker (SqlRefusesToRead c.args.sql.now [] old) (RefusesRows g.S.Store c.args.sql.now c.args.conn.now) old new e (λ why. inl why) (query_fails c.args.sql.now [] old new e (plain clean) (refused.err clean)));
-      told = λ clean. handed r e _ is (told_rows g.S.Store c.args.sql.now c.args.conn.now new e (query_told c.args.sql.now old new e (plain clean) (refused.err clean)));
+      reported = λ clean. handed r e _ is (reported_rows g.S.Store c.args.sql.now c.args.conn.now new e (query_reported c.args.sql.now old new e (plain clean) (refused.err clean)));
       same = λ clean. never_ok r e _ is;
       kept = λ clean. fails_keeps c.args.sql.now [] old new e (refused.err clean);
       survives = commits_nothing c.args.sql.now [] old new plain refused.survives;
@@ -53,11 +53,11 @@ returns-in_err-row g c =
           let fails : FailsToQuery c.args.sql.now [] mid now e = (rw c.in_err-row.was at (moved.err clean)) c.args.sql.now [] given.0 given.1 in
           let plain = c.requires.plain (omega (arith, clean, moved.survives.clean, c.rows.invariant.2.clean)) in
           handed r e _ is (fails_weaker (SqlRefusesToRead c.args.sql.now [] old) (RefusesRows g.S.Store c.args.sql.now c.args.conn.now) old now e (λ why. inl why) (behind_rows c.args.sql.now old mid now e plain c.rows.invariant.2 given.2 fails));
-      told = λ clean.
+      reported = λ clean.
           let given = was clean in
           let fails : FailsToQuery c.args.sql.now [] mid now e = (rw c.in_err-row.was at (moved.err clean)) c.args.sql.now [] given.0 given.1 in
           let plain = c.requires.plain (omega (arith, clean, moved.survives.clean, c.rows.invariant.2.clean)) in
-          handed r e _ is (told_rows g.S.Store c.args.sql.now c.args.conn.now now e (told_behind c.args.sql.now old mid now e plain c.rows.invariant.2 given.2 fails));
+          handed r e _ is (reported_rows g.S.Store c.args.sql.now c.args.conn.now now e (reported_after c.args.sql.now old mid now e plain c.rows.invariant.2 given.2 fails));
       same = λ clean. never_ok r e _ is;
       kept = λ clean. keeps_then old mid now (unchanged_keeps old mid (was clean).2) (failed_keeps mid now e (rw c.in_err-row.was at (moved.kept clean)));
       survives = survives_then old mid now (λ _. ⊥) (λ _. ⊥) (λ _. ⊥) (λ _ db none. none) (λ _ db none. none) c.rows.invariant.2 moved.survives;
@@ -78,7 +78,7 @@ returns-in_default g c =
           let plain = c.requires.plain (omega (arith, clean, moved.survives.clean, c.rows.invariant.2.clean)) in
           (given.0, shown_from c.args.sql.now [] old mid now given.0 plain given.2 shown, given.3);
       failed = λ clean. tt;
-      told = λ clean. tt;
+      reported = λ clean. tt;
       same = same;
       kept = λ clean. unchanged_keeps old now (same clean);
       survives = survives_then old mid now (λ _. ⊥) (λ _. ⊥) (λ _. ⊥) (λ _ db none. none) (λ _ db none. none) c.rows.invariant.2 moved.survives;
@@ -105,7 +105,7 @@ returns g c = record {
       let late : HasCleanDisk (state g.S.Store c.rows.rows.conn.now) = search rules in
       let was = c.rows.invariant.3 late in
       as_refused (inr (refl, c.rows.rows.conn.now, was.0, was.2, was.1, omega (arith, c.rows-test.false, was.4)));
-  told = λ clean.
+  reported = λ clean.
       let late : HasCleanDisk (state g.S.Store c.rows.rows.conn.now) = search rules in
       let was = c.rows.invariant.3 late in
       inr (inr (refl, c.rows.rows.conn.now, was.0, was.2, was.1, omega (arith, c.rows-test.false, was.4)));

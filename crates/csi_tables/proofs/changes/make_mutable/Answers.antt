@@ -10,7 +10,7 @@ use Rattle.csi_sql.specs.Texts as texts
 use Rattle.csi_sql.specs.Updates.{SetsParams}
 use Rattle.csi_columns.specs.Encoding.{params_bytes, FitParams}
 use Rattle.csi_tables.specs.Holding.{IsStorable}
-use Rattle.csi_tables.proofs.ChangeLemmas.{changes_behind, changes_never, changes_not_behind, stays, unmade}
+use Rattle.csi_tables.proofs.ChangeLemmas.{changes_after, changes_never, changes_not_after, stays, unmade}
 use Rattle.csi_tables.proofs.KeepLemmas.{is_quiet, fails_quiet, on_err, on_ok_so}
 use Rattle.csi_tables.proofs.RowLemmas.{none_set, nothing_set, rows_mutable, stands_in, storable_mutable}
 use Rattle.csi_tables.proofs.RefusalLemmas.{refuses_same}
@@ -62,7 +62,7 @@ returns-in_err-set_params-clause-changes g c =
     let fits = subst (λ (p : TextMap). FitParams p m) (sym found.2) c.in_ok-params.ensures.fits in
     let bytes : c.deref.result.now ≡ params_bytes v.params m = c.deref.ensures.value ∙ c.in_ok-params.ensures.bytes ∙ ap (λ (p : TextMap). params_bytes p m) (sym found.2) in
     let e = c.in_err-set_params.field-0.0 in
-    changes_not_behind g.S.Store c.read_back.ensures (SetMutable n m) (SetsParams n (params_bytes v.params m)) (λ old new h. h.schema) c.by_number.ensures.reads
+    changes_not_after g.S.Store c.read_back.ensures (SetMutable n m) (SetsParams n (params_bytes v.params m)) (λ old new h. h.schema) c.by_number.ensures.reads
     (λ clean s held old new has p allowed h. rows_mutable s n m v old new has p (sym (c.in_ok-stands.ensures.reads.value (omega (arith, clean, c.set_params.ensures.survives.clean)) s held) ∙ found.1) fits h)
     c.from_residual-in_err-set_params.result e
     (λ clean s held shows now limit why. (v, stands_in s n v (state g.S.Store c.args.conn.now).now.trees shows.rows (sym (c.in_ok-stands.ensures.reads.value clean s held) ∙ found.1), e, refuses_same (texts.text texts.SetParams) (number_value n ∷ Blob (params_bytes v.params m) ∷ []) (state g.S.Store c.args.conn.now) (state g.S.Store c.by_number.new.conn) e now limit why))
@@ -76,7 +76,7 @@ returns-clause-changes g c =
     let v = found.0 in
     let fits = subst (λ (p : TextMap). FitParams p m) (sym found.2) c.in_ok-params.ensures.fits in
     let bytes : c.deref.result.now ≡ params_bytes v.params m = c.deref.ensures.value ∙ c.in_ok-params.ensures.bytes ∙ ap (λ (p : TextMap). params_bytes p m) (sym found.2) in
-    changes_behind g.S.Store c.read_back.ensures (SetMutable n m) (SetsParams n (params_bytes v.params m)) (λ old new h. h.schema) c.by_number.ensures.reads
+    changes_after g.S.Store c.read_back.ensures (SetMutable n m) (SetsParams n (params_bytes v.params m)) (λ old new h. h.schema) c.by_number.ensures.reads
     (λ clean s held old new has p allowed h. rows_mutable s n m v old new has p (sym (c.in_ok-stands.ensures.reads.value (omega (arith, clean, c.set_params.ensures.survives.clean)) s held) ∙ found.1) fits h)
     g.met.S.Store.settled (rw bytes at c.in_ok-set_params.ensures)
 

@@ -10,7 +10,7 @@ use Rattle.csi_through.proofs.copying.copy_of.Goals as goal
 pub returns-clause-copy : goal.returns-clause-copy
 returns-clause-copy g c clean config s held inv =
     let model = g.K.Keeper.model in
-    let before : (model c.next_number.new.self).doubt ≡ 0 = omega (arith, clean, c.restore_all.ensures.quiet.clean) in
+    let before : (model c.next_number.new.self).doubt ≡ 0 = omega (arith, clean, c.restore_all.ensures.keeper_unchanged.clean) in
     let read = c.next_number.ensures.quiet.state before s held in
     let number = c.in_ok-next.ensures.value before s held in
     let all = c.in_ok-restore_all.ensures.copied clean config s read inv (subst (Holds c.in_ok-memory.memory) (begins config s inv) c.in_ok-memory.ensures) in
@@ -20,7 +20,7 @@ returns-clause-copy g c clean config s held inv =
 pub returns-clause-complete : goal.returns-clause-complete
 returns-clause-complete g c clean s held =
     let model = g.K.Keeper.model in
-    let before : (model c.next_number.new.self).doubt ≡ 0 = omega (arith, clean, c.restore_all.ensures.quiet.clean) in
+    let before : (model c.next_number.new.self).doubt ≡ 0 = omega (arith, clean, c.restore_all.ensures.keeper_unchanged.clean) in
     subst IsNumbered (c.in_ok-next.ensures.value before s held) (c.is_numbered.ensures.0 c.if-not-is_numbered.false)
 
 pub returns-in_err-next-clause-why : goal.returns-in_err-next-clause-why
@@ -46,4 +46,4 @@ returns-in_err-restore_all-clause-why g c =
     let same = ok_count (model c.args.keeper.now).refusals (model c.next_number.new.self).refusals c.next_number.result c.in_ok-next.next is c.next_number.ensures.count in
     on_err _ c.from_residual-in_err-restore_all.result fault (search rules)
     (why_then (model c.args.keeper.now) (model c.next_number.new.self) c.next_number.result c.in_ok-next.next is c.next_number.ensures.down (model c.restore_all.new.keeper) fault
-    c.next_number.ensures.quiet c.restore_all.ensures.quiet.clean same c.in_err-restore_all.ensures.why)
+    c.next_number.ensures.quiet c.restore_all.ensures.keeper_unchanged.clean same c.in_err-restore_all.ensures.why)

@@ -6,7 +6,7 @@ use Rattle.csi_keeper.specs.State.{attached}
 use Rattle.csi_keeper.specs.facts.Reads.{quiet_then}
 use Rattle.csi_through.specs.Copying.{AreNext, IsHeld, last_number, up_to}
 use Rattle.csi_through.proofs.CopyLemmas.{all_given, held_more, last_more, next_more, none_attached, restores, stands_at}
-use Rattle.csi_through.proofs.FaultLemmas.{next_at, of_memory, of_read, ok_count, on_err, told_later, within}
+use Rattle.csi_through.proofs.FaultLemmas.{next_at, of_memory, of_read, ok_count, on_err, reported_later, within}
 use Rattle.csi_through.proofs.copying.restore_page.Goals as goal
 
 pub loop-volume-preserved : goal.loop-volume-preserved
@@ -19,7 +19,7 @@ loop-volume-preserved g c =
     let whole : done ++ volume ∷ left ≡ c.args.volumes = ap (λ r. done ++ r) (sym c.in-Some.ensures.steps.0) ∙ old.rest in
     let last : last_number after (done ++ volume ∷ []) ≡ volume.number = last_more after done volume in
     record {
-      quiet = quiet_then old.quiet c.attachments_of.ensures.quiet;
+      quiet = quiet_then old.quiet c.attachments_of.ensures.keeper_unchanged;
       refusals = ok_count (g.K.Keeper.model c.loop-volume.keeper).refusals (g.K.Keeper.model c.attachments_of.new.keeper).refusals c.attachments_of.result c.in_ok-attachments.attachments (search rules) c.attachments_of.ensures.count ∙ old.refusals;
       rest = append_assoc done (volume ∷ []) left ∙ whole;
       size = let less = c.in-Some.ensures.steps.1 in let had = old.size in omega (arith, length-append done (volume ∷ []), less, had);
@@ -27,7 +27,7 @@ loop-volume-preserved g c =
       last = sym last;
       held = held_more done volume old.held c.in_ok-restore.ensures.held;
       copies = λ clean config s held inv next are had.
-          let before : (g.K.Keeper.model c.loop-volume.keeper).doubt ≡ 0 = omega (arith, clean, c.attachments_of.ensures.quiet.clean) in
+          let before : (g.K.Keeper.model c.loop-volume.keeper).doubt ≡ 0 = omega (arith, clean, c.attachments_of.ensures.keeper_unchanged.clean) in
           let two = next_more s after done volume next in
           let at = stands_at done left c.args.volumes volume whole in
           let none : c.is_published-published.result ≡ false → attached s volume.number ≡ [] = λ out.
@@ -46,7 +46,7 @@ returns-in_err-attachments-clause-why g c =
     let old = c.loop-volume.invariant in
     let fault = c.in_err-attachments.field-0.0 in
     on_err _ c.from_residual.result fault (search rules)
-    (told_later (model c.args.keeper.now) (model c.loop-volume.keeper) (model c.attachments_of.new.keeper) fault old.quiet c.attachments_of.ensures.quiet.clean old.refusals (λ d config s held inv next. next)
+    (reported_later (model c.args.keeper.now) (model c.loop-volume.keeper) (model c.attachments_of.new.keeper) fault old.quiet c.attachments_of.ensures.keeper_unchanged.clean old.refusals (λ d config s held inv next. next)
     (of_read (model c.loop-volume.keeper) (model c.attachments_of.new.keeper) c.attachments_of.result fault (search rules) c.attachments_of.ensures.count c.attachments_of.ensures.down))
 
 pub returns-in_err-restore-clause-why : goal.returns-in_err-restore-clause-why

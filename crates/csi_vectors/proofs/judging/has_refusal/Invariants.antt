@@ -2,7 +2,7 @@ use Rattle.std.proofs.Common.{length}
 use Rattle.csi_vectors.specs.Judging.{IsUnrefused}
 use Rattle.csi_vectors.proofs.judging.has_refusal.Given as goal
 
--- where none refuses of what is left, none does of all
+-- if no reply of the rest refuses, no reply refuses
 abbrev pub invariant-loop-reply : goal.invariant-loop-reply
 invariant-loop-reply l = IsUnrefused l.rest → IsUnrefused l.replies
 

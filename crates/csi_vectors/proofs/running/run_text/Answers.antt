@@ -1,6 +1,6 @@
 use Rattle.std.proofs.Common.{inl, inr, [], Err, ap, not, sym, true≢false, refl}
 use Rattle.std.proofs.KnownBytes.{Appends-nil}
-use Rattle.csi_vectors.specs.Running.{told}
+use Rattle.csi_vectors.specs.Running.{reported}
 use Rattle.csi_vectors.proofs.Faults.{bad_line}
 use Rattle.csi_vectors.proofs.Kept.{appended_as, cut_as, no_line, was_run}
 use Rattle.csi_vectors.proofs.running.run_text.Goals as goal
@@ -20,10 +20,10 @@ returns-in-Ok-clause-ok g c =
     let w = g.W.Write.contents in
     let v = c.in_ok-vector.vector in
     let failed = not c.in_ok-failed.field-0 in (
-      told failed v.name.now,
+      reported failed v.name.now,
       inr (was_run c.args.config.now c.args.text.now c.in_ok-text_of.field-0.now v.name.now v.input.items v.output.items c.in_ok-failed.ensures.0 c.in_ok-failed.field-0
           (λ s. true≢false (sym (c.if-is_skipped.ensures.run s))) c.in_ok-text_of.ensures.ok.0 c.in_ok-text_of.ensures.ok.1 c.in_ok-vector.ensures.ok c.in_ok-failed.ensures.1 c.in_ok-failed.ensures.2),
-      appended_as (w c.args.writer.now) (w c.send.new.writer) c.as_slice.result.now c.in_ok-line.line.items (told failed v.name.now) c.as_slice.ensures.value c.in_ok-line.ensures c.in-Ok.ensures.all,
+      appended_as (w c.args.writer.now) (w c.send.new.writer) c.as_slice.result.now c.in_ok-line.line.items (reported failed v.name.now) c.as_slice.ensures.value c.in_ok-line.ensures c.in-Ok.ensures.all,
     )
 
 pub returns-clause-cut : goal.returns-clause-cut
@@ -31,9 +31,9 @@ returns-clause-cut g c h =
     let w = g.W.Write.contents in
     let v = c.in_ok-vector.vector in
     let failed = not c.in_ok-failed.field-0 in (
-      told failed v.name.now,
+      reported failed v.name.now,
       failed,
       was_run c.args.config.now c.args.text.now c.in_ok-text_of.field-0.now v.name.now v.input.items v.output.items c.in_ok-failed.ensures.0 c.in_ok-failed.field-0
           (λ s. true≢false (sym (c.if-is_skipped.ensures.run s))) c.in_ok-text_of.ensures.ok.0 c.in_ok-text_of.ensures.ok.1 c.in_ok-vector.ensures.ok c.in_ok-failed.ensures.1 c.in_ok-failed.ensures.2,
-      cut_as (w c.args.writer.now) (w c.send.new.writer) c.as_slice.result.now c.in_ok-line.line.items (told failed v.name.now) c.as_slice.ensures.value c.in_ok-line.ensures c.send.ensures.part,
+      cut_as (w c.args.writer.now) (w c.send.new.writer) c.as_slice.result.now c.in_ok-line.line.items (reported failed v.name.now) c.as_slice.ensures.value c.in_ok-line.ensures c.send.ensures.part,
     )

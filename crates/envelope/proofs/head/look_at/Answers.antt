@@ -1,5 +1,5 @@
 use Rattle.std.proofs.Common.{◌≡◌, ℕ, ◌+◌, ◌-◌, ◌<◌, ◌≤◌, List, length, take, get_or, refl, arith, inl, inr}
-use Rattle.envelope.specs.declared.kind.Kind.{Kind}
+use Rattle.envelope.specs.declared.kind.FrameKind.{FrameKind}
 use Rattle.envelope.specs.declared.kind.Part.TheVariants.{Status, TextLength, Text, Flag, BodyLength}
 use Rattle.envelope.specs.Grammar.{lead, least_text, most_text, most_body, text_length, body_length, Breaks, IsUnbroken, HasBadStatus}
 use Rattle.envelope.specs.Head.{IsShort, AreGoodBytes}
@@ -9,7 +9,7 @@ use Rattle.envelope.proofs.head.look_at.Goals.{then-text_length-least_text-via-t
 use Rattle.envelope.proofs.head.look_at.Goals as goal
 
 -- the first n bytes are right, where n ends before the length of the text
-in_status : (kind : Kind) (bytes : List ℕ) (n : ℕ) → n ≤ length bytes → (HasBadStatus kind bytes → ⊥) → n < lead kind + 2 → CheckedTo kind bytes n
+in_status : (kind : FrameKind) (bytes : List ℕ) (n : ℕ) → n ≤ length bytes → (HasBadStatus kind bytes → ⊥) → n < lead kind + 2 → CheckedTo kind bytes n
 in_status kind bytes n within status few = record {
   status_right = λ some began. good_status kind bytes status some (omega arith);
   text_length_right = λ two. absurd (omega arith);
@@ -19,7 +19,7 @@ in_status kind bytes n within status few = record {
 }
 
 -- where their text is and n ends before the flag
-in_text : (kind : Kind) (bytes : List ℕ) (seen p n : ℕ) → seen ≤ length bytes → n ≤ length bytes → IsUnbroken kind (take seen bytes) → (HasBadStatus kind bytes → ⊥) → p ≡ text_length kind bytes → least_text kind ≤ p → p ≤ most_text kind (get_or bytes 0 0) → n ≤ lead kind + 2 + p → AreGoodBytes kind bytes seen (lead kind + 2 + p) n → CheckedTo kind bytes n
+in_text : (kind : FrameKind) (bytes : List ℕ) (seen p n : ℕ) → seen ≤ length bytes → n ≤ length bytes → IsUnbroken kind (take seen bytes) → (HasBadStatus kind bytes → ⊥) → p ≡ text_length kind bytes → least_text kind ≤ p → p ≤ most_text kind (get_or bytes 0 0) → n ≤ lead kind + 2 + p → AreGoodBytes kind bytes seen (lead kind + 2 + p) n → CheckedTo kind bytes n
 in_text kind bytes seen p n within there prefix status is some few short text = record {
   status_right = λ some began. good_status kind bytes status some (omega arith);
   text_length_right = λ two. (omega arith, omega arith);
@@ -29,7 +29,7 @@ in_text kind bytes seen p n within there prefix status is some few short text = 
 }
 
 -- where n ends after the flag
-in_head : (kind : Kind) (bytes : List ℕ) (seen p n : ℕ) → seen ≤ length bytes → n ≤ length bytes → IsUnbroken kind (take seen bytes) → (HasBadStatus kind bytes → ⊥) → p ≡ text_length kind bytes → least_text kind ≤ p → p ≤ most_text kind (get_or bytes 0 0) → AreGoodBytes kind bytes seen (lead kind + 2 + p) (length bytes) → get_or bytes (lead kind + 2 + p) 0 ≡ 0 → (lead kind + 7 + p ≤ n → body_length kind bytes ≤ most_body kind (get_or bytes 0 0)) → CheckedTo kind bytes n
+in_head : (kind : FrameKind) (bytes : List ℕ) (seen p n : ℕ) → seen ≤ length bytes → n ≤ length bytes → IsUnbroken kind (take seen bytes) → (HasBadStatus kind bytes → ⊥) → p ≡ text_length kind bytes → least_text kind ≤ p → p ≤ most_text kind (get_or bytes 0 0) → AreGoodBytes kind bytes seen (lead kind + 2 + p) (length bytes) → get_or bytes (lead kind + 2 + p) 0 ≡ 0 → (lead kind + 7 + p ≤ n → body_length kind bytes ≤ most_body kind (get_or bytes 0 0)) → CheckedTo kind bytes n
 in_head kind bytes seen p n within there prefix status is some few text flag long = record {
   status_right = λ some began. good_status kind bytes status some (omega arith);
   text_length_right = λ two. (omega arith, omega arith);

@@ -1,7 +1,7 @@
 use Rattle.std.proofs.Common.{ℕ, List, ◌++◌}
 use Rattle.envelope.specs.declared.taken.Taken.{Taken}
 use Rattle.envelope.specs.declared.taken.Taken.TheVariants.{Nothing, Frame, Fault}
-use Rattle.envelope.specs.declared.kind.Kind.TheVariants.{Calls}
+use Rattle.envelope.specs.declared.kind.FrameKind.TheVariants.{Calls}
 use Rattle.envelope.specs.Envelope.{CallBytes, IsCall, bytes_of, frame}
 use Rattle.envelope.specs.Stream.{part_of}
 use Rattle.envelope.specs.Taken.{TakesFirst, IsTaken}

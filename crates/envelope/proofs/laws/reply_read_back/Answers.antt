@@ -1,7 +1,7 @@
 use Rattle.std.proofs.Common.{ℕ, List, ◌++◌}
 use Rattle.envelope.specs.declared.taken_reply.TakenReply.{TakenReply}
 use Rattle.envelope.specs.declared.taken_reply.TakenReply.TheVariants.{Nothing, Frame, Fault}
-use Rattle.envelope.specs.declared.kind.Kind.TheVariants.{Replies}
+use Rattle.envelope.specs.declared.kind.FrameKind.TheVariants.{Replies}
 use Rattle.envelope.specs.Envelope.{ReplyBytes, IsReply, reply_bytes_of, reply}
 use Rattle.envelope.specs.Replies.{reply_part_of}
 use Rattle.envelope.specs.TakenReply.{TakesFirstReply, IsTakenReply}

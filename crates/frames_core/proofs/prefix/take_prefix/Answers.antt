@@ -5,7 +5,7 @@ use Rattle.envelope.specs.Head.{most_head}
 use Rattle.frames_core.proofs.Taking.{takes_broken, takes_whole, takes_short, missing_room, broken_later, whole_later}
 use Rattle.frames_core.proofs.prefix.take_prefix.Goals as goal
 
--- what was held stays in prefix
+-- the held bytes stay in prefix
 kept : (old piece all : List ℕ) (h : ℕ) → all ≡ old ++ take h piece → take (length old) all ≡ old
 kept old piece all h is = ap (λ (x : List ℕ). take (length old) x) is ∙ take_at old (take h piece) (length old) refl
 

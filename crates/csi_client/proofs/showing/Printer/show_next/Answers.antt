@@ -8,12 +8,12 @@ use Rattle.csi_client.proofs.showing.Printer.show_next.Goals as goal
 pub returns-in-Some-clause-steps : goal.returns-in-Some-clause-steps
 returns-in-Some-clause-steps g c read held live =
     let f : ReplyFed c.args.framer.now c.feed-count.new.self c.args.rest.now c.feed-count.result = record { within = c.feed-count.ensures.within; past = c.feed-count.ensures.past; held = c.feed-count.ensures.held; all = c.feed-count.ensures.all; known = c.feed-count.ensures.known; idle = c.feed-count.ensures.idle } in
-    fed_fault c.args.self.now.method read c.args.framer.now c.feed-count.new.self c.args.rest.now c.feed-count.result held (g.W.Write.contents c.args.writer.now) c.args.self.now.refused c.in-Some.fault live f c.requires.one (sym c.in-Some.ensures.value)
+    fed_fault c.args.self.now.method read c.args.framer.now c.feed-count.new.self c.args.rest.now c.feed-count.result held (g.W.Write.contents c.args.writer.now) c.args.self.now.refused c.in-Some.fault live f c.requires.within_piece (sym c.in-Some.ensures.value)
 
 pub returns-in-Err-clause-steps : goal.returns-in-Err-clause-steps
 returns-in-Err-clause-steps g c read held live =
     let f : ReplyFed c.args.framer.now c.feed-count.new.self c.args.rest.now c.feed-count.result = record { within = c.feed-count.ensures.within; past = c.feed-count.ensures.past; held = c.feed-count.ensures.held; all = c.feed-count.ensures.all; known = c.feed-count.ensures.known; idle = c.feed-count.ensures.idle } in
-    fed_halted (Unit {0}) c.args.self.now.method read c.args.framer.now c.feed-count.new.self c.args.rest.now c.feed-count.result held (g.W.Write.contents c.args.writer.now) (g.W.Write.contents c.show.new.writer) c.args.self.now.refused (reply_bytes_of c.in-Some-reply.reply) c.in-Err.halt live f c.requires.some c.requires.one
+    fed_halted (Unit {0}) c.args.self.now.method read c.args.framer.now c.feed-count.new.self c.args.rest.now c.feed-count.result held (g.W.Write.contents c.args.writer.now) (g.W.Write.contents c.show.new.writer) c.args.self.now.refused (reply_bytes_of c.in-Some-reply.reply) c.in-Err.halt live f c.requires.some c.requires.within_piece
     c.in-Some-reply.ensures.0 c.in-Some-reply.ensures.1 c.in-Err.ensures.shows
 
 pub returns-in-Ok-clause-steps : goal.returns-in-Ok-clause-steps

@@ -6,7 +6,7 @@ use Rattle.csi_maps.proofs.walk.Walk.go_to.Given as goal
 
 abbrev pub invariant-loop-place : goal.invariant-loop-place
 invariant-loop-place l = record {
-  told : l.self.nodes ++ nodes_at l.number (ahead l.self) ≡ nodes_in l.attachments.entries l.number;
+  reported : l.self.nodes ++ nodes_at l.number (ahead l.self) ≡ nodes_in l.attachments.entries l.number;
   over : AreAhead l.attachments.entries (ahead l.self) l.number;
   passed : l.self.passed ≡ l.number;
 }

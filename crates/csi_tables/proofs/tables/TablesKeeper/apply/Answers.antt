@@ -1,7 +1,7 @@
 use Rattle.std.proofs.Common.{rules, ◌∙◌, Err}
 use Rattle.csi_tables.proofs.KeepLemmas.{on_ok_so}
 use Rattle.csi_tables.proofs.TablesLemmas.{is_answer, keeps_applied, stays_down}
-use Rattle.csi_tables.proofs.RefusalLemmas.{told_refused}
+use Rattle.csi_tables.proofs.RefusalLemmas.{reported_refused}
 use Rattle.csi_tables.proofs.tables.TablesKeeper.apply.Goals as goal
 
 pub returns-in-Err-clause-applies : goal.returns-in-Err-clause-applies
@@ -20,7 +20,7 @@ returns-clause-applies g c = record {
 }
 
 pub returns-clause-refused : goal.returns-clause-refused
-returns-clause-refused g c clean is = c.make-answer.ensures.refused clean (told_refused c.make-answer.result c.finish_change.result (is_answer c.make-answer.result _ _ c.store_answer.ensures c.finish_change.ensures.answers) is)
+returns-clause-refused g c clean is = c.make-answer.ensures.refused clean (reported_refused c.make-answer.result c.finish_change.result (is_answer c.make-answer.result _ _ c.store_answer.ensures c.finish_change.ensures.answers) is)
 
 pub returns-clause-limit : goal.returns-clause-limit
 returns-clause-limit g c = c.make-answer.ensures.limit

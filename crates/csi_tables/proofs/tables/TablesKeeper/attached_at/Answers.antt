@@ -1,7 +1,7 @@
-use Rattle.csi_tables.proofs.TablesLemmas.{is_answer, keeps_read, told_if}
+use Rattle.csi_tables.proofs.TablesLemmas.{is_answer, keeps_read, reported_if}
 use Rattle.csi_tables.proofs.tables.TablesKeeper.attached_at.Goals as goal
 
 pub returns : goal.returns
 returns g c =
     let it = keeps_read c.args.self.now.totals c.in_ok-start_call.ensures c.attached_at-answer.ensures.reads c.store_answer.ensures c.finish_call.ensures in
-    record { reads = it.reads; exact = told_if c.attached_at-answer.result c.finish_call.result (is_answer c.attached_at-answer.result _ _ c.store_answer.ensures c.finish_call.ensures.answers) (λ x told. told) c.attached_at-answer.ensures.exact; refused = it.refused; limit = it.limit }
+    record { reads = it.reads; exact = reported_if c.attached_at-answer.result c.finish_call.result (is_answer c.attached_at-answer.result _ _ c.store_answer.ensures c.finish_call.ensures.answers) (λ x reported. reported) c.attached_at-answer.ensures.exact; refused = it.refused; limit = it.limit }

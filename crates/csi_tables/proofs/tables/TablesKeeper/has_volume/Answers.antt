@@ -1,6 +1,6 @@
 use Rattle.std.proofs.Common.{ap, is_some, sym, arith, refl}
 use Rattle.csi_tables.proofs.RowLemmas.{no_volume}
-use Rattle.csi_tables.proofs.TablesLemmas.{is_answer, keeps_none, keeps_read, told_if}
+use Rattle.csi_tables.proofs.TablesLemmas.{is_answer, keeps_none, keeps_read, reported_if}
 use Rattle.csi_tables.proofs.tables.TablesKeeper.has_volume.Goals as goal
 
 pub returns-then-number-ge-NUMBERS-clause-reads : goal.returns-then-number-ge-NUMBERS-clause-reads
@@ -12,4 +12,4 @@ returns-then-number-ge-NUMBERS-clause-exact g c = record { small = λ near. absu
 pub returns : goal.returns
 returns g c =
     let it = keeps_read c.args.self.now.totals c.in_ok-start_call.ensures c.has_volume-answer.ensures.reads c.store_answer.ensures c.finish_call.ensures in
-    record { reads = it.reads; exact = told_if c.has_volume-answer.result c.finish_call.result (is_answer c.has_volume-answer.result _ _ c.store_answer.ensures c.finish_call.ensures.answers) (λ x told. record { small = λ near. told; large = λ far. absurd (omega (arith, far, c.if-number-ge-NUMBERS.false)) }) c.has_volume-answer.ensures.exact; refused = it.refused; limit = it.limit; error_only_if = λ far. absurd (omega (arith, far, c.if-number-ge-NUMBERS.false)) }
+    record { reads = it.reads; exact = reported_if c.has_volume-answer.result c.finish_call.result (is_answer c.has_volume-answer.result _ _ c.store_answer.ensures c.finish_call.ensures.answers) (λ x reported. record { small = λ near. reported; large = λ far. absurd (omega (arith, far, c.if-number-ge-NUMBERS.false)) }) c.has_volume-answer.ensures.exact; refused = it.refused; limit = it.limit; error_only_if = λ far. absurd (omega (arith, far, c.if-number-ge-NUMBERS.false)) }

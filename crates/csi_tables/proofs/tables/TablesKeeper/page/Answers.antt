@@ -1,5 +1,5 @@
 use Rattle.std.proofs.Common.{◌∙◌, arith}
-use Rattle.csi_tables.proofs.TablesLemmas.{is_answer, keeps_none, keeps_read, no_page, told_if}
+use Rattle.csi_tables.proofs.TablesLemmas.{is_answer, keeps_none, keeps_read, no_page, reported_if}
 use Rattle.csi_tables.proofs.tables.TablesKeeper.page.Goals as goal
 
 pub returns-then-after-ge-NUMBERS-clause-reads : goal.returns-then-after-ge-NUMBERS-clause-reads
@@ -11,4 +11,4 @@ returns-then-after-ge-NUMBERS-clause-exact g c = record { small = λ near. absur
 pub returns : goal.returns
 returns g c =
     let it = keeps_read c.args.self.now.totals c.in_ok-start_call.ensures c.page-answer.ensures.reads c.store_answer.ensures c.finish_call.ensures in
-    record { reads = it.reads; exact = told_if c.page-answer.result c.finish_call.result (is_answer c.page-answer.result _ _ c.store_answer.ensures c.finish_call.ensures.answers) (λ x told. record { small = λ near. told; large = λ far. absurd (omega (arith, far, c.if-after-ge-NUMBERS.false)) }) c.page-answer.ensures.exact; refused = it.refused; limit = it.limit; error_only_if = λ far. absurd (omega (arith, far, c.if-after-ge-NUMBERS.false)) }
+    record { reads = it.reads; exact = reported_if c.page-answer.result c.finish_call.result (is_answer c.page-answer.result _ _ c.store_answer.ensures c.finish_call.ensures.answers) (λ x reported. record { small = λ near. reported; large = λ far. absurd (omega (arith, far, c.if-after-ge-NUMBERS.false)) }) c.page-answer.ensures.exact; refused = it.refused; limit = it.limit; error_only_if = λ far. absurd (omega (arith, far, c.if-after-ge-NUMBERS.false)) }

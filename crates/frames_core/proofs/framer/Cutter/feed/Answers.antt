@@ -1,5 +1,5 @@
 use Rattle.std.proofs.Common.{◌≡◌, ◌≤◌, Option, length, vec_capacity, sym, ap, subst, arith, inl}
-use Rattle.envelope.specs.declared.kind.Kind.{Kind}
+use Rattle.envelope.specs.declared.kind.FrameKind.{FrameKind}
 use Rattle.envelope.specs.declared.kind.Part.{Part}
 use Rattle.envelope.specs.Grammar.{BreaksFirst}
 use Rattle.envelope.specs.Head.{most_frame}
@@ -27,7 +27,7 @@ invariant_of-self g c =
     let new = c.take_prefix-prefix.new.buffer.items in
     let b = broke c.kind.result F.kind c.self.inside.past c.self.inside.buffer.items c.args.piece.now new c.take_prefix-prefix.result c.in-Some.flaw c.kind.ensures (omega (arith, ap (λ s. s.past) c.self.view_is, ap (λ s. length s.held) c.self.view_is, c.requires.room)) c.take_prefix-prefix.ensures.takes c.in-Some.is in
     let named = subst (λ (q : Part). BreaksFirst F.kind new q c.in-Some.flaw.at) (sym c.of.ensures.part) b.breaks in
-    let room = subst (λ (k : Kind). most_frame k ≤ vec_capacity c.take_prefix-prefix.new.buffer) (let same : c.kind.result ≡ F.kind = c.kind.ensures in same) c.take_prefix-prefix.ensures.room in
+    let room = subst (λ (k : FrameKind). most_frame k ≤ vec_capacity c.take_prefix-prefix.new.buffer) (let same : c.kind.result ≡ F.kind = c.kind.ensures in same) c.take_prefix-prefix.ensures.room in
     let prefix = c.take_prefix-prefix.result in
     let taken = c.take_prefix-prefix.ensures.takes in
     let marks = marks_then c.kind.result F.kind c.self.inside.buffer.items c.args.piece.now new prefix c.kind.ensures taken in (
@@ -52,15 +52,15 @@ returns-in-Some-clause-settled g c settled =
 pub returns-in_default-clause-all : goal.returns-in_default-clause-all
 returns-in_default-clause-all g c = λ less.
     let new = c.take_prefix-prefix.new.buffer.items in
-    let t = subst (λ (k : Kind). TakesPrefix k c.self.inside.buffer.items c.args.piece.now new c.take_prefix-prefix.result) (let same : c.kind.result ≡ g.F.Fault.kind = c.kind.ensures in same) c.take_prefix-prefix.ensures.takes in
+    let t = subst (λ (k : FrameKind). TakesPrefix k c.self.inside.buffer.items c.args.piece.now new c.take_prefix-prefix.result) (let same : c.kind.result ≡ g.F.Fault.kind = c.kind.ensures in same) c.take_prefix-prefix.ensures.takes in
     let bytes = c.each_fits.ensures in
     let is = c.as_slice.ensures.value in
     inl (settled_whole g.F.Fault.kind c.self.inside.buffer.items c.args.piece.now new c.take_prefix-prefix.result t c.in_default.is (λ k. rw is at (bytes k)) less)
 
-pub returns-in_default-clause-few : goal.returns-in_default-clause-few
-returns-in_default-clause-few g c = λ unknown open_.
+pub returns-in_default-clause-bounded : goal.returns-in_default-clause-bounded
+returns-in_default-clause-bounded g c = λ unknown open_.
     let new = c.take_prefix-prefix.new.buffer.items in
-    let t = subst (λ (k : Kind). TakesPrefix k c.self.inside.buffer.items c.args.piece.now new c.take_prefix-prefix.result) (let same : c.kind.result ≡ g.F.Fault.kind = c.kind.ensures in same) c.take_prefix-prefix.ensures.takes in
+    let t = subst (λ (k : FrameKind). TakesPrefix k c.self.inside.buffer.items c.args.piece.now new c.take_prefix-prefix.result) (let same : c.kind.result ≡ g.F.Fault.kind = c.kind.ensures in same) c.take_prefix-prefix.ensures.takes in
     let bytes = c.each_fits.ensures in
     let is = c.as_slice.ensures.value in
     let P : Option Flaw → Type 0 = λ o. Stands g.F.Fault.kind new o in

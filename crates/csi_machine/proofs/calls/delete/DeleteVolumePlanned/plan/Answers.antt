@@ -16,5 +16,5 @@ pub returns-clause-finds : goal.returns-clause-finds
 returns-clause-finds g c =
     let of : State → Option (ℕ × Volume) = λ s. volume_at s (number_of_id c.args.self.now.volume_id) in
     found_then c.in_ok-number.ensures.finds
-    (found_so {Q = λ s p. p ≡ delete_volume c.in-Some.number (attached s c.in-Some.number)} (read_found c.in_ok-attachments.ensures) (λ s told. c.in_ok-delete_volume.ensures.value ∙ ap (delete_volume c.in-Some.number) (c.as_slice.ensures ∙ told)))
+    (found_so {Q = λ s p. p ≡ delete_volume c.in-Some.number (attached s c.in-Some.number)} (read_found c.in_ok-attachments.ensures) (λ s reported. c.in_ok-delete_volume.ensures.value ∙ ap (delete_volume c.in-Some.number) (c.as_slice.ensures ∙ reported)))
     (λ s named p so. so ∙ number_so (delete_found s) (λ n. delete_volume n (attached s n)) (of s) c.in-Some.number (λ m v. refl) (sym c.in-Some.is ∙ named))

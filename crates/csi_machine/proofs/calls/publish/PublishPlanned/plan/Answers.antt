@@ -14,7 +14,7 @@ returns-in_default-clause-finds g c =
 pub returns-clause-finds : goal.returns-clause-finds
 returns-clause-finds g c =
     let node = node_of c.args.config.now c.args.self.now.node_id in
-    found_then c.in_ok-number.ensures.finds c.publish_node.ensures.finds (λ s named p told.
-    told ∙ ap (λ (keys : List CapKey). publish_node s c.in-Some.number keys c.args.self.now node) c.as_slice.ensures
+    found_then c.in_ok-number.ensures.finds c.publish_node.ensures.finds (λ s named p reported.
+    reported ∙ ap (λ (keys : List CapKey). publish_node s c.in-Some.number keys c.args.self.now node) c.as_slice.ensures
     ∙ keys_so (publish_found c.args.config.now s c.args.self.now) (λ n keys. publish_node s n keys c.args.self.now node) (volume_at s (number_of_id c.args.self.now.volume_id))
     c.in-Some.number c.in-Some.caps (λ m v. refl) (sym c.in-Some.is ∙ named))

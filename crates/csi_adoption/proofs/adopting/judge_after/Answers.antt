@@ -5,8 +5,8 @@ use Rattle.csi_adoption.specs.Judging.{JudgesRows, JudgesSeen}
 use Rattle.csi_adoption.proofs.JudgedLemmas.{judged_failure}
 use Rattle.csi_adoption.proofs.FaultLemmas.{is_err}
 use Rattle.csi_adoption.proofs.ChainLemmas.{clean_before, ended, failed, same_trees, chained}
-use Rattle.csi_adoption.proofs.FailingLemmas.{failure_told, fault_behind, handed_fault, told_behind, told_if}
-use Rattle.csi_adoption.proofs.adopting.judge_behind.Goals as goal
+use Rattle.csi_adoption.proofs.FailingLemmas.{failure_reported, fault_after, handed_fault, reported_after, reported_if}
+use Rattle.csi_adoption.proofs.adopting.judge_after.Goals as goal
 
 pub returns-in_err-tables-clause-judged : goal.returns-in_err-tables-clause-judged
 returns-in_err-tables-clause-judged g c = λ clean rows same is.
@@ -41,17 +41,17 @@ returns-clause-judged g c = λ clean rows same is.
     joined (c.in_ok-tables.ensures.seen before) rows same is
 
 pub returns-in_err-tables-clause-failed : goal.returns-in_err-tables-clause-failed
-returns-in_err-tables-clause-failed g c = told_behind g.S.Store c.args.conn.now c.see_tables.new.conn c.from_residual.result c.in_err-tables.field-0.0 c.from_residual.ensures.1 c.in_err-tables.ensures.failed
+returns-in_err-tables-clause-failed g c = reported_after g.S.Store c.args.conn.now c.see_tables.new.conn c.from_residual.result c.in_err-tables.field-0.0 c.from_residual.ensures.1 c.in_err-tables.ensures.failed
 
 pub returns-in_err-judge_seen-clause-failed : goal.returns-in_err-judge_seen-clause-failed
 returns-in_err-judge_seen-clause-failed g c =
     handed_fault g.S.Store c.args.conn.now c.judge_seen.new.conn c.from_residual-in_err-judge_seen.result c.in_err-judge_seen.field-0.0 c.from_residual-in_err-judge_seen.ensures.1
-    (fault_behind g.S.Store c.args.conn.now c.see_tables.new.conn c.judge_seen.new.conn c.in_ok-tables.tables c.in_err-judge_seen.field-0.0 c.in_ok-tables.ensures.scans c.in_err-judge_seen.ensures.scans.survives c.in_err-judge_seen.ensures.failed)
+    (fault_after g.S.Store c.args.conn.now c.see_tables.new.conn c.judge_seen.new.conn c.in_ok-tables.tables c.in_err-judge_seen.field-0.0 c.in_ok-tables.ensures.scans c.in_err-judge_seen.ensures.scans.survives c.in_err-judge_seen.ensures.failed)
 
 pub returns-in_err-tables-clause-open : goal.returns-in_err-tables-clause-open
-returns-in_err-tables-clause-open g c = λ clean. failure_told _ c.from_residual.result c.in_err-tables.field-0.0 c.from_residual.ensures.1
+returns-in_err-tables-clause-open g c = λ clean. failure_reported _ c.from_residual.result c.in_err-tables.field-0.0 c.from_residual.ensures.1
 
 pub returns-in_err-judge_seen-clause-open : goal.returns-in_err-judge_seen-clause-open
 returns-in_err-judge_seen-clause-open g c = λ clean.
     let before = clean_before g.S.Store c.see_tables.new.conn c.judge_seen.new.conn _ c.in_err-judge_seen.ensures.scans clean in
-    told_if _ c.from_residual-in_err-judge_seen.result c.in_err-judge_seen.field-0.0 c.from_residual-in_err-judge_seen.ensures.1 (c.in_err-judge_seen.ensures.open (c.in_ok-tables.ensures.scans.same before).0.is_open clean)
+    reported_if _ c.from_residual-in_err-judge_seen.result c.in_err-judge_seen.field-0.0 c.from_residual-in_err-judge_seen.ensures.1 (c.in_err-judge_seen.ensures.open (c.in_ok-tables.ensures.scans.same before).0.is_open clean)

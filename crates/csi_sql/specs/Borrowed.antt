@@ -3,5 +3,5 @@ use Rattle.sqlite.specs.Order.{Row}
 use Rattle.csi_sql.specs.Rows.{volume_row}
 use Rattle.csi_sql.specs.declared.statements.volumes.VolumeRow.{VolumeRow}
 
-abbrev pub lent_row : VolumeRow → Row
-lent_row row = volume_row row.number row.name.now row.bytes row.pool.now row.caps.now row.params.now
+abbrev pub borrowed_row : VolumeRow → Row
+borrowed_row row = volume_row row.number row.name.now row.bytes row.pool.now row.caps.now row.params.now

@@ -3,7 +3,7 @@ use Rattle.std.proofs.lemmas.Int.{to_z-of_z}
 use Rattle.std.specs.Int.{w32}
 use Rattle.pbmessage.specs.Canon.{row_fields, FitsI32}
 use Rattle.pbmessage.specs.facts.Writing.{wrote_then}
-use Rattle.csi_columns.proofs.encoding.LentKeyWrittenLent.write.Goals as goal
+use Rattle.csi_columns.proofs.encoding.BorrowedKeyWrittenBorrowed.write.Goals as goal
 
 pub returns-clause-ok : goal.returns-clause-ok
 unfolding row_fields
