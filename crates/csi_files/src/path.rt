@@ -36,9 +36,9 @@ pub struct FilesAt<'a, S> {
     pub path: &'a str,
     /// The contents of the files before the run. The clauses of a run hold for any bytes.
     pub start: S,
-    /// The most pages of the database file that are kept in memory, of 1,024 bytes each. An opening looks
-    /// each row up in an index, in no order of pages: it reads a page again for nearly each row if fewer are
-    /// kept than the file has.
+    /// The most pages of the database file that are kept in memory. An opening looks each row up in the index
+    /// of names, in no order of pages: if fewer pages are kept than this index has, it reads a page again for
+    /// nearly each row.
     pub cache_pages: usize,
 }
 

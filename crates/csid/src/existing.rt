@@ -19,6 +19,13 @@ const LEAF: u8 = 13;
 // The most bytes of memory that a byte of a row in the file takes.
 const OPENING_FACTOR: u64 = 6;
 
+// The fewest pages that an opening may keep in memory.
+const LEAST_CACHE_PAGES: u64 = 2000;
+
+// An opening may keep one of so many pages of a file. The index of names, which it reads in no order, has a
+// third of the pages. Each page that is kept counts in `OPENING_FACTOR`.
+const CACHE_SHARE: u64 = 2;
+
 /// Why a file is refused.
 #[derive(Clone, Copy, Debug, Error)]
 pub(crate) enum FileFault {
@@ -28,13 +35,13 @@ pub(crate) enum FileFault {
     /// It is a named pipe, a socket or a device: opening one may block for ever.
     #[error("it is no regular file")]
     NotRegular,
-    /// It does not exist.
+    /// The file does not exist.
     #[error("there is no such file, and none is made")]
     Missing,
-    /// It has no tables.
+    /// The file has no tables.
     #[error("it has no tables, and none are made")]
     Blank,
-    /// It lost its content: it has no byte, and its WAL has changes.
+    /// The file lost its content: it has no byte, and its WAL has changes.
     #[error("it is empty or missing, but its WAL, '-wal', has changes: put back the copy of the file that this WAL belongs to, or move the WAL away to begin with no volumes")]
     Emptied,
 }
@@ -85,34 +92,59 @@ fn is_empty(rt: &HostRuntime, path: &str) -> io::Result<bool> {
     }
 }
 
-// The bytes of a file's free pages. The size of a page is at offset 16 of the header, where 1 is 65,536, and
-// the number of free pages at offset 36.
-fn free_bytes(rt: &HostRuntime, path: &str) -> io::Result<u64> {
+// The pages of a file by its header: the bytes of one, and the number of free ones.
+#[derive(Clone, Copy)]
+struct Pages {
+    bytes: u64,
+    free: u64,
+}
+
+// The size of a page is at offset 16 of the header, where 1 is 65,536, and the number of free pages at offset
+// 36.
+fn pages_of(rt: &HostRuntime, path: &str) -> io::Result<Pages> {
     let mut head = [0; HEADER_BYTES];
     File::open(rt, path)?.read_exact(&mut head)?;
-    let page = match u16::from_be_bytes([head[16], head[17]]) {
+    let bytes = match u16::from_be_bytes([head[16], head[17]]) {
         1 => 1 << 16,
         size => u64::from(size),
     };
     let free = u32::from_be_bytes([head[36], head[37], head[38], head[39]]);
-    Ok(u64::from(free).saturating_mul(page))
+    Ok(Pages {
+        bytes,
+        free: u64::from(free),
+    })
 }
 
 // The bytes of a file and its WAL, without the free pages of the file. A free page that is used again is
 // counted with the WAL.
-fn bytes_of(rt: &HostRuntime, path: &str) -> io::Result<u64> {
+fn bytes_of(rt: &HostRuntime, path: &str, pages: Pages) -> io::Result<u64> {
     let wal = wal_path(rt, path)?;
     let wal_bytes = fs::metadata(rt, wal.as_str()).map_or(0, |found| found.len());
     let of_file = fs::metadata(rt, path)?.len();
-    let free = free_bytes(rt, path).unwrap_or(0);
+    let free = pages.free.saturating_mul(pages.bytes);
     Ok(of_file.saturating_sub(free).saturating_add(wal_bytes))
 }
 
-/// The most bytes of memory that an opening of a file takes for its rows. The shortest rows, of some 45 bytes
-/// in the file, take less than six times as many; a long row takes less than twice its bytes.
-pub(crate) fn opening_bytes(rt: &HostRuntime, path: &str) -> usize {
-    let bytes = bytes_of(rt, path).unwrap_or(0);
-    bytes.saturating_mul(OPENING_FACTOR) as usize
+/// Limits of an opening of a file.
+#[derive(Clone, Copy)]
+pub(crate) struct OpeningLimits {
+    /// The most bytes of memory that it takes. The shortest rows, of some 45 bytes in the file, take less
+    /// than six times as many; a long row takes less than twice its bytes.
+    pub(crate) bytes: usize,
+    /// The most pages of the file that it keeps in memory.
+    pub(crate) cache_pages: usize,
+}
+
+/// The limits of an opening, by the size of the file and of its WAL.
+pub(crate) fn opening_limits(rt: &HostRuntime, path: &str) -> OpeningLimits {
+    let none = Pages { bytes: 0, free: 0 };
+    let pages = pages_of(rt, path).unwrap_or(none);
+    let bytes = bytes_of(rt, path, pages).unwrap_or(0);
+    let count = bytes.checked_div(pages.bytes).unwrap_or(0);
+    OpeningLimits {
+        bytes: bytes.saturating_mul(OPENING_FACTOR) as usize,
+        cache_pages: LEAST_CACHE_PAGES.max(count / CACHE_SHARE) as usize,
+    }
 }
 
 /// The fault of an empty or missing file whose WAL has changes. An opening would begin the WAL again, and the

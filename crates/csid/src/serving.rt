@@ -6,7 +6,7 @@ ghost use Rattle.std.specs.Fmt.{option_append};
 ghost use Rattle.csid.specs.Serving.{IsServed, Says};
 ghost use Rattle.csid_settings.specs.Statuses.{IsOrNoMemory};
 
-use crate::existing::{FileFault, opening_bytes};
+use crate::existing::{FileFault, opening_limits};
 use crate::room::MemoryGauge;
 use crate::tables::prepare;
 use csi_adoption::Content;
@@ -18,9 +18,6 @@ use sqlite::{Error, Start};
 use sqlite_disk::Disk;
 use std::alloc::Global;
 use std::io::{Read, Write};
-
-// The most pages of a file that an opening keeps in memory, 2 MiB.
-const CACHE_PAGES: usize = 2000;
 
 /// Why a run over tables failed.
 #[derive(Drop)]
@@ -122,13 +119,14 @@ impl<O: Observer> TablesRun<'_, O> {
         if let Err(cause) = prepare(&self.rt, &self.file) {
             return Err(TablesFailure::unserved(cause));
         }
+        let limits = opening_limits(&self.rt, path);
         let run = Run {
             alloc: self.rt.alloc(),
             config: self.config,
             options: RunOptions {
                 is_existing,
                 is_low_memory,
-                reserve: opening_bytes(&self.rt, path),
+                reserve: limits.bytes,
             },
             observer: self.observer,
         };
@@ -136,7 +134,7 @@ impl<O: Observer> TablesRun<'_, O> {
             rt: self.rt,
             path,
             start,
-            cache_pages: CACHE_PAGES,
+            cache_pages: limits.cache_pages,
         };
         let outcome = run.serve_path(at, &mut sent.chain(reader), writer);
         outcome_of(self.rt.alloc(), path, outcome)
