@@ -1,6 +1,7 @@
 """csictl alone: `show`, `frame` and its words."""
 
 import os
+import pty
 
 from tests.support.csictl import (
     CONTROLLER,
@@ -273,6 +274,16 @@ REFUSED = [
 ]
 
 
+# Misspelt words: what is wrong with them, and the similar ones.
+MISSPELT = [
+    (
+        ["volumes", "--jsn"],
+        ("unexpected argument '--jsn' found", "a similar argument exists: '--json'"),
+    ),
+    (["volums"], ("unrecognized subcommand 'volums'", "some similar subcommands exist: 'volume', 'volumes'")),
+]
+
+
 def left_open(words, given):
     """What comes of an input that stays open after these bytes."""
     reading, writing = os.pipe()
@@ -318,6 +329,22 @@ class ShowTest(CsictlTest):
         ]:
             with self.subTest(words=words):
                 self.assertEqual(self.show(*words, input=b""), (Shown(*parts), "", 0))
+
+    def test_misspelt_word_gets_a_similar_one(self):
+        for words, similar in MISSPELT:
+            with self.subTest(words=words):
+                said = "csictl: %s; %s\n"
+                out, err, status = self.show(*words, input=READY)
+                self.assertEqual((out, err, status), ("", said % similar, 2))
+
+    def test_help_is_printed_on_a_terminal(self):
+        wanted = self.show("--help", input=b"")
+        terminal, stdin = pty.openpty()
+        try:
+            self.assertEqual(self.show(stdin=stdin), wanted)
+        finally:
+            os.close(stdin)
+            os.close(terminal)
 
     def test_full_output_is_reported(self):
         line = "csictl: a write to standard output failed\n"

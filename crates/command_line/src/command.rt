@@ -86,11 +86,24 @@ fn push_first_paragraph(line: &mut String, text: &str) -> Result<(), AllocError>
     Ok(())
 }
 
+// Appends what `clap` proposes instead of a misspelt word, if it proposes a similar one.
+fn push_similar(line: &mut String, text: &str) -> Result<(), AllocError> {
+    for part in text.lines() {
+        let tip = part.trim().strip_prefix("tip: ").unwrap_or("");
+        if tip.starts_with("a similar ") || tip.starts_with("some similar ") {
+            line.push_str("; ")?;
+            line.push_str(tip)?;
+        }
+    }
+    Ok(())
+}
+
 // Why arguments are refused, in one line.
 fn refusal_line(alloc: Global, error: &ClapError) -> Result<String, AllocError> {
     let text = format!(in alloc; "{error}")?;
     let mut line = String::new(alloc);
     push_first_paragraph(&mut line, text.as_str())?;
+    push_similar(&mut line, text.as_str())?;
     Ok(line)
 }
 

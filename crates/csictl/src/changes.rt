@@ -5,7 +5,7 @@ use crate::line::SocketLine;
 use crate::lookup::look_up;
 use crate::message::frame_of_person;
 use crate::patience::Patience;
-use crate::reply::{show_lines, write};
+use crate::reply::{show_json, show_lines, write};
 use crate::sizes::size_text;
 use crate::socket;
 use clap::ArgMatches;
@@ -102,7 +102,8 @@ fn line_of_body(
 }
 
 /// Makes the call of a change, again while it is not answered, and shows a line of what was done, or the
-/// refusal. A removal is made only where there is something to remove.
+/// refusal; with `--json` the reply as a line of JSON. A removal is made only where there is something to
+/// remove.
 ///
 /// # Errors
 ///
@@ -114,6 +115,9 @@ pub(crate) fn run(
     arguments: &ArgMatches<'_>,
 ) -> Result<Ended, Failure> {
     let reply = asked(rt, method, arguments)?;
+    if arguments.get_flag("json") {
+        return show_json(rt, method, &reply.as_reply());
+    }
     if reply.status != 0 {
         return show_lines(rt, method, &reply.as_reply());
     }

@@ -185,7 +185,7 @@ const NODE: CommandOption = CommandOption {
 const MODE: CommandOption = CommandOption {
     name: "mode",
     takes: Takes::Text("MODE"),
-    help: "The access mode: its CSI name in lower case with hyphens, as multi-node-reader-only, or its number; single-node-writer without it",
+    help: "The access mode: its CSI name, as multi-node-reader-only, its name in Kubernetes, as ReadWriteOnce or RWO, or its number; single-node-writer without it",
     ..OPTION
 };
 
@@ -196,11 +196,23 @@ const FS: CommandOption = CommandOption {
     ..OPTION
 };
 
-static VOLUMES: [CommandOption; 2] = [
+const JSON: CommandOption = CommandOption {
+    name: "json",
+    help: "Shows the reply as one line of JSON",
+    ..OPTION
+};
+
+static VOLUMES: [CommandOption; 3] = [
     CommandOption {
         name: "node",
         takes: Takes::Text("ID"),
         help: "The volumes alone that are published to this node, as n1",
+        ..OPTION
+    },
+    CommandOption {
+        name: "pool",
+        takes: Takes::Text("NAME"),
+        help: "The volumes alone that are in this pool, as p1",
         ..OPTION
     },
     CommandOption {
@@ -210,9 +222,22 @@ static VOLUMES: [CommandOption; 2] = [
     },
 ];
 
-static VOLUME: [CommandOption; 1] = [ID];
+static GROUPS: [CommandOption; 1] = [CommandOption {
+    help: "Shows them as one line of JSON",
+    ..JSON
+}];
 
-static CREATE: [CommandOption; 8] = [
+static VOLUME: [CommandOption; 2] = [
+    ID,
+    CommandOption {
+        help: "Shows the volume as one line of JSON, as an entry of call --json --all",
+        ..JSON
+    },
+];
+
+static DELETE: [CommandOption; 2] = [ID, JSON];
+
+static CREATE: [CommandOption; 9] = [
     CommandOption {
         name: "name",
         takes: Takes::Place("NAME"),
@@ -224,7 +249,7 @@ static CREATE: [CommandOption; 8] = [
         name: "size",
         takes: Takes::Text("SIZE"),
         is_required: true,
-        help: "The least size: digits and at most one unit of B, Ki, Mi, Gi, Ti, Pi, Ei (1024) and k, K, M, G, T, P, E (1000), as 1Gi",
+        help: "The least size: a number and at most one unit of B, Ki, Mi, Gi, Ti, Pi, Ei (1024) and k, K, M, G, T, P, E (1000), as 1Gi or 1.5 GiB",
         ..OPTION
     },
     CommandOption {
@@ -253,9 +278,10 @@ static CREATE: [CommandOption; 8] = [
         help: "The segments of the topology that the pool must have, as zone=a",
         ..OPTION
     },
+    JSON,
 ];
 
-static PUBLISH: [CommandOption; 5] = [
+static PUBLISH: [CommandOption; 6] = [
     ID,
     CommandOption {
         is_required: true,
@@ -268,14 +294,16 @@ static PUBLISH: [CommandOption; 5] = [
         help: "The volume is attached for reading only",
         ..OPTION
     },
+    JSON,
 ];
 
-static UNPUBLISH: [CommandOption; 2] = [
+static UNPUBLISH: [CommandOption; 3] = [
     ID,
     CommandOption {
         help: "The id of the node, as n1; without it, all nodes",
         ..NODE
     },
+    JSON,
 ];
 
 // The commands over frames.
@@ -320,13 +348,13 @@ fn listing_commands() -> [Subcommand; 4] {
         Subcommand {
             name: "nodes",
             about: "Lists the nodes that volumes are published to",
-            options: &[],
+            options: &GROUPS,
             shared: &REACHED,
         },
         Subcommand {
             name: "pools",
             about: "Lists the pools that volumes are in",
-            options: &[],
+            options: &GROUPS,
             shared: &REACHED,
         },
         Subcommand {
@@ -362,7 +390,7 @@ fn change_commands() -> [Subcommand; 4] {
         Subcommand {
             name: "delete",
             about: "Deletes a volume",
-            options: &VOLUME,
+            options: &DELETE,
             shared: &REACHED,
         },
     ]

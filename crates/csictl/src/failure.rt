@@ -79,10 +79,10 @@ pub(crate) enum Failure {
     #[error("{0}: no text")]
     NotText(&'static str),
     /// The value of this option is no size.
-    #[error("--{0}: no size: write digits and at most one unit, as 1Gi or 500M, for less than 2^63 bytes")]
+    #[error("--{0}: no size: write a number and at most one unit, as 1Gi, 500M or 1.5 GiB, for a whole number of bytes below 2^63; units are k, M, G, T, P, E, and Ki, Mi, Gi, Ti, Pi, Ei with or without a B")]
     NotSize(&'static str),
     /// The value of this option is no access mode.
-    #[error("--{0}: no access mode: write a name, as single-node-writer, or a number")]
+    #[error("--{0}: no access mode: write single-node-writer, single-node-reader-only, multi-node-reader-only, multi-node-single-writer, multi-node-multi-writer, single-node-single-writer or single-node-multi-writer, the name that Kubernetes has for it, as ReadWriteOnce or RWO, or a number")]
     NotMode(&'static str),
     /// A pair has no `=`.
     #[error("a pair without '=': write KEY=VALUE,KEY=VALUE")]

@@ -1,174 +1,244 @@
 //! Volumes in groups: by node, or by pool.
 
+use crate::json::topologies;
 use crate::sizes::size_text;
-use crate::words::{id_word, pool_word, topology_word};
-use command_line::{Table, put_next, word};
+use crate::words::{pool_of, topology_word};
+use command_line::{Table, put_next, put_word, word};
 use csi_types::{Entry, VolumeInfo};
+use serde_json::{Value, json};
 use std::alloc::{AllocError, Global};
 
 // Volumes that have a name and a topology in common.
 #[derive(Drop)]
-struct Group {
-    name: String,
+struct Group<'e> {
+    // The id of the node or the name of the pool; empty if a volume does not say its pool.
+    name: &'e str,
+    // The topologies of the volumes as a word; empty for a node.
     topology: String,
+    // The first volume, which has these topologies.
+    first: Option<&'e VolumeInfo>,
     volumes: u64,
     bytes: i64,
-    // The ids of the volumes, with commas between them.
-    ids: String,
+    ids: Vec<&'e str>,
 }
 
 /// Groups of volumes, in the order in which their first volumes came.
 #[derive(Drop)]
-pub(crate) struct Groups {
-    groups: Vec<Group>,
+pub(crate) struct Groups<'e> {
+    groups: Vec<Group<'e>>,
 }
 
-impl Group {
-    fn new(name: String, topology: String, ids: String) -> Group {
-        Group {
-            name,
-            topology,
-            volumes: 0,
-            bytes: 0,
-            ids,
-        }
-    }
-
+impl<'e> Group<'e> {
     fn is_of(&self, name: &str, topology: &str) -> bool {
-        self.name.as_str() == name && self.topology.as_str() == topology
+        self.name == name && self.topology.as_str() == topology
     }
 
-    // Takes a volume.
-    fn take(&mut self, id: &str, bytes: i64) -> Result<(), AllocError> {
+    // Counts a volume.
+    fn count(&mut self, volume: Option<&'e VolumeInfo>) -> Result<(), AllocError> {
+        let (id, bytes) = match volume {
+            Some(volume) => (volume.id.as_str(), volume.bytes),
+            None => ("", 0),
+        };
         self.volumes = self.volumes.saturating_add(1);
         self.bytes = self.bytes.saturating_add(bytes);
-        put_next(&mut self.ids, ",", id)
+        Ok(self.ids.push(id)?)
     }
 
-    // The row of a node: its name, how many volumes it has, and which.
+    // The ids of the volumes, with commas between them.
+    fn ids_word(&self, alloc: Global) -> Result<String, AllocError> {
+        let mut out = String::new(alloc);
+        for id in &self.ids {
+            put_next(&mut out, ",", "")?;
+            put_word(&mut out, id)?;
+        }
+        Ok(out)
+    }
+
+    // The row of a node: its id, the number of its volumes, and their ids.
     fn node_row(&self, alloc: Global) -> Result<Vec<String>, AllocError> {
         let mut row = Vec::new(alloc);
-        row.push(self.name.clone()?)?;
+        row.push(word(alloc, self.name)?)?;
         row.push(format!(in alloc; "{}", self.volumes)?)?;
-        row.push(self.ids.clone()?)?;
+        row.push(self.ids_word(alloc)?)?;
         Ok(row)
     }
 
-    // The row of a pool: its name, its topology, how many volumes it has, and what they take.
+    // The row of a pool: its name, its topology, the number of its volumes, and the sum of their sizes.
     fn pool_row(&self, alloc: Global) -> Result<Vec<String>, AllocError> {
         let mut row = Vec::new(alloc);
-        row.push(self.name.clone()?)?;
+        row.push(word(alloc, self.name)?)?;
         row.push(self.topology.clone()?)?;
         row.push(format!(in alloc; "{}", self.volumes)?)?;
         row.push(size_text(alloc, self.bytes)?)?;
         Ok(row)
     }
-}
 
-impl Groups {
-    fn new(alloc: Global) -> Groups {
-        Groups {
-            groups: Vec::new(alloc),
+    fn ids_value(&self, alloc: Global) -> Result<Value, AllocError> {
+        let mut array = Vec::new(alloc);
+        for id in &self.ids {
+            array.push(Value::try_from_str(alloc, id)?)?;
         }
+        Ok(Value::Array(array))
     }
 
-    // Whether a group of this name and topology was there, and took the volume.
-    fn is_taken(
+    fn node_value(&self, alloc: Global) -> Result<Value, AllocError> {
+        json!(in alloc; {
+            "id": self.name,
+            "volumes": self.volumes,
+            "bytes": self.bytes,
+            "volumeIds": self.ids_value(alloc)?,
+        })
+    }
+
+    fn pool_value(&self, alloc: Global) -> Result<Value, AllocError> {
+        let topology = match self.first {
+            Some(volume) => topologies(alloc, &volume.topology)?,
+            None => Value::Null,
+        };
+        json!(in alloc; {
+            "name": self.name,
+            "accessibleTopology": topology,
+            "volumes": self.volumes,
+            "bytes": self.bytes,
+        })
+    }
+}
+
+impl<'e> Groups<'e> {
+    // Counts a volume in its group, if there is one. Returns whether there is.
+    fn is_counted(
         &mut self,
         name: &str,
         topology: &str,
-        id: &str,
-        bytes: i64,
+        volume: Option<&'e VolumeInfo>,
     ) -> Result<bool, AllocError> {
         for group in self.groups.iter_mut() {
             if group.is_of(name, topology) {
-                group.take(id, bytes)?;
+                group.count(volume)?;
                 return Ok(true);
             }
         }
         Ok(false)
     }
 
-    // Adds a volume to its group.
+    // Counts a volume in its group, which begins with the first volume of it.
     fn add(
         &mut self,
         alloc: Global,
-        name: String,
+        name: &'e str,
         topology: String,
-        id: &str,
-        bytes: i64,
+        volume: Option<&'e VolumeInfo>,
     ) -> Result<(), AllocError> {
-        if self.is_taken(name.as_str(), topology.as_str(), id, bytes)? {
+        if self.is_counted(name, topology.as_str(), volume)? {
             return Ok(());
         }
-        let mut group = Group::new(name, topology, String::new(alloc));
-        group.take(id, bytes)?;
-        self.groups.push(group)?;
-        Ok(())
+        let mut group = Group {
+            name,
+            topology,
+            first: volume,
+            volumes: 0,
+            bytes: 0,
+            ids: Vec::new(alloc),
+        };
+        group.count(volume)?;
+        Ok(self.groups.push(group)?)
     }
 
-    // Adds a volume to the group of each of its nodes.
-    fn add_by_node(&mut self, alloc: Global, entry: &Entry) -> Result<(), AllocError> {
+    // Counts a volume in the group of each of its nodes.
+    fn add_by_node(&mut self, alloc: Global, entry: &'e Entry) -> Result<(), AllocError> {
         let Some(nodes) = &entry.nodes else {
             return Ok(());
         };
-        let id = id_word(alloc, entry.volume.as_ref())?;
         for node in nodes {
-            let name = word(alloc, node.as_str())?;
-            self.add(alloc, name, String::new(alloc), id.as_str(), 0)?;
+            let volume = entry.volume.as_ref();
+            self.add(alloc, node.as_str(), String::new(alloc), volume)?;
         }
         Ok(())
     }
 
-    // Adds a volume to the group of its pool, and of its topology.
-    fn add_by_pool(&mut self, alloc: Global, volume: &VolumeInfo) -> Result<(), AllocError> {
-        let pool = pool_word(alloc, Some(volume))?;
-        let topology = topology_word(alloc, Some(volume))?;
-        self.add(alloc, pool, topology, "", volume.bytes)
-    }
-}
-
-/// The nodes that volumes are published to, a line each.
-///
-/// # Errors
-///
-/// Where memory is refused.
-pub(crate) fn nodes_text(alloc: Global, entries: &[Entry]) -> Result<String, AllocError> {
-    let mut groups = Groups::new(alloc);
-    for entry in entries {
-        groups.add_by_node(alloc, entry)?;
-    }
-    node_rows(alloc, &groups)
-}
-
-fn node_rows(alloc: Global, groups: &Groups) -> Result<String, AllocError> {
-    let mut table = Table::with_headings(alloc, &["NODE", "VOLUMES", "IDS"])?;
-    for group in &groups.groups {
-        table.add(group.node_row(alloc)?)?;
-    }
-    table.text(alloc)
-}
-
-/// The pools that volumes are in, a line each; of volumes that do not say their pool, a line for each
-/// topology.
-///
-/// # Errors
-///
-/// Where memory is refused.
-pub(crate) fn pools_text(alloc: Global, entries: &[Entry]) -> Result<String, AllocError> {
-    let mut groups = Groups::new(alloc);
-    for entry in entries {
-        if let Some(volume) = &entry.volume {
-            groups.add_by_pool(alloc, volume)?;
+    /// Groups of the nodes that volumes are published to.
+    ///
+    /// # Errors
+    ///
+    /// Where memory is refused.
+    pub(crate) fn of_nodes(alloc: Global, entries: &'e [Entry]) -> Result<Groups<'e>, AllocError> {
+        let mut groups = Groups {
+            groups: Vec::new(alloc),
+        };
+        for entry in entries {
+            groups.add_by_node(alloc, entry)?;
         }
+        Ok(groups)
     }
-    pool_rows(alloc, &groups)
-}
 
-fn pool_rows(alloc: Global, groups: &Groups) -> Result<String, AllocError> {
-    let mut table = Table::with_headings(alloc, &["POOL", "TOPOLOGY", "VOLUMES", "SIZE"])?;
-    for group in &groups.groups {
-        table.add(group.pool_row(alloc)?)?;
+    /// Groups of the pools that volumes are in; for volumes that do not say their pool, a group for each
+    /// topology.
+    ///
+    /// # Errors
+    ///
+    /// Where memory is refused.
+    pub(crate) fn of_pools(alloc: Global, entries: &'e [Entry]) -> Result<Groups<'e>, AllocError> {
+        let mut groups = Groups {
+            groups: Vec::new(alloc),
+        };
+        for entry in entries {
+            if let Some(volume) = &entry.volume {
+                let topology = topology_word(alloc, Some(volume))?;
+                groups.add(alloc, pool_of(volume), topology, Some(volume))?;
+            }
+        }
+        Ok(groups)
     }
-    table.text(alloc)
+
+    /// The nodes, a line each.
+    ///
+    /// # Errors
+    ///
+    /// Where memory is refused.
+    pub(crate) fn node_rows(&self, alloc: Global) -> Result<String, AllocError> {
+        let mut table = Table::with_headings(alloc, &["NODE", "VOLUMES", "IDS"])?;
+        for group in &self.groups {
+            table.add(group.node_row(alloc)?)?;
+        }
+        table.text(alloc)
+    }
+
+    /// The pools, a line each.
+    ///
+    /// # Errors
+    ///
+    /// Where memory is refused.
+    pub(crate) fn pool_rows(&self, alloc: Global) -> Result<String, AllocError> {
+        let mut table = Table::with_headings(alloc, &["POOL", "TOPOLOGY", "VOLUMES", "SIZE"])?;
+        for group in &self.groups {
+            table.add(group.pool_row(alloc)?)?;
+        }
+        table.text(alloc)
+    }
+
+    /// The nodes as an object of JSON.
+    ///
+    /// # Errors
+    ///
+    /// Where memory is refused.
+    pub(crate) fn nodes_value(&self, alloc: Global) -> Result<Value, AllocError> {
+        let mut array = Vec::new(alloc);
+        for group in &self.groups {
+            array.push(group.node_value(alloc)?)?;
+        }
+        json!(in alloc; {"nodes": array})
+    }
+
+    /// The pools as an object of JSON.
+    ///
+    /// # Errors
+    ///
+    /// Where memory is refused.
+    pub(crate) fn pools_value(&self, alloc: Global) -> Result<Value, AllocError> {
+        let mut array = Vec::new(alloc);
+        for group in &self.groups {
+            array.push(group.pool_value(alloc)?)?;
+        }
+        json!(in alloc; {"pools": array})
+    }
 }

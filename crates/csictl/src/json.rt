@@ -67,7 +67,8 @@ fn object(alloc: Global, map: &TextMap) -> Json {
     Ok(Value::Object(object))
 }
 
-fn topologies(alloc: Global, topologies: &Items<TextMap>) -> Json {
+/// Topologies as an array of their segments.
+pub(crate) fn topologies(alloc: Global, topologies: &Items<TextMap>) -> Json {
     let mut array = Vec::new(alloc);
     for segments in topologies {
         array.push(json!(in alloc; {"segments": object(alloc, segments)?})?)?;

@@ -2,12 +2,12 @@
 
 use crate::call::show;
 use crate::failure::{Ended, Failure};
-use crate::groups::{nodes_text, pools_text};
+use crate::groups::Groups;
 use crate::line::SocketLine;
-use crate::lookup::{entry_of, is_at, no_volume};
+use crate::lookup::{entry_of, is_at, is_in, no_volume};
 use crate::pages::{Walked, walk};
 use crate::patience::Patience;
-use crate::reply::{entries_line, write};
+use crate::reply::{entries_line, entry_line, line, write};
 use crate::socket;
 use crate::words::{context_word, id_word, nodes_word, pool_word, size_word, topology_word};
 use clap::ArgMatches;
@@ -24,10 +24,13 @@ pub(crate) enum What {
     Volume,
 }
 
-// Takes out of a listing what is not published to the node that the arguments may name.
+// Takes out of a listing the volumes that are not at the node or in the pool that the arguments may name.
 fn select(arguments: &ArgMatches<'_>, entries: &mut Vec<Entry>) {
     if let Some(node) = arguments.get_str("node") {
         entries.retain(|entry| is_at(entry, node));
+    }
+    if let Some(pool) = arguments.get_str("pool") {
+        entries.retain(|entry| is_in(entry, pool));
     }
 }
 
@@ -63,11 +66,33 @@ fn entry_text(alloc: Global, entry: &Entry) -> Result<String, AllocError> {
     table.text(alloc)
 }
 
-fn volume_text(alloc: Global, entries: &[Entry], id: &str) -> Result<String, Failure> {
+fn volume_text(
+    alloc: Global,
+    entries: &[Entry],
+    id: &str,
+    is_json: bool,
+) -> Result<String, Failure> {
     match entry_of(entries, id) {
+        Some(entry) if is_json => Ok(entry_line(alloc, entry)?),
         Some(entry) => Ok(entry_text(alloc, entry)?),
         None => Err(no_volume(alloc, id)),
     }
+}
+
+fn nodes_text(alloc: Global, entries: &[Entry], is_json: bool) -> Result<String, AllocError> {
+    let groups = Groups::of_nodes(alloc, entries)?;
+    if is_json {
+        return line(alloc, &groups.nodes_value(alloc)?);
+    }
+    groups.node_rows(alloc)
+}
+
+fn pools_text(alloc: Global, entries: &[Entry], is_json: bool) -> Result<String, AllocError> {
+    let groups = Groups::of_pools(alloc, entries)?;
+    if is_json {
+        return line(alloc, &groups.pools_value(alloc)?);
+    }
+    groups.pool_rows(alloc)
 }
 
 // The text of the entries.
@@ -77,12 +102,16 @@ fn text_of(
     arguments: &ArgMatches<'_>,
     entries: &[Entry],
 ) -> Result<String, Failure> {
+    let is_json = arguments.get_flag("json");
     match what {
-        What::Volumes if arguments.get_flag("json") => Ok(entries_line(alloc, entries)?),
+        What::Volumes if is_json => Ok(entries_line(alloc, entries)?),
         What::Volumes => Ok(volumes_text(alloc, entries)?),
-        What::Nodes => Ok(nodes_text(alloc, entries)?),
-        What::Pools => Ok(pools_text(alloc, entries)?),
-        What::Volume => volume_text(alloc, entries, arguments.get_str("volume").unwrap_or("")),
+        What::Nodes => Ok(nodes_text(alloc, entries, is_json)?),
+        What::Pools => Ok(pools_text(alloc, entries, is_json)?),
+        What::Volume => {
+            let id = arguments.get_str("volume").unwrap_or("");
+            volume_text(alloc, entries, id, is_json)
+        }
     }
 }
 

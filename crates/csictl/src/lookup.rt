@@ -4,6 +4,7 @@
 use crate::failure::Failure;
 use crate::line::SocketLine;
 use crate::pages::{Walked, first_entry};
+use crate::words::pool_of;
 use clap::ArgMatches;
 use command_line::is_decimal;
 use csi_client::ReceivedReply;
@@ -55,6 +56,14 @@ pub(crate) fn entry_of<'e>(entries: &'e [Entry], id: &str) -> Option<&'e Entry> 
         }
     }
     None
+}
+
+/// Whether an entry is of a volume in this pool, by its context.
+pub(crate) fn is_in(entry: &Entry, pool: &str) -> bool {
+    match &entry.volume {
+        Some(volume) => pool_of(volume) == pool,
+        None => false,
+    }
 }
 
 /// Whether an entry is of a volume that is published to this node.

@@ -2,23 +2,116 @@
 
 use command_line::is_decimal;
 
-/// The number of an access mode, by its name of the CSI specification ('CreateVolume') in lower case and with
-/// hyphens, or by its number itself; `None` where the text is neither.
+// A name of an access mode.
+#[derive(Clone, Copy)]
+struct Name {
+    text: &'static str,
+    mode: i32,
+}
+
+// The names of the CSI specification ('CreateVolume'), as listings show them and with hyphens; and the names
+// that Kubernetes gives the modes that its sidecars ask for, long and short.
+const NAMES: [Name; 22] = [
+    Name {
+        text: "single-node-writer",
+        mode: 1,
+    },
+    Name {
+        text: "single-node-reader-only",
+        mode: 2,
+    },
+    Name {
+        text: "multi-node-reader-only",
+        mode: 3,
+    },
+    Name {
+        text: "multi-node-single-writer",
+        mode: 4,
+    },
+    Name {
+        text: "multi-node-multi-writer",
+        mode: 5,
+    },
+    Name {
+        text: "single-node-single-writer",
+        mode: 6,
+    },
+    Name {
+        text: "single-node-multi-writer",
+        mode: 7,
+    },
+    Name {
+        text: "SINGLE_NODE_WRITER",
+        mode: 1,
+    },
+    Name {
+        text: "SINGLE_NODE_READER_ONLY",
+        mode: 2,
+    },
+    Name {
+        text: "MULTI_NODE_READER_ONLY",
+        mode: 3,
+    },
+    Name {
+        text: "MULTI_NODE_SINGLE_WRITER",
+        mode: 4,
+    },
+    Name {
+        text: "MULTI_NODE_MULTI_WRITER",
+        mode: 5,
+    },
+    Name {
+        text: "SINGLE_NODE_SINGLE_WRITER",
+        mode: 6,
+    },
+    Name {
+        text: "SINGLE_NODE_MULTI_WRITER",
+        mode: 7,
+    },
+    Name {
+        text: "ReadOnlyMany",
+        mode: 3,
+    },
+    Name {
+        text: "ROX",
+        mode: 3,
+    },
+    Name {
+        text: "ReadWriteMany",
+        mode: 5,
+    },
+    Name {
+        text: "RWX",
+        mode: 5,
+    },
+    Name {
+        text: "ReadWriteOncePod",
+        mode: 6,
+    },
+    Name {
+        text: "RWOP",
+        mode: 6,
+    },
+    Name {
+        text: "ReadWriteOnce",
+        mode: 7,
+    },
+    Name {
+        text: "RWO",
+        mode: 7,
+    },
+];
+
+/// The number of an access mode, by one of its names, of either case, or by its number itself; `None` where
+/// the text is neither.
 pub(crate) fn mode_of(text: &str) -> Option<i32> {
-    match text {
-        "single-node-writer" => Some(1),
-        "single-node-reader-only" => Some(2),
-        "multi-node-reader-only" => Some(3),
-        "multi-node-single-writer" => Some(4),
-        "multi-node-multi-writer" => Some(5),
-        "single-node-single-writer" => Some(6),
-        "single-node-multi-writer" => Some(7),
-        _ => {
-            if is_decimal(text) {
-                text.parse::<i32>().ok()
-            } else {
-                None
-            }
+    for name in &NAMES {
+        if text.eq_ignore_ascii_case(name.text) {
+            return Some(name.mode);
         }
     }
+    if is_decimal(text) {
+        return text.parse::<i32>().ok();
+    }
+    None
 }

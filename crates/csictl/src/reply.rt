@@ -37,8 +37,12 @@ pub(crate) fn write(rt: &HostRuntime, shown: &[u8]) -> Result<(), Failure> {
     }
 }
 
-// A line of JSON.
-fn line(alloc: Global, value: &Value) -> Result<String, AllocError> {
+/// A line of JSON.
+///
+/// # Errors
+///
+/// Where memory is refused.
+pub(crate) fn line(alloc: Global, value: &Value) -> Result<String, AllocError> {
     let mut line = value.to_string(alloc)?;
     line.push('\n')?;
     Ok(line)
@@ -115,6 +119,16 @@ pub(crate) fn entries_line(alloc: Global, entries: &[Entry]) -> Result<String, A
         values.push(json::entry(alloc, entry)?)?;
     }
     let value = json::listing(alloc, values, "")?;
+    line(alloc, &value)
+}
+
+/// A line of JSON with one entry of a listing.
+///
+/// # Errors
+///
+/// Where memory is refused.
+pub(crate) fn entry_line(alloc: Global, entry: &Entry) -> Result<String, AllocError> {
+    let value = json::entry(alloc, entry)?;
     line(alloc, &value)
 }
 

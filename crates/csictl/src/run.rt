@@ -7,6 +7,7 @@ use crate::{call, changes, frame, listings, show, vectors};
 use clap::ArgMatches;
 use command_line::arguments;
 use csi_types::Method;
+use std::io::IsTerminal;
 
 // Does what the arguments ask.
 fn obey(rt: &HostRuntime, arguments: &ArgMatches<'_>) -> Result<Ended, Failure> {
@@ -34,13 +35,19 @@ fn obey_person(rt: &HostRuntime, name: &str, arguments: &ArgMatches<'_>) -> Resu
     }
 }
 
-/// Does what the command line asks.
+/// Does what the command line asks. Without arguments, a terminal as standard input gets the help.
 ///
 /// # Errors
 ///
 /// Why the program ends otherwise than well. It is not said yet.
 pub(crate) fn run(rt: &HostRuntime) -> Result<Ended, Failure> {
-    let arguments = arguments(rt)?;
+    let mut arguments = arguments(rt)?;
+    if arguments.len() == 1 && rt.stdin().is_terminal() {
+        let help = String::from_str(rt.alloc(), "--help")?;
+        if arguments.push(help).is_err() {
+            return Err(Failure::NoMemory);
+        }
+    }
     match read_arguments(rt, arguments.as_slice())? {
         Some(matches) => obey(rt, &matches),
         None => Ok(Ended::Done),

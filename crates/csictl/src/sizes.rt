@@ -12,8 +12,8 @@ struct Unit {
     bytes: u64,
 }
 
-// The endings of a size, as for kubectl: no unit ends in an earlier one.
-const WRITTEN: [Unit; 14] = [
+// The units of a size, as for kubectl. No unit ends in an earlier one.
+const UNITS: [Unit; 13] = [
     Unit {
         name: "Ki",
         bytes: 1 << 10,
@@ -66,10 +66,6 @@ const WRITTEN: [Unit; 14] = [
         name: "E",
         bytes: 1_000_000_000_000_000_000,
     },
-    Unit {
-        name: "B",
-        bytes: 1,
-    },
 ];
 
 // So many units, in bytes, where an `int64` holds them.
@@ -80,22 +76,53 @@ fn product(number: u64, unit: u64) -> Option<i64>
     i64::try_from(bytes).ok()
 }
 
-fn units_of(digits: &str, unit: u64) -> Option<i64> {
+fn number_of(digits: &str) -> Option<u64> {
     if !is_decimal(digits) {
         return None;
     }
-    product(digits.parse::<u64>().ok()?, unit)
+    digits.parse::<u64>().ok()
 }
 
-/// The bytes of a size: decimal digits and at most one unit, as `1Gi`, `500M` or `1048576`; `None` where the
-/// text is none, or an `int64` does not hold it.
+// The tenths of a unit in a number with at most one digit after a point.
+fn tenths_of(number: &str) -> Option<u64> {
+    let Some((whole, tenth)) = number.split_once('.') else {
+        return number_of(number)?.checked_mul(10);
+    };
+    if tenth.len() != 1 {
+        return None;
+    }
+    number_of(whole)?
+        .checked_mul(10)?
+        .checked_add(number_of(tenth)?)
+}
+
+// The bytes of a number of units, if they are a whole number of bytes.
+fn units_of(number: &str, unit: u64) -> Option<i64> {
+    let number = number.strip_suffix(' ').unwrap_or(number);
+    if let Some(units) = number_of(number) {
+        return product(units, unit);
+    }
+    let tenths = u128::from(tenths_of(number)?).checked_mul(u128::from(unit))?;
+    if tenths % 10 != 0 {
+        return None;
+    }
+    i64::try_from(tenths / 10).ok()
+}
+
+/// The bytes of a size: a number and at most one unit, as `1Gi`, `500M`, `1048576` or, as listings show it,
+/// `1.5 GiB`; `None` where the text is no size, it is no whole number of bytes, or an `int64` does not hold
+/// it.
 pub(crate) fn bytes_of(text: &str) -> Option<i64> {
-    for unit in &WRITTEN {
-        if let Some(digits) = text.strip_suffix(unit.name) {
-            return units_of(digits, unit.bytes);
+    let plain = match text.strip_suffix('B') {
+        Some(rest) if rest.ends_with('i') => rest,
+        _ => text,
+    };
+    for unit in &UNITS {
+        if let Some(number) = plain.strip_suffix(unit.name) {
+            return units_of(number, unit.bytes);
         }
     }
-    units_of(text, 1)
+    units_of(plain.strip_suffix('B').unwrap_or(plain), 1)
 }
 
 /// A size as [`command_line::size_text`] shows it; one below 0 in bytes.

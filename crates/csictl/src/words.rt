@@ -100,6 +100,11 @@ fn value_of<'m>(pairs: &'m Map, wanted: &str) -> &'m str {
     ""
 }
 
+/// The name of a volume's pool, or an empty text if its context does not say it.
+pub(crate) fn pool_of(volume: &VolumeInfo) -> &str {
+    value_of(&volume.context, POOL)
+}
+
 /// The pool of a volume, if its context says it.
 ///
 /// # Errors
@@ -107,7 +112,7 @@ fn value_of<'m>(pairs: &'m Map, wanted: &str) -> &'m str {
 /// Where memory is refused.
 pub(crate) fn pool_word(alloc: Global, volume: Option<&VolumeInfo>) -> Result<String, AllocError> {
     match volume {
-        Some(volume) => word(alloc, value_of(&volume.context, POOL)),
+        Some(volume) => word(alloc, pool_of(volume)),
         None => word(alloc, ""),
     }
 }
