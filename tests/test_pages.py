@@ -202,6 +202,13 @@ class PagesTest(FilesTest):
         self.check("made", self.ended("theorems"), (0, []))
         self.assertIn("\nOf no one function: `no_laws`.\n", self.read("docs/theorems/low.md"))
 
+    def test_head_of_a_function_is_no_call(self):
+        """A method of a trait that has the name of a private function does not call it."""
+        self.write("crates/low/src/laws.rt", "/// Shifts.\npub trait Shift {\n    fn shifted(n: u64);\n}\n" + LAWS)
+        self.ended("theorems")
+        row = "|[`Shift::shifted`](../../crates/low/src/laws.rt)||-|(no body)|"
+        self.check("its row", row in self.read("docs/theorems/low.md").splitlines(), True)
+
     def test_dead_links_and_names(self):
         """What a page refers to exists."""
         sums = "../crates/low/src/sums.rt"
