@@ -156,7 +156,7 @@ class CheckPagesTest(ScriptTest):
         self.write("docs/PAGE.md", "\n\n".join(text for _, text, _ in rows))
         status, lines = self.ended("check-pages", *words, "docs/PAGE.md")
         said = {}
-        for line in lines[:-2]:
+        for line in lines:
             page, number, what = line.split(":", 2)
             self.assertEqual(page, "docs/PAGE.md")
             said.setdefault(int(number), []).append(what.strip())
@@ -193,15 +193,19 @@ class CheckPagesTest(ScriptTest):
         ]
         self.compare(rows)
 
+    def test_words_of_a_link_go_on_in_the_next_line(self):
+        self.write("docs/PAGE.md", "# Page\n\nIt is [a\nlink](OTHER.md).\n")
+        wanted = ["docs/PAGE.md:3: dead link: OTHER.md"]
+        self.check("the line in which it begins", self.ended("check-pages", "docs/PAGE.md"), (1, wanted))
+
     def test_style(self):
-        """Words, sentences, lines and figures are places only with --style."""
-        self.write("README.md", "# Low\n\nIt takes 12 ms.\n")
+        """Sentences and lines are places only with --style."""
         words = "word " * 35
         rows = [
-            ("a word", "It stands there.", ["stands: exists, is"]),
-            ("a word in code", "It is `else`.", []),
+            ("code", "It is `else`.", []),
             ("a wide line", "It is %s." % ("w" * 110), ["117 columns"]),
             ("a wide row", "| It is %s |" % ("w" * 110), []),
+            ("a wide row of an item", "   | It is %s |" % ("w" * 110), []),
             ("a line of 110 columns", "It is %s." % ("w" * 103), []),
             ("a line of 111", "It is %s." % ("w" * 104), ["111 columns"]),
             ("36 words", "a " * 35 + "a", ["36 words: " + "a " * 35 + ".."]),
@@ -209,22 +213,15 @@ class CheckPagesTest(ScriptTest):
         ]
         self.compare(rows, "--style")
         self.check("without --style", self.places(rows), (0, {}))
-        self.write("docs/PAGE.md", "# Page\n\nIt takes 12 ms, and so\n%sare too many.\n" % words)
-        _, said = self.ended("check-pages", "--style", "README.md", "docs/PAGE.md")
-        self.check("a figure twice", said[0], "README.md:3: 12 ms is in docs/PAGE.md too")
-        self.check("44 words", said[3][:34], "docs/PAGE.md:3: 44 words: It takes")
-        self.write("README.md", "# Low\n")
+
+    def test_place_of_a_long_sentence_is_its_first_line(self):
+        self.write("docs/PAGE.md", "# Page\n\nIt takes 12 ms, and so\n%sare too many.\n" % ("word " * 35))
+        _, said = self.ended("check-pages", "--style", "docs/PAGE.md")
+        self.check("44 words", said[0][:34], "docs/PAGE.md:3: 44 words: It takes")
+
+    def test_most_long_sentences(self):
         long = "a " * 35 + "a.\n\n"
-        for name, page, status in [
-            ("20 long sentences", long * 20, 0),
-            ("21 long sentences", long * 21, 1),
-            ("4 words of the list in 1,000", "It is.\n\n" * 498 + "It stands behind. Tell whoever.\n", 0),
-            (
-                "5 words of the list in 1,000",
-                "It is.\n\n" * 497 + "It stands behind. Tell whoever else.\n",
-                1,
-            ),
-        ]:
+        for name, page, status in [("20 long sentences", long * 20, 0), ("21 long sentences", long * 21, 1)]:
             self.write("docs/PAGE.md", page)
             self.check(name, self.ended("check-pages", "--style", "docs/PAGE.md")[0], status)
 
