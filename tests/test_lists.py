@@ -85,8 +85,8 @@ FILES = {
 <!-- scripts/lists: faults -->
 <!-- end -->
 """,
-    "docs/decisions/0001-one.md": "# One thing\n\nState: kept. Date: 2026-01-02.\n\nContext: none.\n",
-    "docs/decisions/0002-two.md": "# Another\n\nState: replaced by 0001. Date: 2026-03-04.\n",
+    "docs/decisions/0001-one.md": "# One thing\n\nDate: 2026-01-02.\n\nContext: none.\n",
+    "docs/decisions/0002-two.md": "# Another\n\nDate: 2026-03-04.\n",
 }
 ARCHITECTURE = """Crates:
 <!-- scripts/lists: crates -->
@@ -105,10 +105,10 @@ The end.
 """
 DECISIONS = """<!-- scripts/lists: decisions -->
 
-| record | decision | state | date |
-|---|---|---|---|
-| [0001](decisions/0001-one.md) | One thing | kept | 2026-01-02 |
-| [0002](decisions/0002-two.md) | Another | replaced by 0001 | 2026-03-04 |
+| record | decision | date |
+|---|---|---|
+| [0001](decisions/0001-one.md) | One thing | 2026-01-02 |
+| [0002](decisions/0002-two.md) | Another | 2026-03-04 |
 
 <!-- end -->
 """
@@ -194,7 +194,7 @@ class ListsTest(FilesTest):
             (
                 "docs/decisions/0002-two.md",
                 "# Another\n\nState: kept.\n",
-                "docs/decisions/0002-two.md does not begin with a title, a state and a date",
+                "docs/decisions/0002-two.md does not begin with a title and a date",
             ),
             (
                 "crates/high/src/main.rt",
