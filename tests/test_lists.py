@@ -154,7 +154,8 @@ class ListsTest(FilesTest):
     def setUp(self):
         super().setUp()
         os.mkdir(os.path.join(self.folder, "scripts"))
-        shutil.copy(os.path.join(TOP, "scripts", "lists"), os.path.join(self.folder, "scripts"))
+        for name in ["lists", "pages.py"]:
+            shutil.copy(os.path.join(TOP, "scripts", name), os.path.join(self.folder, "scripts"))
         for name, text in FILES.items():
             self.write(name, text)
 
@@ -178,6 +179,23 @@ class ListsTest(FilesTest):
         self.check("records", self.read("docs/DECISIONS.md"), DECISIONS)
         self.check("limits and faults", self.read("docs/OPERATING.md"), OPERATING)
         self.check("--check", self.lists("--check"), (0, "", ""))
+
+    def test_contents_are_the_headings_of_a_page(self):
+        """Its title is none of them, and code has none."""
+        page = "# Page\n\n%s\n## A part\n\n```\n## code\n```\n\n### A `b`, and 2\n\n## Rest\n"
+        place = "<!-- scripts/lists: contents -->\n%s<!-- end -->\n"
+        items = "\n- [A part](#a-part)\n  - [A `b`, and 2](#a-b-and-2)\n- [Rest](#rest)\n\n"
+        self.write("docs/PAGE.md", page % (place % "- [Old](#old)\n"))
+        self.check("writing", self.lists(), (0, "", ""))
+        self.check("the page", self.read("docs/PAGE.md"), page % (place % items))
+
+    def test_page_of_more_than_150_lines_needs_contents(self):
+        self.lists()
+        self.write("docs/PAGE.md", "A line.\n" * 150)
+        self.check("150 lines", self.lists("--check"), (0, "", ""))
+        self.write("docs/PAGE.md", "A line.\n" * 151)
+        missing = "lists: docs/PAGE.md has 0 places for the list 'contents'\n"
+        self.check("151 lines", self.lists("--check"), (1, "", missing))
 
     def test_sources_without_a_list_are_refused(self):
         rows = [

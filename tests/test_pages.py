@@ -121,7 +121,7 @@ class ScriptTest(FilesTest):
 
     def setUp(self):
         super().setUp()
-        for name in ["check-pages", "theorems", "crates.py", "edits.py"]:
+        for name in ["check-pages", "theorems", "crates.py", "edits.py", "pages.py"]:
             self.write("scripts/" + name, "")
             shutil.copy(os.path.join(TOP, "scripts", name), os.path.join(self.folder, "scripts"))
         self.write("crates.txt", "low:\n")

@@ -157,6 +157,7 @@ PIECES = [
     ),
     ("two\nlines", ".PP\ntwo lines\n"),
     ("a\n<!-- a list -->\n\n- b\n\n<!-- end -->", ".PP\na\n.IP \\(bu 4\nb\n"),
+    ("a\n\n<!-- scripts/lists: contents -->\n\n- b\n\n<!-- end -->\nc", ".PP\na\n.PP\nc\n"),
     ("- a", ".IP \\(bu 4\na\n"),
     ("1. a\n2. b\n   c", ".IP 1. 4\na\n.IP 2. 4\nb c\n"),
     ("### Head `it`", '.SS "Head it"\n'),
