@@ -253,7 +253,8 @@ class TheoremsTest(ScriptTest):
         self.check("then compared", self.ended("theorems", "--check"), (0, []))
 
     def write_reason(self, name):
-        self.write("docs/theorems/README.md", INDEX.replace("body\n", "body\n\n- `%s`: a sum\n  of two\n" % name))
+        reason = "\n- `%s`: a sum\n  of two\n" % name
+        self.write("docs/theorems/README.md", INDEX.replace("body\n", "body\n" + reason))
 
     def test_public_function_needs_a_wrong_body_or_a_reason(self):
         self.write("tests/edits/low.edits", EDITS.partition("\n\n")[2])
@@ -325,6 +326,7 @@ class TheoremsTest(ScriptTest):
 
     def test_head_of_a_function_is_no_call(self):
         """A method of a trait that has the name of a private function does not call it."""
-        self.write("crates/low/src/laws.rt", "/// Shifts.\npub trait Shift {\n    fn shifted(n: u64);\n}\n" + LAWS)
+        trait = "/// Shifts.\npub trait Shift {\n    fn shifted(n: u64);\n}\n"
+        self.write("crates/low/src/laws.rt", trait + LAWS)
         row = "|[`Shift::shifted`](crates/low/src/laws.rt)||-|(no body)|"
         self.check("its row", row in self.ended("theorems", "low")[1], True)
