@@ -173,6 +173,7 @@ class CheckPagesTest(ScriptTest):
         """What a page refers to exists."""
         sums = "../crates/low/src/sums.rt"
         self.write("docs/OTHER.md", "# Other\n\n## A part\n")
+        self.write("tests/test_sums.py", "class LowTest:\n    def test_sum(self):\n        test_low()\n")
         rows = [
             ("a file", "[it](%s)" % sums, []),
             ("no file", "[it](../crates/low/src/none.rt)", ["dead link: ../crates/low/src/none.rt"]),
@@ -186,6 +187,8 @@ class CheckPagesTest(ScriptTest):
             ("no section", 'See docs/OTHER.md, "All".', ["no such section: All of docs/OTHER.md"]),
             ("no option", "Call `low --quick`.", ["no such option: --quick"]),
             ("no crate", "It is in `csi_low`.", ["no such crate: csi_low"]),
+            ("a test", "`test_low` of `tests/test_sums.py` has `LowTest.test_sum`.", []),
+            ("no test", "`test_high` of `HighTest`", ["no such test: HighTest", "no such test: test_high"]),
             ("a clause of it", "`few` and `value` of `low::double`", []),
             ("no clause of it", "`few` of `low::half`", ["no such clause: few of low::half"]),
             ("a clause of another function", "`shifted` of `double`", ["no such clause: shifted of double"]),

@@ -167,6 +167,12 @@ PIECES = [
     ("| a | b | c |\n|---|---|---|\n| d | e | |\n| | f | g |", ".TP\nd\nb: e\n.TP\nd\nb: f\n.br\nc: g\n"),
     ("\u2261", ".PP\n\\[u2261]\n"),
     ("see docs/PROTOCOL.md", ".PP\nsee csid-protocol(7)\n"),
+    ("see [PROTOCOL](PROTOCOL.md)", ".PP\nsee csid-protocol(7)\n"),
+    ("see [Envelope](#envelope)", '.PP\nsee "Envelope"\n'),
+    ("see [the\nintroduction](#protocol)", '.PP\nsee "DESCRIPTION"\n'),
+    ("see [OPERATING, \"Limits\"](OPERATING.md#limits)", '.PP\nsee docs/OPERATING.md, "Limits"\n'),
+    ("see [`a`](../crates/b.rt)", ".PP\nsee \\fBa\\fR\n"),
+    ("![A plot](plots/a.svg)", ".PP\ndocs/plots/a.svg:\nA plot\n"),
 ]
 
 
@@ -178,7 +184,7 @@ def run(manual, *words):
 
 def copied(folder, source, old, new):
     """A copy of what the pages are made of, with another text in one file of docs/."""
-    for name in ("docs", "deploy", "packaging"):
+    for name in ("docs", "deploy", "packaging", "scripts"):
         shutil.copytree(os.path.join(TOP, name), os.path.join(folder, name))
     shutil.copy(os.path.join(TOP, "VERSION"), folder)
     path = os.path.join(folder, "docs", source)
@@ -276,6 +282,13 @@ def refusal_rows():
         )
 
 
+def dead_link_rows():
+    with tempfile.TemporaryDirectory() as folder:
+        manual = copied(folder, "PROTOCOL.md", "## Calls answered\n", "## Calls answered\n\n[it](#it)\n")
+        said = "manual: docs/PROTOCOL.md has no heading of the link '#it'\n"
+        yield "a link to no heading", run(manual, os.path.join(folder, "man")), (1, said)
+
+
 def without_rows():
     """Where csid-etcd is not in a release no page names its page."""
     with tempfile.TemporaryDirectory() as folder:
@@ -318,6 +331,7 @@ def parts(programs, folder):
         piece_rows(),
         synopsis_rows(),
         refusal_rows(),
+        dead_link_rows(),
         without_rows(),
         *warnings,
     ]
