@@ -73,8 +73,8 @@ FILES = {
     "crates/csi_types/src/limits.rt": LIMITS,
     "crates/low/src/lib.rt": "//! Bytes, also\n//! long ones\n//!\n//! Details. More of them.\nmod bytes;\n",
     "crates/high/src/main.rt": (
-        "//! The program, with a sentence that is longer than a line of a page, so that the item here is\n"
-        "//! well-known in a second line.\n"
+        "//! The program, over two lines, which is\n"
+        "//! well-known.\n"
         "mod command;\n"
     ),
     "docs/ARCHITECTURE.md": "Crates:\n<!-- scripts/lists: crates -->\n<!-- end -->\nThe end.\n",
@@ -91,14 +91,10 @@ FILES = {
 ARCHITECTURE = """Crates:
 <!-- scripts/lists: crates -->
 
-Bytes:
-
-- `low`: Bytes, also long ones
-
-Programs:
-
-- `high`: The program, with a sentence that is longer than a line of a page, so that the item here is
-  well-known in a second line.
+| layer | crate | what it has |
+|---|---|---|
+| bytes | `low` | Bytes, also long ones |
+| programs | `high` | The program, over two lines, which is well-known. |
 
 <!-- end -->
 The end.
