@@ -303,10 +303,20 @@ class TheoremsTest(ScriptTest):
         self.write("crates/test_low/stdin", "sum 1 2\n")
         self.write("go/low/low_test.go", "func TestLow() {}\n")
         names = ["a length: ..", "a .. 1", "of two", "sum 1 2", "TestLow", "tests/test_low.py"]
-        names += ["a width", "1 .. length", "tests/test_high.py"]
+        names += ["two", "1 .. length", "TestHigh", "test_low", "tests/test_high.py"]
         self.write("docs/TESTING.md", TESTING + "| `low` | A | `%s` |\n" % "`, `".join(names))
-        wanted = ["docs/TESTING.md names no test: %s" % it for it in names[-3:]]
+        wanted = ["docs/TESTING.md names no test: %s" % it for it in names[-5:]]
         self.check("each is named", self.ended("theorems"), (1, wanted))
+
+    def test_section_that_is_missing_is_refused(self):
+        self.write("docs/theorems/README.md", INDEX.partition("\n## Wrong")[0].replace("<!-- end -->\n", ""))
+        self.write("docs/TESTING.md", "# Tests\n")
+        wanted = [
+            "docs/theorems/README.md has no section 'Wrong bodies that meet each clause'",
+            "docs/TESTING.md has no section 'Held by tests alone'",
+            "docs/theorems/README.md has no place for the table",
+        ]
+        self.check("each is named", self.ended("theorems", "--check"), (1, wanted))
 
     def test_name_in_the_reason_of_a_wrong_body_exists(self):
         """It is a word of the crate, or of one that the crate uses."""
