@@ -177,7 +177,7 @@ class ListsTest(FilesTest):
         self.check("--check", self.lists("--check"), (0, "", ""))
 
     def test_contents_are_the_headings_of_a_page(self):
-        """Its title is none of them, and code has none."""
+        """Its title and lines of code are left out."""
         page = "# Page\n\n%s\n## A part\n\n```\n## code\n```\n\n### A `b`, and 2\n\n## Rest\n"
         place = "<!-- scripts/lists: contents -->\n%s<!-- end -->\n"
         items = "\n- [A part](#a-part)\n  - [A `b`, and 2](#a-b-and-2)\n- [Rest](#rest)\n\n"
