@@ -77,9 +77,9 @@ def folder_rows(folder, name, package):
 
 def files_of(programs):
     """What a release has next to licences: the programs, their pages of manual and completions, and what is
-    committed of README.md, docs/ and deploy/, but for docs/theorems, which is about the sources.
+    committed of README.md, docs/ and deploy/.
     """
-    parts = ["README.md", "VERSION", "docs", "deploy", ":!docs/theorems"]
+    parts = ["README.md", "VERSION", "docs", "deploy"]
     committed = output("git", "-C", TOP, "ls-files", *parts).split("\n")
     pages = [it + ".1" for it in programs] + ["csid-config.5", "csid-protocol.7"]
     return (
