@@ -1,5 +1,5 @@
-"""The session of README.md: what it shows is what bash prints where it is pasted, and what examples/session
-prints.
+"""The sessions of README.md: what each shows is what bash prints where it is pasted. examples/session prints
+what the first one shows.
 """
 
 import os
@@ -17,16 +17,19 @@ def read(*path):
 
 
 class SessionTest(CsictlTest):
-    """The session of README.md, by the built programs."""
+    """A session of README.md, by the built programs."""
 
     def setUp(self):
         super().setUp()
-        section = read("README.md").split("\n## A session\n")[1].split("\n## ")[0]
-        self.lines = re.findall(r"^ {4}(.*)$", section, re.M)
-        self.answers = "".join(it[2:] + "\n" for it in self.lines if it.startswith("# "))
-        self.commands = [it for it in self.lines if not it.startswith("# ")]
         for name, program in [("csid", self.csid), ("csictl", self.csictl)]:
             os.symlink(program, os.path.join(self.folder, name))
+
+    def session(self, heading):
+        """The lines below a heading, the commands among them, and what they print."""
+        part = re.split(r"\n#+ ", read("README.md").split("\n%s\n" % heading)[1])[0]
+        lines = re.findall(r"^ {4}(.*)$", part, re.M)
+        commands = [it for it in lines if not it.startswith("# ")]
+        return lines, commands, "".join(it[2:] + "\n" for it in lines if it.startswith("# "))
 
     def bash(self, *words, typed=""):
         """What bash prints where the built programs are the first of the PATH."""
@@ -41,8 +44,30 @@ class SessionTest(CsictlTest):
         )
         return done.stdout, done.stderr, done.returncode
 
+
+class BytesTest(SessionTest):
+    """The session with bytes."""
+
+    def setUp(self):
+        super().setUp()
+        self.lines, self.commands, self.answers = self.session("### The session in bytes")
+
     def test_calls_are_six(self):
         self.check("the calls", len([it for it in self.commands if it.startswith("call ")]), 6)
+
+    def test_pasted_session_prints_what_it_shows(self):
+        self.check("the session", self.bash(typed="\n".join(self.lines) + "\n"), (self.answers, "", 0))
+
+
+class ExampleTest(SessionTest):
+    """The session with the commands for people, which examples/session has too."""
+
+    def setUp(self):
+        super().setUp()
+        self.lines, self.commands, self.answers = self.session("## A session")
+
+    def test_calls_are_seven(self):
+        self.check("the calls", len([it for it in self.commands if it.startswith("csictl ")]), 7)
 
     def test_pasted_session_prints_what_it_shows(self):
         self.check("the session", self.bash(typed="\n".join(self.lines) + "\n"), (self.answers, "", 0))

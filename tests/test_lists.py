@@ -73,8 +73,8 @@ FILES = {
     "crates/csi_types/src/limits.rt": LIMITS,
     "crates/low/src/lib.rt": "//! Bytes, also\n//! long ones\n//!\n//! Details. More of them.\nmod bytes;\n",
     "crates/high/src/main.rt": (
-        "//! The program, with a sentence that is longer than a line of a page, so that the item here is\n"
-        "//! well-known in a second line.\n"
+        "//! The program, over two lines, which is\n"
+        "//! well-known.\n"
         "mod command;\n"
     ),
     "docs/ARCHITECTURE.md": "Crates:\n<!-- scripts/lists: crates -->\n<!-- end -->\nThe end.\n",
@@ -85,30 +85,26 @@ FILES = {
 <!-- scripts/lists: faults -->
 <!-- end -->
 """,
-    "docs/decisions/0001-one.md": "# One thing\n\nState: kept. Date: 2026-01-02.\n\nContext: none.\n",
-    "docs/decisions/0002-two.md": "# Another\n\nState: replaced by 0001. Date: 2026-03-04.\n",
+    "docs/decisions/0001-one.md": "# One thing\n\nDate: 2026-01-02.\n\nContext: none.\n",
+    "docs/decisions/0002-two.md": "# Another\n\nDate: 2026-03-04.\n",
 }
 ARCHITECTURE = """Crates:
 <!-- scripts/lists: crates -->
 
-Bytes:
-
-- `low`: Bytes, also long ones
-
-Programs:
-
-- `high`: The program, with a sentence that is longer than a line of a page, so that the item here is
-  well-known in a second line.
+| layer | crate | what it has |
+|---|---|---|
+| bytes | `low` | Bytes, also long ones |
+| programs | `high` | The program, over two lines, which is well-known. |
 
 <!-- end -->
 The end.
 """
 DECISIONS = """<!-- scripts/lists: decisions -->
 
-| record | decision | state | date |
-|---|---|---|---|
-| [0001](decisions/0001-one.md) | One thing | kept | 2026-01-02 |
-| [0002](decisions/0002-two.md) | Another | replaced by 0001 | 2026-03-04 |
+| record | decision | date |
+|---|---|---|
+| [0001](decisions/0001-one.md) | One thing | 2026-01-02 |
+| [0002](decisions/0002-two.md) | Another | 2026-03-04 |
 
 <!-- end -->
 """
@@ -154,7 +150,8 @@ class ListsTest(FilesTest):
     def setUp(self):
         super().setUp()
         os.mkdir(os.path.join(self.folder, "scripts"))
-        shutil.copy(os.path.join(TOP, "scripts", "lists"), os.path.join(self.folder, "scripts"))
+        for name in ["lists", "pages.py"]:
+            shutil.copy(os.path.join(TOP, "scripts", name), os.path.join(self.folder, "scripts"))
         for name, text in FILES.items():
             self.write(name, text)
 
@@ -179,6 +176,23 @@ class ListsTest(FilesTest):
         self.check("limits and faults", self.read("docs/OPERATING.md"), OPERATING)
         self.check("--check", self.lists("--check"), (0, "", ""))
 
+    def test_contents_are_the_headings_of_a_page(self):
+        """Its title and lines of code are left out."""
+        page = "# Page\n\n%s\n## A part\n\n```\n## code\n```\n\n### A `b`, and 2\n\n## Rest\n"
+        place = "<!-- scripts/lists: contents -->\n%s<!-- end -->\n"
+        items = "\n- [A part](#a-part)\n  - [A `b`, and 2](#a-b-and-2)\n- [Rest](#rest)\n\n"
+        self.write("docs/PAGE.md", page % (place % "- [Old](#old)\n"))
+        self.check("writing", self.lists(), (0, "", ""))
+        self.check("the page", self.read("docs/PAGE.md"), page % (place % items))
+
+    def test_page_of_more_than_150_lines_needs_contents(self):
+        self.lists()
+        self.write("docs/PAGE.md", "A line.\n" * 150)
+        self.check("150 lines", self.lists("--check"), (0, "", ""))
+        self.write("docs/PAGE.md", "A line.\n" * 151)
+        missing = "lists: docs/PAGE.md has 0 places for the list 'contents'\n"
+        self.check("151 lines", self.lists("--check"), (1, "", missing))
+
     def test_sources_without_a_list_are_refused(self):
         rows = [
             (
@@ -194,7 +208,7 @@ class ListsTest(FilesTest):
             (
                 "docs/decisions/0002-two.md",
                 "# Another\n\nState: kept.\n",
-                "docs/decisions/0002-two.md does not begin with a title, a state and a date",
+                "docs/decisions/0002-two.md does not begin with a title and a date",
             ),
             (
                 "crates/high/src/main.rt",

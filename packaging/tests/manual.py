@@ -157,6 +157,7 @@ PIECES = [
     ),
     ("two\nlines", ".PP\ntwo lines\n"),
     ("a\n<!-- a list -->\n\n- b\n\n<!-- end -->", ".PP\na\n.IP \\(bu 4\nb\n"),
+    ("a\n\n<!-- scripts/lists: contents -->\n\n- b\n\n<!-- end -->\nc", ".PP\na\n.PP\nc\n"),
     ("- a", ".IP \\(bu 4\na\n"),
     ("1. a\n2. b\n   c", ".IP 1. 4\na\n.IP 2. 4\nb c\n"),
     ("### Head `it`", '.SS "Head it"\n'),
@@ -166,6 +167,12 @@ PIECES = [
     ("| a | b | c |\n|---|---|---|\n| d | e | |\n| | f | g |", ".TP\nd\nb: e\n.TP\nd\nb: f\n.br\nc: g\n"),
     ("\u2261", ".PP\n\\[u2261]\n"),
     ("see docs/PROTOCOL.md", ".PP\nsee csid-protocol(7)\n"),
+    ("see [PROTOCOL](PROTOCOL.md)", ".PP\nsee csid-protocol(7)\n"),
+    ("see [Envelope](#envelope)", '.PP\nsee "Envelope"\n'),
+    ("see [the\nintroduction](#protocol)", '.PP\nsee "DESCRIPTION"\n'),
+    ("see [OPERATING, \"Limits\"](OPERATING.md#limits)", '.PP\nsee docs/OPERATING.md, "Limits"\n'),
+    ("see [`a`](../crates/b.rt)", ".PP\nsee \\fBa\\fR\n"),
+    ("![A plot](plots/a.svg)", ".PP\ndocs/plots/a.svg:\nA plot\n"),
 ]
 
 
@@ -177,7 +184,7 @@ def run(manual, *words):
 
 def copied(folder, source, old, new):
     """A copy of what the pages are made of, with another text in one file of docs/."""
-    for name in ("docs", "deploy", "packaging"):
+    for name in ("docs", "deploy", "packaging", "scripts"):
         shutil.copytree(os.path.join(TOP, name), os.path.join(folder, name))
     shutil.copy(os.path.join(TOP, "VERSION"), folder)
     path = os.path.join(folder, "docs", source)
@@ -275,6 +282,13 @@ def refusal_rows():
         )
 
 
+def dead_link_rows():
+    with tempfile.TemporaryDirectory() as folder:
+        manual = copied(folder, "PROTOCOL.md", "## Calls answered\n", "## Calls answered\n\n[it](#it)\n")
+        said = "manual: docs/PROTOCOL.md has no heading of the link '#it'\n"
+        yield "a link to no heading", run(manual, os.path.join(folder, "man")), (1, said)
+
+
 def without_rows():
     """Where csid-etcd is not in a release no page names its page."""
     with tempfile.TemporaryDirectory() as folder:
@@ -317,6 +331,7 @@ def parts(programs, folder):
         piece_rows(),
         synopsis_rows(),
         refusal_rows(),
+        dead_link_rows(),
         without_rows(),
         *warnings,
     ]

@@ -77,9 +77,9 @@ def folder_rows(folder, name, package):
 
 def files_of(programs):
     """The contents of a release apart from licences: the programs, their manual pages and completions, and
-    the committed files of README.md, docs/ and deploy/ except docs/theorems, which is about the sources.
+    the committed files of README.md, docs/ and deploy/.
     """
-    parts = ["README.md", "VERSION", "docs", "deploy", ":!docs/theorems"]
+    parts = ["README.md", "VERSION", "docs", "deploy"]
     committed = output("git", "-C", TOP, "ls-files", *parts).split("\n")
     pages = [it + ".1" for it in programs] + ["csid-config.5", "csid-protocol.7"]
     return (
