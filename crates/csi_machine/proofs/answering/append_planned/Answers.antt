@@ -12,7 +12,7 @@ returns-in_err-plan g c =
     let failed = c.in_err-plan.ensures in
     let is : c.from_residual.result ≡ Err c.in_err-plan.field-0.0 = search rules in
     performed c.args.config.now c.args.request.now _ _ _ _ _
-    (λ of_plugin. (failed.finds.quiet, subst (λ (r : Result Verdict StoreFault). IfErr r (λ e. e ≡ NoMemory)) (sym is) (failed.unasked of_plugin)))
+    (λ of_plugin. (failed.finds.quiet, subst (λ (r : Result Verdict StoreFault). IfErr r (λ e. e ≡ NoMemory)) (sym is) (failed.asks_nothing of_plugin)))
     (λ none. (failed.finds.quiet, subst (λ (r : Result Verdict StoreFault). IfErr r (λ e. e ≡ NoMemory)) (sym is) (failed.unnamed none)))
     (search rules)
 
