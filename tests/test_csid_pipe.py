@@ -109,6 +109,7 @@ TWICE = "the argument '%s' cannot be used multiple times"
 NO_VALUE = "a value is required for '%s' but none was supplied"
 ALONE = "the argument '%s' cannot be used with one or more of the other specified arguments"
 NOT_GIVEN = "the following required arguments were not provided: "
+NO_TASK = "'--config <FILE>' needs '--check-tables <FILE>' or '--copy-tables <FILE>'"
 SERVE = [b"serve", b"--socket", b"/no/such.sock", b"--tables", b"/no/such.db"]
 WORDS = [
     ("a word that is not known", [b"frobnicate"], "unrecognized subcommand 'frobnicate'"),
@@ -123,7 +124,7 @@ WORDS = [
         [b"pipe", b"--frobnicate"],
         "unexpected argument '--frobnicate' found",
     ),
-    ("a configuration without pipe", [b"--config", b"x"], NOT_GIVEN + "--check-tables <FILE>"),
+    ("a configuration without pipe", [b"--config", b"x"], NO_TASK),
     (
         "a configuration before pipe",
         [b"--config", b"x", b"pipe"],
@@ -156,7 +157,19 @@ WORDS = [
     (
         "a listing by a configuration",
         [b"--list-tables", b"x", b"--config", b"y"],
-        NOT_GIVEN + "--check-tables <FILE>",
+        NO_TASK,
+    ),
+    ("a copy without its place", [b"--copy-tables", b"x"], NOT_GIVEN + "--to <COPY>"),
+    ("the place of no copy", [b"--to", b"x"], NOT_GIVEN + "--copy-tables <FILE>"),
+    (
+        "a copy and a check",
+        [b"--copy-tables", b"x", b"--to", b"y", b"--check-tables", b"z"],
+        "the argument '--copy-tables <FILE>' cannot be used with '--check-tables <FILE>'",
+    ),
+    (
+        "a copy and a listing",
+        [b"--copy-tables", b"x", b"--to", b"y", b"--list-tables", b"z"],
+        "the argument '--copy-tables <FILE>' cannot be used with '--list-tables <FILE>'",
     ),
     ("a name without a listing", [b"--name", b"x"], NOT_GIVEN + "--list-tables <FILE>"),
     ("a pool without a listing", [b"--pool", b"x"], NOT_GIVEN + "--list-tables <FILE>"),

@@ -74,6 +74,21 @@ class RecipesTest(RecipeTest):
             self.assertEqual(rows, ({1: "a", 2: "b", 3: "c"}, 4))
             self.check("the front is back", place.control.runs("csid-front") is not None, True)
 
+    def test_daily_copies(self):
+        """Fifteen copies of earlier days: with a new one the last 14 stay."""
+        days = ["2026-01-%02d-000000.db" % day for day in range(1, 16)]
+        with Place(self.csictl, self.csid) as place:
+            place.call(*create("a"))
+            daily = place.top + "/root/csid-daily/"
+            os.mkdir(daily)
+            for day in days:
+                open(daily + day, "x").close()
+            came = place.recipe("### A copy of a file that is served", 1)
+            left = sorted(os.listdir(daily))
+            self.check("what the copy has", came, (has(1, 0, 2), "", 0))
+            self.check("the earlier copies that stay", left[:-1], days[2:])
+            self.check("the new copy", place.rows(daily + left[-1]), ({1: "a"}, 2))
+
     def test_copy_while_stopped(self):
         """The last change is in the log alone."""
         with Place(self.csictl, self.csid) as place:

@@ -23,13 +23,15 @@ printf '%s\\n' "${COMPREPLY[@]}"
 ROWS = [
     (
         "csid ",
-        "pipe serve --check-config --check-tables --config --list-tables --name --pool --node --json --help"
-        " --version",
+        "pipe serve --check-config --check-tables --config --copy-tables --to --list-tables --name --pool"
+        " --node --json --help --version",
     ),
     ("csid --check-t", "--check-tables"),
     ("csid --check-config c", "config.toml"),
     ("csid --check-tables v", "volumes.db"),
     ("csid --check-tables volumes.db -", "--config"),
+    ("csid --copy-tables v", "volumes.db"),
+    ("csid --copy-tables volumes.db -", "--to --config"),
     ("csid --list-tables v", "volumes.db"),
     ("csid --list-tables volumes.db -", "--name --pool --node --json"),
     ("csid s", "serve"),

@@ -1,5 +1,5 @@
-//! `csid --check-tables` and `csid --list-tables`. The path and the file are looked at first, so that a file
-//! without tables is refused in the same words as by `csid serve --existing`.
+//! `csid --check-tables`, `csid --list-tables` and `csid --copy-tables`. The path and the file are looked at
+//! first, so that a file without tables is refused in the same words as by `csid serve --existing`.
 
 ghost use Rattle.std.specs.Prelude.{IfErr};
 ghost use Rattle.csid_settings.specs.Statuses.{IsOrNoMemory};
@@ -44,4 +44,22 @@ pub(crate) fn list_tables(
 ) -> Result<(), Failure> {
     check_readable(console.rt, path)?;
     csid_listings::list_tables(console, path, chosen, is_json)
+}
+
+/// Copies the tables in a file into a new file, judged by the configuration in another one, or by the sample
+/// configuration.
+///
+/// # Errors
+///
+/// Where the configuration or the tables are refused, there is a file at `to`, the copy or the line cannot be
+/// written, or memory is refused.
+pub(crate) fn copy_tables(
+    console: &Console<'_>,
+    path: &str,
+    to: &str,
+    config: Option<&str>,
+) -> Result<(), Failure> {
+    let config = configuration(console, config, true)?;
+    check_readable(console.rt, path)?;
+    csid_listings::copy_tables(console, path, to, &config)
 }

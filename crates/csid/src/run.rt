@@ -3,7 +3,7 @@
 ghost use Rattle.std.specs.Prelude.{IfErr};
 ghost use Rattle.csid_settings.specs.Statuses.{IsOrNoMemory};
 
-use crate::checks::{check_tables, list_tables};
+use crate::checks::{check_tables, copy_tables, list_tables};
 use crate::room::MemoryGauge;
 use crate::serving::{SilentObserver, TablesFailure, TablesRun};
 use crate::socket::serve_socket;
@@ -134,6 +134,7 @@ pub(crate) fn run(console: &Console<'_>) -> Result<(), Failure> {
         }
         Task::CheckConfig(path) => check_config(console, path),
         Task::CheckTables { tables, config } => check_tables(console, tables, config),
+        Task::CopyTables { tables, to, config } => copy_tables(console, tables, to, config),
         Task::ListTables {
             tables,
             chosen,

@@ -30,8 +30,12 @@ impl Display for Summary<'_> {
     }
 }
 
-// Says a line on standard output.
-fn report<T: Display>(rt: &HostRuntime, what: &T) -> Result<(), Failure> {
+/// Writes a line on standard output.
+///
+/// # Errors
+///
+/// Where the line cannot be written, or memory is refused.
+pub(crate) fn report<T: Display>(rt: &HostRuntime, what: &T) -> Result<(), Failure> {
     let line = format!(in rt.alloc(); "{what}\n")?;
     let mut out = rt.stdout();
     match out.write_all(line.as_bytes()).and_then(|()| out.flush()) {
@@ -51,9 +55,13 @@ pub fn check_config(console: &Console<'_>, path: &str) -> Result<(), Failure> {
     report(console.rt, &Summary { config: &config })
 }
 
-// The counts of tables in memory that are adopted. The tables are counted first, since an adoption upgrades
-// them to the latest format. If they are refused for a row, more is reported of that row.
-fn adopted<S: Alter + Drop>(
+/// The counts of tables in memory that are adopted. The tables are counted first, since an adoption upgrades
+/// them to the latest format. If they are refused for a row, more is reported of that row.
+///
+/// # Errors
+///
+/// Where the tables are refused, or memory is.
+pub(crate) fn adopted<S: Alter + Drop>(
     console: &Console<'_>,
     path: &str,
     mut conn: Connection<S>,

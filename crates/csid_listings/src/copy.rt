@@ -26,7 +26,8 @@ const WAL_HEADER_BYTES: usize = 32;
 
 const IS_WRITTEN: &str = "it is written all the time";
 
-const NO_TABLES: &str = "it has no tables, and none are made";
+/// Why a file without tables is refused.
+pub(crate) const NO_TABLES: &str = "it has no tables, and none are made";
 
 // Why a file cannot be read.
 fn read_failure(alloc: Global, path: &str, error: &io::Error) -> Failure
@@ -190,8 +191,16 @@ fn is_hot(journal: &[u8]) -> bool {
     journal.first().is_some_and(|first| *first != 0)
 }
 
-// A connection to a copy of a file and its WAL.
-fn open_copy(rt: &HostRuntime, path: &str) -> Result<Connection<FileStore<Memory>>, Failure>
+/// A connection to a copy of a file and its WAL.
+///
+/// # Errors
+///
+/// If the file does not exist, cannot be read, is written all the time or is no database; if a journal is
+/// next to it; or for want of memory.
+pub(crate) fn open_copy(
+    rt: &HostRuntime,
+    path: &str,
+) -> Result<Connection<FileStore<Memory>>, Failure>
     ensures idle { IfOk result (λ conn. conn.in_transaction ≡ false) }
     ensures failure { IfErr result (λ failure. IsOrNoMemory 4 failure) }
 {

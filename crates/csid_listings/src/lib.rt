@@ -1,7 +1,8 @@
 //! The tables in a file as the server reads them and says what they have: judged, counted and listed.
 //!
-//! [`check_tables`] and [`list_tables`] read a copy in memory, which is one of a single moment, while another
-//! process may write the file ([`list_tables`] for people or in JSON). [`keeper_over`] adopts the tables on
+//! [`check_tables`], [`list_tables`] and [`copy_tables`] read a copy in memory, which is one of a single
+//! moment, while another process may write the file ([`list_tables`] for people or in JSON, [`copy_tables`]
+//! into a new file). [`keeper_over`] adopts the tables on
 //! a connection, and [`database_failure`], [`adoption_failure`] and [`store_failure`] choose the line and the
 //! exit status where that fails.
 //!
@@ -11,6 +12,7 @@
 //! ```
 #![tactic(auto)]
 
+mod backup;
 mod check;
 mod content;
 mod copy;
@@ -19,6 +21,7 @@ mod listing;
 mod memory;
 mod tables;
 
+pub use backup::copy_tables;
 pub use check::{check_config, check_tables};
 pub use content::{Content, read_content, report_content};
 pub use listing::list_tables;

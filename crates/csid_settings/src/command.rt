@@ -32,6 +32,15 @@ pub enum Task<'a> {
         /// The file of the configuration; without it the sample configuration.
         config: Option<&'a str>,
     },
+    /// Copy the tables of a file into a new file.
+    CopyTables {
+        /// The path of the file.
+        tables: &'a str,
+        /// The path of the copy.
+        to: &'a str,
+        /// The file of the configuration that judges the copy; without it the sample configuration.
+        config: Option<&'a str>,
+    },
     /// List the tables of a file.
     ListTables {
         /// The path of the file.
@@ -117,7 +126,7 @@ const LOW_MEMORY: CommandOption = CommandOption {
     ..OPTION
 };
 
-static CHECKS: [CommandOption; 8] = [
+static CHECKS: [CommandOption; 10] = [
     CommandOption {
         name: "check-config",
         takes: Takes::Text("FILE"),
@@ -132,9 +141,22 @@ static CHECKS: [CommandOption; 8] = [
         ..OPTION
     },
     CommandOption {
-        needs: Some("check-tables"),
         help: "The configuration by which tables are judged; without it the sample configuration",
         ..CONFIG
+    },
+    CommandOption {
+        name: "copy-tables",
+        takes: Takes::Text("FILE"),
+        needs: Some("to"),
+        help: "Copies tables as they were committed at one moment, also of a file that is served, and ends",
+        ..OPTION
+    },
+    CommandOption {
+        name: "to",
+        takes: Takes::Text("COPY"),
+        needs: Some("copy-tables"),
+        help: "The new file of the copy, which needs no WAL; an existing one is not replaced",
+        ..OPTION
     },
     CommandOption {
         name: "list-tables",
@@ -265,12 +287,32 @@ pub fn odd_number<'a>(matches: &ArgMatches<'a>) -> Option<(&'static str, &'a str
     None
 }
 
-/// The fault of a command line with both checks.
+/// The fault of a command line with two tasks over tables, or with a configuration for none.
 pub fn odd_check<'a>(matches: &ArgMatches<'a>) -> Option<&'static str> {
-    if matches.get_str("list-tables").is_some() && matches.get_str("check-tables").is_some() {
+    let is_check = matches.get_str("check-tables").is_some();
+    let is_copy = matches.get_str("copy-tables").is_some();
+    let is_list = matches.get_str("list-tables").is_some();
+    if is_list && is_check {
         return Some(
             "the argument '--list-tables <FILE>' cannot be used with '--check-tables <FILE>'",
         );
+    }
+    if is_copy && is_check {
+        return Some(
+            "the argument '--copy-tables <FILE>' cannot be used with '--check-tables <FILE>'",
+        );
+    }
+    if is_copy && is_list {
+        return Some(
+            "the argument '--copy-tables <FILE>' cannot be used with '--list-tables <FILE>'",
+        );
+    }
+    if matches.subcommand().is_none()
+        && matches.get_str("config").is_some()
+        && !is_check
+        && !is_copy
+    {
+        return Some("'--config <FILE>' needs '--check-tables <FILE>' or '--copy-tables <FILE>'");
     }
     None
 }
@@ -337,6 +379,13 @@ fn plain_task<'a>(arguments: &ArgMatches<'a>) -> Task<'a> {
     }
     if let Some(tables) = arguments.get_str("list-tables") {
         return list_task(arguments, tables);
+    }
+    if let Some(tables) = arguments.get_str("copy-tables") {
+        return Task::CopyTables {
+            tables,
+            to: arguments.get_str("to").unwrap_or(""),
+            config: arguments.get_str("config"),
+        };
     }
     match arguments.get_str("check-tables") {
         Some(tables) => Task::CheckTables {

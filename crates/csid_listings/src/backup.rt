@@ -1,0 +1,123 @@
+//! `csid --copy-tables`: a copy of the tables in a file as they were committed at one moment, in a new file.
+
+ghost use Rattle.std.specs.Prelude.{IfErr};
+ghost use Rattle.csid_settings.specs.Statuses.{IsOrNoMemory};
+
+use crate::check::{adopted, report};
+use crate::content::Content;
+use crate::copy::{NO_TABLES, open_copy};
+use crate::memory::{files_of, memory_failure, open};
+use csi_config::Config;
+use csid_console::Console;
+use csid_settings::Failure;
+use std::fs::{self, File, OpenOptions};
+use std::io::{self, ErrorKind, Write};
+use std::os::unix::fs::OpenOptionsExt;
+
+// The mode of a copy: only its owner may read and write it.
+const OWNER: u32 = 0o600;
+
+const EXISTS: &str = "it exists already, and is not replaced";
+
+// The bytes of one file that has the tables in a file and its WAL.
+fn whole_bytes(rt: &HostRuntime, path: &str) -> Result<Vec<u8>, Failure>
+    ensures { IfErr result (λ failure. IsOrNoMemory 4 failure) }
+{
+    let conn = open_copy(rt, path)?;
+    if conn.schema().tables.is_empty() {
+        return Err(Failure::of_tables(rt.alloc(), path, &NO_TABLES));
+    }
+    match conn.close_files() {
+        Ok(files) => Ok(Vec::from_slice(rt.alloc(), files.db.bytes())?),
+        Err((error, _)) => Err(memory_failure(rt.alloc(), path, &error)),
+    }
+}
+
+// The counts of the tables in the bytes of a file, judged by a configuration.
+fn judged(
+    console: &Console<'_>,
+    path: &str,
+    bytes: &[u8],
+    config: &Config,
+) -> Result<Content, Failure> {
+    let files = files_of(console.rt.alloc(), &[], bytes)?;
+    let conn = open(console.rt.alloc(), path, files)?;
+    adopted(console, path, conn, config)
+}
+
+// Writes a new file, and waits until the disk has its bytes.
+fn write_new(rt: &HostRuntime, path: &str, bytes: &[u8]) -> io::Result<()> {
+    let mut file = OpenOptions::new()
+        .write(true)
+        .create_new(true)
+        .mode(OWNER)
+        .open(rt, path)?;
+    file.write_all(bytes)?;
+    file.sync_all()
+}
+
+// The folder of a path.
+fn folder_of(path: &str) -> &str {
+    match path.rsplit_once('/') {
+        Some(("", _)) => "/",
+        Some((folder, _)) => folder,
+        None => ".",
+    }
+}
+
+// Gives a file its name, and waits until the disk has the name.
+fn put_in_place(rt: &HostRuntime, from: &str, to: &str) -> io::Result<()> {
+    fs::rename(rt, from, to)?;
+    File::open(rt, folder_of(to))?.sync_all()
+}
+
+// Why a copy was not written.
+fn write_failure(rt: &HostRuntime, path: &str, error: &io::Error) -> Failure
+    ensures { IsOrNoMemory 4 result }
+{
+    match error.kind() {
+        ErrorKind::OutOfMemory => Failure::NoMemory,
+        _ => Failure::of_tables(rt.alloc(), path, error),
+    }
+}
+
+// Writes a copy under a name of its own, `TO.new`, and then gives it its name. What a failure left is
+// removed.
+fn write_copy(rt: &HostRuntime, to: &str, bytes: &[u8]) -> Result<(), Failure>
+    ensures { IfErr result (λ failure. IsOrNoMemory 4 failure) }
+{
+    let new = format!(in rt.alloc(); "{to}.new")?;
+    if let Err(error) = write_new(rt, new.as_str(), bytes) {
+        if error.kind() != ErrorKind::AlreadyExists {
+            let _ = fs::remove_file(rt, new.as_str());
+        }
+        return Err(write_failure(rt, new.as_str(), &error));
+    }
+    match put_in_place(rt, new.as_str(), to) {
+        Ok(()) => Ok(()),
+        Err(error) => Err(write_failure(rt, to, &error)),
+    }
+}
+
+/// Copies the tables in the file at `path` into a new file at `to`, as they were committed at one moment, and
+/// writes how much they have on standard output. The copy needs no WAL, and was judged by the configuration
+/// before it got its name. The file at `path` is only read, also while a server has it open.
+///
+/// # Errors
+///
+/// Where there is a file at `to`, the tables cannot be read or are refused, the copy or the line cannot be
+/// written, or memory is refused.
+pub fn copy_tables(
+    console: &Console<'_>,
+    path: &str,
+    to: &str,
+    config: &Config,
+) -> Result<(), Failure> {
+    if !matches!(fs::exists(console.rt, to), Ok(false)) {
+        return Err(Failure::of_tables(console.rt.alloc(), to, &EXISTS));
+    }
+    let bytes = whole_bytes(console.rt, path)?;
+    let content = judged(console, path, bytes.as_slice(), config)?;
+    write_copy(console.rt, to, bytes.as_slice())?;
+    report(console.rt, &content)
+}
