@@ -26,7 +26,9 @@ from tests.support.deploy import (
     UNITS,
     Unit,
     commands,
+    documents,
     etcd_commands,
+    mounts,
     need,
     over_etcd,
     plain,
@@ -59,10 +61,6 @@ def said(script, **variables):
 
 def manifests():
     return [Kubernetes(name) for name in (MANIFEST, ETCD_MANIFEST)]
-
-
-def mounts(container):
-    return {it["mountPath"]: it["name"] for it in container["volumeMounts"]}
 
 
 class ManifestTest(RowTest):
@@ -149,9 +147,7 @@ class TablesPodTest(RowTest):
     def setUp(self):
         super().setUp()
         self.manifest = Kubernetes()
-        import yaml
-
-        self.pod = yaml.safe_load(read(TABLES_POD))
+        (self.pod,) = documents(TABLES_POD)
         (self.container,), (self.volume,) = self.pod["spec"]["containers"], self.pod["spec"]["volumes"]
 
     def test_claim_is_that_of_csid(self):
