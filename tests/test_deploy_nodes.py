@@ -10,6 +10,7 @@ from tests.support.deploy import (
     Kubernetes,
     NODE_MANIFEST,
     NODE_PATCH,
+    Nomad,
     documents,
     mounts,
     plain,
@@ -21,6 +22,7 @@ from tests.support.processes import TOP
 from tests.support.rows import RowTest
 
 KUBELET = "/var/lib/kubelet"
+VOLUME = "nomad-volume.hcl"
 
 
 class NodeTest(RowTest):
@@ -161,7 +163,7 @@ class NodeRightsTest(NodeTest):
 
 
 class ExampleTest(RowTest):
-    """What is applied to see a volume."""
+    """What is applied, or given to Nomad, to see a volume."""
 
     def test_pod_uses_the_claim_of_the_class(self):
         claim, pod = documents(EXAMPLE)
@@ -173,3 +175,7 @@ class ExampleTest(RowTest):
         (folder,) = [path for path, name in mounts(container).items() if name == volume["name"]]
         self.assertIn(folder + "/", container["command"][-1])
         self.assertEqual(pod["metadata"]["namespace"], claim["metadata"]["namespace"])
+
+    def test_volume_of_nomad_is_of_the_plugin_of_the_job(self):
+        (plugin,) = re.findall(r'^plugin_id += "(.*)"$', read(VOLUME), re.M)
+        self.assertEqual(plugin, Nomad().one(r'csi_plugin \{\s+id += "(.*?)"'))
