@@ -26,7 +26,9 @@ from tests.support.deploy import (
     UNITS,
     Unit,
     commands,
+    documents,
     etcd_commands,
+    mounts,
     need,
     over_etcd,
     plain,
@@ -59,10 +61,6 @@ def said(script, **variables):
 
 def manifests():
     return [Kubernetes(name) for name in (MANIFEST, ETCD_MANIFEST)]
-
-
-def mounts(container):
-    return {it["mountPath"]: it["name"] for it in container["volumeMounts"]}
 
 
 class ManifestTest(RowTest):
@@ -143,15 +141,43 @@ class CapacityTest(RowTest):
             self.assertEqual(found, {**wanted, "csistoragecapacities": verbs})
 
 
+class CheckTest(RowTest):
+    """A configuration or a file that csid refuses: the pod does not start, or is not ready."""
+
+    def setUp(self):
+        super().setUp()
+        self.manifest = Kubernetes()
+        self.check_first, self.csid = self.manifest.first["check"], self.manifest.containers["csid"]
+        self.words = plain(self.csid["command"])
+
+    def test_file_and_configuration_of_csid_are_checked_after_the_file_is_made(self):
+        self.assertEqual(list(self.manifest.first), ["new", "check"])
+        tables, config = value(self.words, "--tables"), value(self.words, "--config")
+        wanted = ["csid", "--check-tables", tables, "--config", config]
+        self.assertEqual(plain(self.check_first["command"]), wanted)
+
+    def test_check_changes_nothing_and_may_take_what_csid_may(self):
+        self.assertEqual([it.get("readOnly") for it in self.check_first["volumeMounts"]], [True, True])
+        self.assertEqual(self.check_first["resources"], self.csid["resources"])
+
+    def test_pod_is_ready_once_csid_answers_through_the_front(self):
+        front = self.manifest.containers["front"]
+        probe, port = front["readinessProbe"], value(front["command"], "--metrics").lstrip(":")
+        self.assertEqual(probe["httpGet"], {"path": "/healthz", "port": int(port)})
+
+    def test_readiness_waits_longer_than_the_front_does_for_csid(self):
+        """That is five seconds."""
+        for manifest in manifests():
+            self.assertGreater(manifest.containers["front"]["readinessProbe"]["timeoutSeconds"], 5)
+
+
 class TablesPodTest(RowTest):
     """The pod that holds the claim while csid does not run."""
 
     def setUp(self):
         super().setUp()
         self.manifest = Kubernetes()
-        import yaml
-
-        self.pod = yaml.safe_load(read(TABLES_POD))
+        (self.pod,) = documents(TABLES_POD)
         (self.container,), (self.volume,) = self.pod["spec"]["containers"], self.pod["spec"]["volumes"]
 
     def test_claim_is_that_of_csid(self):
@@ -320,8 +346,19 @@ class EtcdManifestTest(RowTest):
         self.assertEqual(affinity["requiredDuringSchedulingIgnoredDuringExecution"], [apart])
 
     def test_pod_is_ready_without_an_answer(self):
+        """Its front alone is asked, by what it answers while it stands by."""
         for name, container in self.manifest.containers.items():
-            self.assertEqual({"readinessProbe", "startupProbe"} & set(container), set(), name)
+            asked = {"readinessProbe", "startupProbe"} & set(container)
+            self.assertEqual(asked, {"readinessProbe"} if name == "front" else set(), name)
+        front = self.manifest.containers["front"]
+        self.assertEqual(front["readinessProbe"]["httpGet"], front["livenessProbe"]["httpGet"])
+        self.assertEqual(front["readinessProbe"]["httpGet"]["path"], "/livez")
+
+    def test_configuration_is_checked_before_all(self):
+        (name, check), _ = self.manifest.first.items()
+        config = value(plain(self.manifest.containers["csid"]["command"]), "--config")
+        self.assertEqual((name, plain(check["command"])), ("check", ["csid", "--check-config", config]))
+        self.assertEqual(mounts(check), {os.path.dirname(config): "config"})
 
     def test_probes_wait_longer_than_the_front_does_for_csid(self):
         """That is five seconds."""
@@ -360,7 +397,8 @@ class NamesTest(RowTest):
         image = re.search(r"docker build -t (\S+)", self.dockerfile).group(1)
         ours = [self.manifest.containers[it]["image"] for it in PROGRAMS]
         ours += [self.etcd.containers[it]["image"] for it in ETCD_PROGRAMS]
-        ours += [self.manifest.first["new"]["image"], *re.findall(r'image\s*= "(.*?)"', self.nomad.text)]
+        ours += [it["image"] for of in (self.manifest, self.etcd) for it in of.first.values()]
+        ours += re.findall(r'image\s*= "(.*?)"', self.nomad.text)
         self.assertEqual(set(ours), {image})
 
     def test_first_process_of_containers(self):
@@ -368,7 +406,7 @@ class NamesTest(RowTest):
         commands = [self.manifest.containers[it]["command"] for it in ("csid", "front")]
         commands += [self.nomad.command(it) for it in ("csid", "front")]
         commands += [self.etcd.containers[it]["command"] for it in ETCD_PROGRAMS]
-        commands.append(self.manifest.first["new"]["command"])
+        commands += [it["command"] for of in (self.manifest, self.etcd) for it in of.first.values()]
         self.assertEqual([it[:2] for it in commands], [entry] * len(commands))
 
     def test_programs_over_etcd_are_in_the_image(self):

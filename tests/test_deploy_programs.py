@@ -216,6 +216,43 @@ class CheckBeforeStartTest(ProgramTest):
         self.assertEqual((status, line[:19]), (1, "csid: /volumes.db: "))
 
 
+class CheckInPodTest(ProgramTest):
+    """The init container of the manifest that keeps a pod from a start with what csid refuses."""
+
+    def setUp(self):
+        super().setUp()
+        manifest = Kubernetes()
+        pod = self.enterContext(Pod(self.folder, manifest, {"csid": self.csid}))
+        self.config = self.folder + "/etc/csid/config.toml"
+        self.tables = self.folder + "/var/lib/csid/volumes.db"
+        self.words = [pod.below(word) for word in plain(manifest.first["check"]["command"])]
+        self.words[0] = self.csid
+        pod.first_step()
+
+    def ends(self):
+        out, line, status = run(self.words)
+        return out.decode(), line.replace(self.folder, ""), status
+
+    def test_file_that_csid_takes_is_summarized(self):
+        has = "volumes 0, attachments 0, next number 1, format 2\n"
+        self.assertEqual(self.ends(), (has, "", 0))
+
+    def test_missing_file_is_refused(self):
+        for suffix in "", "-wal":
+            os.unlink(self.tables + suffix)
+        out, line, status = self.ends()
+        self.assertEqual((out, line[:27], status), ("", "csid: /var/lib/csid/volumes", 4))
+        self.assertFalse(os.path.exists(self.tables))
+
+    def test_other_file_is_refused(self):
+        write(self.tables, b"mine")
+        self.assertEqual(self.ends()[2], 4)
+
+    def test_configuration_is_refused(self):
+        write(self.config, b"")
+        self.assertEqual(self.ends(), ("", "csid: /etc/csid/config.toml: the key 'name' is missing\n", 3))
+
+
 class ProcessesTest(ProgramTest):
     """The commands of the manifests, as processes of a namespace of their own. Folders and programs
     differ.

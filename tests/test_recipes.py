@@ -489,6 +489,49 @@ class DevicesTest(RecipeTest):
             self.check("where nobody serves", (out, "No such file or directory" in errors), ("", True))
 
 
+class KubernetesChangeTest(RecipeTest):
+    """The commands of docs/DEPLOY.md that change the configuration of a pod, and show its volumes."""
+
+    def setUp(self):
+        super().setUp()
+        if importlib.util.find_spec("yaml") is None:
+            self.skipTest("python's yaml is not installed")
+        self.place = self.enterContext(Place(self.csictl, self.csid, is_new=False, kubectl=ME))
+        self.manifest = self.place.top + "/deploy/kubernetes.yaml"
+        os.mkdir(os.path.dirname(self.manifest))
+        shutil.copy(os.path.join(TOP, "deploy", "kubernetes.yaml"), self.manifest)
+        volume = functools.partial(create, key="topology.pools.example.org/zone")
+        self.place.front_calls(volume("a"), volume("b"))
+        self.place.must("kubectl apply --filename deploy/kubernetes.yaml")
+        self.change, self.look = blocks("### A changed configuration in Kubernetes", "DEPLOY.md")
+        self.before = self.place.control.runs("csid")
+
+    def changes(self, gibibytes):
+        """What the commands say after the pool of 10 TiB, which has 2 GiB in use, got another size."""
+        with open(self.manifest) as file:
+            text = file.read()
+        self.assertEqual(text.count("bytes = %d\n" % (10 << 40)), 1)
+        with open(self.manifest, "w") as file:
+            file.write(text.replace("bytes = %d\n" % (10 << 40), "bytes = %d\n" % (gibibytes << 30)))
+        return self.place.shell(self.change)
+
+    def test_pod_is_replaced_after_the_check(self):
+        self.assertEqual(self.changes(2), (has(2, 0, 3), "", 0))
+        self.assertNotIn(self.place.control.runs("csid"), [None, self.before])
+
+    def test_pod_stays_where_the_check_refuses_the_change(self):
+        out, line, status = self.changes(1)
+        self.assertEqual((out, status), ("", 4))
+        self.assertIn("pool p1: its volumes have more bytes than it has\n", line)
+        self.assertEqual(self.place.control.runs("csid"), self.before)
+
+    def test_volumes_of_a_pod_that_serves_are_shown(self):
+        out, errors, status = self.place.shell(self.look)
+        self.assertEqual((errors, status), ("", 0))
+        listed = re.findall(r"^(vol-\d+) +(\S+) +p1 ", out, re.M)
+        self.assertEqual(listed, [("vol-1", "a"), ("vol-2", "b")])
+
+
 class KubernetesTest(RecipeTest):
     """The commands of docs/DEPLOY.md that copy the file out of its claim and into it."""
 

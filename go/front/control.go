@@ -180,7 +180,7 @@ func (c *control) answer(conn *clientConn, request frames.Request) (frames.Reply
 	c.handler.metrics.waiting.Dec()
 	why := status.New(answer.Code, answer.Text)
 	if err != nil {
-		why = status.Convert(refusal(ctx, err))
+		why = status.Convert(refusal(ctx, csidName, err))
 	}
 	c.handler.ended(viaControl, request.Path, c.handler.loggedChange(request.Path, request.Message, answer.Body), why, time.Since(begin))
 	return answer, err

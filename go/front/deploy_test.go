@@ -15,6 +15,7 @@ func told(t *testing.T) map[string]map[string]bool {
 	t.Helper()
 	h := replying(t, "00 0000 00 00000005 0880808007")
 	h.standsBy = true
+	h.node = newNodePlugin(h.backend.path + ".absent")
 	h.metrics.ended(probe, codes.OK, time.Second)
 	listings := newListings(h, room)
 	listings.keep(&listing{})
@@ -52,7 +53,7 @@ var (
 	named    = regexp.MustCompile(`\bcsid_front_\w+`)
 	matched  = regexp.MustCompile(`\b(csid_front_\w+)\{([^}]*)\}`)
 	grouped  = regexp.MustCompile(`by \(([^)]*)\) \(\w+\((csid_front_\w+)`)
-	matchers = regexp.MustCompile(`(\w+)(?:=|!=|=~|!~)\\?"([^"\\]*)\\?"`)
+	matchers = regexp.MustCompile(`(\w+)(=|!=|=~|!~)\\?"([^"\\]*)\\?"`)
 )
 
 // The dashboard, the alerts and the page name only metrics that exist, and the labels that these have.
@@ -82,13 +83,29 @@ func TestMetricsThatAreNamed(t *testing.T) {
 		}
 		for _, selector := range matched.FindAllStringSubmatch(text, -1) {
 			for _, matcher := range matchers.FindAllStringSubmatch(selector[2], -1) {
-				label, value := matcher[1], matcher[2]
-				if !names[selector[1]][label] || label == "method" && methodLabel(value) != value || label == "code" && !codeNames[value] {
+				label, value := matcher[1], matcher[3]
+				if !names[selector[1]][label] || label == "method" && !isMethod(matcher[2], value) || label == "code" && !codeNames[value] {
 					t.Errorf("%s: %s has no label %s of %q", file, selector[1], label, value)
 				}
 			}
 		}
 	}
+}
+
+// isMethod reports whether a matcher of the label `method` is of methods that the front counts.
+func isMethod(operator, value string) bool {
+	if strings.HasSuffix(operator, "~") {
+		pattern := regexp.MustCompile("^(?:" + value + ")$")
+		for _, known := range []map[string]bool{methods, nodeMethods} {
+			for method := range known {
+				if pattern.MatchString(method) {
+					return true
+				}
+			}
+		}
+		return false
+	}
+	return methodLabel(value) == value || nodeMethods[value]
 }
 
 // The page has a row for each metric of the front's own, and each alert has one.

@@ -3,6 +3,7 @@ package main
 import (
 	"context"
 	"strconv"
+	"strings"
 	"sync/atomic"
 	"time"
 
@@ -37,16 +38,27 @@ const maxHeaderBytes = 16 << 10
 // writer first (grpcConn). A MinTime of 0 would stand for five minutes.
 var anyPings = keepalive.EnforcementPolicy{MinTime: -1, PermitWithoutStream: true}
 
-// bytesCodec hands messages on as they are.
+// bytesCodec hands messages on as they are: Name is for the client of a node plugin, String for the
+// server.
 type bytesCodec struct{}
 
 func (bytesCodec) Marshal(v interface{}) ([]byte, error)      { return *v.(*[]byte), nil }
 func (bytesCodec) Unmarshal(data []byte, v interface{}) error { *v.(*[]byte) = data; return nil }
 func (bytesCodec) String() string                             { return "bytes" }
+func (bytesCodec) Name() string                               { return "proto" }
 
-// handler answers every unary method by csid, but Check of the health service where that is asked for.
+// The names of those who answer, in the texts of refusals.
+const (
+	csidName       = "csid"
+	nodePluginName = "node plugin"
+)
+
+// handler answers every unary method by csid, but those of the Node service where there is a node
+// plugin, and Check of the health service where that is asked for.
 type handler struct {
-	backend  *backend
+	backend *backend
+	// Answers the Node service; nil without --node.
+	node     *nodePlugin
 	messages *messages
 	metrics  *metrics
 	log      *logger
@@ -66,6 +78,10 @@ func newHandler(asked options, log *logger) *handler {
 		checks: make(chan struct{}, maxHealthChecks), hasHealth: asked.health, logChanges: asked.logChanges, standsBy: asked.standby > 0,
 	}
 	h.isWaiting.Store(h.standsBy)
+	if asked.node != "" {
+		h.node = newNodePlugin(asked.node)
+		h.metrics.begin(nodeMethods)
+	}
 	return h
 }
 
@@ -108,6 +124,9 @@ func (h *handler) answer(path string, stream grpc.ServerStream) (*change, error)
 	if !frames.IsPath(path) {
 		return nil, status.Error(codes.Unimplemented, "unknown method")
 	}
+	if h.node != nil && strings.HasPrefix(path, nodeService) {
+		return nil, h.answerByNode(path, stream)
+	}
 	message, err := h.messages.receive(stream)
 	if err != nil {
 		return nil, err
@@ -126,6 +145,23 @@ func (h *handler) answer(path string, stream grpc.ServerStream) (*change, error)
 	return asked, stream.SendMsg(&body)
 }
 
+// answerByNode answers a call of the Node service. Its message is not counted with those that wait
+// for csid: maxNodeCalls bounds them, so that a plugin that hangs takes no room from csid.
+func (h *handler) answerByNode(path string, stream grpc.ServerStream) error {
+	message, err := h.messages.read(stream)
+	if err != nil {
+		return err
+	}
+	client := clientOf(stream.Context())
+	client.begin()
+	defer client.end()
+	body, err := h.node.call(stream.Context(), path, message)
+	if err != nil {
+		return err
+	}
+	return stream.SendMsg(&body)
+}
+
 // loggedChange is the change that a call asks for, where each is logged; otherwise nil.
 func (h *handler) loggedChange(path string, message, body []byte) *change {
 	if !h.logChanges {
@@ -138,6 +174,9 @@ func (h *handler) respond(ctx context.Context, path string, message []byte) ([]b
 	if h.hasHealth && path == healthCheck {
 		return h.checkHealth(ctx, message)
 	}
+	if h.node != nil && path == probe {
+		return h.probeBoth(ctx, message)
+	}
 	return h.ask(ctx, path, message)
 }
 
@@ -145,7 +184,7 @@ func (h *handler) respond(ctx context.Context, path string, message []byte) ([]b
 func (h *handler) ask(ctx context.Context, path string, message []byte) ([]byte, error) {
 	answer, err := h.reply(ctx, path, message)
 	if err != nil {
-		return nil, refusal(ctx, err)
+		return nil, refusal(ctx, csidName, err)
 	}
 	if isOpen(answer) {
 		return nil, status.Error(codes.Unavailable, answer.Text)
@@ -185,11 +224,11 @@ var openReasons = map[string]bool{"out of memory": true, "store refused": true, 
 
 // refusal is the answer to a call that got no reply. It has one of the codes after which an orchestrator takes the outcome as open,
 // and repeats the call.
-func refusal(ctx context.Context, err error) error {
+func refusal(ctx context.Context, who string, err error) error {
 	if ended := ended(ctx); ended != nil {
 		return status.FromContextError(ended).Err()
 	}
-	return status.Errorf(codes.Unavailable, "csid: %v", err)
+	return status.Errorf(codes.Unavailable, "%s: %v", who, err)
 }
 
 // shownPath is a path as one word of a log line, cut where no frame could have it.

@@ -9,20 +9,34 @@ import (
 	"google.golang.org/grpc/status"
 )
 
-// checkHealth answers Check of gRPC's health service, for all of the plugin or one of its services: it serves while csid is ready.
+// checkHealth answers Check of gRPC's health service, for all of the plugin or one of its services.
 func (h *handler) checkHealth(ctx context.Context, message []byte) ([]byte, error) {
 	var asked grpc_health_v1.HealthCheckRequest
 	if err := proto.Unmarshal(message, &asked); err != nil {
 		return nil, status.Error(codes.InvalidArgument, "malformed message")
 	}
-	switch asked.Service {
-	case "", "csi.v1.Identity", "csi.v1.Controller":
-	default:
+	check := h.checkOf(asked.Service)
+	if check == nil {
 		return nil, status.Error(codes.NotFound, "unknown service")
 	}
 	answer := &grpc_health_v1.HealthCheckResponse{Status: grpc_health_v1.HealthCheckResponse_SERVING}
-	if h.isReadySoon(ctx, questionTime) != nil {
+	if soonReady(ctx, check, questionTime) != nil {
 		answer.Status = grpc_health_v1.HealthCheckResponse_NOT_SERVING
 	}
 	return proto.Marshal(answer)
+}
+
+// checkOf is what tells whether a service is served; nil for one that is not known. All of the
+// plugin and its Identity service are served by csid and the node plugin together.
+func (h *handler) checkOf(service string) func(context.Context) error {
+	switch {
+	case service == "" || service == "csi.v1.Identity":
+		return h.isReady
+	case service == "csi.v1.Controller":
+		return h.isCsidReady
+	case service == "csi.v1.Node" && h.node != nil:
+		return h.isNodeReady
+	default:
+		return nil
+	}
 }

@@ -30,14 +30,19 @@ func newMessages(limit int) *messages {
 	return &messages{places: newPlaces(), idle: make(chan *receiver, maxReceived), limit: limit}
 }
 
-// receive receives the message of a call, and counts it until it is given back.
-func (m *messages) receive(stream grpc.ServerStream) ([]byte, error) {
+// read receives the message of a call, once there is a place for that.
+func (m *messages) read(stream grpc.ServerStream) ([]byte, error) {
 	client := clientOf(stream.Context())
 	if err := m.places.take(stream.Context(), client); err != nil {
 		return nil, err
 	}
-	message, err := m.inTime(func() ([]byte, error) { return onlyMessage(stream) })
-	m.places.giveBack(client)
+	defer m.places.giveBack(client)
+	return m.inTime(func() ([]byte, error) { return onlyMessage(stream) })
+}
+
+// receive receives the message of a call, and counts it until it is given back.
+func (m *messages) receive(stream grpc.ServerStream) ([]byte, error) {
+	message, err := m.read(stream)
 	if err != nil {
 		return nil, err
 	}

@@ -4,6 +4,7 @@ package main
 const (
 	identity     = "/csi.v1.Identity/"
 	controller   = "/csi.v1.Controller/"
+	nodeService  = "/csi.v1.Node/"
 	probe        = identity + "Probe"
 	createVolume = controller + "CreateVolume"
 	getCapacity  = controller + "GetCapacity"
@@ -28,6 +29,18 @@ var methods = map[string]bool{
 	getCapacity:                               true,
 	controller + "ControllerGetCapabilities":  true,
 	controller + "ControllerModifyVolume":     true,
+}
+
+// nodeMethods are those of the Node service (CSI 1.x), which a node plugin answers.
+var nodeMethods = map[string]bool{
+	nodeService + "NodeStageVolume":     true,
+	nodeService + "NodeUnstageVolume":   true,
+	nodeService + "NodePublishVolume":   true,
+	nodeService + "NodeUnpublishVolume": true,
+	nodeService + "NodeGetVolumeStats":  true,
+	nodeService + "NodeExpandVolume":    true,
+	nodeService + "NodeGetCapabilities": true,
+	nodeService + "NodeGetInfo":         true,
 }
 
 func methodLabel(path string) string {

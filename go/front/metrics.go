@@ -36,6 +36,7 @@ type series struct {
 
 func newMetrics() *metrics {
 	m := &metrics{
+		series: map[string]*series{},
 		calls: prometheus.NewCounterVec(prometheus.CounterOpts{
 			Namespace: namespace, Name: "calls_total", Help: "Calls that were answered, by method and gRPC code.",
 		}, []string{"method", "code"}),
@@ -49,22 +50,21 @@ func newMetrics() *metrics {
 			Namespace: namespace, Name: "internal_refusals_total", Help: "Calls that csid refused for want of memory or for its store, by reason.",
 		}, []string{"reason"}),
 	}
-	m.begin()
+	m.begin(methods)
+	for reason := range openReasons {
+		m.refusals.WithLabelValues(reason)
+	}
 	return m
 }
 
-// begin reports each counter that can be foreseen as 0: where one begins at 1, Prometheus sees no increase.
-func (m *metrics) begin() {
-	m.series = map[string]*series{}
+// begin reports the counters of some methods as 0: where one begins at 1, Prometheus sees no increase.
+func (m *metrics) begin(methods map[string]bool) {
 	for method := range methods {
 		own := &series{}
 		for code := range own.calls {
 			own.calls[code] = m.calls.WithLabelValues(method, codes.Code(code).String())
 		}
 		m.series[method] = own
-	}
-	for reason := range openReasons {
-		m.refusals.WithLabelValues(reason)
 	}
 }
 
@@ -100,6 +100,9 @@ func newRegistry(h *handler, topologies []topology, listings *listings) *prometh
 	if h.standsBy {
 		registry.MustRegister(standingBy(h))
 	}
+	if h.node != nil {
+		registry.MustRegister(nodePluginUp(h), nodeCalls(h.node))
+	}
 	if listings != nil {
 		registry.MustRegister(listings)
 	}
@@ -108,13 +111,33 @@ func newRegistry(h *handler, topologies []topology, listings *listings) *prometh
 
 func standingBy(h *handler) prometheus.Collector {
 	return prometheus.NewGaugeFunc(prometheus.GaugeOpts{
-		Namespace: namespace, Name: "standing_by", Help: "Whether the front has no socket yet, since csid is not ready.",
+		Namespace: namespace, Name: "standing_by", Help: "Whether the front waits for csid: without --node it has no socket then.",
 	}, func() float64 {
 		if h.isWaiting.Load() {
 			return 1
 		}
 		return 0
 	})
+}
+
+// nodePluginUp asks the node plugin each time that it is collected.
+func nodePluginUp(h *handler) prometheus.Collector {
+	return prometheus.NewGaugeFunc(prometheus.GaugeOpts{
+		Namespace: namespace, Name: "node_plugin_up", Help: "Whether the node plugin answered that it is ready.",
+	}, func() float64 {
+		ctx, cancel := context.WithTimeout(context.Background(), questionTime)
+		defer cancel()
+		if h.isNodeReady(ctx) != nil {
+			return 0
+		}
+		return 1
+	})
+}
+
+func nodeCalls(n *nodePlugin) prometheus.Collector {
+	return prometheus.NewGaugeFunc(prometheus.GaugeOpts{
+		Namespace: namespace, Name: "node_calls", Help: "Calls of the Node service that the node plugin has not answered.",
+	}, func() float64 { return float64(len(n.calls)) })
 }
 
 func droppedLines(log *logger) prometheus.Collector {
@@ -164,7 +187,7 @@ func (c *csidCollector) Describe(out chan<- *prometheus.Desc) {
 func (c *csidCollector) Collect(out chan<- prometheus.Metric) {
 	ctx, cancel := context.WithTimeout(context.Background(), questionTime)
 	defer cancel()
-	if c.handler.isReady(ctx) != nil {
+	if c.handler.isCsidReady(ctx) != nil {
 		out <- prometheus.MustNewConstMetric(c.up, prometheus.GaugeValue, 0)
 		return
 	}

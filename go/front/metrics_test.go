@@ -46,6 +46,7 @@ func TestMethodLabel(t *testing.T) {
 		"/\xff":                           "other",
 		"/grpc.health.v1.Health/Check":    "/grpc.health.v1.Health/Check",
 		"/grpc.health.v1.Health/Watch":    "other",
+		"/csi.v1.Node/NodeGetInfo":        "other",
 	}
 	for path, want := range rows {
 		if got := methodLabel(path); got != want {
@@ -59,6 +60,7 @@ func TestConventions(t *testing.T) {
 	_, path := listening(t)
 	h := inFront(path + ".absent")
 	h.standsBy = true
+	h.node = newNodePlugin(path + ".absent")
 	h.metrics.ended(probe, codes.OK, time.Second)
 	faults, err := testutil.GatherAndLint(newRegistry(h, nil, newListings(h, room)))
 	if err != nil || len(faults) > 0 {

@@ -95,17 +95,17 @@ func startMonitor(h *handler, asked options, failed chan<- error) error {
 	return nil
 }
 
-// healthz reports whether a Probe through csid succeeds, or why not.
+// healthz reports whether a Probe succeeds, or why not.
 func (h *handler) healthz(answer http.ResponseWriter, request *http.Request) {
-	if err := h.checkInTurn(request.Context()); err != nil {
+	if err := h.checkInTurn(request.Context(), h.isReady); err != nil {
 		http.Error(answer, status.Convert(err).Message(), http.StatusServiceUnavailable)
 		return
 	}
 	fmt.Fprintln(answer, "ok")
 }
 
-// checkInTurn asks csid by Probe, as soon as few enough others who watch do.
-func (h *handler) checkInTurn(ctx context.Context) error {
+// checkInTurn asks by Probe, as soon as few enough others who watch do.
+func (h *handler) checkInTurn(ctx context.Context, check func(context.Context) error) error {
 	ctx, cancel := context.WithTimeout(ctx, questionTime)
 	defer cancel()
 	select {
@@ -114,5 +114,5 @@ func (h *handler) checkInTurn(ctx context.Context) error {
 		return status.FromContextError(ctx.Err()).Err()
 	}
 	defer func() { <-h.checks }()
-	return h.isReady(ctx)
+	return check(ctx)
 }

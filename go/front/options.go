@@ -15,8 +15,8 @@ import (
 
 const usage = `Answers gRPC calls on a Unix socket by a csid that serves another one (docs/DEPLOY.md).
 
-usage: front --csid PATH [--listen PATH] [--grace TIME] [--late TIME] [--waiting MIB] [--log-format text|json]
-             [--log-changes] [--control PATH [--control-group NAME]] [--standby TIME] [--health]
+usage: front --csid PATH [--listen PATH] [--node PATH] [--grace TIME] [--late TIME] [--waiting MIB]
+             [--log-format text|json] [--log-changes] [--control PATH [--control-group NAME]] [--standby TIME] [--health]
              [--metrics HOST:PORT [--metrics-topology KEY=VALUE,..].. [--config FILE]]
        front --version
 `
@@ -26,8 +26,10 @@ const maxWaiting = 1 << 20
 
 // options is what the command line asks for.
 type options struct {
-	listen    string
-	csid      string
+	listen string
+	csid   string
+	// The socket of a node plugin; empty without one.
+	node      string
 	grace     time.Duration
 	late      time.Duration
 	waiting   int
@@ -55,6 +57,7 @@ func readOptions(given []string, endpoint string, shown io.Writer) (options, err
 	flags.SetOutput(io.Discard)
 	flags.StringVar(&asked.listen, "listen", endpoint, "the `PATH` of the socket for the orchestrator, also as unix://PATH; without it CSI_ENDPOINT")
 	flags.StringVar(&asked.csid, "csid", "", "the `PATH` of the socket that csid serves")
+	flags.StringVar(&asked.node, "node", "", "the `PATH` of the socket of a node plugin, which answers the calls of the Node service")
 	flags.DurationVar(&asked.grace, "grace", 20*time.Second, "how long calls may go on after SIGTERM, as 20s: a `TIME`")
 	flags.DurationVar(&asked.late, "late", time.Minute, "how long csid may take for the reply to a call that was given up, before its connection is closed: a `TIME`")
 	flags.IntVar(&asked.waiting, "waiting", 64, "how many `MIB` the messages of all calls that wait may have together")
@@ -89,6 +92,9 @@ func checked(asked options) (options, error) {
 	if asked.listen == asked.csid {
 		return options{}, errors.New("the two sockets are one")
 	}
+	if asked, err = checkNode(asked); err != nil {
+		return options{}, err
+	}
 	if asked, err = checkControl(asked); err != nil {
 		return options{}, err
 	}
@@ -107,6 +113,20 @@ func checked(asked options) (options, error) {
 	return asked, nil
 }
 
+func checkNode(asked options) (options, error) {
+	if asked.node == "" {
+		return asked, nil
+	}
+	var err error
+	if asked.node, err = socketPath(asked.node, "--node"); err != nil {
+		return options{}, err
+	}
+	if asked.node == asked.csid || asked.node == asked.listen {
+		return options{}, errors.New("--node: it is one of the other sockets")
+	}
+	return asked, nil
+}
+
 func checkControl(asked options) (options, error) {
 	if asked.control == "" {
 		if asked.controlGroup != "" {
@@ -118,7 +138,7 @@ func checkControl(asked options) (options, error) {
 	if asked.control, err = socketPath(asked.control, "--control"); err != nil {
 		return options{}, err
 	}
-	if asked.control == asked.csid || asked.control == asked.listen {
+	if asked.control == asked.csid || asked.control == asked.listen || asked.control == asked.node {
 		return options{}, errors.New("--control: it is one of the other sockets")
 	}
 	return asked, nil

@@ -32,6 +32,8 @@ func TestOptions(t *testing.T) {
 	}
 	configured := watched(":9809")
 	configured.configuration = &configuration{Pools: []pool{{"p", 1048576}}}
+	withNode := with(20*time.Second, time.Minute, 64)
+	withNode.node = "n"
 	controlled := func(group string) options {
 		asked := with(20*time.Second, time.Minute, 64)
 		asked.control, asked.controlGroup = "k", group
@@ -49,6 +51,8 @@ func TestOptions(t *testing.T) {
 		{"--csid unix:c", "unix:l", with(20*time.Second, time.Minute, 64)},
 		{"--csid c --listen unix://l", "unix:///run/csi.sock", with(20*time.Second, time.Minute, 64)},
 		{"--csid c --listen l --log-format json --health --log-changes", "", inJSON},
+		{"--csid c --listen l --node n", "", withNode},
+		{"--csid c --listen l --node unix://n", "", withNode},
 		{"--csid c --listen l --control unix://k", "", controlled("")},
 		{"--csid c --listen l --control k --control-group csid", "", controlled("csid")},
 		{"--csid c --listen l --standby 1s", "", standing(time.Second)},
@@ -86,6 +90,10 @@ func TestRefusedOptions(t *testing.T) {
 		{"--csid c --listen l --waiting x", "", "waiting"},
 		{"--csid c --listen l --log-format xml", "", `--log-format: "xml" is neither text nor json`},
 		{"--csid c --listen l --log-format=", "", `--log-format: "" is neither text nor json`},
+		{"--csid c --listen l --node c", "", "--node: it is one of the other sockets"},
+		{"--csid c --listen l --node unix:l", "", "--node: it is one of the other sockets"},
+		{"--csid c --listen l --node k --control k", "", "--control: it is one of the other sockets"},
+		{"--csid c --listen l --node tcp://127.0.0.1:1", "", "--node: \"tcp://127.0.0.1:1\" is no Unix socket"},
 		{"--csid c --listen l --control c", "", "--control: it is one of the other sockets"},
 		{"--csid c --listen l --control unix:l", "", "--control: it is one of the other sockets"},
 		{"--csid c --listen l --control tcp://127.0.0.1:1", "", "--control: \"tcp://127.0.0.1:1\" is no Unix socket"},
@@ -123,7 +131,7 @@ func TestHelp(t *testing.T) {
 	if !errors.Is(err, flag.ErrHelp) {
 		t.Error(err)
 	}
-	for _, word := range []string{"usage: ", "-csid", "-listen", "-grace", "-late", "-waiting", "-log-format", "-log-changes", "-control", "-control-group", "-standby", "-health", "-metrics", "-metrics-topology", "-config", "-version"} {
+	for _, word := range []string{"usage: ", "-csid", "-listen", "-node", "-grace", "-late", "-waiting", "-log-format", "-log-changes", "-control", "-control-group", "-standby", "-health", "-metrics", "-metrics-topology", "-config", "-version"} {
 		if !strings.Contains(shown.String(), word) {
 			t.Errorf("no %s in %s", word, shown.String())
 		}

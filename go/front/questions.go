@@ -17,7 +17,11 @@ import (
 const questionTime = 5 * time.Second
 
 // errNoMessage is of a body that csid cannot have meant.
-var errNoMessage = status.Error(codes.Unavailable, "csid: malformed reply: bad message")
+var errNoMessage = malformed(csidName)
+
+func malformed(who string) error {
+	return status.Errorf(codes.Unavailable, "%s: malformed reply: bad message", who)
+}
 
 // topology is what GetCapacity is asked for: it sums up the pools that serve it.
 type topology struct {
@@ -70,19 +74,73 @@ func (h *handler) question(ctx context.Context, path string, message []byte, kin
 	return value, is, err
 }
 
-// isReady asks csid by Probe, and says why it is not. Where the answer says neither, it is ready (CSI, "Probe").
+// isReady asks csid by Probe, and then the node plugin where there is one. It says why one of them
+// is not ready.
 func (h *handler) isReady(ctx context.Context) error {
+	if err := h.isCsidReady(ctx); err != nil || h.node == nil {
+		return err
+	}
+	return h.isNodeReady(ctx)
+}
+
+// isCsidReady asks csid alone.
+func (h *handler) isCsidReady(ctx context.Context) error {
 	wrapped, is, err := h.question(ctx, probe, nil, protowire.BytesType)
 	if err != nil || !is {
 		return err
 	}
+	return readyValue(csidName, wrapped)
+}
+
+// isNodeReady asks the node plugin alone. Where it is not ready that is logged.
+func (h *handler) isNodeReady(ctx context.Context) error {
+	begin := time.Now()
+	body, err := h.node.probe(ctx, nil)
+	if err == nil {
+		err = readiness(nodePluginName, body)
+	}
+	if err != nil {
+		h.log.refuses("", probe, nil, status.Convert(err), time.Since(begin))
+	}
+	return err
+}
+
+// probeBoth answers Probe as csid does, unless csid is ready and the node plugin is not: then as
+// the node plugin does.
+func (h *handler) probeBoth(ctx context.Context, message []byte) ([]byte, error) {
+	body, err := h.ask(ctx, probe, message)
+	if err != nil || readiness(csidName, body) != nil {
+		return body, err
+	}
+	ofNode, err := h.node.probe(ctx, message)
+	if err != nil || readiness(nodePluginName, ofNode) != nil {
+		return ofNode, err
+	}
+	return body, nil
+}
+
+// readiness says why a plugin is not ready, by the body of its reply to Probe. Where that says
+// neither, it is ready (CSI, "Probe").
+func readiness(who string, body []byte) error {
+	wrapped, is, err := lastField(body, 1, protowire.BytesType)
+	if err != nil {
+		return malformed(who)
+	}
+	if !is {
+		return nil
+	}
+	return readyValue(who, wrapped)
+}
+
+// readyValue says why a plugin is not ready, by the field `ready` of its reply.
+func readyValue(who string, wrapped []byte) error {
 	ready, _ := protowire.ConsumeBytes(wrapped)
 	value, _, err := lastField(ready, 1, protowire.VarintType)
 	if err != nil {
-		return err
+		return malformed(who)
 	}
 	if number, _ := protowire.ConsumeVarint(value); number == 0 {
-		return status.Error(codes.Unavailable, "csid is not ready")
+		return status.Errorf(codes.Unavailable, "%s is not ready", who)
 	}
 	return nil
 }

@@ -36,6 +36,28 @@ func replying(t *testing.T, frame string) *handler {
 	return inFront(path)
 }
 
+// What is said of a node plugin names it.
+func TestReadinessOfANodePlugin(t *testing.T) {
+	rows := []struct{ name, body, want string }{
+		{"ready", "0a020801", ""},
+		{"nothing is said", "", ""},
+		{"an unknown field", "1001", ""},
+		{"not ready", "0a020800", "rpc error: code = Unavailable desc = node plugin is not ready"},
+		{"not ready, as the default", "0a00", "rpc error: code = Unavailable desc = node plugin is not ready"},
+		{"cut short", "0a02", "rpc error: code = Unavailable desc = node plugin: malformed reply: bad message"},
+		{"cut short inside", "0a0108", "rpc error: code = Unavailable desc = node plugin: malformed reply: bad message"},
+	}
+	for _, row := range rows {
+		got := ""
+		if err := readiness(nodePluginName, fromHex(t, row.body)); err != nil {
+			got = err.Error()
+		}
+		if got != row.want {
+			t.Errorf("%s: %q", row.name, got)
+		}
+	}
+}
+
 func TestReadiness(t *testing.T) {
 	rows := []struct{ name, frame, want string }{
 		{"ready", "00 0000 00 00000004 0a020801", ""},

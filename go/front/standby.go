@@ -29,6 +29,9 @@ func (f *front) standBy() int {
 	if err := startMonitor(f.handler, f.asked, f.failed); err != nil {
 		return f.fails(err, noSocket)
 	}
+	if f.handler.node != nil {
+		return f.serveWhileItWaits()
+	}
 	ctx, cancel := context.WithCancel(context.Background())
 	defer cancel()
 	ready := make(chan struct{})
@@ -50,6 +53,27 @@ func (f *front) standBy() int {
 	defer listener.Close()
 	go func() { f.silent <- f.handler.watch(f.asked.standby) }()
 	return f.serve(listener)
+}
+
+// serveWhileItWaits makes the socket at once, and serves until it is asked to end. The node plugin
+// belongs to this machine, whichever csid serves; until csid is ready its own calls are answered
+// UNAVAILABLE.
+func (f *front) serveWhileItWaits() int {
+	listener, err := sockets.Listen(f.asked.listen)
+	if err != nil {
+		return f.fails(err, noSocket)
+	}
+	defer listener.Close()
+	go f.handler.follow(f.asked.standby)
+	return f.serve(listener)
+}
+
+// follow waits for csid, and again each time that nothing was answered by it for the limit.
+func (h *handler) follow(limit time.Duration) {
+	for {
+		h.await(context.Background())
+		h.watch(limit)
+	}
 }
 
 // life is when csid showed the last time that it lives. A reply shows that, whatever its status.
@@ -76,7 +100,7 @@ func (h *handler) await(ctx context.Context) {
 	defer h.isWaiting.Store(false)
 	for shown := ""; ; {
 		next := time.After(askingPause)
-		err := h.isReadySoon(ctx, questionTime)
+		err := soonReady(ctx, h.isCsidReady, questionTime)
 		if ctx.Err() != nil {
 			return
 		}
@@ -111,7 +135,7 @@ func (h *handler) watch(limit time.Duration) error {
 			// A front that hung itself asks once more before it believes that csid does.
 			left = limit / 10
 		}
-		err := h.isReadySoon(context.Background(), left)
+		err := soonReady(context.Background(), h.isCsidReady, left)
 		// A Probe that had no time for a connection says less than the one before it.
 		if err != nil && (why == "" || status.Code(err) != codes.DeadlineExceeded) {
 			why = reason(err)
@@ -123,17 +147,17 @@ func (h *handler) watch(limit time.Duration) error {
 	}
 }
 
-// isReadySoon asks csid by Probe, and waits for so long.
-func (h *handler) isReadySoon(ctx context.Context, length time.Duration) error {
+// soonReady asks by Probe, and waits for so long.
+func soonReady(ctx context.Context, check func(context.Context) error, length time.Duration) error {
 	ctx, cancel := context.WithTimeout(ctx, length)
 	defer cancel()
-	return h.isReady(ctx)
+	return check(ctx)
 }
 
 // livez reports whether csid does anything. One that cannot serve, since another has the lock, closes each connection, and that is as it should be; a
 // Probe that waits after calls that are answered is no fault either.
 func (h *handler) livez(answer http.ResponseWriter, request *http.Request) {
-	err := h.checkInTurn(request.Context())
+	err := h.checkInTurn(request.Context(), h.isCsidReady)
 	if status.Code(err) == codes.DeadlineExceeded && h.backend.life.silence() >= questionTime {
 		http.Error(answer, "csid hangs", http.StatusServiceUnavailable)
 		return

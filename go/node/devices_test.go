@@ -86,6 +86,11 @@ func TestLifeInDevices(t *testing.T) {
 	testLife(t, newDeviceSession(t))
 }
 
+func TestStagingFolderOfDevices(t *testing.T) {
+	t.Parallel()
+	testStagingFolder(t, newDeviceSession(t))
+}
+
 // A mounted volume has the size that the controller says, ext4 and the flags of its mount.
 func TestMountedVolume(t *testing.T) {
 	t.Parallel()

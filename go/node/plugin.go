@@ -3,6 +3,7 @@ package main
 import (
 	"context"
 	"fmt"
+	"os"
 	"path/filepath"
 	"sync"
 	"syscall"
@@ -27,6 +28,10 @@ const (
 	unitBytes                = 1
 )
 
+// stagingMode is the mode of a staging folder that is missing: as a kubelet makes it, for the user
+// of the plugin and its group.
+const stagingMode = 0o750
+
 // storage keeps the data of volumes, and puts them at paths. What is done already is done again without a change.
 type storage interface {
 	// suffix is what the name of a volume's data has after the volume's id.
@@ -49,7 +54,7 @@ type plugin struct {
 	pools      pools
 	storage    storage
 	controller controller
-	// Calls are made one at a time.
+	// Calls about volumes are made one at a time.
 	mutex sync.Mutex
 }
 
@@ -62,11 +67,11 @@ var (
 	nodeService = grpc.ServiceDesc{ServiceName: nodeName, HandlerType: (*interface{})(nil), Methods: []grpc.MethodDesc{
 		method("NodeGetInfo", (*plugin).getInfo),
 		method("NodeGetCapabilities", (*plugin).getCapabilities),
-		method("NodeStageVolume", (*plugin).stage),
-		method("NodeUnstageVolume", (*plugin).unstage),
-		method("NodePublishVolume", (*plugin).publish),
-		method("NodeUnpublishVolume", (*plugin).unpublish),
-		method("NodeGetVolumeStats", (*plugin).getStats),
+		method("NodeStageVolume", alone((*plugin).stage)),
+		method("NodeUnstageVolume", alone((*plugin).unstage)),
+		method("NodePublishVolume", alone((*plugin).publish)),
+		method("NodeUnpublishVolume", alone((*plugin).unpublish)),
+		method("NodeGetVolumeStats", alone((*plugin).getStats)),
 	}}
 )
 
@@ -77,16 +82,23 @@ func method[Q, R any](name string, answer func(*plugin, context.Context, *Q) (*R
 		if err := decode(request); err != nil {
 			return nil, err
 		}
-		p := server.(*plugin)
-		p.mutex.Lock()
-		defer p.mutex.Unlock()
-		response, err := answer(p, ctx, request)
+		response, err := answer(server.(*plugin), ctx, request)
 		if _, isCoded := status.FromError(err); !isCoded {
 			err = status.Error(codes.Internal, err.Error())
 		}
 		return response, err
 	}
 	return grpc.MethodDesc{MethodName: name, Handler: handle}
+}
+
+// alone makes the calls of several methods one at a time. Probe and what the plugin is are answered
+// while one of them runs.
+func alone[Q, R any](answer func(*plugin, context.Context, *Q) (*R, error)) func(*plugin, context.Context, *Q) (*R, error) {
+	return func(p *plugin, ctx context.Context, request *Q) (*R, error) {
+		p.mutex.Lock()
+		defer p.mutex.Unlock()
+		return answer(p, ctx, request)
+	}
 }
 
 func newServer(p *plugin) *grpc.Server {
@@ -118,7 +130,8 @@ func (p *plugin) getCapabilities(context.Context, *empty) (*nodeCapabilities, er
 	}}, nil
 }
 
-// stage makes the data of a volume where there are none yet, of the size that the controller has for it, and stages them.
+// stage makes the data of a volume where there are none yet, of the size that the controller has for it, and stages them, in a folder that is made
+// where it is missing.
 func (p *plugin) stage(ctx context.Context, asked *stageRequest) (*empty, error) {
 	if err := checkPlace(asked.VolumeID, "staging_target_path", asked.StagingPath); err != nil {
 		return nil, err
@@ -143,6 +156,10 @@ func (p *plugin) stage(ctx context.Context, asked *stageRequest) (*empty, error)
 		if err := p.storage.create(data, bytes); err != nil {
 			return nil, err
 		}
+	}
+	// The orchestrator should have made it (CSI, "NodeStageVolume"), but Docker Swarm does not.
+	if err := os.MkdirAll(asked.StagingPath, stagingMode); err != nil {
+		return nil, err
 	}
 	return new(empty), p.storage.stage(data, asked.StagingPath, asked.Capability, readOnly)
 }

@@ -61,7 +61,7 @@ func (p *process) kill() {
 	<-p.ended
 }
 
-// session is a node plugin before a front and csid, under the sample configuration (docs/OPERATING.md).
+// session is a node plugin, csid under the sample configuration (docs/OPERATING.md), and a front that hands calls to both.
 type session struct {
 	folder string
 	words  []string
@@ -78,7 +78,8 @@ func newSession(t *testing.T, words ...string) *session {
 		}
 	}
 	start(t, "CSID", "../../crates/csid/out/csid", s.at("csid.sock"), "serve", "--socket", s.at("csid.sock"), "--tables", s.at("volumes.db"))
-	s.front = start(t, "FRONT", "../front/out/front", s.at("csi.sock"), "--csid", s.at("csid.sock"), "--listen", s.at("csi.sock"))
+	s.front = start(t, "FRONT", "../front/out/front", s.at("csi.sock"), "--csid", s.at("csid.sock"), "--listen", s.at("csi.sock"),
+		"--node", s.at("node.sock"))
 	s.words = append([]string{"serve", "--listen", s.at("node.sock"), "--controller", s.at("csi.sock"), "--node", "n1",
 		"--topology", "zone=a", "--max-volumes", "2", "--pool", "p1=" + s.at("p1"), "--pool", "p2=" + s.at("p2")}, words...)
 	s.startNode(t)
@@ -203,6 +204,86 @@ func testLife(t *testing.T, s *session) {
 func TestLifeInFolders(t *testing.T) {
 	t.Parallel()
 	testLife(t, newSession(t, "--without-devices"))
+}
+
+// An orchestrator that knows the front's socket alone reaches Identity, Controller and Node there.
+func TestOneSocket(t *testing.T) {
+	t.Parallel()
+	s := newSession(t, "--without-devices")
+	here := func(rows ...row) {
+		t.Helper()
+		for _, row := range rows {
+			row.socket = controllerSocket
+			s.run(t, row)
+		}
+	}
+	// Name and version are those of csid, and so is the first capability, of a controller.
+	here(row{"", "GetPluginInfo", "", `{"name":"pools.example.org","vendor_version":"1.0.0"}`},
+		row{"", "GetPluginCapabilities", "", `{"capabilities":[{"service":{"type":1}},{"service":{"type":2}}]}`},
+		row{"", "Probe", "", `{"ready":{"value":true}}`},
+		row{"", "NodeGetInfo", "", `{"node_id":"n1","max_volumes_per_node":2,"accessible_topology":{"segments":{"zone":"a"}}}`},
+		row{"", "NodeGetCapabilities", "", `{"capabilities":[{"rpc":{"type":1}},{"rpc":{"type":2}}]}`})
+	here(attachedRows(asMount)...)
+	here(publishRow(ofMount, "").answers(notStaged), stageRow(ofMount), publishRow(ofMount, ""))
+	s.writes(t, "targets/a/file")
+	s.finds(t, "p1/vol-1.d/file")
+	here(unpublishRow, unstageRow,
+		row{"", "ControllerUnpublishVolume", `{` + vol1 + `,"node_id":"n1"}`, "{}"},
+		row{"", "DeleteVolume", `{` + vol1 + `}`, "{}"})
+	s.isEmpty(t)
+	s.node.kill()
+	if got := s.call(controllerSocket, "Probe", ""); !strings.HasPrefix(got, "node-plugin: Unavailable: node plugin: ") {
+		t.Errorf("Probe without the plugin: %s", got)
+	}
+	s.startNode(t)
+	here(row{"", "Probe", "", `{"ready":{"value":true}}`})
+}
+
+// A staging folder that is missing is made, for the plugin's user and group alone; one that is there keeps its mode.
+func testStagingFolder(t *testing.T, s *session) {
+	s.run(t, attachedRows(asMount)...)
+	for _, each := range []struct {
+		path string
+		mode os.FileMode
+	}{{"new/staging", 0o750}, {"staging", 0o755}} {
+		at := func(r row) row {
+			r.message = strings.Replace(r.message, "AT/staging", "AT/"+each.path, 1)
+			return r
+		}
+		s.run(t, at(unstageRow), at(stageRow(ofMount)), at(stageRow(ofMount)), at(publishRow(ofMount, "")))
+		s.run(t, unpublishRow, at(unstageRow))
+		file, err := os.Stat(s.at(each.path))
+		if err != nil {
+			t.Fatal(err)
+		}
+		if owner := file.Sys().(*syscall.Stat_t).Uid; file.Mode() != os.ModeDir|each.mode || int(owner) != os.Getuid() {
+			t.Errorf("%s: %v of the user %d", each.path, file.Mode(), owner)
+		}
+	}
+}
+
+func TestStagingFolderOfFolders(t *testing.T) {
+	t.Parallel()
+	testStagingFolder(t, newSession(t, "--without-devices"))
+}
+
+// Probe is answered while a call waits for the controller.
+func TestProbeDuringACall(t *testing.T) {
+	t.Parallel()
+	s := newSession(t, "--without-devices")
+	if err := s.front.Process.Signal(syscall.SIGSTOP); err != nil {
+		t.Fatal(err)
+	}
+	staged := make(chan string, 1)
+	go func() { staged <- s.call(nodeSocket, "NodeStageVolume", `{`+vol1+staging+ofMount+inPool1+`}`) }()
+	for begin := time.Now(); time.Since(begin) < time.Second; time.Sleep(50 * time.Millisecond) {
+		s.run(t, row{nodeSocket, "Probe", "", `{"ready":{"value":true}}`})
+	}
+	select {
+	case got := <-staged:
+		t.Errorf("the call did not wait: %s", got)
+	default:
+	}
 }
 
 func TestWhatThePluginIs(t *testing.T) {

@@ -98,6 +98,8 @@ ROWS = [
     ("csid-front --w", "--waiting"),
     ("csid-front --csid v", "volumes.db"),
     ("csid-front --listen c", "config.toml"),
+    ("csid-front --no", "--node"),
+    ("csid-front --node v", "volumes.db"),
     ("csid-front --grace ", ""),
     ("csid-front --s", "--standby"),
     ("csid-front --standby ", ""),

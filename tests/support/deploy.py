@@ -25,6 +25,9 @@ DIFFERENCES = {"csid.service": "etcd.d/csid.conf", "csid-front.service": "etcd.d
 MANIFEST, ETCD_MANIFEST = "kubernetes.yaml", "kubernetes-etcd.yaml"
 # The pod that holds the claim of the first, on the way from the one to the other.
 TABLES_POD = "kubernetes-tables.yaml"
+# The example of a node plugin, what changes in the StatefulSet for it, and a claim with its pod.
+NODE_MANIFEST, NODE_PATCH = "kubernetes-node.yaml", "kubernetes-node-patch.yaml"
+EXAMPLE = "kubernetes-example.yaml"
 PROGRAMS, ETCD_PROGRAMS = ["csid", "front"], ["csid-etcd", "csid", "front"]
 TLS = ["--cacert", "--cert", "--key"]
 # The greatest exposure by systemd-analyze security, in tenths.
@@ -50,6 +53,15 @@ def toml(text):
     except ImportError:
         raise unittest.SkipTest("python's tomllib is not here")
     return tomllib.loads(text)
+
+
+def documents(name):
+    """The objects of a manifest, in order."""
+    try:
+        import yaml
+    except ImportError:
+        raise unittest.SkipTest("python's yaml is not here")
+    return list(yaml.safe_load_all(read(name)))
 
 
 class Unit:
@@ -124,13 +136,9 @@ class Kubernetes:
     """The objects of a manifest, by kind."""
 
     def __init__(self, name=MANIFEST):
-        try:
-            import yaml
-        except ImportError:
-            raise unittest.SkipTest("python's yaml is not here")
-        documents = list(yaml.safe_load_all(read(name)))
-        self.objects = {document["kind"]: document for document in documents}
-        assert len(self.objects) == len(documents), "two objects of one kind"
+        found = documents(name)
+        self.objects = {document["kind"]: document for document in found}
+        assert len(self.objects) == len(found), "two objects of one kind"
         self.kind = "StatefulSet" if "StatefulSet" in self.objects else "Deployment"
         self.set = self.objects[self.kind]["spec"]
         self.pod = self.set["template"]["spec"]
@@ -139,6 +147,11 @@ class Kubernetes:
 
     def config(self):
         return self.objects["ConfigMap"]["data"]["config.toml"]
+
+
+def mounts(container):
+    """The names of the volumes of a container, by the folders where they are mounted."""
+    return {it["mountPath"]: it["name"] for it in container["volumeMounts"]}
 
 
 def plain(command):

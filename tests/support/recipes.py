@@ -201,7 +201,9 @@ class Cluster(Control):
             with open(self.objects + it["kind"].lower(), "w") as file:
                 json.dump(it, file)
         (kind,) = {it["kind"] for it in documents} & {"StatefulSet", "Deployment", "Pod"}
-        getattr(self, "begin_" + kind.lower())()
+        # A pod that is there keeps the configuration with which it began.
+        if kind == "Pod" or not os.path.exists(self.pods + "csid-0"):
+            getattr(self, "begin_" + kind.lower())()
 
     def object(self, kind):
         return json.loads(read(self.objects + kind))
@@ -210,15 +212,21 @@ class Cluster(Control):
         open(self.pods + "csid-tables", "x").close()
 
     def begin_statefulset(self):
-        """The file is made where the ConfigMap and the first step say so."""
+        """The file is made where the ConfigMap and the first step say so. A pod whose check fails serves
+        nothing.
+        """
         self.configure()
-        (first,) = self.object("statefulset")["spec"]["template"]["spec"]["initContainers"]
-        step = re.sub("/var/lib/csid|/etc/csid", lambda it: self.top + it.group(), first["command"][-1])
-        subprocess.run(
-            ["sh", "-c", step],
-            env={**os.environ, "NEW": self.object("configmap")["data"].get("new", "")},
-            check=True,
-        )
+        for first in self.object("statefulset")["spec"]["template"]["spec"]["initContainers"]:
+            below = [
+                re.sub("/var/lib/csid|/etc/csid", lambda it: self.top + it.group(), word)
+                for word in first["command"]
+            ]
+            subprocess.run(
+                below[below.index("--") + 1 :],
+                env={**os.environ, "NEW": self.object("configmap")["data"].get("new", "")},
+                stdout=subprocess.DEVNULL,
+                check=True,
+            )
         self.begin_units("csid", "csid-front")
 
     def begin_deployment(self):
@@ -295,7 +303,12 @@ class Cluster(Control):
     def delete(self, kind, name):
         os.unlink(self.pods + name if kind == "pod" else self.objects + kind)
 
-    def rollout(self, *_):
+    def rollout(self, what, *_):
+        if what == "restart":
+            for unit in ["csid-front", "csid"]:
+                self.stop(unit)
+            os.unlink(self.pods + "csid-0")
+            return self.begin_statefulset()
         wait(lambda: " volumes " in read(self.lines("csid")) or not self.runs("csid"))
 
     def logs(self, *_):

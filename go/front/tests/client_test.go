@@ -24,12 +24,13 @@ const (
 	ready      = "0a020801"
 )
 
-// bytesCodec sends and receives messages as they are.
+// bytesCodec sends and receives messages as they are: Name is for a client, String for a server.
 type bytesCodec struct{}
 
 func (bytesCodec) Marshal(v interface{}) ([]byte, error)      { return v.([]byte), nil }
 func (bytesCodec) Unmarshal(data []byte, v interface{}) error { *v.(*[]byte) = data; return nil }
 func (bytesCodec) Name() string                               { return "proto" }
+func (bytesCodec) String() string                             { return "bytes" }
 
 // answer is what a call came to: the body in hexadecimal, or a code and a text.
 type answer struct {
