@@ -21,18 +21,18 @@ func (m malformed) Error() string { return "etcd's answer is malformed: " + stri
 
 // checkUnary is between etcd's client and the connection, and checks each answer to a single
 // request.
-func checkUnary(ctx context.Context, method string, request, reply interface{}, connection *grpc.ClientConn,
-	send grpc.UnaryInvoker, options ...grpc.CallOption) error {
-	if err := send(ctx, method, request, reply, connection, options...); err != nil {
+func checkUnary(ctx context.Context, method string, request, reply interface{}, conn *grpc.ClientConn,
+	invoke grpc.UnaryInvoker, options ...grpc.CallOption) error {
+	if err := invoke(ctx, method, request, reply, conn, options...); err != nil {
 		return err
 	}
 	return checkAnswer(request, reply)
 }
 
 // checkStream is the same for streams.
-func checkStream(ctx context.Context, description *grpc.StreamDesc, connection *grpc.ClientConn, method string,
+func checkStream(ctx context.Context, description *grpc.StreamDesc, conn *grpc.ClientConn, method string,
 	open grpc.Streamer, options ...grpc.CallOption) (grpc.ClientStream, error) {
-	stream, err := open(ctx, description, connection, method, options...)
+	stream, err := open(ctx, description, conn, method, options...)
 	if err != nil {
 		return nil, err
 	}
@@ -78,15 +78,15 @@ func checkAnswer(request, reply interface{}) error {
 }
 
 // checkRows refuses rows that were not asked for, and a page that has none and is not the last one.
-func checkRows(asked *pb.RangeRequest, answer *pb.RangeResponse) error {
+func checkRows(request *pb.RangeRequest, answer *pb.RangeResponse) error {
 	if answer.More && len(answer.Kvs) == 0 {
 		return malformed("more rows follow none")
 	}
-	if asked.Limit > 0 && int64(len(answer.Kvs)) > asked.Limit {
-		return malformed(fmt.Sprintf("%d rows, and %d were asked for", len(answer.Kvs), asked.Limit))
+	if request.Limit > 0 && int64(len(answer.Kvs)) > request.Limit {
+		return malformed(fmt.Sprintf("%d rows, and %d were asked for", len(answer.Kvs), request.Limit))
 	}
 	for _, row := range answer.Kvs {
-		if !isAsked(asked, row) {
+		if !isRequested(request, row) {
 			return malformed(fmt.Sprintf("the row %q was not asked for", row.Key))
 		}
 		if row.CreateRevision <= 0 || row.ModRevision <= 0 {
@@ -96,9 +96,9 @@ func checkRows(asked *pb.RangeRequest, answer *pb.RangeResponse) error {
 	return nil
 }
 
-// isAsked reports whether a reading asks for a row: by its key, or by a range without its end.
-func isAsked(asked *pb.RangeRequest, row *mvccpb.KeyValue) bool {
-	key, begin, end := string(row.Key), string(asked.Key), string(asked.RangeEnd)
+// isRequested reports whether a reading asks for a row: by its key, or by a range without its end.
+func isRequested(request *pb.RangeRequest, row *mvccpb.KeyValue) bool {
+	key, begin, end := string(row.Key), string(request.Key), string(request.RangeEnd)
 	if end == "" {
 		return key == begin
 	}
@@ -107,10 +107,10 @@ func isAsked(asked *pb.RangeRequest, row *mvccpb.KeyValue) bool {
 
 // checkTransaction refuses an answer that has not one response of the right kind for each
 // operation.
-func checkTransaction(asked *pb.TxnRequest, answer *pb.TxnResponse) error {
-	operations := asked.Failure
+func checkTransaction(request *pb.TxnRequest, answer *pb.TxnResponse) error {
+	operations := request.Failure
 	if answer.Succeeded {
-		operations = asked.Success
+		operations = request.Success
 	}
 	if len(answer.Responses) != len(operations) {
 		return malformed(fmt.Sprintf("%d responses to %d operations", len(answer.Responses), len(operations)))

@@ -29,27 +29,27 @@ type certificates struct {
 }
 
 // readCertificates reads the files of the options anew.
-func readCertificates(asked options) (read certificates, err error) {
-	if asked.cacert != "" {
-		text, err := os.ReadFile(asked.cacert)
+func readCertificates(opts options) (certs certificates, err error) {
+	if opts.cacert != "" {
+		text, err := os.ReadFile(opts.cacert)
 		if err != nil {
-			return read, fmt.Errorf("--cacert: %w", err)
+			return certs, fmt.Errorf("--cacert: %w", err)
 		}
-		if read.roots = parseCertificates(text); len(read.roots) == 0 {
-			return read, fmt.Errorf("--cacert: %s has no certificate", asked.cacert)
+		if certs.roots = parseCertificates(text); len(certs.roots) == 0 {
+			return certs, fmt.Errorf("--cacert: %s has no certificate", opts.cacert)
 		}
 	}
-	if asked.cert != "" {
-		pair, err := tls.LoadX509KeyPair(asked.cert, asked.key)
+	if opts.cert != "" {
+		pair, err := tls.LoadX509KeyPair(opts.cert, opts.key)
 		if err == nil {
-			read.own = &pair
-			read.leaf, err = x509.ParseCertificate(pair.Certificate[0])
+			certs.own = &pair
+			certs.leaf, err = x509.ParseCertificate(pair.Certificate[0])
 		}
 		if err != nil {
-			return read, fmt.Errorf("--cert, --key: %w", err)
+			return certs, fmt.Errorf("--cert, --key: %w", err)
 		}
 	}
-	return read, nil
+	return certs, nil
 }
 
 // parseCertificates is the certificates of a file; what else it has is left out.
@@ -62,19 +62,19 @@ func parseCertificates(text []byte) (all []*x509.Certificate) {
 	return all
 }
 
-// settings is how a connection is secured by these certificates.
-func (c certificates) settings() *tls.Config {
-	settings := &tls.Config{MinVersion: tls.VersionTLS12}
+// tlsConfig is how a connection is secured by these certificates.
+func (c certificates) tlsConfig() *tls.Config {
+	tlsConfig := &tls.Config{MinVersion: tls.VersionTLS12}
 	if c.roots != nil {
-		settings.RootCAs = x509.NewCertPool()
+		tlsConfig.RootCAs = x509.NewCertPool()
 		for _, root := range c.roots {
-			settings.RootCAs.AddCert(root)
+			tlsConfig.RootCAs.AddCert(root)
 		}
 	}
 	if c.own != nil {
-		settings.Certificates = []tls.Certificate{*c.own}
+		tlsConfig.Certificates = []tls.Certificate{*c.own}
 	}
-	return settings
+	return tlsConfig
 }
 
 // equal reports whether the same certificates are in use.
@@ -103,10 +103,10 @@ type usedCertificate struct {
 	certificate *x509.Certificate
 }
 
-func (u usedCertificate) String() string { return u.option + " " + named(u.certificate) }
+func (u usedCertificate) String() string { return u.option + " " + describeCertificate(u.certificate) }
 
-// named is whose a certificate is, and how long it is valid.
-func named(c *x509.Certificate) string {
+// describeCertificate is whose a certificate is, and how long it is valid.
+func describeCertificate(c *x509.Certificate) string {
 	return fmt.Sprintf("%q until %s", c.Subject.String(), c.NotAfter.UTC().Format(time.RFC3339))
 }
 
@@ -144,14 +144,14 @@ func handshakeError(err error) string {
 	var host x509.HostnameError
 	switch {
 	case errors.As(err, &unknown):
-		return fmt.Sprintf("its certificate %s is refused: x509: signed by unknown authority %q", named(unknown.Cert), unknown.Cert.Issuer.String())
+		return fmt.Sprintf("its certificate %s is refused: x509: signed by unknown authority %q", describeCertificate(unknown.Cert), unknown.Cert.Issuer.String())
 	case errors.As(err, &invalid) && invalid.Reason == x509.Expired:
-		return fmt.Sprintf("the certificate %s is refused: x509: it is over, or not valid before %s", named(invalid.Cert),
+		return fmt.Sprintf("the certificate %s is refused: x509: it is over, or not valid before %s", describeCertificate(invalid.Cert),
 			invalid.Cert.NotBefore.UTC().Format(time.RFC3339))
 	case errors.As(err, &invalid):
-		return fmt.Sprintf("the certificate %s is refused: %v", named(invalid.Cert), err)
+		return fmt.Sprintf("the certificate %s is refused: %v", describeCertificate(invalid.Cert), err)
 	case errors.As(err, &host):
-		return fmt.Sprintf("its certificate %s is refused: %v", named(host.Certificate), err)
+		return fmt.Sprintf("its certificate %s is refused: %v", describeCertificate(host.Certificate), err)
 	}
 	return err.Error()
 }

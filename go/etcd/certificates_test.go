@@ -18,16 +18,16 @@ import (
 	"time"
 )
 
-// certify writes a new certificate, which signs itself, and its key.
-func certify(t *testing.T, cert, key, name string, until time.Time) {
+// writeCertificate writes a new certificate, which signs itself, and its key.
+func writeCertificate(t *testing.T, cert, key, name string, until time.Time) {
 	t.Helper()
 	pair, err := ecdsa.GenerateKey(elliptic.P256(), rand.Reader)
 	if err != nil {
 		t.Fatal(err)
 	}
-	asked := &x509.Certificate{SerialNumber: big.NewInt(1), Subject: pkix.Name{CommonName: name}, NotBefore: until.AddDate(-1, 0, 0), NotAfter: until,
+	template := &x509.Certificate{SerialNumber: big.NewInt(1), Subject: pkix.Name{CommonName: name}, NotBefore: until.AddDate(-1, 0, 0), NotAfter: until,
 		IPAddresses: []net.IP{net.IPv4(127, 0, 0, 1)}}
-	der, err := x509.CreateCertificate(rand.Reader, asked, asked, &pair.PublicKey, pair)
+	der, err := x509.CreateCertificate(rand.Reader, template, template, &pair.PublicKey, pair)
 	if err != nil {
 		t.Fatal(err)
 	}
@@ -46,16 +46,16 @@ func certify(t *testing.T, cert, key, name string, until time.Time) {
 func TestReadCertificates(t *testing.T) {
 	folder := t.TempDir()
 	cert, key, empty := filepath.Join(folder, "cert"), filepath.Join(folder, "key"), filepath.Join(folder, "empty")
-	certify(t, cert, key, "a", time.Now().AddDate(1, 0, 0))
+	writeCertificate(t, cert, key, "a", time.Now().AddDate(1, 0, 0))
 	if err := os.WriteFile(empty, nil, 0o600); err != nil {
 		t.Fatal(err)
 	}
 	cases := []struct {
-		name  string
-		asked options
-		roots int
-		isOwn bool
-		want  string
+		name     string
+		template options
+		roots    int
+		hasOwn   bool
+		want     string
 	}{
 		{"none", options{}, 0, false, ""},
 		{"roots", options{cacert: cert}, 1, false, ""},
@@ -68,12 +68,12 @@ func TestReadCertificates(t *testing.T) {
 	}
 	for _, c := range cases {
 		t.Run(c.name, func(t *testing.T) {
-			got, err := readCertificates(c.asked)
+			got, err := readCertificates(c.template)
 			if (err == nil) != (c.want == "") || err != nil && !strings.HasPrefix(err.Error(), c.want) {
-				t.Fatalf("%v, wanted %q", err, c.want)
+				t.Fatalf("%v, want %q", err, c.want)
 			}
-			settings := got.settings()
-			if err == nil && (len(got.roots) != c.roots || (got.own != nil) != c.isOwn || (settings.RootCAs != nil) != (c.roots > 0) || settings.InsecureSkipVerify) {
+			tlsConfig := got.tlsConfig()
+			if err == nil && (len(got.roots) != c.roots || (got.own != nil) != c.hasOwn || (tlsConfig.RootCAs != nil) != (c.roots > 0) || tlsConfig.InsecureSkipVerify) {
 				t.Errorf("%+v", got)
 			}
 		})
@@ -102,15 +102,15 @@ func TestCertificatesLine(t *testing.T) {
 	folder := t.TempDir()
 	cert, key, roots := filepath.Join(folder, "cert"), filepath.Join(folder, "key"), filepath.Join(folder, "roots")
 	first, second := time.Date(2031, 1, 2, 3, 4, 5, 0, time.UTC), time.Date(2032, 1, 2, 3, 4, 5, 0, time.UTC)
-	certify(t, roots, filepath.Join(folder, "other"), "root", second)
-	certify(t, cert, key, "csid", first)
+	writeCertificate(t, roots, filepath.Join(folder, "other"), "root", second)
+	writeCertificate(t, cert, key, "csid", first)
 	var lines []string
 	m := newMembers(options{endpoints: []string{"a"}, cacert: roots, cert: cert, key: key}, func(format string, parts ...interface{}) {
 		lines = append(lines, fmt.Sprintf(format, parts...))
 	})
 	for i := 0; i < 3; i++ {
 		if i == 2 {
-			certify(t, cert, key, "csid", second)
+			writeCertificate(t, cert, key, "csid", second)
 		}
 		if _, err := m.certificates(); err != nil {
 			t.Fatal(err)
@@ -121,7 +121,7 @@ func TestCertificatesLine(t *testing.T) {
 		`certificates: --cert "CN=csid" until 2032-01-02T03:04:05Z, --cacert "CN=root" until 2032-01-02T03:04:05Z`,
 	}
 	if !reflect.DeepEqual(lines, want) {
-		t.Errorf("%q, wanted %q", lines, want)
+		t.Errorf("%q, want %q", lines, want)
 	}
 }
 
@@ -138,7 +138,7 @@ func TestExpiryWarnings(t *testing.T) {
 		{-1, []string{line + "it is over"}},
 	} {
 		if got := c.warnings(until.Add(-row.left)); !reflect.DeepEqual(got, row.want) {
-			t.Errorf("%v before its end: %q, wanted %q", row.left, got, row.want)
+			t.Errorf("%v before its end: %q, want %q", row.left, got, row.want)
 		}
 	}
 }

@@ -9,12 +9,12 @@ import (
 	pb "go.etcd.io/etcd/etcdserver/etcdserverpb"
 )
 
-// judging is an etcd that makes a transaction where none of the keys is there that it supposes not to be there, and else reads.
-type judging struct{ written }
+// compareServer is an etcd that makes a transaction where none of the keys is there that it supposes not to be there, and else reads.
+type compareServer struct{ rowServer }
 
-func (j *judging) Txn(_ context.Context, asked *pb.TxnRequest) (*pb.TxnResponse, error) {
+func (j *compareServer) Txn(_ context.Context, request *pb.TxnRequest) (*pb.TxnResponse, error) {
 	done := &pb.TxnResponse{Header: &pb.ResponseHeader{Revision: firstRevision}, Succeeded: true}
-	for _, compare := range asked.Compare {
+	for _, compare := range request.Compare {
 		if compare.Target != pb.Compare_CREATE || compare.Result != pb.Compare_EQUAL || compare.GetCreateRevision() != 0 {
 			return nil, errors.New("another comparison")
 		}
@@ -22,7 +22,7 @@ func (j *judging) Txn(_ context.Context, asked *pb.TxnRequest) (*pb.TxnResponse,
 		done.Succeeded = done.Succeeded && len(found.Kvs) == 0
 	}
 	if !done.Succeeded {
-		for _, part := range asked.Failure {
+		for _, part := range request.Failure {
 			read := j.read(part.GetRequestRange(), done.Header)
 			done.Responses = append(done.Responses, &pb.ResponseOp{Response: &pb.ResponseOp_ResponseRange{ResponseRange: read}})
 		}
@@ -44,18 +44,18 @@ func TestFirstOfAll(t *testing.T) {
 		{name + "/meta", false, false}, {name + "/volumes/00000000000000000001", false, false}, {name + "/z", false, false}, {name + "/\xff", false, false},
 	}
 	for _, row := range rows {
-		server := &judging{written{rows: map[string]string{}}}
+		server := &compareServer{rowServer{rows: map[string]string{}}}
 		if row.key != "" {
 			server.rows[row.key] = "x"
 		}
 		client := startServer(t, server, 1)
 		first := sampleKeys.firstRow()
-		done, err := client.Txn(context.Background()).If(first.supposes...).Then(first.does...).Else(first.reads...).Commit()
+		done, err := client.Txn(context.Background()).If(first.compares...).Then(first.success...).Else(first.failure...).Commit()
 		if err != nil || done.Succeeded != row.isFirst {
 			t.Errorf("%q: the first row: %v, %v", row.key, done, err)
 		}
-		i := &importing{client: client, keys: sampleKeys, timeout: 5 * time.Second}
-		if err := i.write([]line{{sampleKeys.meta(), firstMeta.encoded()}}); (err == nil) != row.isImport {
+		i := &importer{client: client, keys: sampleKeys, timeout: 5 * time.Second}
+		if err := i.write([]importLine{{sampleKeys.meta(), firstMeta.encoded()}}); (err == nil) != row.isImport {
 			t.Errorf("%q: an import: %v", row.key, err)
 		}
 	}

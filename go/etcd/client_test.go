@@ -9,7 +9,7 @@ import (
 // The password is the first line of its file, as it is.
 func TestPassword(t *testing.T) {
 	path := filepath.Join(t.TempDir(), "password")
-	rows := []struct{ text, want, why string }{
+	rows := []struct{ text, want, wantErr string }{
 		{"secret\n", "secret", ""}, {"secret", "secret", ""}, {"first\nsecond\n", "first", ""}, {" a b \n", " a b ", ""},
 		{"", "", "--password-file: " + path + " has no password"}, {"\nsecond\n", "", "--password-file: " + path + " has no password"},
 	}
@@ -18,7 +18,7 @@ func TestPassword(t *testing.T) {
 			t.Fatal(err)
 		}
 		got, err := readPassword(options{user: "u", passwordFile: path})
-		if got != row.want || (err == nil) != (row.why == "") || (err != nil && err.Error() != row.why) {
+		if got != row.want || (err == nil) != (row.wantErr == "") || (err != nil && err.Error() != row.wantErr) {
 			t.Errorf("%q: %q, %v", row.text, got, err)
 		}
 	}

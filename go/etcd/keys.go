@@ -45,8 +45,8 @@ func (k keys) attachment(number uint64, node string) string {
 	return k.attachmentsOf(number) + node
 }
 
-// shown is a key without the name of the plugin, as it is in a text.
-func (k keys) shown(key string) string { return frames.Text(strings.TrimPrefix(key, k.all())) }
+// display is a key without the name of the plugin, as it is in a text.
+func (k keys) display(key string) string { return frames.Text(strings.TrimPrefix(key, k.all())) }
 
 // rangeEnd is the end of the range of all keys that begin with these bytes, of which the last is not 0xFF.
 func rangeEnd(prefix string) string {
@@ -55,14 +55,14 @@ func rangeEnd(prefix string) string {
 	return string(end)
 }
 
-// next is the least key that is greater than this one.
-func next(key string) string { return key + "\x00" }
+// keyAfter is the least key that is greater than this one.
+func keyAfter(key string) string { return key + "\x00" }
 
 var (
-	errKeyNumber = errors.New("its key has no number of 20 digits")
-	errKeyRange  = errors.New("the number of its key is above 9223372036854775807")
-	errKeyNode   = errors.New("its key is not UTF-8")
-	errLong      = errors.New("the row is too long for a page")
+	errKeyNumber  = errors.New("its key has no number of 20 digits")
+	errKeyRange   = errors.New("the number of its key is above 9223372036854775807")
+	errKeyNode    = errors.New("its key is not UTF-8")
+	errRowTooLong = errors.New("the row is too long for a page")
 )
 
 // volumeNumber reads the key of a volume.
@@ -72,8 +72,8 @@ func (k keys) volumeNumber(key string) (uint64, error) {
 
 // attachmentParts reads the key of an attachment.
 func (k keys) attachmentParts(key string) (number uint64, node string, err error) {
-	digits, node, isParted := strings.Cut(strings.TrimPrefix(key, k.attachments()), "/")
-	if !isParted {
+	digits, node, ok := strings.Cut(strings.TrimPrefix(key, k.attachments()), "/")
+	if !ok {
 		return 0, "", errKeyNumber
 	}
 	if number, err = readNumber(digits); err != nil {
@@ -111,15 +111,15 @@ func (k keys) row(key string, value []byte) (tableRow, error) {
 	return nil, errUnknownKey
 }
 
-// rowInPage is a row, and the field of a page that it is. A row that no page can have is none.
-func (k keys) rowInPage(key string, value []byte) (tableRow, []byte, error) {
+// pageRow is a row, and the field of a page that it is. A row that no page can have is none.
+func (k keys) pageRow(key string, value []byte) (tableRow, []byte, error) {
 	row, err := k.row(key, value)
 	if err != nil {
 		return nil, nil, err
 	}
 	field := appendBytes(nil, row.field(), row.message())
-	if len(field) > mostPage {
-		return nil, nil, errLong
+	if len(field) > maxPageBytes {
+		return nil, nil, errRowTooLong
 	}
 	return row, field, nil
 }

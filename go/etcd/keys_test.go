@@ -15,12 +15,12 @@ func TestKeys(t *testing.T) {
 		{k.attachment(0, ""), "example.fomaheti/attachments/00000000000000000000/"},
 		{rangeEnd(k.all()), "example.fomaheti0"},
 		{rangeEnd(k.attachmentsOf(7)), "example.fomaheti/attachments/000000000000000000070"},
-		{next("a"), "a\x00"},
-		{k.shown(k.attachment(7, "né\n")), `attachments/00000000000000000007/n\xc3\xa9\x0a`},
+		{keyAfter("a"), "a\x00"},
+		{k.display(k.attachment(7, "né\n")), `attachments/00000000000000000007/n\xc3\xa9\x0a`},
 	}
 	for _, row := range rows {
 		if row.got != row.want {
-			t.Errorf("%q, wanted %q", row.got, row.want)
+			t.Errorf("%q, want %q", row.got, row.want)
 		}
 	}
 }

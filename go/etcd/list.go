@@ -20,8 +20,8 @@ type capability struct {
 	mode    uint64
 }
 
-// listed is a volume with the nodes that it is published at.
-type listed struct {
+// listedVolume is a volume with the nodes that it is published at.
+type listedVolume struct {
 	volume
 	capabilities        []capability
 	parameters, mutable map[string]string
@@ -43,18 +43,18 @@ func (c capability) modeName() string {
 
 // readCapability reads a VolumeCapability: block is field 1, mount field 2 with its fs_type in field 1, and access_mode field 3 with the mode in field 1.
 func readCapability(message []byte) (read capability, err error) {
-	err = readFields(message, func(got field) error {
-		if got.kind != protowire.BytesType {
+	err = readFields(message, func(f field) error {
+		if f.kind != protowire.BytesType {
 			return errMessage
 		}
-		switch got.number {
+		switch f.number {
 		case 1:
 			read.isMount = false
 		case 2:
 			read.isMount = true
-			return readInto(got.bytes, map[protowire.Number]target{1: &read.fsType})
+			return readInto(f.bytes, map[protowire.Number]target{1: &read.fsType})
 		case 3:
-			return readInto(got.bytes, map[protowire.Number]target{1: &read.mode})
+			return readInto(f.bytes, map[protowire.Number]target{1: &read.mode})
 		}
 		return nil
 	})
@@ -73,20 +73,20 @@ func readPair(message []byte, into map[string]string) error {
 
 // readListed reads the columns of a volume, which are fields of a CreateVolumeRequest: capabilities are field 3, parameters field 4, and mutable
 // parameters field 8.
-func readListed(row volume) (*listed, error) {
-	read := &listed{volume: row, parameters: map[string]string{}, mutable: map[string]string{}}
-	err := readFields(append(append([]byte{}, row.caps...), row.params...), func(got field) error {
+func readListed(row volume) (*listedVolume, error) {
+	read := &listedVolume{volume: row, parameters: map[string]string{}, mutable: map[string]string{}}
+	err := readFields(append(append([]byte{}, row.caps...), row.params...), func(f field) error {
 		switch {
-		case got.kind != protowire.BytesType:
+		case f.kind != protowire.BytesType:
 			return errMessage
-		case got.number == 3:
-			one, err := readCapability(got.bytes)
+		case f.number == 3:
+			one, err := readCapability(f.bytes)
 			read.capabilities = append(read.capabilities, one)
 			return err
-		case got.number == 4:
-			return readPair(got.bytes, read.parameters)
-		case got.number == 8:
-			return readPair(got.bytes, read.mutable)
+		case f.number == 4:
+			return readPair(f.bytes, read.parameters)
+		case f.number == 8:
+			return readPair(f.bytes, read.mutable)
 		}
 		return errMessage
 	})
@@ -96,27 +96,27 @@ func readListed(row volume) (*listed, error) {
 	return read, nil
 }
 
-// chosen says which volumes are listed: those that have each of these that is given.
-type chosen struct{ volume, pool, node string }
+// volumeFilter says which volumes are listed: those that have each of these that is given.
+type volumeFilter struct{ volume, pool, node string }
 
-func (c chosen) has(v *listed) bool {
-	isAt := c.node == ""
+func (f volumeFilter) matches(v *listedVolume) bool {
+	isPublished := f.node == ""
 	for _, node := range v.nodes {
-		isAt = isAt || node == c.node
+		isPublished = isPublished || node == f.node
 	}
-	return isAt && (c.volume == "" || v.name == c.volume) && (c.pool == "" || v.pool == c.pool)
+	return isPublished && (f.volume == "" || v.name == f.volume) && (f.pool == "" || v.pool == f.pool)
 }
 
 // readAll reads all volumes at one revision, in the order of their numbers, with their nodes in the order of their ids.
-func (r *reading) readAll(k keys) (volumes []*listed, err error) {
-	found := map[uint64]*listed{}
+func (r *snapshot) readAll(k keys) (volumes []*listedVolume, err error) {
+	found := map[uint64]*listedVolume{}
 	var at []attachment
-	err = r.each(k, func(row tableRow) error {
+	err = r.forEach(k, func(row tableRow) error {
 		switch row := row.(type) {
 		case volume:
 			read, err := readListed(row)
 			if err != nil {
-				return broken(k, k.volume(row.number), err)
+				return brokenRow(k, k.volume(row.number), err)
 			}
 			found[row.number] = read
 			volumes = append(volumes, read)
@@ -136,14 +136,14 @@ func (r *reading) readAll(k keys) (volumes []*listed, err error) {
 
 // list prints the volumes that are chosen, and what pools and nodes have of them. It needs no lock.
 func list(m *members, to io.Writer) error {
-	asked := m.asked
+	opts := m.opts
 	client, err := m.connect()
 	if err != nil {
 		return err
 	}
 	defer client.Close()
-	r := &reading{client: client, timeout: asked.timeout}
-	k := keys{asked.name}
+	r := &snapshot{client: client, timeout: opts.timeout}
+	k := keys{opts.name}
 	if _, err := r.readMeta(k); err != nil {
 		return err
 	}
@@ -151,14 +151,14 @@ func list(m *members, to io.Writer) error {
 	if err != nil {
 		return err
 	}
-	var volumes []*listed
+	var volumes []*listedVolume
 	for _, v := range all {
-		if asked.chosen.has(v) {
+		if opts.filter.matches(v) {
 			volumes = append(volumes, v)
 		}
 	}
 	out := bufio.NewWriter(to)
-	if asked.isJSON {
+	if opts.isJSON {
 		writeJSON(out, volumes)
 	} else {
 		writeTable(out, volumes)

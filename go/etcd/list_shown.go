@@ -31,7 +31,7 @@ func (s sums) names() []string {
 	return names
 }
 
-func count(volumes []*listed) (pools, nodes sums) {
+func count(volumes []*listedVolume) (pools, nodes sums) {
 	pools, nodes = sums{}, sums{}
 	for _, v := range volumes {
 		pools.add(v.pool, v.bytes)
@@ -45,8 +45,8 @@ func count(volumes []*listed) (pools, nodes sums) {
 // sizeUnits are the units in which sizes are shown.
 var sizeUnits = []string{"EiB", "PiB", "TiB", "GiB", "MiB", "KiB"}
 
-// shownSize is a size in the greatest unit in which it is exact to one decimal, otherwise in bytes.
-func shownSize(bytes uint64) string {
+// formatSize is a size in the greatest unit in which it is exact to one decimal, otherwise in bytes.
+func formatSize(bytes uint64) string {
 	for i, unit := range sizeUnits {
 		half := uint64(1) << (59 - 10*i)
 		if halves := bytes / half; halves > 1 && bytes%half == 0 {
@@ -56,15 +56,15 @@ func shownSize(bytes uint64) string {
 	return strconv.FormatUint(bytes, 10) + " B"
 }
 
-// word is a text as one word, as csictl shows it: bytes outside 0x21 to 0x7E, and %, as % and two hexadecimal digits. The empty text is a dash.
-func word(text string) string {
+// formatWord is a text as one word, as csictl shows it: bytes outside 0x21 to 0x7E, and %, as % and two hexadecimal digits. The empty text is a dash.
+func formatWord(text string) string {
 	if text == "" {
 		return "-"
 	}
-	return partOfWord(text)
+	return escapeWord(text)
 }
 
-func partOfWord(text string) string {
+func escapeWord(text string) string {
 	var out strings.Builder
 	for i := 0; i < len(text); i++ {
 		if character := text[i]; 0x21 <= character && character <= 0x7e && character != '%' {
@@ -101,10 +101,10 @@ func orDash(parts []string) string {
 	return strings.Join(parts, ",")
 }
 
-func shownPairs(pairs map[string]string) string {
+func formatPairs(pairs map[string]string) string {
 	var parts []string
 	for _, key := range sortedKeys(pairs) {
-		parts = append(parts, partOfWord(key)+"="+partOfWord(pairs[key]))
+		parts = append(parts, escapeWord(key)+"="+escapeWord(pairs[key]))
 	}
 	return orDash(parts)
 }
@@ -125,26 +125,26 @@ func (c capability) String() string {
 	case c.fsType == "":
 		return "mount:" + c.modeName()
 	}
-	return word(c.fsType) + ":" + c.modeName()
+	return formatWord(c.fsType) + ":" + c.modeName()
 }
 
 // cells is the row of a volume.
-func (v *listed) cells() []string {
+func (v *listedVolume) cells() []string {
 	var capabilities, nodes []string
 	for _, one := range v.capabilities {
 		capabilities = append(capabilities, one.String())
 	}
 	for _, node := range v.nodes {
-		nodes = append(nodes, partOfWord(node))
+		nodes = append(nodes, escapeWord(node))
 	}
 	return []string{
-		fmt.Sprintf("vol-%d", v.number), word(v.name), word(v.pool), shownSize(v.bytes), orDash(capabilities), shownPairs(v.parameters), shownPairs(v.mutable),
+		fmt.Sprintf("vol-%d", v.number), formatWord(v.name), formatWord(v.pool), formatSize(v.bytes), orDash(capabilities), formatPairs(v.parameters), formatPairs(v.mutable),
 		orDash(nodes),
 	}
 }
 
 // A longer cell than this makes no column wider, so that one long cell costs no space in each other row.
-const widest = 80
+const maxCellWidth = 80
 
 // writeRows writes rows in columns, of which two are two spaces apart. A cell that is longer than its column moves the rest of its own row to the
 // right.
@@ -152,7 +152,7 @@ func writeRows(out *bufio.Writer, rows [][]string) {
 	widths := make([]int, len(rows[0]))
 	for _, row := range rows {
 		for i, cell := range row {
-			if len(cell) > widths[i] && len(cell) <= widest {
+			if len(cell) > widths[i] && len(cell) <= maxCellWidth {
 				widths[i] = len(cell)
 			}
 		}
@@ -174,13 +174,13 @@ func writeRows(out *bufio.Writer, rows [][]string) {
 func (s sums) write(out *bufio.Writer, heading string) {
 	rows := [][]string{{heading, "VOLUMES", "SIZE"}}
 	for _, name := range s.names() {
-		rows = append(rows, []string{word(name), strconv.FormatUint(s[name].volumes, 10), shownSize(s[name].bytes)})
+		rows = append(rows, []string{formatWord(name), strconv.FormatUint(s[name].volumes, 10), formatSize(s[name].bytes)})
 	}
 	out.WriteByte('\n')
 	writeRows(out, rows)
 }
 
-func writeTable(out *bufio.Writer, volumes []*listed) {
+func writeTable(out *bufio.Writer, volumes []*listedVolume) {
 	rows := [][]string{{"ID", "NAME", "POOL", "SIZE", "CAPABILITIES", "PARAMETERS", "MUTABLE", "NODES"}}
 	for _, v := range volumes {
 		rows = append(rows, v.cells())
@@ -206,7 +206,7 @@ func (c capability) json() string {
 	return `{"access":"mount","fsType":` + quotedJSON(c.fsType) + `,"mode":` + quotedJSON(c.modeName()) + "}"
 }
 
-func (v *listed) json() string {
+func (v *listedVolume) json() string {
 	var capabilities, nodes []string
 	for _, one := range v.capabilities {
 		capabilities = append(capabilities, one.json())
@@ -228,7 +228,7 @@ func (s sums) json(key string) string {
 }
 
 // writeJSON writes one document, with a volume a line.
-func writeJSON(out *bufio.Writer, volumes []*listed) {
+func writeJSON(out *bufio.Writer, volumes []*listedVolume) {
 	out.WriteString(`{"volumes":[`)
 	for i, v := range volumes {
 		if i > 0 {

@@ -22,7 +22,7 @@ const (
 const someParams = "22060a016b120176" + "22080a016c1203612062" + "42050a016d1200"
 
 // volumesToList are four volumes of two pools, of which three are at nodes.
-func volumesToList(t *testing.T) []*listed {
+func volumesToList(t *testing.T) []*listedVolume {
 	rows := []struct {
 		volume
 		caps, params string
@@ -33,7 +33,7 @@ func volumesToList(t *testing.T) []*listed {
 		{volume{number: 7, name: `pvc-"7"`, bytes: 5 << 20, pool: "ssd"}, blockCap, "", nil},
 		{volume{number: 8, name: "ä\n", bytes: 1 << 62, pool: "hdd"}, blockCap, "", []string{"n,1"}},
 	}
-	var volumes []*listed
+	var volumes []*listedVolume
 	for _, row := range rows {
 		row.volume.caps, row.volume.params = fromHex(t, row.caps), fromHex(t, row.params)
 		v, err := readListed(row.volume)
@@ -64,7 +64,7 @@ n2    1        1.5 GiB
 
 func TestListedTable(t *testing.T) {
 	for _, row := range []struct {
-		volumes []*listed
+		volumes []*listedVolume
 		want    string
 	}{
 		{volumesToList(t), listedTable},
@@ -118,7 +118,7 @@ func readJSON(t *testing.T, text string) (value interface{}) {
 
 func TestListedJSON(t *testing.T) {
 	for _, row := range []struct {
-		volumes []*listed
+		volumes []*listedVolume
 		want    string
 		lines   int
 	}{{volumesToList(t), listedDocument, 8}, {nil, `{"volumes": [], "pools": [], "nodes": []}`, 4}} {
@@ -135,33 +135,33 @@ func TestListedJSON(t *testing.T) {
 	}
 }
 
-func TestChosen(t *testing.T) {
+func TestVolumeFilter(t *testing.T) {
 	for _, row := range []struct {
-		chosen chosen
-		want   []uint64
+		volumeFilter volumeFilter
+		want         []uint64
 	}{
-		{chosen{}, []uint64{1, 2, 7, 8}}, {chosen{volume: "a b"}, []uint64{2}}, {chosen{volume: "pvc-"}, nil}, {chosen{pool: "ssd"}, []uint64{1, 7}},
-		{chosen{node: "n1"}, []uint64{1, 2}}, {chosen{node: "n2"}, []uint64{2}}, {chosen{node: "n"}, nil}, {chosen{pool: "hdd", node: "n1"}, []uint64{2}},
-		{chosen{volume: "pvc-1", pool: "hdd"}, nil},
+		{volumeFilter{}, []uint64{1, 2, 7, 8}}, {volumeFilter{volume: "a b"}, []uint64{2}}, {volumeFilter{volume: "pvc-"}, nil}, {volumeFilter{pool: "ssd"}, []uint64{1, 7}},
+		{volumeFilter{node: "n1"}, []uint64{1, 2}}, {volumeFilter{node: "n2"}, []uint64{2}}, {volumeFilter{node: "n"}, nil}, {volumeFilter{pool: "hdd", node: "n1"}, []uint64{2}},
+		{volumeFilter{volume: "pvc-1", pool: "hdd"}, nil},
 	} {
 		var got []uint64
 		for _, v := range volumesToList(t) {
-			if row.chosen.has(v) {
+			if row.volumeFilter.matches(v) {
 				got = append(got, v.number)
 			}
 		}
 		if !reflect.DeepEqual(got, row.want) {
-			t.Errorf("%+v: %v", row.chosen, got)
+			t.Errorf("%+v: %v", row.volumeFilter, got)
 		}
 	}
 }
 
-func TestWords(t *testing.T) {
+func TestFormatWord(t *testing.T) {
 	for _, row := range []struct{ text, want string }{
 		{"pvc-1", "pvc-1"}, {"", "-"}, {"-", "-"}, {"a b", "a%20b"}, {"100%", "100%25"}, {"a,b=c", "a,b=c"}, {"~!", "~!"}, {"\x7f\x20\x1f", "%7F%20%1F"}, {"ä", "%C3%A4"},
 	} {
-		if got := word(row.text); got != row.want {
-			t.Errorf("%q: %s, wanted %s", row.text, got, row.want)
+		if got := formatWord(row.text); got != row.want {
+			t.Errorf("%q: %s, want %s", row.text, got, row.want)
 		}
 	}
 }
@@ -171,12 +171,12 @@ func TestQuotedJSON(t *testing.T) {
 		{"", `""`}, {`a"\`, `"a\"\\"`}, {"\x01\b\f\n\r\t", `"\u0001\b\f\n\r\t"`}, {"ä", `"ä"`}, {"<&>", `"<&>"`},
 	} {
 		if got := quotedJSON(row.text); got != row.want {
-			t.Errorf("%q: %s, wanted %s", row.text, got, row.want)
+			t.Errorf("%q: %s, want %s", row.text, got, row.want)
 		}
 	}
 }
 
-func TestShownSizes(t *testing.T) {
+func TestFormatSize(t *testing.T) {
 	for _, row := range []struct {
 		bytes uint64
 		want  string
@@ -185,8 +185,8 @@ func TestShownSizes(t *testing.T) {
 		{1<<20 + 1024, "1025 KiB"}, {3 << 29, "1.5 GiB"}, {1 << 40, "1 TiB"}, {1 << 50, "1 PiB"}, {1 << 60, "1 EiB"}, {1 << 63, "8 EiB"},
 		{1<<64 - 1, "18446744073709551615 B"},
 	} {
-		if got := shownSize(row.bytes); got != row.want {
-			t.Errorf("%d: %s, wanted %s", row.bytes, got, row.want)
+		if got := formatSize(row.bytes); got != row.want {
+			t.Errorf("%d: %s, want %s", row.bytes, got, row.want)
 		}
 	}
 }
@@ -213,7 +213,7 @@ func TestBrokenColumns(t *testing.T) {
 }
 
 // A mode without a name is shown as unknown.
-func TestModes(t *testing.T) {
+func TestModeName(t *testing.T) {
 	for _, row := range []struct {
 		mode uint64
 		want string

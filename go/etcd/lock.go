@@ -34,41 +34,41 @@ func (l *leadership) current() (*term, refusal) {
 	return l.term, l.refusal
 }
 
-func (l *leadership) set(term *term, why refusal) {
+func (l *leadership) set(term *term, reason refusal) {
 	l.mutex.Lock()
 	defer l.mutex.Unlock()
-	l.term, l.refusal = term, why
+	l.term, l.refusal = term, reason
 }
 
 // candidate waits for the lock again and again, and leads while it has it. The lock is an election by the rule of etcd's own: each candidate puts
 // a key with its lease below one prefix, and the key that was made first leads. Unlike clientv3/concurrency it looks for its own key too, and never
 // waits without a deadline.
 type candidate struct {
-	asked     options
+	opts      options
 	members   *members
 	keys      keys
 	revisions *revisions
 	state     *leadership
-	say       func(format string, parts ...interface{})
+	logf      func(format string, args ...interface{})
 	// Closes the connection of csid.
 	drop func()
 	// The leases of terms that are over, as long as etcd did not end them.
 	leases []clientv3.LeaseID
 	// The last line about who holds the lock, or why etcd does not answer, and why members could not
 	// be reached then. It does not have who refused a call: calls go to the members in turn.
-	said string
+	lastLine string
 }
 
-// begin is before the first look at etcd.
-func (c *candidate) begin() { c.state.set(nil, refuse("waiting for the lock: etcd was not asked yet")) }
+// init is before the first look at etcd.
+func (c *candidate) init() { c.state.set(nil, refuse("waiting for the lock: etcd was not asked yet")) }
 
 // run campaigns for the lock until the context ends.
 func (c *candidate) run(ctx context.Context) {
 	for ctx.Err() == nil {
 		if err := c.campaign(ctx); ctx.Err() == nil {
-			c.waits(err)
+			c.reportWaiting(err)
 		}
-		pause(ctx, waitingPause)
+		sleep(ctx, waitingPause)
 	}
 }
 
@@ -77,61 +77,61 @@ func (c *candidate) report(line string) { c.reportError(line, nil) }
 
 // reportError writes a line with the members that an error comes from.
 func (c *candidate) reportError(line string, err error) {
-	if what := line + c.members.reasons(err); what != c.said {
-		c.say("%s", frames.Text(line+c.members.where(err)))
-		c.said = what
+	if what := line + c.members.reasons(err); what != c.lastLine {
+		c.logf("%s", frames.Text(line+c.members.membersOf(err)))
+		c.lastLine = what
 	}
 }
 
 // campaign gets a lease, queues up by a key, and leads when it is its turn. It ends when the lease or the key is lost, or with an error where it got
 // no lease. Certificates and the password are read each time.
-func (c *candidate) campaign(ending context.Context) error {
+func (c *candidate) campaign(parent context.Context) error {
 	client, err := c.members.connect()
 	if err != nil {
 		return err
 	}
 	defer client.Close()
 	least := c.revisions.least()
-	requested, cancelRequest := context.WithTimeout(ending, c.asked.timeout)
-	lease, revision, err := grantLease(clientv3.WithRequireLeader(requested), client, c.asked.lease)
+	requestCtx, cancelRequest := context.WithTimeout(parent, c.opts.timeout)
+	lease, revision, err := grantLease(clientv3.WithRequireLeader(requestCtx), client, c.opts.lease)
 	cancelRequest()
 	if err != nil {
 		return err
 	}
 	c.revisions.check(least, revision)
-	ctx, cancel := context.WithCancel(ending)
+	ctx, cancel := context.WithCancel(parent)
 	defer cancel()
-	kept := make(chan error, 1)
+	leaseDone := make(chan error, 1)
 	go func() {
-		why := lease.keep(ctx)
+		reason := lease.keepAlive(ctx)
 		cancel()
 		// Here too, so that it waits for nothing.
 		c.drop()
-		kept <- why
+		leaseDone <- reason
 	}()
-	c.giveBack(client)
+	c.releaseLeases(client)
 	c.leases = append(c.leases, lease.id)
-	defer c.giveBack(client)
+	defer c.releaseLeases(client)
 	t := &term{
-		client: client, keys: c.keys, lease: lease, revisions: c.revisions, timeout: c.asked.timeout, ctx: ctx, end: cancel,
-		key: c.keys.lock(lease.id), id: c.asked.id, gone: make(chan struct{}, 1),
+		client: client, keys: c.keys, lease: lease, revisions: c.revisions, timeout: c.opts.timeout, ctx: ctx, end: cancel,
+		key: c.keys.lock(lease.id), id: c.opts.id, gone: make(chan struct{}, 1),
 	}
-	err = c.hold(t)
+	err = c.holdLock(t)
 	cancel()
-	if over := <-kept; over == errLeaseOver {
+	if over := <-leaseDone; over == errLeaseOver {
 		err = over
-	} else if ending.Err() != nil {
+	} else if parent.Err() != nil {
 		err = errEnding
 	}
-	c.stop(err, refuse("waiting for the lock: %v", err))
+	c.stopLeading(err, refuse("waiting for the lock: %v", err))
 	return nil
 }
 
-// giveBack ends the leases of terms that are over, with the keys that are attached to them, so that nobody waits until they end on their own. A key that was put
+// releaseLeases ends the leases of terms that are over, with the keys that are attached to them, so that nobody waits until they end on their own. A key that was put
 // by hand without its lease would stay for ever, so keys are deleted too. A lease for which etcd does not answer, as while it elects a leader, is ended
 // before the next term.
-func (c *candidate) giveBack(client *clientv3.Client) {
-	ctx, cancel := context.WithTimeout(context.Background(), c.asked.timeout)
+func (c *candidate) releaseLeases(client *clientv3.Client) {
+	ctx, cancel := context.WithTimeout(context.Background(), c.opts.timeout)
 	defer cancel()
 	var left []clientv3.LeaseID
 	for _, id := range c.leases {
@@ -152,14 +152,14 @@ var (
 	errEnding  = errors.New("it was asked to end")
 )
 
-// hold puts the key, and looks who holds the lock until the term ends.
-func (c *candidate) hold(t *term) error {
-	isPut, isLeading := false, false
+// holdLock puts the key, and looks who holds the lock until the term ends.
+func (c *candidate) holdLock(t *term) error {
+	hasKey, isLeading := false, false
 	for t.ctx.Err() == nil {
-		if !isPut {
+		if !hasKey {
 			err := t.putKey()
-			isPut = err == nil
-			c.waits(err)
+			hasKey = err == nil
+			c.reportWaiting(err)
 		}
 		queue, err := t.queue()
 		switch {
@@ -167,10 +167,10 @@ func (c *candidate) hold(t *term) error {
 			// The user has another password than that which was read, and the lease may be kept for ever. The next term reads it again.
 			return err
 		case err != nil && !isLeading:
-			c.waits(err)
+			c.reportWaiting(err)
 		case err != nil:
 			// The lease reports whether this program leads still.
-		case isLeading && (queue.own != t.created || queue.first != t.created), isPut && queue.own == 0:
+		case isLeading && (queue.own != t.created || queue.first != t.created), hasKey && queue.own == 0:
 			return errKeyGone
 		case queue.own == 0:
 		case queue.own != queue.first:
@@ -181,16 +181,16 @@ func (c *candidate) hold(t *term) error {
 		}
 		if isLeading {
 			// Calls go to the members in turn: in a steady rhythm one could always reach a member that does not answer, and this one never.
-			pause(t.ctx, leadingPause/2+time.Duration(rand.Int63n(int64(leadingPause))))
+			sleep(t.ctx, leadingPause/2+time.Duration(rand.Int63n(int64(leadingPause))))
 		} else {
-			pause(t.ctx, waitingPause)
+			sleep(t.ctx, waitingPause)
 		}
 	}
-	return t.why()
+	return t.endReason()
 }
 
-// waits says why there is no lock, where there is an error.
-func (c *candidate) waits(err error) {
+// reportWaiting says why there is no lock, where there is an error.
+func (c *candidate) reportWaiting(err error) {
 	if err != nil {
 		c.reportError(fmt.Sprintf("no lock: %v", err), err)
 		c.state.set(nil, refuse("waiting for the lock: %v", err))
@@ -200,28 +200,28 @@ func (c *candidate) waits(err error) {
 // lead begins to lead, unless an older snapshot was seen. The lock is kept then, so that no other program leads either.
 func (c *candidate) lead(t *term, queue queue, isLeading bool) bool {
 	if err := c.revisions.check(queue.least, queue.revision); err != nil {
-		c.stop(err, err.(refusal))
+		c.stopLeading(err, err.(refusal))
 		return false
 	}
 	if !isLeading {
 		t.created, t.put, t.seen = queue.own, queue.ownPut, queue.revision
 		c.state.set(t, refusal{})
-		c.report(fmt.Sprintf("leads, from revision %d on, by the key %s", queue.revision, c.keys.shown(t.key)))
+		c.report(fmt.Sprintf("leads, from revision %d on, by the key %s", queue.revision, c.keys.display(t.key)))
 		go t.watch(queue.revision)
 	}
 	return true
 }
 
-// stop ends leading, where this program does, and closes the connection of csid at once.
-func (c *candidate) stop(why error, answer refusal) {
+// stopLeading ends leading, where this program does, and closes the connection of csid at once.
+func (c *candidate) stopLeading(reason error, answer refusal) {
 	before, _ := c.state.current()
 	c.state.set(nil, answer)
 	if before == nil {
-		c.reportError(fmt.Sprintf("no lock: %v", why), why)
+		c.reportError(fmt.Sprintf("no lock: %v", reason), reason)
 		return
 	}
 	c.drop()
-	c.reportError(fmt.Sprintf("leads no more: %v", why), why)
+	c.reportError(fmt.Sprintf("leads no more: %v", reason), reason)
 }
 
 // putKey puts the key of this program, where it is not there yet.
@@ -229,7 +229,7 @@ func (t *term) putKey() error {
 	ctx, cancel := t.request(t.ctx)
 	defer cancel()
 	put := clientv3.OpPut(t.key, t.id, clientv3.WithLease(t.lease.id))
-	_, err := t.client.Txn(ctx).If(isAbsent(t.key)).Then(put).Commit()
+	_, err := t.client.Txn(ctx).If(keyMissing(t.key)).Then(put).Commit()
 	return err
 }
 
@@ -248,7 +248,7 @@ func (t *term) queue() (queue, error) {
 	least := t.revisions.least()
 	order := clientv3.WithSort(clientv3.SortByCreateRevision, clientv3.SortAscend)
 	var read *clientv3.GetResponse
-	err := t.tries(t.ctx, func(ctx context.Context) (err error) {
+	err := t.retry(t.ctx, func(ctx context.Context) (err error) {
 		read, err = t.client.Get(ctx, t.keys.locks(), clientv3.WithRange(rangeEnd(t.keys.locks())), order)
 		return err
 	})
@@ -267,8 +267,8 @@ func (t *term) queue() (queue, error) {
 	return q, nil
 }
 
-// pause waits, unless the context ends before.
-func pause(ctx context.Context, length time.Duration) {
+// sleep waits, unless the context ends before.
+func sleep(ctx context.Context, length time.Duration) {
 	select {
 	case <-time.After(length):
 	case <-ctx.Done():

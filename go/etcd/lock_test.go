@@ -16,37 +16,37 @@ import (
 // before is not said again.
 func TestOlderWhileLeading(t *testing.T) {
 	const older = "etcd is at revision 90, and 110 was answered: it was restored from an older snapshot, and volumes may be missing; --accept-older goes on"
-	var said []string
+	var lines []string
 	drops := 0
 	state := &leadership{}
 	c := &candidate{keys: sampleKeys, revisions: &revisions{}, state: state, drop: func() { drops++ },
-		say: func(format string, parts ...interface{}) { said = append(said, fmt.Sprintf(format, parts...)) }}
+		logf: func(format string, args ...interface{}) { lines = append(lines, fmt.Sprintf(format, args...)) }}
 	ctx, cancel := context.WithCancel(context.Background())
 	defer cancel()
-	held := &term{key: sampleKeys.locks() + "1", client: startServer(t, &waiters{}, 1), ctx: ctx, end: cancel}
-	isLeading := c.lead(held, queue{own: 5, ownPut: 6, revision: 110, least: 100}, false)
-	if term, _ := state.current(); term != held || !isLeading || held.created != 5 || held.put != 6 || held.seen != 110 || drops != 0 {
+	term := &term{key: sampleKeys.locks() + "1", client: startServer(t, &queueServer{}, 1), ctx: ctx, end: cancel}
+	isLeading := c.lead(term, queue{own: 5, ownPut: 6, revision: 110, least: 100}, false)
+	if term, _ := state.current(); term != term || !isLeading || term.created != 5 || term.put != 6 || term.seen != 110 || drops != 0 {
 		t.Errorf("it leads: %+v, %d drops", term, drops)
 	}
-	for _, seen := range []queue{{revision: 90, least: 110}, {revision: 200, least: 110}, {revision: 201, least: 110}} {
-		isLeading = c.lead(held, seen, isLeading)
+	for _, observed := range []queue{{revision: 90, least: 110}, {revision: 200, least: 110}, {revision: 201, least: 110}} {
+		isLeading = c.lead(term, observed, isLeading)
 		if term, why := state.current(); term != nil || why.code != 9 || why.text != older || isLeading || drops != 1 {
-			t.Errorf("at revision %d: %+v, %v, %d drops", seen.revision, term, why, drops)
+			t.Errorf("at revision %d: %+v, %v, %d drops", observed.revision, term, why, drops)
 		}
 	}
 	want := []string{"leads, from revision 110 on, by the key lock/1", "leads no more: " + older, "no lock: " + older}
-	if !reflect.DeepEqual(said, want) {
-		t.Errorf("%q, wanted %q", said, want)
+	if !reflect.DeepEqual(lines, want) {
+		t.Errorf("%q, want %q", lines, want)
 	}
 }
 
-// waiters is an etcd that takes each key, and answers who waits for the lock by what a test says, at last by the end of the term.
-type waiters struct {
+// queueServer is an etcd that takes each key, and answers who waits for the lock by what a test says, at last by the end of the term.
+type queueServer struct {
 	pb.KVServer
-	looks []look
-	came  int
-	state *leadership
-	end   context.CancelFunc
+	looks    []look
+	requests int
+	state    *leadership
+	end      context.CancelFunc
 	// Whether this program led when each look came.
 	led []bool
 }
@@ -57,28 +57,28 @@ type look struct {
 	err         error
 }
 
-func (w *waiters) Txn(context.Context, *pb.TxnRequest) (*pb.TxnResponse, error) {
+func (w *queueServer) Txn(context.Context, *pb.TxnRequest) (*pb.TxnResponse, error) {
 	return &pb.TxnResponse{Header: &pb.ResponseHeader{}, Succeeded: true}, nil
 }
 
-func (w *waiters) Range(context.Context, *pb.RangeRequest) (*pb.RangeResponse, error) {
-	held, _ := w.state.current()
-	w.led = append(w.led, held != nil)
-	if w.came == len(w.looks) {
+func (w *queueServer) Range(context.Context, *pb.RangeRequest) (*pb.RangeResponse, error) {
+	term, _ := w.state.current()
+	w.led = append(w.led, term != nil)
+	if w.requests == len(w.looks) {
 		w.end()
 		return nil, errors.New("the end")
 	}
-	seen := w.looks[w.came]
-	w.came++
-	if seen.err != nil {
-		return nil, seen.err
+	observed := w.looks[w.requests]
+	w.requests++
+	if observed.err != nil {
+		return nil, observed.err
 	}
 	read := &pb.RangeResponse{Header: &pb.ResponseHeader{Revision: 100}}
-	if seen.others != 0 {
-		read.Kvs = append(read.Kvs, &mvccpb.KeyValue{Key: []byte("other"), Value: []byte("other"), CreateRevision: seen.others})
+	if observed.others != 0 {
+		read.Kvs = append(read.Kvs, &mvccpb.KeyValue{Key: []byte("other"), Value: []byte("other"), CreateRevision: observed.others})
 	}
-	if seen.own != 0 {
-		read.Kvs = append(read.Kvs, &mvccpb.KeyValue{Key: []byte("own"), Value: []byte("me"), CreateRevision: seen.own})
+	if observed.own != 0 {
+		read.Kvs = append(read.Kvs, &mvccpb.KeyValue{Key: []byte("own"), Value: []byte("me"), CreateRevision: observed.own})
 	}
 	return read, nil
 }
@@ -107,11 +107,11 @@ func TestHold(t *testing.T) {
 			state := &leadership{}
 			ctx, cancel := context.WithTimeout(context.Background(), 20*time.Second)
 			defer cancel()
-			server := &waiters{looks: row.looks, state: state, end: cancel}
-			c := &candidate{keys: sampleKeys, revisions: &revisions{}, state: state, drop: func() {}, say: t.Logf}
-			err := c.hold(&term{client: startServer(t, server, 1), keys: sampleKeys, lease: &lease{}, revisions: c.revisions, timeout: 5 * time.Second, ctx: ctx, end: cancel, key: "own", id: "me"})
+			server := &queueServer{looks: row.looks, state: state, end: cancel}
+			c := &candidate{keys: sampleKeys, revisions: &revisions{}, state: state, drop: func() {}, logf: t.Logf}
+			err := c.holdLock(&term{client: startServer(t, server, 1), keys: sampleKeys, lease: &lease{}, revisions: c.revisions, timeout: 5 * time.Second, ctx: ctx, end: cancel, key: "own", id: "me"})
 			if err != row.want || !reflect.DeepEqual(server.led, row.led) {
-				t.Errorf("%v, and it led %v, wanted %v", err, server.led, row.led)
+				t.Errorf("%v, and it led %v, want %v", err, server.led, row.led)
 			}
 		})
 	}

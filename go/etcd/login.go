@@ -40,15 +40,15 @@ func (l *login) GetRequestMetadata(_ context.Context, services ...string) (map[s
 func (l *login) RequireTransportSecurity() bool { return false }
 
 // renew gets another token. An etcd whose authentication is not enabled gives none, and needs none.
-func (l *login) renew(ctx context.Context, connection *grpc.ClientConn) error {
+func (l *login) renew(ctx context.Context, conn *grpc.ClientConn) error {
 	if l.user == "" {
 		return nil
 	}
-	asked := &pb.AuthenticateRequest{Name: l.user, Password: l.password}
-	got, err := pb.NewAuthClient(connection).Authenticate(ctx, asked, grpc.WaitForReady(true))
+	request := &pb.AuthenticateRequest{Name: l.user, Password: l.password}
+	response, err := pb.NewAuthClient(conn).Authenticate(ctx, request, grpc.WaitForReady(true))
 	switch {
 	case err == nil:
-		l.set(got.Token)
+		l.set(response.Token)
 	case rpctypes.Error(err) == rpctypes.ErrAuthNotEnabled:
 	case ctx.Err() != nil:
 		return ctx.Err()
@@ -66,23 +66,23 @@ func (l *login) set(token string) {
 
 // unary is between etcd's client and the connection: a call that etcd refused for its token is made
 // once more with another one.
-func (l *login) unary(ctx context.Context, method string, request, reply interface{}, connection *grpc.ClientConn,
-	send grpc.UnaryInvoker, options ...grpc.CallOption) error {
-	err := send(ctx, method, request, reply, connection, options...)
-	if err == nil || l.user == "" || method == authenticatePath || !isOfToken(err) {
+func (l *login) unary(ctx context.Context, method string, request, reply interface{}, conn *grpc.ClientConn,
+	invoke grpc.UnaryInvoker, options ...grpc.CallOption) error {
+	err := invoke(ctx, method, request, reply, conn, options...)
+	if err == nil || l.user == "" || method == authenticatePath || !isTokenError(err) {
 		return err
 	}
-	if err := l.renew(ctx, connection); err != nil {
+	if err := l.renew(ctx, conn); err != nil {
 		return err
 	}
-	return send(ctx, method, request, reply, connection, options...)
+	return invoke(ctx, method, request, reply, conn, options...)
 }
 
 // stream gives each stream a token of its own, which lasts as long as the stream does.
-func (l *login) stream(ctx context.Context, description *grpc.StreamDesc, connection *grpc.ClientConn, method string,
+func (l *login) stream(ctx context.Context, description *grpc.StreamDesc, conn *grpc.ClientConn, method string,
 	open grpc.Streamer, options ...grpc.CallOption) (grpc.ClientStream, error) {
-	if err := l.renew(ctx, connection); err != nil {
+	if err := l.renew(ctx, conn); err != nil {
 		return nil, err
 	}
-	return open(ctx, description, connection, method, options...)
+	return open(ctx, description, conn, method, options...)
 }

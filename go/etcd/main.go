@@ -20,10 +20,10 @@ import (
 
 // Exit statuses; those that csid has too have the same numbers there.
 const (
-	done     = 0
-	failed   = 1
-	badWords = 2
-	noSocket = 7
+	exitOK      = 0
+	exitFailure = 1
+	exitUsage   = 2
+	exitSocket  = 7
 )
 
 // version is the repository's: go/etcd/build takes it from the file VERSION.
@@ -50,27 +50,27 @@ func main() {
 }
 
 func run(lines *log.Logger) int {
-	asked, err := readOptions(os.Args[1:], os.Stdout)
+	opts, err := readOptions(os.Args[1:], os.Stdout)
 	if errors.Is(err, flag.ErrHelp) {
-		return done
+		return exitOK
 	}
 	if err != nil {
 		lines.Print(err)
-		return badWords
+		return exitUsage
 	}
-	if asked.version {
+	if opts.version {
 		fmt.Println("csid-etcd", version)
-		return done
+		return exitOK
 	}
-	if asked.isOnce() {
-		return once(asked, lines)
+	if opts.isOneShot() {
+		return runOnce(opts, lines)
 	}
 	stop := make(chan os.Signal, 2)
 	signal.Notify(stop, syscall.SIGTERM, syscall.SIGINT)
-	revisions, err := openRevisions(asked.revision, asked.acceptOlder)
+	revisions, err := openRevisions(opts.revision, opts.acceptOlder)
 	if err != nil {
 		lines.Printf("--revision: %v", err)
-		return failed
+		return exitFailure
 	}
 	// Calls come in order: a further processor would have to be woken for each step of one.
 	if os.Getenv("GOMAXPROCS") == "" {
@@ -78,41 +78,41 @@ func run(lines *log.Logger) int {
 	}
 	// Whatever is made from here on is its user's alone.
 	syscall.Umask(0o177)
-	socket, err := sockets.Listen(asked.listen)
+	socket, err := sockets.Listen(opts.listen)
 	if err != nil {
 		lines.Print(err)
-		return noSocket
+		return exitSocket
 	}
 	defer socket.Close()
-	return serve(asked, socket, revisions, stop, lines)
+	return serve(opts, socket, revisions, stop, lines)
 }
 
 // serve queues for the lock and answers csid until a signal comes.
-func serve(asked options, socket *sockets.Socket, revisions *revisions, stop <-chan os.Signal, lines *log.Logger) int {
+func serve(opts options, socket *sockets.Socket, revisions *revisions, stop <-chan os.Signal, lines *log.Logger) int {
 	ctx, cancel := context.WithCancel(context.Background())
 	defer cancel()
 	state := &leadership{}
-	members := newMembers(asked, lines.Printf)
-	server := &server{state: state, members: members, isExisting: asked.isExisting, say: lines.Printf}
-	candidate := &candidate{asked: asked, members: members, keys: keys{asked.name}, revisions: revisions, state: state, say: lines.Printf, drop: server.drop}
-	candidate.begin()
-	ended, broken := make(chan struct{}), make(chan error, 1)
-	saving, saved := make(chan struct{}), make(chan struct{})
+	members := newMembers(opts, lines.Printf)
+	server := &server{state: state, members: members, requireRows: opts.requireRows, logf: lines.Printf}
+	candidate := &candidate{opts: opts, members: members, keys: keys{opts.name}, revisions: revisions, state: state, logf: lines.Printf, drop: server.drop}
+	candidate.init()
+	campaignDone, acceptFailed := make(chan struct{}), make(chan error, 1)
+	stopSaving, saved := make(chan struct{}), make(chan struct{})
 	go func() {
-		defer close(ended)
+		defer close(campaignDone)
 		candidate.run(ctx)
 	}()
 	go members.watchCertificates(ctx)
-	go func() { broken <- server.accept(socket) }()
+	go func() { acceptFailed <- server.accept(socket) }()
 	go func() {
 		defer close(saved)
-		revisions.keep(saving, lines.Printf)
+		revisions.saveUntil(stopSaving, lines.Printf)
 	}()
-	status := done
+	status := exitOK
 	select {
-	case err := <-broken:
+	case err := <-acceptFailed:
 		lines.Print(err)
-		status = noSocket
+		status = exitSocket
 	case <-stop:
 	}
 	finished := make(chan struct{})
@@ -122,8 +122,8 @@ func serve(asked options, socket *sockets.Socket, revisions *revisions, stop <-c
 		socket.Close()
 		server.end()
 		cancel()
-		<-ended
-		close(saving)
+		<-campaignDone
+		close(stopSaving)
 		<-saved
 	}()
 	select {
@@ -131,6 +131,6 @@ func serve(asked options, socket *sockets.Socket, revisions *revisions, stop <-c
 		return status
 	case <-stop:
 		lines.Print("ended, and cut off what was under way")
-		return failed
+		return exitFailure
 	}
 }

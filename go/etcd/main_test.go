@@ -44,13 +44,13 @@ func TestSocketThatFails(t *testing.T) {
 		t.Fatal(err)
 	}
 	defer silent.Close()
-	asked := options{name: "a", endpoints: []string{silent.Addr().String()}, timeout: 200 * time.Millisecond, lease: 2, id: "me"}
-	ended := make(chan int, 1)
+	opts := options{name: "a", endpoints: []string{silent.Addr().String()}, timeout: 200 * time.Millisecond, lease: 2, id: "me"}
+	exitStatus := make(chan int, 1)
 	go func() {
-		ended <- serve(asked, socket, &revisions{noticed: make(chan struct{}, 1)}, make(chan os.Signal), log.New(io.Discard, "", 0))
+		exitStatus <- serve(opts, socket, &revisions{olderSeen: make(chan struct{}, 1)}, make(chan os.Signal), log.New(io.Discard, "", 0))
 	}()
 	select {
-	case status := <-ended:
+	case status := <-exitStatus:
 		if status != 7 {
 			t.Errorf("it ended with %d", status)
 		}

@@ -20,32 +20,32 @@ import (
 // members makes the connections to the members of etcd, each by the certificates that the files
 // have then, and remembers why a member could not be reached or what it refused, for lines.
 type members struct {
-	asked options
-	say   func(format string, parts ...interface{})
+	opts  options
+	logf  func(format string, args ...interface{})
 	mutex sync.Mutex
 	// The certificates of the last connection.
 	last certificates
 	// The endpoint, as the options have it, of each address that was reached.
-	reached map[string]string
+	endpoints map[string]string
 	// By endpoint: why the last connection to it failed, and the last error that it answered. Both
 	// are forgotten once it answers a call.
 	unreached, refused map[string]string
 }
 
-func newMembers(asked options, say func(format string, parts ...interface{})) *members {
-	return &members{asked: asked, say: say, reached: map[string]string{}, unreached: map[string]string{}, refused: map[string]string{}}
+func newMembers(opts options, logf func(format string, args ...interface{})) *members {
+	return &members{opts: opts, logf: logf, endpoints: map[string]string{}, unreached: map[string]string{}, refused: map[string]string{}}
 }
 
 // isSecure reports whether connections speak TLS: the first endpoint says so, or else an option.
 func (m *members) isSecure() bool {
-	_, _, scheme := endpoint.ParseEndpoint(m.asked.endpoints[0])
-	return scheme == "https" || scheme == "" && (m.asked.cacert != "" || m.asked.cert != "")
+	_, _, scheme := endpoint.ParseEndpoint(m.opts.endpoints[0])
+	return scheme == "https" || scheme == "" && (m.opts.cacert != "" || m.opts.cert != "")
 }
 
 // certificates reads the files, and says in a line which certificates they have where these are
 // others than the last ones.
 func (m *members) certificates() (certificates, error) {
-	read, err := readCertificates(m.asked)
+	read, err := readCertificates(m.opts)
 	if err != nil {
 		return read, err
 	}
@@ -54,7 +54,7 @@ func (m *members) certificates() (certificates, error) {
 	m.last = read
 	m.mutex.Unlock()
 	if isNew && read.line() != "" {
-		m.say("%s", read.line())
+		m.logf("%s", read.line())
 	}
 	return read, nil
 }
@@ -68,10 +68,10 @@ func (m *members) watchCertificates(ctx context.Context) {
 		if read, err := m.certificates(); err == nil && time.Since(warned) >= warningPause {
 			warned = time.Now()
 			for _, line := range read.warnings(warned) {
-				m.say("%s", line)
+				m.logf("%s", line)
 			}
 		}
-		pause(ctx, filesPause)
+		sleep(ctx, filesPause)
 	}
 }
 
@@ -79,12 +79,12 @@ func (m *members) watchCertificates(ctx context.Context) {
 func (m *members) dial(ctx context.Context, to string) (net.Conn, error) {
 	conn, err := endpoint.Dialer(ctx, to)
 	if err != nil {
-		m.cannotReach(ctx, to, err)
+		m.noteUnreached(ctx, to, err)
 		return nil, err
 	}
 	m.mutex.Lock()
 	defer m.mutex.Unlock()
-	m.reached[conn.RemoteAddr().String()] = to
+	m.endpoints[conn.RemoteAddr().String()] = to
 	return conn, nil
 }
 
@@ -92,15 +92,15 @@ func (m *members) dial(ctx context.Context, to string) (net.Conn, error) {
 func (m *members) endpointOf(address net.Addr) string {
 	m.mutex.Lock()
 	defer m.mutex.Unlock()
-	if to, is := m.reached[address.String()]; is {
+	if to, ok := m.endpoints[address.String()]; ok {
 		return to
 	}
 	return address.String()
 }
 
-// cannotReach remembers why a member was not reached, unless the attempt was given up. It leaves out
+// noteUnreached remembers why a member was not reached, unless the attempt was given up. It leaves out
 // the addresses of a connection, of which one is another each time.
-func (m *members) cannotReach(ctx context.Context, to string, err error) {
+func (m *members) noteUnreached(ctx context.Context, to string, err error) {
 	if ctx.Err() == context.Canceled {
 		return
 	}
@@ -114,12 +114,12 @@ func (m *members) cannotReach(ctx context.Context, to string, err error) {
 	m.unreached[to] = why
 }
 
-// answered is between etcd's client and the connection, and notes which member answered a call, and
+// recordAnswer is between etcd's client and the connection, and notes which member answered a call, and
 // how.
-func (m *members) answered(ctx context.Context, method string, request, reply interface{}, connection *grpc.ClientConn,
-	send grpc.UnaryInvoker, options ...grpc.CallOption) error {
+func (m *members) recordAnswer(ctx context.Context, method string, request, reply interface{}, conn *grpc.ClientConn,
+	invoke grpc.UnaryInvoker, options ...grpc.CallOption) error {
 	var from peer.Peer
-	err := send(ctx, method, request, reply, connection, append(options[:len(options):len(options)], grpc.Peer(&from))...)
+	err := invoke(ctx, method, request, reply, conn, append(options[:len(options):len(options)], grpc.Peer(&from))...)
 	if from.Addr == nil {
 		return err
 	}
@@ -135,26 +135,26 @@ func (m *members) answered(ctx context.Context, method string, request, reply in
 	return err
 }
 
-// where says of an error which members it comes from, in parentheses: those that could not be
+// membersOf says of an error which members it comes from, in parentheses: those that could not be
 // reached, with the reason, where none answered; otherwise those whose last answer it was. It is
 // empty where the error is not one of etcd.
-func (m *members) where(err error) string {
+func (m *members) membersOf(err error) string {
 	if m == nil || err == nil {
 		return ""
 	}
 	m.mutex.Lock()
 	defer m.mutex.Unlock()
 	var found []string
-	for _, to := range m.asked.endpoints {
+	for _, to := range m.opts.endpoints {
 		refused := m.refused[to]
-		if why := m.unreached[to]; why != "" && isSilence(err) {
+		if why := m.unreached[to]; why != "" && isNoAnswer(err) {
 			found = append(found, to+": "+why)
 		} else if refused != "" && strings.Contains(err.Error(), refused) {
 			found = append(found, to)
 		}
 	}
-	if len(found) == 0 && isSilence(err) {
-		found = m.asked.endpoints
+	if len(found) == 0 && isNoAnswer(err) {
+		found = m.opts.endpoints
 	}
 	if len(found) == 0 {
 		return ""
@@ -164,21 +164,21 @@ func (m *members) where(err error) string {
 
 // reasons is why members could not be reached, where an error says that none answered.
 func (m *members) reasons(err error) string {
-	if m == nil || err == nil || !isSilence(err) {
+	if m == nil || err == nil || !isNoAnswer(err) {
 		return ""
 	}
 	m.mutex.Lock()
 	defer m.mutex.Unlock()
 	var found []string
-	for _, to := range m.asked.endpoints {
+	for _, to := range m.opts.endpoints {
 		found = append(found, m.unreached[to])
 	}
 	return strings.Join(found, ";")
 }
 
-// isSilence reports whether an error says that no member answered in time.
-func isSilence(err error) bool {
-	if unknown, is := err.(open); is {
+// isNoAnswer reports whether an error says that no member answered in time.
+func isNoAnswer(err error) bool {
+	if unknown, ok := err.(unknownOutcome); ok {
 		err = unknown.err
 	}
 	return errors.Is(err, errLeaseOver) || status.Code(err) == codes.Unavailable || strings.Contains(err.Error(), context.DeadlineExceeded.Error())
@@ -202,13 +202,13 @@ func (c memberCredentials) ClientHandshake(ctx context.Context, _ string, raw ne
 	used, err := c.members.certificates()
 	if err != nil {
 		raw.Close()
-		c.members.cannotReach(ctx, to, err)
+		c.members.noteUnreached(ctx, to, err)
 		return nil, nil, err
 	}
 	_, host, _ := endpoint.ParseEndpoint(to)
-	conn, info, err := credentials.NewTLS(used.settings()).ClientHandshake(ctx, host, raw)
+	conn, info, err := credentials.NewTLS(used.tlsConfig()).ClientHandshake(ctx, host, raw)
 	if err != nil {
-		c.members.cannotReach(ctx, to, err)
+		c.members.noteUnreached(ctx, to, err)
 		return nil, nil, err
 	}
 	return &memberConn{conn, to, used, c.members}, info, nil
@@ -229,9 +229,9 @@ func (c *memberConn) Read(into []byte) (int, error) {
 	if errors.As(err, &failure) && failure.Op == "remote error" {
 		own := "no certificate"
 		if c.used.leaf != nil {
-			own = "--cert " + named(c.used.leaf)
+			own = "--cert " + describeCertificate(c.used.leaf)
 		}
-		c.members.cannotReach(context.Background(), c.to, fmt.Errorf("it refuses %s: %v", own, failure.Err))
+		c.members.noteUnreached(context.Background(), c.to, fmt.Errorf("it refuses %s: %v", own, failure.Err))
 	}
 	return count, err
 }

@@ -20,7 +20,7 @@ import (
 
 // A line has the members that an error comes from: those that refused, those that could not be
 // reached, or all that were asked where none answered; and none where the error is not etcd's.
-func TestWhere(t *testing.T) {
+func TestMembersOf(t *testing.T) {
 	m := newMembers(options{endpoints: []string{"a:1", "b:2", "c:3"}}, t.Logf)
 	m.refused["b:2"] = "etcdserver: permission denied"
 	silence := status.Error(codes.Unavailable, "transport is closing")
@@ -36,15 +36,15 @@ func TestWhere(t *testing.T) {
 		{"refused, while others cannot be reached", map[string]string{"a:1": "no"}, rpctypes.ErrPermissionDenied, " (b:2)"},
 		{"not of etcd", map[string]string{"a:1": "no"}, errKeyGone, ""},
 		{"silence", nil, context.DeadlineExceeded, " (a:1; b:2; c:3)"},
-		{"silence of an open outcome", nil, open{silence}, " (a:1; b:2; c:3)"},
+		{"silence of an open outcome", nil, unknownOutcome{silence}, " (a:1; b:2; c:3)"},
 		{"some cannot be reached", map[string]string{"a:1": "no", "c:3": "its certificate"}, context.DeadlineExceeded, " (a:1: no; c:3: its certificate)"},
 		{"the lease is over", map[string]string{"c:3": "no"}, errLeaseOver, " (c:3: no)"},
 	}
 	for _, c := range cases {
 		t.Run(c.name, func(t *testing.T) {
 			m.unreached = c.unreached
-			if got := m.where(c.err); got != c.want {
-				t.Errorf("%q, wanted %q", got, c.want)
+			if got := m.membersOf(c.err); got != c.want {
+				t.Errorf("%q, want %q", got, c.want)
 			}
 		})
 	}
@@ -64,16 +64,16 @@ func TestUnreachedMember(t *testing.T) {
 		t.Fatal("somebody answers")
 	}
 	var lines []string
-	c := &candidate{members: m, state: &leadership{}, say: func(_ string, parts ...interface{}) { lines = append(lines, parts[0].(string)) }}
-	c.waits(context.DeadlineExceeded)
-	c.waits(context.DeadlineExceeded)
+	c := &candidate{members: m, state: &leadership{}, logf: func(_ string, args ...interface{}) { lines = append(lines, args[0].(string)) }}
+	c.reportWaiting(context.DeadlineExceeded)
+	c.reportWaiting(context.DeadlineExceeded)
 	ctx, cancel := context.WithCancel(context.Background())
-	m.cannotReach(ctx, address, errors.New("another reason"))
+	m.noteUnreached(ctx, address, errors.New("another reason"))
 	cancel()
-	m.cannotReach(ctx, address, errors.New("given up"))
-	c.waits(context.DeadlineExceeded)
+	m.noteUnreached(ctx, address, errors.New("given up"))
+	c.reportWaiting(context.DeadlineExceeded)
 	delete(m.unreached, address)
-	c.waits(context.DeadlineExceeded)
+	c.reportWaiting(context.DeadlineExceeded)
 	const silent = "no lock: context deadline exceeded ("
 	want := silent + address + ": connect: connection refused)\n" + silent + address + ": another reason)\n" + silent + address + ")"
 	if got := strings.Join(lines, "\n"); got != want {
@@ -81,58 +81,58 @@ func TestUnreachedMember(t *testing.T) {
 	}
 }
 
-// guarded is an etcd that takes the newest token alone.
-type guarded struct {
-	moody
+// tokenServer is an etcd that takes the newest token alone.
+type tokenServer struct {
+	failingServer
 	pb.AuthServer
-	asked []string
+	issued []string
 }
 
-func (g *guarded) Authenticate(ctx context.Context, asked *pb.AuthenticateRequest) (*pb.AuthenticateResponse, error) {
-	if said, _ := metadata.FromIncomingContext(ctx); len(said.Get("token")) > 0 {
+func (g *tokenServer) Authenticate(ctx context.Context, issued *pb.AuthenticateRequest) (*pb.AuthenticateResponse, error) {
+	if md, _ := metadata.FromIncomingContext(ctx); len(md.Get("token")) > 0 {
 		return nil, rpctypes.ErrGRPCInvalidAuthToken
 	}
-	if asked.Name != "csid" || asked.Password != "secret" {
+	if issued.Name != "csid" || issued.Password != "secret" {
 		return nil, rpctypes.ErrGRPCAuthFailed
 	}
-	g.asked = append(g.asked, "token"+strings.Repeat("+", len(g.asked)))
-	return &pb.AuthenticateResponse{Header: &pb.ResponseHeader{}, Token: g.asked[len(g.asked)-1]}, nil
+	g.issued = append(g.issued, "token"+strings.Repeat("+", len(g.issued)))
+	return &pb.AuthenticateResponse{Header: &pb.ResponseHeader{}, Token: g.issued[len(g.issued)-1]}, nil
 }
 
-func (g *guarded) Txn(ctx context.Context, asked *pb.TxnRequest) (*pb.TxnResponse, error) {
-	said, _ := metadata.FromIncomingContext(ctx)
-	if tokens := said.Get("token"); len(tokens) != 1 || tokens[0] != g.asked[len(g.asked)-1] {
+func (g *tokenServer) Txn(ctx context.Context, issued *pb.TxnRequest) (*pb.TxnResponse, error) {
+	md, _ := metadata.FromIncomingContext(ctx)
+	if tokens := md.Get("token"); len(tokens) != 1 || tokens[0] != g.issued[len(g.issued)-1] {
 		return nil, rpctypes.ErrGRPCInvalidAuthToken
 	}
-	return g.moody.Txn(ctx, asked)
+	return g.failingServer.Txn(ctx, issued)
 }
 
 // A user has a token from the start on, and another one once etcd does not know it any more: the
 // transaction is made then, once.
 func TestLogin(t *testing.T) {
-	server := &guarded{}
+	server := &tokenServer{}
 	password := filepath.Join(t.TempDir(), "password")
 	if err := os.WriteFile(password, []byte("wrong\n"), 0o600); err != nil {
 		t.Fatal(err)
 	}
-	asked := options{endpoints: []string{listening(t, server)}, timeout: 5 * time.Second, user: "csid", passwordFile: password}
-	if _, err := newMembers(asked, t.Logf).connect(); err != rpctypes.ErrAuthFailed {
+	issued := options{endpoints: []string{serveEtcd(t, server)}, timeout: 5 * time.Second, user: "csid", passwordFile: password}
+	if _, err := newMembers(issued, t.Logf).connect(); err != rpctypes.ErrAuthFailed {
 		t.Fatalf("with another password: %v", err)
 	}
-	asked.passwordFile, asked.password = "", "secret"
-	client, err := newMembers(asked, t.Logf).connect()
+	issued.passwordFile, issued.password = "", "secret"
+	client, err := newMembers(issued, t.Logf).connect()
 	if err != nil {
 		t.Fatal(err)
 	}
 	defer client.Close()
 	for i := 1; i <= 2; i++ {
 		ctx, cancel := context.WithTimeout(context.Background(), 5*time.Second)
-		_, err := client.Txn(sentOnce(ctx)).Then(clientv3.OpPut("a", "b")).Commit()
+		_, err := client.Txn(withSendOnce(ctx)).Then(clientv3.OpPut("a", "b")).Commit()
 		cancel()
-		if err != nil || int(server.came) != i || len(server.asked) != i {
-			t.Errorf("%d: %v, %d transactions, %d tokens", i, err, server.came, len(server.asked))
+		if err != nil || int(server.requests) != i || len(server.issued) != i {
+			t.Errorf("%d: %v, %d transactions, %d tokens", i, err, server.requests, len(server.issued))
 		}
 		// As after a start of etcd.
-		server.asked[len(server.asked)-1] = "forgotten"
+		server.issued[len(server.issued)-1] = "forgotten"
 	}
 }

@@ -26,7 +26,7 @@ type field struct {
 }
 
 // readFields hands the fields of a message on, in order. Groups are malformed.
-func readFields(message []byte, take func(field) error) error {
+func readFields(message []byte, handle func(field) error) error {
 	for len(message) > 0 {
 		number, kind, size := protowire.ConsumeTag(message)
 		if size < 0 || kind == protowire.StartGroupType || kind == protowire.EndGroupType {
@@ -37,14 +37,14 @@ func readFields(message []byte, take func(field) error) error {
 		if size < 0 {
 			return errMessage
 		}
-		got := field{number: number, kind: kind}
+		f := field{number: number, kind: kind}
 		switch kind {
 		case protowire.VarintType:
-			got.varint, _ = protowire.ConsumeVarint(message)
+			f.varint, _ = protowire.ConsumeVarint(message)
 		case protowire.BytesType:
-			got.bytes, _ = protowire.ConsumeBytes(message)
+			f.bytes, _ = protowire.ConsumeBytes(message)
 		}
-		if err := take(got); err != nil {
+		if err := handle(f); err != nil {
 			return err
 		}
 		message = message[size:]
@@ -58,26 +58,26 @@ type target interface{}
 // readInto reads a message into the targets of its fields, by their numbers. Of a field that comes again the last counts, and one that is not
 // known, or of another wire type, is skipped.
 func readInto(message []byte, targets map[protowire.Number]target) error {
-	return readFields(message, func(got field) error {
-		switch into := targets[got.number].(type) {
+	return readFields(message, func(f field) error {
+		switch into := targets[f.number].(type) {
 		case *uint64:
-			if got.kind == protowire.VarintType {
-				*into = got.varint
+			if f.kind == protowire.VarintType {
+				*into = f.varint
 			}
 		case *bool:
-			if got.kind == protowire.VarintType {
-				*into = got.varint != 0
+			if f.kind == protowire.VarintType {
+				*into = f.varint != 0
 			}
 		case *[]byte:
-			if got.kind == protowire.BytesType {
-				*into = got.bytes
+			if f.kind == protowire.BytesType {
+				*into = f.bytes
 			}
 		case *string:
-			if got.kind == protowire.BytesType {
-				if !utf8.Valid(got.bytes) {
+			if f.kind == protowire.BytesType {
+				if !utf8.Valid(f.bytes) {
 					return errMessage
 				}
-				*into = string(got.bytes)
+				*into = string(f.bytes)
 			}
 		}
 		return nil
@@ -121,30 +121,30 @@ var changeMessages = map[protowire.Number]func() (change, map[protowire.Number]t
 
 // readChange reads the message of Commit, which has exactly one change.
 func readChange(message []byte) (change, error) {
-	var asked change
+	var read change
 	var targets map[protowire.Number]target
-	var which protowire.Number
-	err := readFields(message, func(got field) error {
-		begin := changeMessages[got.number]
-		if begin == nil || got.kind != protowire.BytesType {
+	var first protowire.Number
+	err := readFields(message, func(f field) error {
+		newChange := changeMessages[f.number]
+		if newChange == nil || f.kind != protowire.BytesType {
 			return nil
 		}
-		if asked == nil {
-			which = got.number
-			asked, targets = begin()
+		if read == nil {
+			first = f.number
+			read, targets = newChange()
 		}
-		if got.number != which {
+		if f.number != first {
 			return refusal{codes.InvalidArgument, "more than one change"}
 		}
-		return readInto(got.bytes, targets)
+		return readInto(f.bytes, targets)
 	})
 	if err != nil {
 		return nil, err
 	}
-	if asked == nil {
+	if read == nil {
 		return nil, refusal{codes.InvalidArgument, "no change that is known"}
 	}
-	return asked, nil
+	return read, nil
 }
 
 // Writing. Each field is written, also 0 and empty ones, in rising order.

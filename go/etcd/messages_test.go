@@ -40,12 +40,12 @@ func TestReadChange(t *testing.T) {
 	for _, row := range rows {
 		got, err := readChange(fromHex(t, row.message))
 		if err != nil || !reflect.DeepEqual(got, row.want) {
-			t.Errorf("%s: %+v, %v, wanted %+v", row.message, got, err, row.want)
+			t.Errorf("%s: %+v, %v, want %+v", row.message, got, err, row.want)
 		}
 	}
 }
 
-func TestBadChange(t *testing.T) {
+func TestReadChangeErrors(t *testing.T) {
 	rows := []struct{ message, want string }{
 		{"", "no change that is known"}, {"7801", "no change that is known"}, {"0801", "no change that is known"}, {"3a00", "no change that is known"},
 		{"1200 2a00", "more than one change"}, {"0a00 1a00 0a00", "more than one change"},
@@ -75,7 +75,7 @@ func TestReadToken(t *testing.T) {
 }
 
 // Each field of a row is written, also 0 and empty ones.
-func TestMessagesOfRows(t *testing.T) {
+func TestRowMessages(t *testing.T) {
 	caps := fromHex(t, "1a060a001a020801")
 	rows := []struct {
 		got  []byte
@@ -89,7 +89,7 @@ func TestMessagesOfRows(t *testing.T) {
 	}
 	for _, row := range rows {
 		if got := hex.EncodeToString(row.got); got != strings.ReplaceAll(row.want, " ", "") {
-			t.Errorf("%s, wanted %s", got, row.want)
+			t.Errorf("%s, want %s", got, row.want)
 		}
 	}
 }

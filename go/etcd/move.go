@@ -40,65 +40,65 @@ func checkFormat(row meta) error {
 	return nil
 }
 
-// once makes the first row, brings rows from a file of csid into etcd or from there into one, or lists them. It neither has the lock nor a socket.
-func once(asked options, lines *log.Logger) int {
+// runOnce makes the first row, brings rows from a file of csid into etcd or from there into one, or lists them. It neither has the lock nor a socket.
+func runOnce(opts options, lines *log.Logger) int {
 	// What is printed is all that was asked for: nothing is said of certificates.
-	m := newMembers(asked, func(string, ...interface{}) {})
-	var how string
+	m := newMembers(opts, func(string, ...interface{}) {})
+	var option string
 	var err error
 	switch {
-	case asked.isNew:
-		how, err = "--new", makeNew(m, os.Stdout)
-	case asked.isExport:
-		how, err = "--export", export(m, os.Stdout, lines)
-	case asked.isList:
-		how, err = "--list", list(m, os.Stdout)
+	case opts.isNew:
+		option, err = "--new", makeNew(m, os.Stdout)
+	case opts.isExport:
+		option, err = "--export", export(m, os.Stdout, lines)
+	case opts.isList:
+		option, err = "--list", list(m, os.Stdout)
 	default:
-		how, err = "--import", importRows(m, os.Stdin, os.Stdout)
+		option, err = "--import", importRows(m, os.Stdin, os.Stdout)
 	}
 	if err != nil {
-		lines.Printf("%s: %v%s", how, err, m.where(err))
-		return failed
+		lines.Printf("%s: %v%s", option, err, m.membersOf(err))
+		return exitFailure
 	}
-	return done
+	return exitOK
 }
 
-var errNotEnded = errors.New("rows are there, and meta is not: an import was not ended")
+var errUnfinishedImport = errors.New("rows are there, and meta is not: an import was not ended")
 
 // makeNew makes the first row where there is none yet, and leaves rows that stand.
 func makeNew(m *members, to io.Writer) error {
-	asked := m.asked
+	opts := m.opts
 	client, err := m.connect()
 	if err != nil {
 		return err
 	}
 	defer client.Close()
-	k := keys{asked.name}
+	k := keys{opts.name}
 	first := k.firstRow()
 	var answer *clientv3.TxnResponse
-	err = tries(context.Background(), client, asked.timeout, func(ctx context.Context) (err error) {
-		answer, err = client.Txn(ctx).If(first.supposes...).Then(first.does...).Else(clientv3.OpGet(k.meta())).Commit()
+	err = retry(context.Background(), client, opts.timeout, func(ctx context.Context) (err error) {
+		answer, err = client.Txn(ctx).If(first.compares...).Then(first.success...).Else(clientv3.OpGet(k.meta())).Commit()
 		return err
 	})
 	if err != nil {
 		return err
 	}
 	if answer.Succeeded {
-		return printed(to, fmt.Sprintf("made: %v", counts{meta: firstMeta}))
+		return printLine(to, fmt.Sprintf("made: %v", counts{meta: firstMeta}))
 	}
 	found := answer.Responses[0].GetResponseRange().Kvs
 	if len(found) == 0 {
-		return errNotEnded
+		return errUnfinishedImport
 	}
 	row, err := readMeta(found[0].Value)
 	if err != nil {
-		return broken(k, k.meta(), err)
+		return brokenRow(k, k.meta(), err)
 	}
-	return printed(to, fmt.Sprintf("exists: next number %d, format %d", row.next, row.format))
+	return printLine(to, fmt.Sprintf("exists: next number %d, format %d", row.next, row.format))
 }
 
-// printed writes one line.
-func printed(to io.Writer, line string) error {
+// printLine writes one line.
+func printLine(to io.Writer, line string) error {
 	_, err := io.WriteString(to, line+"\n")
 	return err
 }

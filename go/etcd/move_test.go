@@ -20,7 +20,7 @@ const (
 )
 
 // Lines that are rows are taken, whatever their order is.
-func TestLines(t *testing.T) {
+func TestReadLines(t *testing.T) {
 	for _, lines := range []string{volumeLine + attachmentLine + metaLine, attachmentLine + volumeLine + metaLine} {
 		rows, found, err := readLines(strings.NewReader(lines), keys{"x"})
 		if err != nil || len(rows) != 3 || found.String() != "volumes 1, attachments 1, next number 9, format 2" {
@@ -36,7 +36,7 @@ func TestLines(t *testing.T) {
 	}
 }
 
-func TestBadLines(t *testing.T) {
+func TestReadLinesErrors(t *testing.T) {
 	const volumeForm = `volumes/00000000000000000007: its value is not of the form {"name":TEXT,"bytes":NUMBER,"pool":TEXT,"caps":HEX,"params":HEX}`
 	missing := "the last line is not meta: it is missing, or what comes in was cut off"
 	rows := []struct{ lines, want string }{
@@ -75,23 +75,23 @@ func TestBadLines(t *testing.T) {
 }
 
 // Rows are parted by their number and by what they take, and one that takes more is alone.
-func TestSome(t *testing.T) {
-	of := func(sizes ...int) (rows []line) {
+func TestBatchSize(t *testing.T) {
+	of := func(sizes ...int) (rows []importLine) {
 		for _, size := range sizes {
-			rows = append(rows, line{"k", make([]byte, size)})
+			rows = append(rows, importLine{"k", make([]byte, size)})
 		}
 		return rows
 	}
 	table := []struct {
-		rows []line
+		rows []importLine
 		want int
 	}{
 		{of(1), 1}, {of(1, 2, 3), 3}, {of(make([]int, 64)...), 64}, {of(make([]int, 65)...), 64},
 		{of(2<<20, 1), 1}, {of(1, 2<<20), 1}, {of(1<<19, 1<<18, 1<<18), 2}, {of(1<<19, 1<<18, 1<<18-9), 3},
 	}
 	for _, row := range table {
-		if got := some(row.rows); got != row.want {
-			t.Errorf("%d rows: %d, wanted %d", len(row.rows), got, row.want)
+		if got := batchSize(row.rows); got != row.want {
+			t.Errorf("%d rows: %d, want %d", len(row.rows), got, row.want)
 		}
 	}
 }
@@ -111,22 +111,22 @@ func TestStatements(t *testing.T) {
 	}
 	for _, row := range rows {
 		if got := row.row.statement(); got != row.want {
-			t.Errorf("%s, wanted %s", got, row.want)
+			t.Errorf("%s, want %s", got, row.want)
 		}
 	}
 }
 
 // A transaction of an import goes to etcd once, and where its outcome is not known the line does not say that nothing was written.
 func TestImportNotKnown(t *testing.T) {
-	server := &moody{errors: []error{status.Error(codes.Canceled, "any")}}
+	server := &failingServer{errors: []error{status.Error(codes.Canceled, "any")}}
 	rows, _, err := readLines(strings.NewReader(volumeLine+metaLine), sampleKeys)
 	if err != nil {
 		t.Fatal(err)
 	}
-	i := &importing{client: server.start(t, grpc.WithChainUnaryInterceptor(sendOnce)), keys: sampleKeys, timeout: 5 * time.Second}
+	i := &importer{client: server.start(t, grpc.WithChainUnaryInterceptor(sendOnce)), keys: sampleKeys, timeout: 5 * time.Second}
 	err = i.write(rows)
-	if came := atomic.LoadInt32(&server.came); came != 1 || err == nil {
-		t.Fatalf("it came %d times, %v", came, err)
+	if requests := atomic.LoadInt32(&server.requests); requests != 1 || err == nil {
+		t.Fatalf("it came %d times, %v", requests, err)
 	}
 	why := err.Error()
 	if !strings.HasPrefix(why, "it is not known whether it was made: ") {
@@ -144,8 +144,8 @@ func TestImportNotKnown(t *testing.T) {
 	}
 	for _, row := range ends {
 		i.written = row.written
-		if got := i.stopped(row.err, 2); got.Error() != row.want {
-			t.Errorf("%v, wanted %s", got, row.want)
+		if got := i.explainStop(row.err, 2); got.Error() != row.want {
+			t.Errorf("%v, want %s", got, row.want)
 		}
 	}
 }
@@ -153,27 +153,27 @@ func TestImportNotKnown(t *testing.T) {
 // Rows are exported once each, all at the revision of the first answer, whatever is written in the meantime; and where that was compacted, no more of them.
 func TestExportedOnce(t *testing.T) {
 	const count = 1000
-	server := &written{rows: map[string]string{sampleKeys.meta(): `{"format_no":2,"next_number":1001}`}}
+	server := &rowServer{rows: map[string]string{sampleKeys.meta(): `{"format_no":2,"next_number":1001}`}}
 	for n := uint64(1); n <= count; n++ {
 		server.rows[sampleKeys.volume(n)] = string(volume{name: "a", pool: "p"}.encoded())
 	}
 	for _, row := range closest() {
 		server.rows[sampleKeys.attachment(row.number, row.node)] = string(row.encoded())
 	}
-	r := &reading{client: startServer(t, server, 1), timeout: 5 * time.Second}
+	r := &snapshot{client: startServer(t, server, 1), timeout: 5 * time.Second}
 	var out strings.Builder
 	found, err := r.print(sampleKeys, &out)
 	if err != nil || r.revision != firstRevision || found.String() != "volumes 1000, attachments 100, next number 1001, format 2" {
 		t.Errorf("at revision %d: %v, %v", r.revision, found, err)
 	}
 	seen := map[string]bool{}
-	for _, line := range strings.Split(out.String(), "\n") {
-		if seen[line] {
-			t.Fatalf("twice: %s", line)
+	for _, importLine := range strings.Split(out.String(), "\n") {
+		if seen[importLine] {
+			t.Fatalf("twice: %s", importLine)
 		}
-		seen[line] = true
+		seen[importLine] = true
 	}
-	server.wantsOneRevision(t)
+	server.checkRevisions(t)
 	server.isCompacted = true
 	if _, err := r.print(sampleKeys, io.Discard); err != errCompacted {
 		t.Errorf("compacted: %v", err)

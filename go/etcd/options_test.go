@@ -15,9 +15,9 @@ func read(words string) (options, error) {
 }
 
 func TestOptions(t *testing.T) {
-	plain := options{name: "a", listen: "s", endpoints: []string{"127.0.0.1:2379"}, timeout: 3 * time.Second, lease: 10, id: ownID()}
+	plain := options{name: "a", listen: "s", endpoints: []string{"127.0.0.1:2379"}, timeout: 3 * time.Second, lease: 10, id: defaultID()}
 	full := options{name: "example.fomaheti", listen: "s", endpoints: []string{"https://a:1", "https://b:2"}, cacert: "ca", cert: "c", key: "k", user: "u", password: "p:q",
-		timeout: time.Second, lease: 600, id: "me", revision: "r", acceptOlder: true, isExisting: true}
+		timeout: time.Second, lease: 600, id: "me", revision: "r", acceptOlder: true, requireRows: true}
 	moving := plain
 	moving.listen, moving.isExport = "", true
 	making := plain
@@ -41,7 +41,7 @@ func TestOptions(t *testing.T) {
 	}
 }
 
-func TestBadOptions(t *testing.T) {
+func TestOptionErrors(t *testing.T) {
 	const good = "--name a --listen s "
 	rows := []struct{ words, want string }{
 		{"", "--name: the name of the plugin is missing"},

@@ -22,14 +22,16 @@ type refusal struct {
 func (r refusal) Error() string { return r.text }
 
 // refuse is a refusal because the rows are not as was supposed, or because this program does not lead.
-func refuse(format string, parts ...interface{}) refusal {
-	return refusal{codes.FailedPrecondition, frames.Text(fmt.Sprintf(format, parts...))}
+func refuse(format string, args ...interface{}) refusal {
+	return refusal{codes.FailedPrecondition, frames.Text(fmt.Sprintf(format, args...))}
 }
 
-// open is what is not known: it was made, or not, or still may be. Such a call gets no reply.
-type open struct{ err error }
+// unknownOutcome is what is not known: it was made, or not, or still may be. Such a call gets no reply.
+type unknownOutcome struct{ err error }
 
-func (o open) Error() string { return "it is not known whether it was made: " + o.err.Error() }
+func (o unknownOutcome) Error() string {
+	return "it is not known whether it was made: " + o.err.Error()
+}
 
 // certainRefusals are the errors of etcd that it returns only of a transaction that it has not made. They come before it proposes the transaction to
 // its members, or instead of making it. ErrNoSpace is not among them: a member returns it also of a transaction that it has made, where the room
@@ -54,15 +56,15 @@ const (
 	tooLongToTake = "grpc: received message larger than max"
 )
 
-// certain is the refusal that an error of a transaction is, where it is a certain one. Whatever is not known here is not certain: a deadline, a
+// notMade is the refusal that an error of a transaction is, where it is a certain one. Whatever is not known here is not certain: a deadline, a
 // connection that was lost, a leader that changed, and each error that etcd may get.
-func certain(err error) (refusal, bool) {
-	if code, is := certainRefusals[err]; is {
+func notMade(err error) (refusal, bool) {
+	if code, ok := certainRefusals[err]; ok {
 		return refusal{code, frames.Text(err.Error())}, true
 	}
-	said := status.Convert(err)
-	if said.Code() == codes.ResourceExhausted && (strings.Contains(said.Message(), tooLongToSend) || strings.Contains(said.Message(), tooLongToTake)) {
-		return refusal{codes.ResourceExhausted, frames.Text(said.Message())}, true
+	rpcStatus := status.Convert(err)
+	if rpcStatus.Code() == codes.ResourceExhausted && (strings.Contains(rpcStatus.Message(), tooLongToSend) || strings.Contains(rpcStatus.Message(), tooLongToTake)) {
+		return refusal{codes.ResourceExhausted, frames.Text(rpcStatus.Message())}, true
 	}
 	return refusal{}, false
 }
@@ -78,26 +80,26 @@ type attempt struct{ err error }
 
 type attemptKey struct{}
 
-func sentOnce(ctx context.Context) context.Context {
+func withSendOnce(ctx context.Context) context.Context {
 	return context.WithValue(ctx, attemptKey{}, &attempt{})
 }
 
 // sendOnce is between etcd's client, which sends again, and the connection. A call that is to be sent once goes on a second time only where
 // the first one was refused for its token, and etcd's client got a new one in the meantime.
-func sendOnce(ctx context.Context, method string, request, reply interface{}, connection *grpc.ClientConn, send grpc.UnaryInvoker, options ...grpc.CallOption) error {
+func sendOnce(ctx context.Context, method string, request, reply interface{}, conn *grpc.ClientConn, invoke grpc.UnaryInvoker, options ...grpc.CallOption) error {
 	last, isOnce := ctx.Value(attemptKey{}).(*attempt)
 	if !isOnce {
-		return send(ctx, method, request, reply, connection, options...)
+		return invoke(ctx, method, request, reply, conn, options...)
 	}
-	if last.err != nil && !isOfToken(last.err) {
+	if last.err != nil && !isTokenError(last.err) {
 		return status.Error(codes.Unknown, "it was not sent again: "+status.Convert(last.err).Message())
 	}
-	last.err = send(ctx, method, request, reply, connection, options...)
+	last.err = invoke(ctx, method, request, reply, conn, options...)
 	return last.err
 }
 
-// isOfToken reports whether etcd refused a call before it looked at more than its token.
-func isOfToken(err error) bool {
+// isTokenError reports whether etcd refused a call before it looked at more than its token.
+func isTokenError(err error) bool {
 	switch rpctypes.Error(err) {
 	case rpctypes.ErrUserEmpty, rpctypes.ErrInvalidAuthToken, rpctypes.ErrAuthOldRevision:
 		return true

@@ -38,36 +38,36 @@ func TestCertain(t *testing.T) {
 		{status.Error(codes.ResourceExhausted, "any"), codes.OK}, {status.Error(codes.Canceled, "any"), codes.OK}, {status.Error(codes.Internal, "any"), codes.OK},
 	}
 	for _, row := range rows {
-		why, is := certain(rpctypes.Error(row.err))
-		if is != (row.code != codes.OK) || why.code != row.code {
-			t.Errorf("%v: %v, %v", row.err, why.code, is)
+		why, ok := notMade(rpctypes.Error(row.err))
+		if ok != (row.code != codes.OK) || why.code != row.code {
+			t.Errorf("%v: %v, %v", row.err, why.code, ok)
 		}
 	}
 }
 
-// moody is an etcd that answers transactions by errors, and counts them.
-type moody struct {
+// failingServer is an etcd that answers transactions by errors, and counts them.
+type failingServer struct {
 	pb.KVServer
-	errors []error
-	came   int32
+	errors   []error
+	requests int32
 }
 
-func (m *moody) Txn(_ context.Context, asked *pb.TxnRequest) (*pb.TxnResponse, error) {
-	came := int(atomic.AddInt32(&m.came, 1))
-	if came <= len(m.errors) {
-		return nil, m.errors[came-1]
+func (m *failingServer) Txn(_ context.Context, request *pb.TxnRequest) (*pb.TxnResponse, error) {
+	requests := int(atomic.AddInt32(&m.requests, 1))
+	if requests <= len(m.errors) {
+		return nil, m.errors[requests-1]
 	}
-	return &pb.TxnResponse{Header: &pb.ResponseHeader{Revision: 200}, Succeeded: true, Responses: responses(asked.Success)}, nil
+	return &pb.TxnResponse{Header: &pb.ResponseHeader{Revision: 200}, Succeeded: true, Responses: responses(request.Success)}, nil
 }
 
 // start starts the etcd, and makes a client of it.
-func (m *moody) start(t *testing.T, options ...grpc.DialOption) *clientv3.Client {
+func (m *failingServer) start(t *testing.T, options ...grpc.DialOption) *clientv3.Client {
 	t.Helper()
 	return startServer(t, m, 1, options...)
 }
 
-// listening starts an etcd, and says where it answers.
-func listening(t *testing.T, kv pb.KVServer) (address string) {
+// serveEtcd starts an etcd, and says where it answers.
+func serveEtcd(t *testing.T, kv pb.KVServer) (address string) {
 	t.Helper()
 	listener, err := net.Listen("tcp", "127.0.0.1:0")
 	if err != nil {
@@ -75,13 +75,13 @@ func listening(t *testing.T, kv pb.KVServer) (address string) {
 	}
 	server := grpc.NewServer()
 	pb.RegisterKVServer(server, kv)
-	if lender, is := kv.(pb.LeaseServer); is {
+	if lender, ok := kv.(pb.LeaseServer); ok {
 		pb.RegisterLeaseServer(server, lender)
 	}
-	if guard, is := kv.(pb.AuthServer); is {
+	if guard, ok := kv.(pb.AuthServer); ok {
 		pb.RegisterAuthServer(server, guard)
 	}
-	if teller, is := kv.(pb.WatchServer); is {
+	if teller, ok := kv.(pb.WatchServer); ok {
 		pb.RegisterWatchServer(server, teller)
 	}
 	go server.Serve(listener)
@@ -92,7 +92,7 @@ func listening(t *testing.T, kv pb.KVServer) (address string) {
 // startServer starts an etcd, and makes a client to which it is so many members.
 func startServer(t *testing.T, kv pb.KVServer, members int, options ...grpc.DialOption) *clientv3.Client {
 	t.Helper()
-	address := listening(t, kv)
+	address := serveEtcd(t, kv)
 	var endpoints []string
 	for i := 0; i < members; i++ {
 		endpoints = append(endpoints, address)
@@ -111,10 +111,10 @@ func startServer(t *testing.T, kv pb.KVServer, members int, options ...grpc.Dial
 // server says that it was canceled, or that its deadline is over.
 func TestSentOnce(t *testing.T) {
 	rows := []struct {
-		name   string
-		err    error
-		isOnce bool
-		came   int32
+		name     string
+		err      error
+		isOnce   bool
+		requests int32
 	}{
 		{"canceled", status.Error(codes.Canceled, "any"), false, 2},
 		{"late", status.Error(codes.DeadlineExceeded, "any"), false, 2},
@@ -125,23 +125,23 @@ func TestSentOnce(t *testing.T) {
 		{"of a token that etcd does not know", rpctypes.ErrGRPCInvalidAuthToken, true, 2},
 	}
 	for _, row := range rows {
-		server := &moody{errors: []error{row.err}}
-		client, err := newMembers(options{endpoints: []string{listening(t, server)}, timeout: 5 * time.Second}, t.Logf).connect()
+		server := &failingServer{errors: []error{row.err}}
+		client, err := newMembers(options{endpoints: []string{serveEtcd(t, server)}, timeout: 5 * time.Second}, t.Logf).connect()
 		if err != nil {
 			t.Fatal(err)
 		}
 		t.Cleanup(func() { client.Close() })
 		ctx, cancel := context.WithTimeout(context.Background(), 5*time.Second)
 		if row.isOnce {
-			ctx = sentOnce(ctx)
+			ctx = withSendOnce(ctx)
 		}
 		_, err = client.Txn(ctx).Then(clientv3.OpPut("a", "b")).Commit()
 		cancel()
-		if came := atomic.LoadInt32(&server.came); came != row.came || (err == nil) != (row.came == 2) {
-			t.Errorf("%s, once %v: it came %d times, %v", row.name, row.isOnce, came, err)
+		if requests := atomic.LoadInt32(&server.requests); requests != row.requests || (err == nil) != (row.requests == 2) {
+			t.Errorf("%s, once %v: it came %d times, %v", row.name, row.isOnce, requests, err)
 		}
 		if err != nil {
-			if why, is := certain(err); is {
+			if why, ok := notMade(err); ok {
 				t.Errorf("%s: certain, %v", row.name, why)
 			}
 		}

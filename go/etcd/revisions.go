@@ -29,12 +29,12 @@ type revisions struct {
 	// What the file has.
 	saved string
 	// Closed once there is a lower one: that is written at once.
-	noticed chan struct{}
+	olderSeen chan struct{}
 }
 
 // openRevisions reads the file. Where an older etcd is accepted, what it has is forgotten, and written again.
 func openRevisions(path string, acceptOlder bool) (*revisions, error) {
-	r := &revisions{path: path, noticed: make(chan struct{}, 1)}
+	r := &revisions{path: path, olderSeen: make(chan struct{}, 1)}
 	if path == "" || acceptOlder {
 		return r, nil
 	}
@@ -65,11 +65,11 @@ func (r *revisions) text() string {
 // read takes what the file has, and reports whether it is such a line.
 func (r *revisions) read(text string) bool {
 	greatest, lower, isOlder := strings.Cut(strings.TrimSuffix(text, "\n"), " ")
-	is := true
-	if r.greatest, is = readRevision(greatest); !is || !isOlder {
-		return is
+	ok := true
+	if r.greatest, ok = readRevision(greatest); !ok || !isOlder {
+		return ok
 	}
-	if r.lower, is = readRevision(lower); !is || r.lower >= r.greatest {
+	if r.lower, ok = readRevision(lower); !ok || r.lower >= r.greatest {
 		return false
 	}
 	r.older = olderRefusal(r.greatest, r.lower)
@@ -95,7 +95,7 @@ func (r *revisions) check(least, revision int64) error {
 	if r.older == nil && revision < least {
 		r.lower, r.older = revision, olderRefusal(least, revision)
 		select {
-		case r.noticed <- struct{}{}:
+		case r.olderSeen <- struct{}{}:
 		default:
 		}
 	}
@@ -107,8 +107,8 @@ func olderRefusal(answered, revision int64) error {
 		revision, answered)
 }
 
-// answered notes the revision of what is answered.
-func (r *revisions) answered(revision int64) {
+// record notes the revision of what is answered.
+func (r *revisions) record(revision int64) {
 	r.mutex.Lock()
 	defer r.mutex.Unlock()
 	if revision > r.greatest {
@@ -116,19 +116,19 @@ func (r *revisions) answered(revision int64) {
 	}
 }
 
-// keep writes the file now and then, and at once where an older etcd was seen, until it is asked to end, and then a last time. A failure is reported once, until it is over.
-func (r *revisions) keep(end <-chan struct{}, say func(format string, parts ...interface{})) {
+// saveUntil writes the file now and then, and at once where an older etcd was seen, until it is asked to end, and then a last time. A failure is reported once, until it is over.
+func (r *revisions) saveUntil(end <-chan struct{}, logf func(format string, args ...interface{})) {
 	isFailing := false
 	for isEnding := false; !isEnding; {
 		select {
 		case <-end:
 			isEnding = true
-		case <-r.noticed:
+		case <-r.olderSeen:
 		case <-time.After(savePause):
 		}
 		err := r.save()
 		if err != nil && !isFailing {
-			say("--revision: %v", err)
+			logf("--revision: %v", err)
 		}
 		isFailing = err != nil
 	}
@@ -142,15 +142,15 @@ func (r *revisions) save() error {
 	if r.path == "" || text == r.saved {
 		return nil
 	}
-	if err := replace(r.path, []byte(text)); err != nil {
+	if err := replaceFile(r.path, []byte(text)); err != nil {
 		return err
 	}
 	r.saved = text
 	return nil
 }
 
-// replace writes PATH.new, and gives it the name PATH.
-func replace(path string, text []byte) error {
+// replaceFile writes PATH.new, and gives it the name PATH.
+func replaceFile(path string, text []byte) error {
 	file, err := files.Create(path+".new", 0o600)
 	if err != nil {
 		return err
@@ -159,8 +159,8 @@ func replace(path string, text []byte) error {
 	if err == nil {
 		err = file.Sync()
 	}
-	if closing := file.Close(); err == nil {
-		err = closing
+	if closeErr := file.Close(); err == nil {
+		err = closeErr
 	}
 	if err == nil {
 		err = os.Rename(path+".new", path)

@@ -19,8 +19,8 @@ func TestRevisions(t *testing.T) {
 	if err != nil || first.check(first.least(), 1) != nil {
 		t.Fatal(err)
 	}
-	first.answered(110)
-	first.answered(105)
+	first.record(110)
+	first.record(105)
 	if err := first.save(); err != nil {
 		t.Fatal(err)
 	}
@@ -36,7 +36,7 @@ func TestRevisions(t *testing.T) {
 	}
 	// What was asked before another answer came may be older than that.
 	before := second.least()
-	second.answered(112)
+	second.record(112)
 	if err := second.check(before, 111); err != nil {
 		t.Errorf("asked before: %v", err)
 	}
@@ -69,7 +69,7 @@ func TestRevisions(t *testing.T) {
 	if accepted, err := openRevisions(path, false); err != nil || accepted.check(accepted.least(), 1) != nil {
 		t.Errorf("after --accept-older, and nothing else: %v", err)
 	}
-	third.answered(50)
+	third.record(50)
 	if err := third.save(); err != nil {
 		t.Fatal(err)
 	}
@@ -85,10 +85,10 @@ func TestOlderIsWrittenAtOnce(t *testing.T) {
 	if err != nil {
 		t.Fatal(err)
 	}
-	r.answered(112)
+	r.record(112)
 	end := make(chan struct{})
 	defer close(end)
-	go r.keep(end, t.Logf)
+	go r.saveUntil(end, t.Logf)
 	if r.check(r.least(), 111) == nil {
 		t.Fatal("an older etcd is not refused")
 	}
@@ -126,7 +126,7 @@ func TestBadRevisionFile(t *testing.T) {
 func TestSaveAgain(t *testing.T) {
 	folder := filepath.Join(t.TempDir(), "none")
 	r := &revisions{path: filepath.Join(folder, "revision")}
-	r.answered(7)
+	r.record(7)
 	if r.save() == nil {
 		t.Fatal("it was written without its folder")
 	}
@@ -140,7 +140,7 @@ func TestSaveAgain(t *testing.T) {
 	if err := os.Link(r.path, old); err != nil {
 		t.Fatal(err)
 	}
-	r.answered(8)
+	r.record(8)
 	if err := r.save(); err != nil {
 		t.Fatal(err)
 	}
@@ -160,7 +160,7 @@ func TestNotWrittenWhole(t *testing.T) {
 		isFull   bool
 		want     string
 	}{{7, false, "7\n"}, {8, true, "7\n"}, {9, false, "9\n"}} {
-		r.answered(c.revision)
+		r.record(c.revision)
 		save := r.save
 		if c.isFull {
 			save = func() error { return withoutRoom(t, r.save) }
@@ -204,7 +204,7 @@ func TestLinkIsNotFollowed(t *testing.T) {
 		t.Fatal(err)
 	}
 	r := &revisions{path: path}
-	r.answered(7)
+	r.record(7)
 	if err := r.save(); !errors.Is(err, os.ErrExist) || !strings.Contains(err.Error(), path+".new") {
 		t.Errorf("a link: %v", err)
 	}
@@ -232,12 +232,12 @@ func TestLinkIsNotFollowed(t *testing.T) {
 // Each time that the file cannot be written any more is reported, once.
 func TestFailuresAreTold(t *testing.T) {
 	folder := filepath.Join(t.TempDir(), "none")
-	r := &revisions{path: filepath.Join(folder, "revision"), noticed: make(chan struct{})}
+	r := &revisions{path: filepath.Join(folder, "revision"), olderSeen: make(chan struct{})}
 	lines := 0
-	end, ended := make(chan struct{}), make(chan struct{})
+	end, done := make(chan struct{}), make(chan struct{})
 	go func() {
-		defer close(ended)
-		r.keep(end, func(string, ...interface{}) { lines++ })
+		defer close(done)
+		r.saveUntil(end, func(string, ...interface{}) { lines++ })
 	}()
 	for i, step := range []struct {
 		begin func() error
@@ -251,16 +251,16 @@ func TestFailuresAreTold(t *testing.T) {
 		if err := step.begin(); err != nil {
 			t.Fatal(err)
 		}
-		r.answered(int64(i) + 1)
+		r.record(int64(i) + 1)
 		// What is noticed is taken when nothing is written: the second one after the writing of the first.
-		r.noticed <- struct{}{}
-		r.noticed <- struct{}{}
+		r.olderSeen <- struct{}{}
+		r.olderSeen <- struct{}{}
 		if lines != step.want {
-			t.Errorf("step %d: %d lines, wanted %d", i, lines, step.want)
+			t.Errorf("step %d: %d lines, want %d", i, lines, step.want)
 		}
 	}
 	close(end)
-	<-ended
+	<-done
 }
 
 // The file is written at the end, and a failure is reported once.
@@ -268,19 +268,19 @@ func TestKeepRevisions(t *testing.T) {
 	folder := filepath.Join(t.TempDir(), "none")
 	r := &revisions{path: filepath.Join(folder, "revision")}
 	lines := 0
-	end, ended := make(chan struct{}), make(chan struct{})
+	end, done := make(chan struct{}), make(chan struct{})
 	go func() {
-		defer close(ended)
-		r.keep(end, func(string, ...interface{}) { lines++ })
+		defer close(done)
+		r.saveUntil(end, func(string, ...interface{}) { lines++ })
 	}()
-	r.answered(7)
+	r.record(7)
 	time.Sleep(2*savePause + savePause/2)
 	if err := os.Mkdir(folder, 0o700); err != nil {
 		t.Fatal(err)
 	}
-	r.answered(8)
+	r.record(8)
 	close(end)
-	<-ended
+	<-done
 	if text, err := os.ReadFile(r.path); err != nil || string(text) != "8\n" || lines != 1 {
 		t.Errorf("%q, %v, %d lines", text, err, lines)
 	}

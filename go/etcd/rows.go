@@ -50,9 +50,9 @@ func (m meta) encoded() []byte {
 }
 
 func (v volume) encoded() []byte {
-	value := appendText([]byte(`{"name":`), v.name)
+	value := appendJSONString([]byte(`{"name":`), v.name)
 	value = strconv.AppendUint(append(value, `,"bytes":`...), v.bytes, 10)
-	value = appendText(append(value, `,"pool":`...), v.pool)
+	value = appendJSONString(append(value, `,"pool":`...), v.pool)
 	return append(value, fmt.Sprintf(`,"caps":"%x","params":"%x"}`, v.caps, v.params)...)
 }
 
@@ -64,9 +64,9 @@ func (a attachment) encoded() []byte {
 	return []byte(fmt.Sprintf(`{"cap":"%x","readonly":%d}`, a.cap, readonly))
 }
 
-// appendText puts a text after other bytes as JSON has it: as it is but for the characters that must be escaped. encoding/json escapes
+// appendJSONString puts a text after other bytes as JSON has it: as it is but for the characters that must be escaped. encoding/json escapes
 // others too.
-func appendText(value []byte, text string) []byte {
+func appendJSONString(value []byte, text string) []byte {
 	value = append(value, '"')
 	for i := 0; i < len(text); i++ {
 		switch character := text[i]; {
@@ -110,14 +110,14 @@ func readObject(value []byte, into interface{}, form error) error {
 }
 
 func readMeta(value []byte) (meta, error) {
-	var said struct {
+	var columns struct {
 		Format uint64 `json:"format_no"`
 		Next   uint64 `json:"next_number"`
 	}
-	if err := readObject(value, &said, errMetaForm); err != nil {
+	if err := readObject(value, &columns, errMetaForm); err != nil {
 		return meta{}, err
 	}
-	row := meta{said.Format, said.Next}
+	row := meta{columns.Format, columns.Next}
 	if !bytes.Equal(row.encoded(), value) {
 		return meta{}, errMetaForm
 	}
@@ -128,19 +128,19 @@ func readMeta(value []byte) (meta, error) {
 }
 
 func readVolume(number uint64, value []byte) (volume, error) {
-	var said struct {
+	var columns struct {
 		Name   string `json:"name"`
 		Bytes  uint64 `json:"bytes"`
 		Pool   string `json:"pool"`
 		Caps   string `json:"caps"`
 		Params string `json:"params"`
 	}
-	if err := readObject(value, &said, errVolumeForm); err != nil {
+	if err := readObject(value, &columns, errVolumeForm); err != nil {
 		return volume{}, err
 	}
-	caps, capsErr := hex.DecodeString(said.Caps)
-	params, paramsErr := hex.DecodeString(said.Params)
-	row := volume{number, said.Name, said.Bytes, said.Pool, caps, params}
+	caps, capsErr := hex.DecodeString(columns.Caps)
+	params, paramsErr := hex.DecodeString(columns.Params)
+	row := volume{number, columns.Name, columns.Bytes, columns.Pool, caps, params}
 	if capsErr != nil || paramsErr != nil || !bytes.Equal(row.encoded(), value) {
 		return volume{}, errVolumeForm
 	}
@@ -151,18 +151,18 @@ func readVolume(number uint64, value []byte) (volume, error) {
 }
 
 func readAttachment(number uint64, node string, value []byte) (attachment, error) {
-	var said struct {
+	var columns struct {
 		Cap      string `json:"cap"`
 		Readonly uint64 `json:"readonly"`
 	}
-	if err := readObject(value, &said, errAttachmentForm); err != nil {
+	if err := readObject(value, &columns, errAttachmentForm); err != nil {
 		return attachment{}, err
 	}
-	if said.Readonly > 1 {
+	if columns.Readonly > 1 {
 		return attachment{}, errReadonly
 	}
-	cap, err := hex.DecodeString(said.Cap)
-	row := attachment{number, node, cap, said.Readonly == 1}
+	cap, err := hex.DecodeString(columns.Cap)
+	row := attachment{number, node, cap, columns.Readonly == 1}
 	if err != nil || !bytes.Equal(row.encoded(), value) {
 		return attachment{}, errAttachmentForm
 	}
@@ -176,10 +176,10 @@ const (
 )
 
 // splitParams is params in its two parts, where it is fields of parameters and then fields of mutable parameters.
-func splitParams(params []byte) (parameters, mutable []byte, is bool) {
+func splitParams(params []byte) (parameters, mutable []byte, ok bool) {
 	rest := params
 	for len(rest) > 0 && rest[0] == parametersTag {
-		if rest, is = skipField(rest); !is {
+		if rest, ok = skipField(rest); !ok {
 			return nil, nil, false
 		}
 	}
@@ -188,7 +188,7 @@ func splitParams(params []byte) (parameters, mutable []byte, is bool) {
 		if rest[0] != mutableTag {
 			return nil, nil, false
 		}
-		if rest, is = skipField(rest); !is {
+		if rest, ok = skipField(rest); !ok {
 			return nil, nil, false
 		}
 	}
@@ -196,7 +196,7 @@ func splitParams(params []byte) (parameters, mutable []byte, is bool) {
 }
 
 // skipField is what is after a field whose tag is one byte, and whose wire type is that of lengths.
-func skipField(fields []byte) (rest []byte, is bool) {
+func skipField(fields []byte) (rest []byte, ok bool) {
 	size := protowire.ConsumeFieldValue(1, protowire.BytesType, fields[1:])
 	if size < 0 {
 		return nil, false
@@ -204,10 +204,10 @@ func skipField(fields []byte) (rest []byte, is bool) {
 	return fields[1+size:], true
 }
 
-// layMutable puts mutable parameters instead of those that a row has.
-func layMutable(params, mutable []byte) (laid []byte, is bool) {
-	parameters, _, is := splitParams(params)
-	if !is {
+// replaceMutable puts mutable parameters instead of those that a row has.
+func replaceMutable(params, mutable []byte) (replaced []byte, ok bool) {
+	parameters, _, ok := splitParams(params)
+	if !ok {
 		return nil, false
 	}
 	return append(append([]byte{}, parameters...), mutable...), true
@@ -215,6 +215,6 @@ func layMutable(params, mutable []byte) (laid []byte, is bool) {
 
 // isMutable reports whether bytes are fields of mutable parameters, or none.
 func isMutable(params []byte) bool {
-	parameters, _, is := splitParams(params)
-	return is && len(parameters) == 0
+	parameters, _, ok := splitParams(params)
+	return ok && len(parameters) == 0
 }

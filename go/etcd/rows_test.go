@@ -11,7 +11,7 @@ import (
 var fromHex = fixtures.FromHex
 
 // Rows with values written by hand are encoded as they are here, and read as the rows again.
-func TestSpelling(t *testing.T) {
+func TestEncodeRows(t *testing.T) {
 	block := fromHex(t, "1a060a001a020801")
 	metas := []struct {
 		row   meta
@@ -58,7 +58,7 @@ func TestSpelling(t *testing.T) {
 }
 
 // A value that no csid-etcd has written is no row.
-func TestOtherSpellings(t *testing.T) {
+func TestReadRowErrors(t *testing.T) {
 	rows := []struct {
 		value string
 		want  error
@@ -79,7 +79,7 @@ func TestOtherSpellings(t *testing.T) {
 	}
 	for _, row := range rows {
 		if got, err := readMeta([]byte(row.value)); err != row.want {
-			t.Errorf("meta %s: %v, %v, wanted %v", row.value, got, err, row.want)
+			t.Errorf("meta %s: %v, %v, want %v", row.value, got, err, row.want)
 		}
 	}
 	rows = []struct {
@@ -97,7 +97,7 @@ func TestOtherSpellings(t *testing.T) {
 	}
 	for _, row := range rows {
 		if got, err := readVolume(7, []byte(row.value)); err != row.want {
-			t.Errorf("volume %s: %v, %v, wanted %v", row.value, got, err, row.want)
+			t.Errorf("volume %s: %v, %v, want %v", row.value, got, err, row.want)
 		}
 	}
 	rows = []struct {
@@ -110,13 +110,13 @@ func TestOtherSpellings(t *testing.T) {
 	}
 	for _, row := range rows {
 		if got, err := readAttachment(7, "n", []byte(row.value)); err != row.want {
-			t.Errorf("attachment %s: %v, %v, wanted %v", row.value, got, err, row.want)
+			t.Errorf("attachment %s: %v, %v, want %v", row.value, got, err, row.want)
 		}
 	}
 }
 
 // Mutable parameters take the place of those that are there; the parameters stay.
-func TestLayMutable(t *testing.T) {
+func TestReplaceMutable(t *testing.T) {
 	const (
 		plain   = "22060a016b120176"
 		other   = "22060a016c120177"
@@ -125,7 +125,7 @@ func TestLayMutable(t *testing.T) {
 	)
 	rows := []struct {
 		params, mutable, want string
-		is                    bool
+		ok                    bool
 	}{
 		{"", "", "", true}, {"", mutable, mutable, true}, {mutable, "", "", true}, {mutable, third, third, true},
 		{plain + other, mutable + third, plain + other + mutable + third, true},
@@ -135,9 +135,9 @@ func TestLayMutable(t *testing.T) {
 		{"22", third, "", false}, {"2203aabb", third, "", false}, {"22ffffffffffffffffff7f", third, "", false},
 	}
 	for _, row := range rows {
-		got, is := layMutable(fromHex(t, row.params), fromHex(t, row.mutable))
-		if is != row.is || hex.EncodeToString(got) != row.want {
-			t.Errorf("%s over %s: %x, %v", row.mutable, row.params, got, is)
+		got, ok := replaceMutable(fromHex(t, row.params), fromHex(t, row.mutable))
+		if ok != row.ok || hex.EncodeToString(got) != row.want {
+			t.Errorf("%s over %s: %x, %v", row.mutable, row.params, got, ok)
 		}
 	}
 	for params, want := range map[string]bool{"": true, mutable: true, mutable + third: true, plain: false, plain + mutable: false, mutable + plain: false, "42": false, "4201": false} {

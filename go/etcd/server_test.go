@@ -19,7 +19,7 @@ import (
 func TestReplyNotTaken(t *testing.T) {
 	state := &leadership{}
 	state.set(nil, refuse("waiting"))
-	s := &server{state: state, say: t.Logf}
+	s := &server{state: state, logf: t.Logf}
 	call := frames.AppendRequestHead(nil, leadPath, 0)
 	connect := func() net.Conn {
 		own, other := net.Pipe()
@@ -35,11 +35,11 @@ func TestReplyNotTaken(t *testing.T) {
 	if _, err := first.Read(make([]byte, 1)); err != nil {
 		t.Fatal(err)
 	}
-	begin := time.Now()
+	start := time.Now()
 	second := connect()
-	second.SetReadDeadline(begin.Add(replyTime))
+	second.SetReadDeadline(start.Add(replyTime))
 	reply, err := frames.NewReplies(second).Next()
-	if took := time.Since(begin); err != nil || reply.Text != "waiting" || took > replyTime/2 {
+	if took := time.Since(start); err != nil || reply.Text != "waiting" || took > replyTime/2 {
 		t.Errorf("%v, %v, after %v", reply, err, took)
 	}
 }
@@ -48,7 +48,7 @@ func TestReplyNotTaken(t *testing.T) {
 func TestReplacedWhileItWaits(t *testing.T) {
 	state := &leadership{}
 	state.set(nil, refuse("waiting"))
-	s := &server{state: state, say: t.Logf}
+	s := &server{state: state, logf: t.Logf}
 	var all [3]net.Conn
 	for i := range all {
 		own, other := net.Pipe()
@@ -76,13 +76,13 @@ func TestReplacedWhileItWaits(t *testing.T) {
 }
 
 // A reply that is begun only when another connection waits for its end holds that up no longer than a moment either.
-func TestReplyBehindReplacement(t *testing.T) {
+func TestReplyAfterReplacement(t *testing.T) {
 	own, other := net.Pipe()
 	defer own.Close()
 	c := &connection{Conn: other, replaced: make(chan struct{})}
 	c.replace()
-	begin := time.Now()
-	if err, took := c.reply(frames.Reply{Text: "a"}), time.Since(begin); err == nil || took > replyTime/2 {
+	start := time.Now()
+	if err, took := c.reply(frames.Reply{Text: "a"}), time.Since(start); err == nil || took > replyTime/2 {
 		t.Errorf("%v, after %v", err, took)
 	}
 }
@@ -90,32 +90,32 @@ func TestReplyBehindReplacement(t *testing.T) {
 // A term that is over by the clock, or was ended, answers nothing, also where nobody has noticed yet; and one that is there answers.
 func TestTermOver(t *testing.T) {
 	ctx, cancel := context.WithCancel(context.Background())
-	held := &term{client: startServer(t, &keyed{looks: []look{{0, 5, nil}}}, 1), revisions: &revisions{}, timeout: 5 * time.Second, key: "k", created: 5, lease: &lease{until: sinceBoot() + time.Hour}, ctx: ctx, end: cancel}
+	term := &term{client: startServer(t, &lockServer{looks: []look{{0, 5, nil}}}, 1), revisions: &revisions{}, timeout: 5 * time.Second, key: "k", created: 5, lease: &lease{expiry: sinceBoot() + time.Hour}, ctx: ctx, end: cancel}
 	state := &leadership{}
-	state.set(held, refusal{})
-	s := &server{state: state, say: t.Logf}
-	asks := func() (frames.Reply, error) { return s.answer(&connection{}, frames.Request{Path: leadPath}) }
-	if reply, err := asks(); err != nil || reply.Code != codes.OK {
+	state.set(term, refusal{})
+	s := &server{state: state, logf: t.Logf}
+	ask := func() (frames.Reply, error) { return s.handle(&connection{}, frames.Request{Path: leadPath}) }
+	if reply, err := ask(); err != nil || reply.Code != codes.OK {
 		t.Errorf("it leads: %v, %v", reply, err)
 	}
-	held.lease.until = sinceBoot()
-	if reply, err := asks(); err != errOver {
+	term.lease.expiry = sinceBoot()
+	if reply, err := ask(); err != errOver {
 		t.Errorf("its lease is over: %v, %v", reply, err)
 	}
-	held.lease.until = sinceBoot() + time.Hour
-	held.end()
-	if reply, err := asks(); err != errOver {
+	term.lease.expiry = sinceBoot() + time.Hour
+	term.end()
+	if reply, err := ask(); err != errOver {
 		t.Errorf("it was ended: %v, %v", reply, err)
 	}
 }
 
-// unready is a listener that fails so often.
-type unready struct {
+// failingListener is a listener that fails so often.
+type failingListener struct {
 	net.Listener
 	failures []error
 }
 
-func (l *unready) Accept() (net.Conn, error) {
+func (l *failingListener) Accept() (net.Conn, error) {
 	failure := l.failures[0]
 	l.failures = l.failures[1:]
 	return nil, failure
@@ -133,7 +133,7 @@ func TestAccept(t *testing.T) {
 		{[]error{full, errors.New("any")}, "taking connections: any"},
 	}
 	for _, row := range rows {
-		listener := &unready{failures: row.failures}
+		listener := &failingListener{failures: row.failures}
 		err := (&server{}).accept(listener)
 		if (err == nil) != (row.want == "") || (err != nil && err.Error() != row.want) || len(listener.failures) > 0 {
 			t.Errorf("%v: %v", row.failures, err)
@@ -141,41 +141,41 @@ func TestAccept(t *testing.T) {
 	}
 }
 
-// busy is an etcd whose second reading waits until it is let go. It reports that one, and of each change.
-type busy struct {
-	written
-	letGo chan struct{}
-	came  chan string
+// blockingServer is an etcd whose second reading waits until it is let go. It reports that one, and of each change.
+type blockingServer struct {
+	rowServer
+	release chan struct{}
+	events  chan string
 }
 
-func (b *busy) Range(ctx context.Context, asked *pb.RangeRequest) (*pb.RangeResponse, error) {
-	read, err := b.written.Range(ctx, asked)
-	if len(b.asked) == 2 {
-		b.came <- "a reading"
-		<-b.letGo
+func (b *blockingServer) Range(ctx context.Context, request *pb.RangeRequest) (*pb.RangeResponse, error) {
+	read, err := b.rowServer.Range(ctx, request)
+	if len(b.revisions) == 2 {
+		b.events <- "a reading"
+		<-b.release
 	}
 	return read, err
 }
 
-func (b *busy) Txn(ctx context.Context, asked *pb.TxnRequest) (*pb.TxnResponse, error) {
-	if asked.Success[0].GetRequestDeleteRange() != nil {
-		b.came <- "a change"
+func (b *blockingServer) Txn(ctx context.Context, request *pb.TxnRequest) (*pb.TxnResponse, error) {
+	if request.Success[0].GetRequestDeleteRange() != nil {
+		b.events <- "a change"
 	}
-	return b.written.Txn(ctx, asked)
+	return b.rowServer.Txn(ctx, request)
 }
 
 // A change waits until no rows are read ahead, also those that another connection has asked for: the calls of a term come in order.
 func TestReadAhead(t *testing.T) {
 	for _, isAnother := range []bool{false, true} {
-		etcd := &busy{written: written{rows: map[string]string{}}, letGo: make(chan struct{}), came: make(chan string, 9)}
+		etcd := &blockingServer{rowServer: rowServer{rows: map[string]string{}}, release: make(chan struct{}), events: make(chan string, 9)}
 		for n := uint64(1); n <= 4; n++ {
 			etcd.rows[sampleKeys.volume(n)] = string(sized(t, n, 1<<20).encoded())
 		}
 		ctx, cancel := context.WithCancel(context.Background())
 		t.Cleanup(cancel)
-		held := &term{client: startServer(t, etcd, 1), keys: sampleKeys, lease: &lease{until: sinceBoot() + time.Hour}, revisions: &revisions{}, timeout: time.Minute,
+		term := &term{client: startServer(t, etcd, 1), keys: sampleKeys, lease: &lease{expiry: sinceBoot() + time.Hour}, revisions: &revisions{}, timeout: time.Minute,
 			ctx: ctx, end: cancel, key: "k"}
-		s := &server{state: &leadership{term: held}, say: t.Logf}
+		s := &server{state: &leadership{term: term}, logf: t.Logf}
 		connect := func() net.Conn {
 			own, other := net.Pipe()
 			t.Cleanup(func() { own.Close() })
@@ -193,27 +193,27 @@ func TestReadAhead(t *testing.T) {
 		if reply, err := call(conn, readPath, nil); err != nil || reply.Code != codes.OK {
 			t.Fatalf("%v, %v", reply, err)
 		}
-		if came := <-etcd.came; came != "a reading" {
-			t.Fatalf("%s came", came)
+		if events := <-etcd.events; events != "a reading" {
+			t.Fatalf("%s came", events)
 		}
 		if isAnother {
 			conn = connect()
 		}
-		ended := make(chan error, 1)
+		done := make(chan error, 1)
 		go func() {
 			reply, err := call(conn, commitPath, fromHex(t, "2205 0807 12016e"))
 			if err == nil && reply.Code != codes.OK {
 				err = errors.New(reply.Text)
 			}
-			ended <- err
+			done <- err
 		}()
 		select {
-		case came := <-etcd.came:
-			t.Errorf("another connection %v: %s came while rows were read", isAnother, came)
+		case events := <-etcd.events:
+			t.Errorf("another connection %v: %s came while rows were read", isAnother, events)
 		case <-time.After(50 * time.Millisecond):
 		}
-		close(etcd.letGo)
-		if err := <-ended; err != nil {
+		close(etcd.release)
+		if err := <-done; err != nil {
 			t.Errorf("another connection %v: %v", isAnother, err)
 		}
 	}

@@ -19,32 +19,32 @@ import (
 // firstRevision is that of the first answer of an etcd that is written to all the time.
 const firstRevision = 100
 
-// written is an etcd that answers readings of its rows, and is at another revision each time.
-type written struct {
+// rowServer is an etcd that answers readings of its rows, and is at another revision each time.
+type rowServer struct {
 	pb.KVServer
 	rows map[string]string
 	// Whether what it had at a revision that is asked for was compacted.
 	isCompacted bool
 	mutex       sync.Mutex
 	// The revisions that were asked for, 0 for the newest.
-	asked []int64
+	revisions []int64
 }
 
-func (w *written) Range(_ context.Context, asked *pb.RangeRequest) (*pb.RangeResponse, error) {
-	if w.isCompacted && asked.Revision != 0 {
+func (w *rowServer) Range(_ context.Context, request *pb.RangeRequest) (*pb.RangeResponse, error) {
+	if w.isCompacted && request.Revision != 0 {
 		return nil, rpctypes.ErrGRPCCompacted
 	}
 	w.mutex.Lock()
-	w.asked = append(w.asked, asked.Revision)
-	header := &pb.ResponseHeader{Revision: firstRevision - 1 + int64(len(w.asked))}
+	w.revisions = append(w.revisions, request.Revision)
+	header := &pb.ResponseHeader{Revision: firstRevision - 1 + int64(len(w.revisions))}
 	w.mutex.Unlock()
-	return w.read(asked, header), nil
+	return w.read(request, header), nil
 }
 
 // Txn makes the readings of a transaction, whatever it supposes.
-func (w *written) Txn(_ context.Context, asked *pb.TxnRequest) (*pb.TxnResponse, error) {
+func (w *rowServer) Txn(_ context.Context, request *pb.TxnRequest) (*pb.TxnResponse, error) {
 	done := &pb.TxnResponse{Header: &pb.ResponseHeader{Revision: firstRevision}, Succeeded: true}
-	for _, part := range asked.Success {
+	for _, part := range request.Success {
 		reading := part.GetRequestRange()
 		if reading == nil {
 			continue
@@ -55,17 +55,17 @@ func (w *written) Txn(_ context.Context, asked *pb.TxnRequest) (*pb.TxnResponse,
 	return done, nil
 }
 
-func (w *written) read(asked *pb.RangeRequest, header *pb.ResponseHeader) *pb.RangeResponse {
+func (w *rowServer) read(request *pb.RangeRequest, header *pb.ResponseHeader) *pb.RangeResponse {
 	var keys []string
 	for key := range w.rows {
-		if key == string(asked.Key) || (key > string(asked.Key) && key < string(asked.RangeEnd)) {
+		if key == string(request.Key) || (key > string(request.Key) && key < string(request.RangeEnd)) {
 			keys = append(keys, key)
 		}
 	}
 	sort.Strings(keys)
 	read := &pb.RangeResponse{Header: header}
-	if asked.Limit > 0 && int64(len(keys)) > asked.Limit {
-		keys, read.More = keys[:asked.Limit], true
+	if request.Limit > 0 && int64(len(keys)) > request.Limit {
+		keys, read.More = keys[:request.Limit], true
 	}
 	for _, key := range keys {
 		read.Kvs = append(read.Kvs, &mvccpb.KeyValue{Key: []byte(key), Value: []byte(w.rows[key])})
@@ -73,16 +73,16 @@ func (w *written) read(asked *pb.RangeRequest, header *pb.ResponseHeader) *pb.Ra
 	return read
 }
 
-// wantsOneRevision wants that the first reading was one of the newest, and each one after it of the revision of its answer.
-func (w *written) wantsOneRevision(t *testing.T) {
+// checkRevisions wants that the first reading was one of the newest, and each one after it of the revision of its answer.
+func (w *rowServer) checkRevisions(t *testing.T) {
 	t.Helper()
-	for i, revision := range w.asked {
+	for i, revision := range w.revisions {
 		if (i == 0 && revision != 0 && revision != firstRevision) || (i > 0 && revision != firstRevision) {
 			t.Errorf("reading %d was of revision %d", i, revision)
 		}
 	}
-	if len(w.asked) < 3 {
-		t.Errorf("%d readings", len(w.asked))
+	if len(w.revisions) < 3 {
+		t.Errorf("%d readings", len(w.revisions))
 	}
 }
 
@@ -100,9 +100,9 @@ func sized(t *testing.T, number uint64, size int) volume {
 
 // A row that fills a page to its last byte, 3 MiB, is one; one of a byte more is none.
 func TestLongestRow(t *testing.T) {
-	for size, want := range map[int]error{3 << 20: nil, 3<<20 + 1: errLong} {
+	for size, want := range map[int]error{3 << 20: nil, 3<<20 + 1: errRowTooLong} {
 		row := sized(t, 7, size)
-		if _, field, err := sampleKeys.rowInPage(sampleKeys.volume(7), row.encoded()); err != want || (err == nil && len(field) != size) {
+		if _, field, err := sampleKeys.pageRow(sampleKeys.volume(7), row.encoded()); err != want || (err == nil && len(field) != size) {
 			t.Errorf("%d bytes: a field of %d, %v", size, len(field), err)
 		}
 	}
@@ -120,7 +120,7 @@ func closest() (rows []attachment) {
 // last byte. What was read counts as answered.
 func TestPages(t *testing.T) {
 	for size, count := range map[int]uint64{1 << 19: 10, 1 << 20: 8} {
-		server := &written{rows: map[string]string{sampleKeys.meta(): string(firstMeta.encoded())}}
+		server := &rowServer{rows: map[string]string{sampleKeys.meta(): string(firstMeta.encoded())}}
 		var want []byte
 		want = appendBytes(want, 1, firstMeta.message())
 		for n := uint64(1); n <= count; n++ {
@@ -133,16 +133,16 @@ func TestPages(t *testing.T) {
 			want = appendBytes(want, row.field(), row.message())
 		}
 		ctx := context.Background()
-		held := &term{client: startServer(t, server, 1), keys: sampleKeys, lease: &lease{}, revisions: &revisions{}, timeout: 10 * time.Second, ctx: ctx, key: "k"}
+		leading := &term{client: startServer(t, server, 1), keys: sampleKeys, lease: &lease{}, revisions: &revisions{}, timeout: 10 * time.Second, ctx: ctx, key: "k"}
 		c := &connection{}
 		var got, token []byte
 		for isFirst := true; isFirst || len(token) > 0; isFirst = false {
-			page, err := c.read(ctx, held, appendBytes(nil, 1, token))
+			page, err := c.read(ctx, leading, appendBytes(nil, 1, token))
 			if err != nil || len(page) > frames.MaxBodyBytes {
 				t.Fatalf("rows of %d bytes: a page of %d, %v", size, len(page), err)
 			}
-			if held.revisions.least() != firstRevision {
-				t.Errorf("rows of %d bytes: answered %d", size, held.revisions.least())
+			if leading.revisions.least() != firstRevision {
+				t.Errorf("rows of %d bytes: answered %d", size, leading.revisions.least())
 			}
 			// What must be said for the next page is after the rows.
 			token = c.walk.token
@@ -153,58 +153,58 @@ func TestPages(t *testing.T) {
 			got = append(got, bytes.TrimSuffix(page, last)...)
 		}
 		if !bytes.Equal(got, want) {
-			t.Errorf("rows of %d bytes: all pages have %d, wanted %d", size, len(got), len(want))
+			t.Errorf("rows of %d bytes: all pages have %d, want %d", size, len(got), len(want))
 		}
-		server.wantsOneRevision(t)
+		server.checkRevisions(t)
 	}
 }
 
 // A token is that of the page before, over the same connection and in the same term. Behind a page that could not be read there is none, and none is
 // waited for.
 func TestTokens(t *testing.T) {
-	server := &written{rows: map[string]string{}}
+	server := &rowServer{rows: map[string]string{}}
 	for n := uint64(1); n <= 8; n++ {
 		server.rows[sampleKeys.volume(n)] = string(sized(t, n, 1<<20).encoded())
 	}
-	held := &term{client: startServer(t, server, 1), keys: sampleKeys, lease: &lease{}, revisions: &revisions{}, timeout: 10 * time.Second, ctx: context.Background(), key: "k"}
-	later := *held
+	leading := &term{client: startServer(t, server, 1), keys: sampleKeys, lease: &lease{}, revisions: &revisions{}, timeout: 10 * time.Second, ctx: context.Background(), key: "k"}
+	later := *leading
 	c := &connection{}
-	reads := func(in *term, token []byte) error {
-		ended := make(chan error, 1)
+	read := func(in *term, token []byte) error {
+		done := make(chan error, 1)
 		go func() {
 			_, err := c.read(context.Background(), in, appendBytes(nil, 1, token))
-			c.walk.settle()
-			ended <- err
+			c.walk.waitAhead()
+			done <- err
 		}()
 		select {
-		case err := <-ended:
+		case err := <-done:
 			return err
 		case <-time.After(20 * time.Second):
 			t.Fatal("it is waited for a page")
 			return nil
 		}
 	}
-	if err := reads(held, nil); err != nil {
+	if err := read(leading, nil); err != nil {
 		t.Fatal(err)
 	}
 	first := c.walk.token
-	if err := reads(&later, first); err != errToken {
+	if err := read(&later, first); err != errToken {
 		t.Errorf("in a later term: %v", err)
 	}
 	// The second page was read before, and the third one is not there any more.
 	server.isCompacted = true
-	if err := reads(held, first); err != nil {
+	if err := read(leading, first); err != nil {
 		t.Errorf("the second page: %v", err)
 	}
 	second := c.walk.token
-	if err := reads(held, first); err != errToken {
+	if err := read(leading, first); err != errToken {
 		t.Errorf("the token of a page that was given: %v", err)
 	}
-	if err := reads(held, second); err == nil || err == errToken {
+	if err := read(leading, second); err == nil || err == errToken {
 		t.Errorf("the third page: %v", err)
 	}
 	for _, token := range [][]byte{second, first} {
-		if err := reads(held, token); err != errToken {
+		if err := read(leading, token); err != errToken {
 			t.Errorf("after a page that could not be read, with the token %s: %v", token, err)
 		}
 	}

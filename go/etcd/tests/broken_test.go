@@ -61,8 +61,8 @@ func TestBrokenRows(t *testing.T) {
 		{"volumes0", good, "volumes0: no row has such a key"},
 		{"\xff", good, `\xff: no row has such a key`},
 	}
-	cluster, _, l := begun(t)
-	l.commits(t, addVolume(1, "a"))
+	cluster, _, l := startLeading(t)
+	l.mustCommit(t, addVolume(1, "a"))
 	client, ctx := cluster.Client(t), context.Background()
 	for _, row := range table {
 		key := name + "/" + row.key
@@ -73,7 +73,7 @@ func TestBrokenRows(t *testing.T) {
 		if err != nil {
 			t.Fatal(err)
 		}
-		l.wants(t, readPath, "", codes.FailedPrecondition, row.want)
+		l.wantReply(t, readPath, "", codes.FailedPrecondition, row.want)
 		if len(before.Kvs) > 0 {
 			_, err = client.Put(ctx, key, string(before.Kvs[0].Value))
 		} else {
@@ -89,18 +89,18 @@ func TestBrokenRows(t *testing.T) {
 			t.Fatal(err)
 		}
 	}
-	l.wants(t, readPath, "", codes.OK, "0a04 0802 1002 121a 0801 1201 61 18808040 2203 737364 2a08 1a060a001a020801 3200 2200")
+	l.wantReply(t, readPath, "", codes.OK, "0a04 0802 1002 121a 0801 1201 61 18808040 2203 737364 2a08 1a060a001a020801 3200 2200")
 	// A row that is broken is not changed either.
 	if _, err := client.Put(ctx, name+"/volumes/00000000000000000001", `{"name":"a","bytes":1048576,"pool":"p","caps":"","params":"2200420"}`); err != nil {
 		t.Fatal(err)
 	}
-	l.refuses(t, setMutable(1, ""), codes.FailedPrecondition, "volumes/00000000000000000001"+volumeForm)
+	l.wantRefused(t, setMutable(1, ""), codes.FailedPrecondition, "volumes/00000000000000000001"+volumeForm)
 	if _, err := client.Put(ctx, name+"/volumes/00000000000000000001", `{"name":"a","bytes":1048576,"pool":"p","caps":"","params":"42002200"}`); err != nil {
 		t.Fatal(err)
 	}
-	l.refuses(t, setMutable(1, ""), codes.FailedPrecondition, "volumes/00000000000000000001: its params are not fields of parameters and then of mutable ones")
+	l.wantRefused(t, setMutable(1, ""), codes.FailedPrecondition, "volumes/00000000000000000001: its params are not fields of parameters and then of mutable ones")
 	if _, err := client.Put(ctx, name+"/meta", `{"format_no":1,"next_number":2}`); err != nil {
 		t.Fatal(err)
 	}
-	l.refuses(t, addVolume(2, "b"), codes.FailedPrecondition, `meta is {"format_no":1,"next_number":2}, and not {"format_no":2,"next_number":2}`)
+	l.wantRefused(t, addVolume(2, "b"), codes.FailedPrecondition, `meta is {"format_no":1,"next_number":2}, and not {"format_no":2,"next_number":2}`)
 }

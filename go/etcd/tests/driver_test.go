@@ -18,12 +18,12 @@ type driver struct {
 	sockets []string
 	random  *rand.Rand
 	// What was reported, and what it would be with the open change.
-	known, open rows
-	next        uint64
+	known, pending rows
+	next           uint64
 	// How each ended that was not OK: refusals by their texts, and ends without a reply.
 	refused map[string]int
-	oks     int
-	opens   int
+	ok      int
+	unknown int
 	// Of these the change was found to be made.
 	made int
 	// The longest time without an OK, and the last OK.
@@ -55,14 +55,14 @@ func (d *driver) run(ctx context.Context) {
 // begin drives in the background, and gives what ends that.
 func (d *driver) begin() (end func()) {
 	ctx, cancel := context.WithCancel(context.Background())
-	ended := make(chan struct{})
+	done := make(chan struct{})
 	go func() {
-		defer close(ended)
+		defer close(done)
 		d.run(ctx)
 	}()
 	return func() {
 		cancel()
-		<-ended
+		<-done
 	}
 }
 
@@ -73,7 +73,7 @@ func (d *driver) session(ctx context.Context, socket string) error {
 		return nil
 	}
 	defer l.Close()
-	read, _, err := l.walk()
+	read, _, err := l.readAll()
 	if err != nil {
 		return d.notRead(err)
 	}
@@ -94,18 +94,18 @@ func (d *driver) session(ctx context.Context, socket string) error {
 		if !isOK {
 			return nil
 		}
-		d.ok(socket)
+		d.recordOK(socket)
 	}
 	return nil
 }
 
-func (d *driver) ok(socket string) {
+func (d *driver) recordOK(socket string) {
 	now := time.Now()
 	if gap := now.Sub(d.last); gap > d.gap {
 		d.gap = gap
 	}
 	d.last, d.from = now, socket
-	d.oks++
+	d.ok++
 }
 
 // notRead takes an end without a reply, and a refusal because the program does not lead.
@@ -123,13 +123,13 @@ func (d *driver) notRead(err error) error {
 func (d *driver) compare(read rows) error {
 	if d.known != nil {
 		switch got := read.String(); {
-		case d.open != nil && got == d.open.String():
+		case d.pending != nil && got == d.pending.String():
 			d.made++
 		case got != d.known.String():
-			return fmt.Errorf("read\n%s\ntold\n%s\nor\n%s", difference(read, d.known), difference(d.known, read), difference(d.open, read))
+			return fmt.Errorf("read\n%s\ntold\n%s\nor\n%s", difference(read, d.known), difference(d.known, read), difference(d.pending, read))
 		}
 	}
-	d.known, d.open = read, nil
+	d.known, d.pending = read, nil
 	fmt.Sscanf(read["meta"], "2 %d", &d.next)
 	return nil
 }
@@ -146,12 +146,12 @@ func difference(one, other rows) rows {
 }
 
 // change makes one change, and reports whether it was OK.
-func (d *driver) change(l *link) (isOK bool, err error) {
+func (d *driver) change(l *storeConn) (isOK bool, err error) {
 	message, after := d.choose()
 	reply, err := l.call(commitPath, message)
 	if err != nil {
-		d.opens++
-		d.open = after
+		d.unknown++
+		d.pending = after
 		return false, nil
 	}
 	if reply.Code == codes.OK {
@@ -229,13 +229,13 @@ func (d *driver) choose() (message []byte, after rows) {
 }
 
 func (d *driver) add() (message []byte, after rows) {
-	called := fmt.Sprintf("pvc-%d-%d", d.next, d.random.Intn(1000))
+	volumeName := fmt.Sprintf("pvc-%d-%d", d.next, d.random.Intn(1000))
 	key := fmt.Sprintf("1 %020d", d.next)
-	after = d.known.with(key, fmt.Sprintf("%s %d ssd %x ", called, 1<<20, block)).with("meta", fmt.Sprintf("2 %d", d.next+1))
-	return addVolume(d.next, called), after
+	after = d.known.with(key, fmt.Sprintf("%s %d ssd %x ", volumeName, 1<<20, block)).with("meta", fmt.Sprintf("2 %d", d.next+1))
+	return addVolume(d.next, volumeName), after
 }
 
 // String is what came of it.
 func (d *driver) String() string {
-	return fmt.Sprintf("%d OK, %d ends without a reply of which %d were made, refusals %v, at most %v between two OK", d.oks, d.opens, d.made, d.refused, d.gap.Round(time.Millisecond))
+	return fmt.Sprintf("%d OK, %d ends without a reply of which %d were made, refusals %v, at most %v between two OK", d.ok, d.unknown, d.made, d.refused, d.gap.Round(time.Millisecond))
 }

@@ -22,14 +22,14 @@ import (
 func TestCutOff(t *testing.T) {
 	t.Parallel()
 	cluster := clusters.Start(t, 1)
-	between := newProxy(t, cluster.Members[0].Address)
-	p := start(t, between.address(), "--lease", "3", "--timeout", "1s").leads(t)
+	relay := newProxy(t, cluster.Members[0].Address)
+	p := start(t, relay.address(), "--lease", "3", "--timeout", "1s").waitLeading(t)
 	d := newDriver(t, p)
 	end := d.begin()
 	time.Sleep(500 * time.Millisecond)
 	for i := 0; i < 3; i++ {
 		before := len(p.Log.String())
-		between.hold()
+		relay.pause()
 		begin := time.Now()
 		processes.Eventually(t, "that it leads no more", func() bool { return strings.Contains(p.Log.String()[before:], "leads no more: its lease is over") })
 		if took := time.Since(begin); took > 3500*time.Millisecond {
@@ -46,15 +46,15 @@ func TestCutOff(t *testing.T) {
 		}
 		l.Close()
 		if i == 1 {
-			between.cut()
+			relay.cut()
 		}
-		between.letGo()
-		p.leadsSince(t, before)
+		relay.resume()
+		p.waitLeadingSince(t, before)
 		time.Sleep(500 * time.Millisecond)
 	}
 	end()
 	t.Log(d)
-	wantsTold(t, d, p)
+	wantRows(t, d, p)
 }
 
 // A change whose outcome is not known is never made after what is read next, also where etcd gets it only then: one of two ways to etcd is slow.
@@ -63,22 +63,22 @@ func TestLateChange(t *testing.T) {
 	for i := 0; i < 2; i++ {
 		cluster := clusters.Start(t, 1)
 		slow, fast := newProxy(t, cluster.Members[0].Address), newProxy(t, cluster.Members[0].Address)
-		p := start(t, slow.address()+","+fast.address(), "--lease", "10", "--timeout", "1500ms").leads(t)
+		p := start(t, slow.address()+","+fast.address(), "--lease", "10", "--timeout", "1500ms").waitLeading(t)
 		l := p.dial(t)
-		l.wants(t, makePath, "", codes.OK, "")
-		l.commits(t, addVolume(1, "a"))
+		l.wantReply(t, makePath, "", codes.OK, "")
+		l.mustCommit(t, addVolume(1, "a"))
 		lateChange(t, cluster, p, l, slow)
 	}
 }
 
 // lateChange makes a change reach etcd after the reading of all rows that follows it.
-func lateChange(t *testing.T, cluster *clusters.Cluster, p program, l *link, slow *proxy) {
+func lateChange(t *testing.T, cluster *clusters.Cluster, p program, l *storeConn, slow *proxy) {
 	t.Helper()
 	// Calls go one way and the other. The one that goes the slow way waits there, and what comes after it is not heard: so etcd does not know that it
 	// was given up.
-	slow.hold()
+	slow.pause()
 	for n, isOpen := 0, false; !isOpen; n++ {
-		deaf := time.AfterFunc(500*time.Millisecond, func() { slow.set(func() { slow.isDeaf = true }) })
+		deaf := time.AfterFunc(500*time.Millisecond, func() { slow.set(func() { slow.dropsClient = true }) })
 		reply, err := l.call(commitPath, attach(1, fmt.Sprintf("n%d", n), false))
 		isOpen = err != nil
 		if !isOpen && !deaf.Stop() {
@@ -86,27 +86,27 @@ func lateChange(t *testing.T, cluster *clusters.Cluster, p program, l *link, slo
 		}
 	}
 	begin := time.Now()
-	read := p.walks(t)
+	read := p.readRows(t)
 	took := time.Since(begin)
 	before := transactions(t, cluster)
-	slow.set(func() { slow.isHeld = false })
+	slow.set(func() { slow.isPaused = false })
 	processes.Eventually(t, "the late change", func() bool { return transactions(t, cluster) > before })
 	time.Sleep(50 * time.Millisecond)
-	again := p.walks(t)
+	again := p.readRows(t)
 	if again.String() != read.String() {
 		t.Errorf("read\n%s\nbefore\n%s", difference(again, read), difference(read, again))
 	}
 	t.Logf("the rows were read within %v, and the change came to etcd after that: it was not made", took.Round(time.Millisecond))
 }
 
-// walks reads all rows, as often as it takes.
-func (p program) walks(t *testing.T) (read rows) {
+// readRows reads all rows, as often as it takes.
+func (p program) readRows(t *testing.T) (read rows) {
 	t.Helper()
 	processes.Eventually(t, "all rows", func() bool {
 		l := p.dial(t)
 		defer l.Close()
 		var err error
-		read, _, err = l.walk()
+		read, _, err = l.readAll()
 		return err == nil
 	})
 	return read
@@ -148,12 +148,12 @@ func revision(t *testing.T, client *clientv3.Client) int64 {
 func TestFull(t *testing.T) {
 	t.Parallel()
 	cluster := clusters.Start(t, 3, "--quota-backend-bytes", "1000000")
-	p := start(t, cluster.Endpoints(), append(shortLease, "--id", "first")...).leads(t)
+	p := start(t, cluster.Endpoints(), append(shortLease, "--id", "first")...).waitLeading(t)
 	second := start(t, cluster.Endpoints(), shortLease...)
-	second.says(t, "waits for the lock, which first holds")
+	second.waitLog(t, "waits for the lock, which first holds")
 	client := cluster.Client(t)
 	l := p.dial(t)
-	l.wants(t, makePath, "", codes.OK, "")
+	l.wantReply(t, makePath, "", codes.OK, "")
 	params := "\x22\x84\x08" + strings.Repeat("x", 1028)
 	next := uint64(1)
 	known := rows{"meta": "2 1"}
@@ -166,7 +166,7 @@ func TestFull(t *testing.T) {
 			if err != nil {
 				// etcd said that it had no space, and had made the change: then there is no reply.
 				l = p.dial(t)
-				read, _, err := l.walk()
+				read, _, err := l.readAll()
 				if err != nil || read["meta"] != fmt.Sprintf("2 %d", next+1) {
 					t.Fatalf("%d: %v: %s", next, err, p.Log)
 				}
@@ -184,23 +184,23 @@ func TestFull(t *testing.T) {
 			}
 		}
 		t.Logf("full after %d volumes; %d changes were made of which etcd said that it had no space", next-1, made)
-		l.refuses(t, attach(1, "n", false), codes.ResourceExhausted, "etcdserver: mvcc: database space exceeded")
+		l.wantRefused(t, attach(1, "n", false), codes.ResourceExhausted, "etcdserver: mvcc: database space exceeded")
 		if round == 0 {
 			// One that waits already leads instead of this one, and no other can.
 			third := start(t, cluster.Endpoints(), shortLease...)
-			third.says(t, "no lock: etcdserver: mvcc: database space exceeded")
+			third.waitLog(t, "no lock: etcdserver: mvcc: database space exceeded")
 			p.Kill()
-			p = second.leads(t)
+			p = second.waitLeading(t)
 			l = p.dial(t)
 		}
-		if read, _, err := l.walk(); err != nil || read.String() != known.String() {
+		if read, _, err := l.readAll(); err != nil || read.String() != known.String() {
 			t.Errorf("%v: read %s, told %s", err, difference(read, known), difference(known, read))
 		}
 		for number := uint64(1); number < next; number++ {
 			key := fmt.Sprintf("1 %020d", number)
 			if _, is := known[key]; is && number%2 == 0 {
-				l.commits(t, detachAll(number))
-				l.commits(t, removeVolume(number))
+				l.mustCommit(t, detachAll(number))
+				l.mustCommit(t, removeVolume(number))
 				delete(known, key)
 			}
 		}
@@ -208,9 +208,9 @@ func TestFull(t *testing.T) {
 		cluster.Ctl(t, "defrag")
 		cluster.Ctl(t, "alarm", "disarm")
 	}
-	l.commits(t, attach(1, "n", false))
+	l.mustCommit(t, attach(1, "n", false))
 	known["2 00000000000000000001 n"] = fmt.Sprintf("%x 0", block)
-	if read, _, err := l.walk(); err != nil || read.String() != known.String() {
+	if read, _, err := l.readAll(); err != nil || read.String() != known.String() {
 		t.Errorf("%v: read %s, told %s", err, difference(read, known), difference(known, read))
 	}
 }
@@ -221,7 +221,7 @@ func TestCompacted(t *testing.T) {
 	cluster := clusters.Start(t, 1)
 	client := cluster.Client(t)
 	fill(t, client, 70000)
-	p := start(t, cluster.Endpoints()).leads(t)
+	p := start(t, cluster.Endpoints()).waitLeading(t)
 	l := p.dial(t)
 	reply, err := l.call(readPath, nil)
 	if err != nil || reply.Code != codes.OK {
@@ -236,7 +236,7 @@ func TestCompacted(t *testing.T) {
 	if err != nil || reply.Code != codes.FailedPrecondition || reply.Text != "etcd compacted the revision of this walk over the rows: start again" {
 		t.Errorf("%v %q, %v", reply.Code, reply.Text, err)
 	}
-	read, pages, err := l.walk()
+	read, pages, err := l.readAll()
 	if err != nil || len(read) != 105001 || !strings.HasPrefix(read["1 00000000000000070000"], "late ") {
 		t.Errorf("%d rows in %d pages, %v", len(read), pages, err)
 	}
@@ -261,14 +261,14 @@ func TestOlderSnapshot(t *testing.T) {
 	member := cluster.Members[0]
 	folder := processes.Folder(t)
 	file, snapshot := filepath.Join(folder, "revision"), filepath.Join(folder, "snapshot")
-	p := start(t, cluster.Endpoints(), "--lease", "3", "--timeout", "1s", "--revision", file).leads(t)
+	p := start(t, cluster.Endpoints(), "--lease", "3", "--timeout", "1s", "--revision", file).waitLeading(t)
 	l := p.dial(t)
-	l.wants(t, makePath, "", codes.OK, "")
-	l.commits(t, addVolume(1, "a"))
+	l.wantReply(t, makePath, "", codes.OK, "")
+	l.mustCommit(t, addVolume(1, "a"))
 	cluster.Ctl(t, "snapshot", "save", snapshot)
-	l.commits(t, addVolume(2, "b"))
+	l.mustCommit(t, addVolume(2, "b"))
 	for i := 0; i < 20; i++ {
-		l.commits(t, attach(2, fmt.Sprintf("n%d", i), false))
+		l.mustCommit(t, attach(2, fmt.Sprintf("n%d", i), false))
 	}
 	answered := revision(t, cluster.Client(t))
 	time.Sleep(1200 * time.Millisecond)
@@ -287,7 +287,7 @@ func TestOlderSnapshot(t *testing.T) {
 		t.Helper()
 		const refusal = "was answered: it was restored from an older snapshot, and volumes may be missing; --accept-older goes on"
 		want := fmt.Sprintf("%d %s", answered, refusal)
-		p.says(t, want)
+		p.waitLog(t, want)
 		processes.Eventually(t, "the refusal", func() bool {
 			l := p.dial(t)
 			defer l.Close()
@@ -319,11 +319,11 @@ func TestOlderSnapshot(t *testing.T) {
 	member.Kill()
 	member.Restore(t, snapshot)
 	member.Start(t)
-	cluster.Answers(t)
+	cluster.WaitReady(t)
 	// Also where another one has the lock when it asks, and has raised the revision when it gives the lock back.
 	cluster.Ctl(t, "put", name+"/lock/other", "other")
 	second := start(t, cluster.Endpoints(), "--lease", "3", "--timeout", "1s", "--revision", file)
-	second.says(t, "waits for the lock, which other holds")
+	second.waitLog(t, "waits for the lock, which other holds")
 	for revision(t, client) < answered+10 {
 		cluster.Ctl(t, "put", "other", "x")
 	}
@@ -331,13 +331,13 @@ func TestOlderSnapshot(t *testing.T) {
 	refused(second)
 	second.Kill()
 	third := start(t, cluster.Endpoints(), "--lease", "3", "--timeout", "1s", "--revision", file, "--accept-older")
-	third.leads(t)
+	third.waitLeading(t)
 	l = third.dial(t)
-	l.wants(t, readPath, "", codes.OK, "0a04 0802 1002 121a 0801 1201 61 18808040 2203 737364 2a08 1a060a001a020801 3200 2200")
-	l.commits(t, addVolume(2, "c"))
+	l.wantReply(t, readPath, "", codes.OK, "0a04 0802 1002 121a 0801 1201 61 18808040 2203 737364 2a08 1a060a001a020801 3200 2200")
+	l.mustCommit(t, addVolume(2, "c"))
 	wantsFile(revision(t, cluster.Client(t)))
 	third.Terminate(t)
 	third.Status(t)
 	fourth := start(t, cluster.Endpoints(), "--lease", "3", "--timeout", "1s", "--revision", file)
-	fourth.leads(t)
+	fourth.waitLeading(t)
 }

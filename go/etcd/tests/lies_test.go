@@ -16,21 +16,21 @@ import (
 	"./clusters"
 )
 
-// liar is between a csid-etcd and a member of etcd, and takes parts of its answers away while it is
+// corruptingProxy is between a csid-etcd and a member of etcd, and takes parts of its answers away while it is
 // asked to.
-type liar struct {
+type corruptingProxy struct {
 	pb.KVServer
 	pb.LeaseServer
 	pb.WatchServer
-	member  *grpc.ClientConn
-	mutex   sync.Mutex
-	random  *rand.Rand
-	isLying bool
-	lies    int
+	member       *grpc.ClientConn
+	mutex        sync.Mutex
+	random       *rand.Rand
+	isCorrupting bool
+	corrupted    int
 }
 
-// newLiar starts one, and says where it answers.
-func newLiar(t *testing.T, member string) (*liar, string) {
+// newCorruptingProxy starts one, and says where it answers.
+func newCorruptingProxy(t *testing.T, member string) (*corruptingProxy, string) {
 	t.Helper()
 	conn, err := grpc.Dial(member, grpc.WithInsecure())
 	if err != nil {
@@ -40,7 +40,7 @@ func newLiar(t *testing.T, member string) (*liar, string) {
 	if err != nil {
 		t.Fatal(err)
 	}
-	l := &liar{member: conn, random: rand.New(rand.NewSource(7))}
+	l := &corruptingProxy{member: conn, random: rand.New(rand.NewSource(7))}
 	server := grpc.NewServer()
 	pb.RegisterKVServer(server, l)
 	pb.RegisterLeaseServer(server, l)
@@ -54,25 +54,25 @@ func newLiar(t *testing.T, member string) (*liar, string) {
 }
 
 // set begins or ends the lies, and gives how many there were.
-func (l *liar) set(isLying bool) int {
+func (l *corruptingProxy) set(isCorrupting bool) int {
 	l.mutex.Lock()
 	defer l.mutex.Unlock()
-	l.isLying = isLying
-	return l.lies
+	l.isCorrupting = isCorrupting
+	return l.corrupted
 }
 
-// lie takes a part of every second answer away.
-func (l *liar) lie(answer interface{}) {
+// corrupt takes a part of every second answer away.
+func (l *corruptingProxy) corrupt(answer interface{}) {
 	l.mutex.Lock()
 	defer l.mutex.Unlock()
-	if l.isLying && l.random.Intn(2) == 0 {
-		l.lies++
-		l.take(reflect.ValueOf(answer))
+	if l.isCorrupting && l.random.Intn(2) == 0 {
+		l.corrupted++
+		l.removePart(reflect.ValueOf(answer))
 	}
 }
 
-// take takes a part away: a field of the answer itself, or of one of its parts.
-func (l *liar) take(part reflect.Value) {
+// removePart takes a part away: a field of the answer itself, or of one of its parts.
+func (l *corruptingProxy) removePart(part reflect.Value) {
 	for part.Kind() == reflect.Ptr || part.Kind() == reflect.Interface {
 		if part.IsNil() {
 			return
@@ -81,74 +81,74 @@ func (l *liar) take(part reflect.Value) {
 	}
 	switch {
 	case part.Kind() == reflect.Slice && part.Len() > 0 && part.Type().Elem().Kind() == reflect.Ptr:
-		l.take(part.Index(l.random.Intn(part.Len())))
+		l.removePart(part.Index(l.random.Intn(part.Len())))
 	case part.Kind() == reflect.Struct:
 		field := part.Field(l.random.Intn(part.NumField()))
 		if l.random.Intn(2) == 0 && field.Kind() != reflect.Struct {
 			field.Set(reflect.Zero(field.Type()))
 		} else {
-			l.take(field)
+			l.removePart(field)
 		}
 	}
 }
 
-func (l *liar) Range(ctx context.Context, asked *pb.RangeRequest) (*pb.RangeResponse, error) {
-	answer, err := pb.NewKVClient(l.member).Range(ctx, asked)
-	l.lie(answer)
+func (l *corruptingProxy) Range(ctx context.Context, request *pb.RangeRequest) (*pb.RangeResponse, error) {
+	answer, err := pb.NewKVClient(l.member).Range(ctx, request)
+	l.corrupt(answer)
 	return answer, err
 }
 
-func (l *liar) Txn(ctx context.Context, asked *pb.TxnRequest) (*pb.TxnResponse, error) {
-	answer, err := pb.NewKVClient(l.member).Txn(ctx, asked)
-	l.lie(answer)
+func (l *corruptingProxy) Txn(ctx context.Context, request *pb.TxnRequest) (*pb.TxnResponse, error) {
+	answer, err := pb.NewKVClient(l.member).Txn(ctx, request)
+	l.corrupt(answer)
 	return answer, err
 }
 
-func (l *liar) DeleteRange(ctx context.Context, asked *pb.DeleteRangeRequest) (*pb.DeleteRangeResponse, error) {
-	answer, err := pb.NewKVClient(l.member).DeleteRange(ctx, asked)
-	l.lie(answer)
+func (l *corruptingProxy) DeleteRange(ctx context.Context, request *pb.DeleteRangeRequest) (*pb.DeleteRangeResponse, error) {
+	answer, err := pb.NewKVClient(l.member).DeleteRange(ctx, request)
+	l.corrupt(answer)
 	return answer, err
 }
 
-func (l *liar) LeaseGrant(ctx context.Context, asked *pb.LeaseGrantRequest) (*pb.LeaseGrantResponse, error) {
-	answer, err := pb.NewLeaseClient(l.member).LeaseGrant(ctx, asked)
-	l.lie(answer)
+func (l *corruptingProxy) LeaseGrant(ctx context.Context, request *pb.LeaseGrantRequest) (*pb.LeaseGrantResponse, error) {
+	answer, err := pb.NewLeaseClient(l.member).LeaseGrant(ctx, request)
+	l.corrupt(answer)
 	return answer, err
 }
 
-func (l *liar) LeaseRevoke(ctx context.Context, asked *pb.LeaseRevokeRequest) (*pb.LeaseRevokeResponse, error) {
-	answer, err := pb.NewLeaseClient(l.member).LeaseRevoke(ctx, asked)
-	l.lie(answer)
+func (l *corruptingProxy) LeaseRevoke(ctx context.Context, request *pb.LeaseRevokeRequest) (*pb.LeaseRevokeResponse, error) {
+	answer, err := pb.NewLeaseClient(l.member).LeaseRevoke(ctx, request)
+	l.corrupt(answer)
 	return answer, err
 }
 
-func (l *liar) LeaseKeepAlive(stream pb.Lease_LeaseKeepAliveServer) error {
+func (l *corruptingProxy) LeaseKeepAlive(stream pb.Lease_LeaseKeepAliveServer) error {
 	member, err := pb.NewLeaseClient(l.member).LeaseKeepAlive(stream.Context())
 	for err == nil {
-		var asked *pb.LeaseKeepAliveRequest
-		if asked, err = stream.Recv(); err == nil {
-			err = member.Send(asked)
+		var request *pb.LeaseKeepAliveRequest
+		if request, err = stream.Recv(); err == nil {
+			err = member.Send(request)
 		}
 		var answer *pb.LeaseKeepAliveResponse
 		if err == nil {
 			answer, err = member.Recv()
 		}
 		if err == nil {
-			l.lie(answer)
+			l.corrupt(answer)
 			err = stream.Send(answer)
 		}
 	}
 	return err
 }
 
-func (l *liar) Watch(stream pb.Watch_WatchServer) error {
+func (l *corruptingProxy) Watch(stream pb.Watch_WatchServer) error {
 	member, err := pb.NewWatchClient(l.member).Watch(stream.Context())
 	if err != nil {
 		return err
 	}
 	go func() {
-		for asked, err := stream.Recv(); err == nil; asked, err = stream.Recv() {
-			member.Send(asked)
+		for request, err := stream.Recv(); err == nil; request, err = stream.Recv() {
+			member.Send(request)
 		}
 	}()
 	for {
@@ -156,7 +156,7 @@ func (l *liar) Watch(stream pb.Watch_WatchServer) error {
 		if err != nil {
 			return err
 		}
-		l.lie(answer)
+		l.corrupt(answer)
 		if err := stream.Send(answer); err != nil {
 			return err
 		}
@@ -168,10 +168,10 @@ func (l *liar) Watch(stream pb.Watch_WatchServer) error {
 func TestLies(t *testing.T) {
 	t.Parallel()
 	cluster := clusters.Start(t, 1)
-	between, address := newLiar(t, cluster.Members[0].Address)
-	p := start(t, address, "--lease", "2", "--timeout", "500ms").leads(t)
-	p.dial(t).wants(t, makePath, "", 0, "")
-	between.set(true)
+	relay, address := newCorruptingProxy(t, cluster.Members[0].Address)
+	p := start(t, address, "--lease", "2", "--timeout", "500ms").waitLeading(t)
+	p.dial(t).wantReply(t, makePath, "", 0, "")
+	relay.set(true)
 	for end := time.Now().Add(15 * time.Second); time.Now().Before(end); time.Sleep(10 * time.Millisecond) {
 		l, err := dial(p.Socket)
 		if err != nil {
@@ -183,11 +183,11 @@ func TestLies(t *testing.T) {
 		l.call(leadPath, nil)
 		l.Close()
 	}
-	if lies := between.set(false); lies < 50 {
-		t.Errorf("%d lies", lies)
+	if corrupted := relay.set(false); corrupted < 50 {
+		t.Errorf("%d lies", corrupted)
 	}
-	p.saysThatItLeads(t)
-	p.dial(t).commits(t, addVolume(1, "a"))
+	p.waitConfirmsLead(t)
+	p.dial(t).mustCommit(t, addVolume(1, "a"))
 	if log := p.Log.String(); strings.Contains(log, "panic") || hasEnded(p.Process) || !strings.Contains(log, "etcd's answer is malformed: ") {
 		t.Errorf("it has ended: %v: %s", hasEnded(p.Process), log)
 	}

@@ -14,7 +14,7 @@ import (
 func TestKilledMembers(t *testing.T) {
 	t.Parallel()
 	cluster := clusters.Start(t, 3)
-	p := start(t, cluster.Endpoints(), "--timeout", "2s", "--lease", "5").leads(t)
+	p := start(t, cluster.Endpoints(), "--timeout", "2s", "--lease", "5").waitLeading(t)
 	d := newDriver(t, p)
 	end := d.begin()
 	for i := 0; i < 8; i++ {
@@ -31,10 +31,10 @@ func TestKilledMembers(t *testing.T) {
 	time.Sleep(time.Second)
 	end()
 	t.Logf("8 kills: %v", d)
-	if d.oks < 100 {
-		t.Errorf("%d changes", d.oks)
+	if d.ok < 100 {
+		t.Errorf("%d changes", d.ok)
 	}
-	wantsTold(t, d, p)
+	wantRows(t, d, p)
 }
 
 // Where etcd had no leader for longer than the lease, the program leads again as soon as there is one: etcd keeps the old lease for its whole length then, so the
@@ -42,7 +42,7 @@ func TestKilledMembers(t *testing.T) {
 func TestWithoutLeader(t *testing.T) {
 	t.Parallel()
 	cluster := clusters.Start(t, 3)
-	p := start(t, cluster.Endpoints(), "--timeout", "1s", "--lease", "12").leads(t)
+	p := start(t, cluster.Endpoints(), "--timeout", "1s", "--lease", "12").waitLeading(t)
 	leader := cluster.Leader(t)
 	signal := func(what syscall.Signal) {
 		for _, member := range cluster.Members {
@@ -56,24 +56,24 @@ func TestWithoutLeader(t *testing.T) {
 	}
 	before := len(p.Log.String())
 	signal(syscall.SIGSTOP)
-	p.says(t, "leads no more: its lease is over")
+	p.waitLog(t, "leads no more: its lease is over")
 	// What of it waits for etcd is given up.
 	time.Sleep(2 * time.Second)
 	signal(syscall.SIGCONT)
-	if took := p.leadsSince(t, before); took > 9*time.Second {
+	if took := p.waitLeadingSince(t, before); took > 9*time.Second {
 		t.Errorf("it led after %v", took)
 	}
 }
 
-// wantsTold wants that the rows are those that were reported.
-func wantsTold(t *testing.T, d *driver, p program) {
+// wantRows wants that the rows are those that were reported.
+func wantRows(t *testing.T, d *driver, p program) {
 	t.Helper()
 	var err error
 	processes.Eventually(t, "all rows", func() bool {
 		l := p.dial(t)
 		defer l.Close()
 		var read rows
-		if read, _, err = l.walk(); err != nil {
+		if read, _, err = l.readAll(); err != nil {
 			return false
 		}
 		err = d.compare(read)

@@ -16,26 +16,26 @@ import (
 	"./clusters"
 )
 
-// ended is what a program that has ended said.
-type ended struct {
-	status     int
-	said, fail string
+// result is what a program that has ended said.
+type result struct {
+	status         int
+	stdout, stderr string
 }
 
-// moves runs csid-etcd with --import or --export, with a text on its standard input.
-func moves(t *testing.T, typed, how, endpoints string, words ...string) ended {
+// runOnce runs csid-etcd with --import or --export, with a text on its standard input.
+func runOnce(t *testing.T, stdin, mode, endpoints string, args ...string) result {
 	t.Helper()
-	var said, fail strings.Builder
-	command := exec.Command(processes.EtcdProgram(t), append([]string{how, "--name", name, "--endpoints", endpoints}, words...)...)
-	command.Stdin, command.Stdout, command.Stderr = strings.NewReader(typed), &said, &fail
+	var stdout, stderr strings.Builder
+	command := exec.Command(processes.EtcdProgram(t), append([]string{mode, "--name", name, "--endpoints", endpoints}, args...)...)
+	command.Stdin, command.Stdout, command.Stderr = strings.NewReader(stdin), &stdout, &stderr
 	command.Run()
-	return ended{command.ProcessState.ExitCode(), said.String(), fail.String()}
+	return result{command.ProcessState.ExitCode(), stdout.String(), stderr.String()}
 }
 
-func (got ended) wants(t *testing.T, what string, status int, said, fail string) {
+func (got result) check(t *testing.T, what string, status int, stdout, stderr string) {
 	t.Helper()
-	if got != (ended{status, said, fail}) {
-		t.Errorf("%s: %d %.1000q %.1000q, wanted %d %.1000q %.1000q", what, got.status, got.said, got.fail, status, said, fail)
+	if got != (result{status, stdout, stderr}) {
+		t.Errorf("%s: %d %.1000q %.1000q, want %d %.1000q %.1000q", what, got.status, got.stdout, got.stderr, status, stdout, stderr)
 	}
 }
 
@@ -69,20 +69,20 @@ func TestNew(t *testing.T) {
 	cluster := clusters.Start(t, 1)
 	client := cluster.Client(t)
 	put(t, client, name+".other/meta", "x")
-	moves(t, "", "--new", cluster.Endpoints()).wants(t, "no rows", 0, "made: volumes 0, attachments 0, next number 1, format 2\n", "")
-	has(t, cluster, name+"/meta", `{"format_no":2,"next_number":1}`)
-	moves(t, "", "--new", cluster.Endpoints()).wants(t, "once more", 0, "exists: next number 1, format 2\n", "")
-	p := start(t, cluster.Endpoints(), "--existing").leads(t)
-	p.dial(t).commits(t, addVolume(1, "a"))
-	moves(t, "", "--new", cluster.Endpoints()).wants(t, "beside one that leads", 0, "exists: next number 2, format 2\n", "")
+	runOnce(t, "", "--new", cluster.Endpoints()).check(t, "no rows", 0, "made: volumes 0, attachments 0, next number 1, format 2\n", "")
+	wantKeys(t, cluster, name+"/meta", `{"format_no":2,"next_number":1}`)
+	runOnce(t, "", "--new", cluster.Endpoints()).check(t, "once more", 0, "exists: next number 1, format 2\n", "")
+	p := start(t, cluster.Endpoints(), "--existing").waitLeading(t)
+	p.dial(t).mustCommit(t, addVolume(1, "a"))
+	runOnce(t, "", "--new", cluster.Endpoints()).check(t, "beside one that leads", 0, "exists: next number 2, format 2\n", "")
 	cluster.Ctl(t, "del", name+"/meta")
-	moves(t, "", "--new", cluster.Endpoints()).wants(t, "a volume without meta", 1, "", "csid-etcd: --new: rows are there, and meta is not: an import was not ended\n")
+	runOnce(t, "", "--new", cluster.Endpoints()).check(t, "a volume without meta", 1, "", "csid-etcd: --new: rows are there, and meta is not: an import was not ended\n")
 	put(t, client, name+"/meta", "{}")
-	moves(t, "", "--new", cluster.Endpoints()).wants(t, "a broken meta", 1, "", `csid-etcd: --new: meta: its value is not of the form {"format_no":NUMBER,"next_number":NUMBER}`+"\n")
+	runOnce(t, "", "--new", cluster.Endpoints()).check(t, "a broken meta", 1, "", `csid-etcd: --new: meta: its value is not of the form {"format_no":NUMBER,"next_number":NUMBER}`+"\n")
 	cluster.Ctl(t, "del", name+"/meta")
 	cluster.Ctl(t, "del", name+"/volumes/00000000000000000001")
-	p.dial(t).wants(t, makePath, "", codes.FailedPrecondition, "there are no rows, and none are made")
-	has(t, cluster)
+	p.dial(t).wantReply(t, makePath, "", codes.FailedPrecondition, "there are no rows, and none are made")
+	wantKeys(t, cluster)
 }
 
 // Rows that are imported stand in etcd as they came, and are exported as SQL; and what is refused writes nothing.
@@ -93,49 +93,49 @@ func TestMoves(t *testing.T) {
 	// A plugin whose name begins with that of this one is another one.
 	put(t, client, name+".other/meta", "x")
 	put(t, client, name, "x")
-	moves(t, "", "--export", cluster.Endpoints()).wants(t, "no rows", 1, "",
+	runOnce(t, "", "--export", cluster.Endpoints()).check(t, "no rows", 1, "",
 		"csid-etcd: --export: meta is not there: nothing was made there yet, or an import was not ended\n")
-	moves(t, firstRow, "--import", cluster.Endpoints()).wants(t, "no meta", 1, "",
+	runOnce(t, firstRow, "--import", cluster.Endpoints()).check(t, "no meta", 1, "",
 		"csid-etcd: --import: the last line is not meta: it is missing, or what comes in was cut off; nothing was written\n")
-	moves(t, firstRow+"volumes/7\t"+blockRow+"\n"+metaRow, "--import", cluster.Endpoints()).wants(t, "a broken row", 1, "",
+	runOnce(t, firstRow+"volumes/7\t"+blockRow+"\n"+metaRow, "--import", cluster.Endpoints()).check(t, "a broken row", 1, "",
 		"csid-etcd: --import: line 2: volumes/7: its key has no number of 20 digits; nothing was written\n")
-	has(t, cluster)
+	wantKeys(t, cluster)
 
-	p := start(t, cluster.Endpoints(), "--id", "me").leads(t)
+	p := start(t, cluster.Endpoints(), "--id", "me").waitLeading(t)
 	waits := start(t, cluster.Endpoints(), "--id", "you")
-	waits.says(t, "csid-etcd: waits for the lock, which me holds")
+	waits.waitLog(t, "csid-etcd: waits for the lock, which me holds")
 	for _, holder := range []struct {
 		program
 		id string
 	}{{p, "me"}, {waits, "you"}} {
-		got := moves(t, threeRows, "--import", cluster.Endpoints())
-		if got.status != 1 || got.said != "" || !strings.HasPrefix(got.fail, "csid-etcd: --import: lock/") ||
-			!strings.HasSuffix(got.fail, " has the lock or waits for it, and must be stopped first; nothing was written\n") {
+		got := runOnce(t, threeRows, "--import", cluster.Endpoints())
+		if got.status != 1 || got.stdout != "" || !strings.HasPrefix(got.stderr, "csid-etcd: --import: lock/") ||
+			!strings.HasSuffix(got.stderr, " has the lock or waits for it, and must be stopped first; nothing was written\n") {
 			t.Errorf("beside a program that leads: %v", got)
 		}
 		holder.Terminate(t)
 		holder.Status(t)
 	}
-	has(t, cluster)
+	wantKeys(t, cluster)
 
-	moves(t, threeRows, "--import", cluster.Endpoints()).wants(t, "an import", 0, threeSaid, "")
-	has(t, cluster,
+	runOnce(t, threeRows, "--import", cluster.Endpoints()).check(t, "an import", 0, threeSaid, "")
+	wantKeys(t, cluster,
 		name+"/attachments/00000000000000000001/n", `{"cap":"1a060a001a020801","readonly":0}`,
 		name+"/meta", `{"format_no":2,"next_number":2}`,
 		name+"/volumes/00000000000000000001", blockRow)
 	at := fmt.Sprintf("csid-etcd: at revision %d: %s", revision(t, client), threeSaid)
-	moves(t, "", "--export", cluster.Endpoints()).wants(t, "an export", 0, threeSQL, at)
+	runOnce(t, "", "--export", cluster.Endpoints()).check(t, "an export", 0, threeSQL, at)
 	for _, row := range []struct{ key, there string }{{"attachments/00000000000000000001/n", "a row"}, {"meta", "meta"}, {"volumes/00000000000000000001", "a volume"}, {"x", "another key"}} {
 		if row.key == "x" {
 			put(t, client, name+"/x", "")
 		}
-		moves(t, threeRows, "--import", cluster.Endpoints()).wants(t, row.there, 1, "", "csid-etcd: --import: "+row.key+": it is there already; nothing was written\n")
+		runOnce(t, threeRows, "--import", cluster.Endpoints()).check(t, row.there, 1, "", "csid-etcd: --import: "+row.key+": it is there already; nothing was written\n")
 		cluster.Ctl(t, "del", name+"/"+row.key)
 	}
-	has(t, cluster)
+	wantKeys(t, cluster)
 
 	// Of a broken row nothing is committed.
-	moves(t, threeRows, "--import", cluster.Endpoints()).wants(t, "an import again", 0, threeSaid, "")
+	runOnce(t, threeRows, "--import", cluster.Endpoints()).check(t, "an import again", 0, threeSaid, "")
 	for key, why := range map[string]string{
 		"volumes/00000000000000000002":       `its value is not of the form {"name":TEXT,"bytes":NUMBER,"pool":TEXT,"caps":HEX,"params":HEX}`,
 		"attachments/00000000000000000001/o": `its value is not of the form {"cap":HEX,"readonly":0 or 1}`,
@@ -146,8 +146,8 @@ func TestMoves(t *testing.T) {
 		"volumes0":                           "no row has such a key",
 	} {
 		put(t, client, name+"/"+key, " {}")
-		got := moves(t, "", "--export", cluster.Endpoints())
-		if got.status != 1 || strings.Contains(got.said, "COMMIT") || got.fail != "csid-etcd: --export: "+key+": "+why+"\n" {
+		got := runOnce(t, "", "--export", cluster.Endpoints())
+		if got.status != 1 || strings.Contains(got.stdout, "COMMIT") || got.stderr != "csid-etcd: --export: "+key+": "+why+"\n" {
 			t.Errorf("%s: %v", key, got)
 		}
 		cluster.Ctl(t, "del", name+"/"+key)
@@ -157,26 +157,26 @@ func TestMoves(t *testing.T) {
 		`{"format_no":3,"next_number":2}`: "its format is 3, and that of rows in etcd 2",
 	} {
 		put(t, client, name+"/meta", value)
-		moves(t, "", "--export", cluster.Endpoints()).wants(t, value, 1, "", "csid-etcd: --export: meta: "+why+"\n")
+		runOnce(t, "", "--export", cluster.Endpoints()).check(t, value, 1, "", "csid-etcd: --export: meta: "+why+"\n")
 	}
 	// While a program leads an export is made too.
 	put(t, client, name+"/meta", `{"format_no":2,"next_number":2}`)
-	start(t, cluster.Endpoints()).leads(t)
+	start(t, cluster.Endpoints()).waitLeading(t)
 	at = fmt.Sprintf("csid-etcd: at revision %d: %s", revision(t, client), threeSaid)
-	moves(t, "", "--export", cluster.Endpoints()).wants(t, "an export beside a program that leads", 0, threeSQL, at)
+	runOnce(t, "", "--export", cluster.Endpoints()).check(t, "an export beside a program that leads", 0, threeSQL, at)
 }
 
 // Where etcd does not answer, or the output cannot be written, a line says so.
 func TestMovesWithoutEtcd(t *testing.T) {
 	t.Parallel()
-	nobody := clusters.FreePorts(t, 1)[0]
-	for _, how := range []string{"--import", "--export"} {
-		got := moves(t, threeRows, how, nobody, "--timeout", "500ms")
-		if got.status != 1 || got.said != "" || !strings.HasPrefix(got.fail, "csid-etcd: "+how+": context deadline exceeded") {
-			t.Errorf("%s without etcd: %v", how, got)
+	unused := clusters.FreePorts(t, 1)[0]
+	for _, mode := range []string{"--import", "--export"} {
+		got := runOnce(t, threeRows, mode, unused, "--timeout", "500ms")
+		if got.status != 1 || got.stdout != "" || !strings.HasPrefix(got.stderr, "csid-etcd: "+mode+": context deadline exceeded") {
+			t.Errorf("%s without etcd: %v", mode, got)
 		}
-		moves(t, threeRows, how, nobody, "--cacert", "/none").wants(t, how+" without a file", 1, "",
-			"csid-etcd: "+how+": --cacert: open /none: no such file or directory"+map[string]string{"--import": "; nothing was written"}[how]+"\n")
+		runOnce(t, threeRows, mode, unused, "--cacert", "/none").check(t, mode+" without a file", 1, "",
+			"csid-etcd: "+mode+": --cacert: open /none: no such file or directory"+map[string]string{"--import": "; nothing was written"}[mode]+"\n")
 	}
 	cluster := clusters.Start(t, 1)
 	full, err := os.OpenFile("/dev/full", os.O_WRONLY, 0)
@@ -185,41 +185,41 @@ func TestMovesWithoutEtcd(t *testing.T) {
 	}
 	defer full.Close()
 	// The second --new finds the row that exists, and the export the rows of the import.
-	for _, how := range []string{"--new", "--new", "--import", "--export"} {
-		if how == "--import" {
+	for _, mode := range []string{"--new", "--new", "--import", "--export"} {
+		if mode == "--import" {
 			cluster.Ctl(t, "del", name+"/meta")
 		}
-		command := exec.Command(processes.EtcdProgram(t), how, "--name", name, "--endpoints", cluster.Endpoints())
-		var fail strings.Builder
-		command.Stdin, command.Stdout, command.Stderr = strings.NewReader(threeRows), full, &fail
+		command := exec.Command(processes.EtcdProgram(t), mode, "--name", name, "--endpoints", cluster.Endpoints())
+		var stderr strings.Builder
+		command.Stdin, command.Stdout, command.Stderr = strings.NewReader(threeRows), full, &stderr
 		command.Run()
-		if fail.String() != "csid-etcd: "+how+": write /dev/stdout: no space left on device\n" || command.ProcessState.ExitCode() != 1 {
-			t.Errorf("%s: %d %q", how, command.ProcessState.ExitCode(), fail.String())
+		if stderr.String() != "csid-etcd: "+mode+": write /dev/stdout: no space left on device\n" || command.ProcessState.ExitCode() != 1 {
+			t.Errorf("%s: %d %q", mode, command.ProcessState.ExitCode(), stderr.String())
 		}
 	}
 }
 
-// begunImport is an import of many rows by way of a proxy that holds in the middle of it.
-func begunImport(t *testing.T, cluster *clusters.Cluster, lines string, words ...string) (*proxy, *processes.Process) {
+// startImport is an import of many rows by way of a proxy that holds in the middle of it.
+func startImport(t *testing.T, cluster *clusters.Cluster, lines string, args ...string) (*proxy, *processes.Process) {
 	t.Helper()
-	between := newProxy(t, cluster.Members[0].Address)
+	relay := newProxy(t, cluster.Members[0].Address)
 	client := cluster.Client(t)
-	command := exec.Command(processes.EtcdProgram(t), append([]string{"--import", "--name", name, "--endpoints", between.address()}, words...)...)
+	command := exec.Command(processes.EtcdProgram(t), append([]string{"--import", "--name", name, "--endpoints", relay.address()}, args...)...)
 	command.Stdin = strings.NewReader(lines)
 	p := processes.Start(t, "", command)
 	processes.Eventually(t, "some rows", func() bool {
 		read, err := client.Get(context.Background(), name+"/", clientv3.WithPrefix(), clientv3.WithCountOnly())
 		return err == nil && read.Count > 500
 	})
-	between.hold()
-	return between, p
+	relay.pause()
+	return relay, p
 }
 
-// wantsRest wants that an import ended with a line, and that some of its rows were written, and not all.
-func wantsRest(t *testing.T, cluster *clusters.Cluster, p *processes.Process, line string, count int) {
+// wantPartialImport wants that an import ended with a line, and that some of its rows were written, and not all.
+func wantPartialImport(t *testing.T, cluster *clusters.Cluster, p *processes.Process, line string, count int) {
 	t.Helper()
 	if status := p.Status(t); status != 1 || !strings.Contains(p.Log.String(), line) {
-		t.Errorf("%d %q, wanted %q", status, p.Log, line)
+		t.Errorf("%d %q, want %q", status, p.Log, line)
 	}
 	var written, all int
 	if _, rest, isThere := strings.Cut(p.Log.String(), "; "); isThere {
@@ -237,52 +237,52 @@ func TestImportStopped(t *testing.T) {
 	cluster := clusters.Start(t, 1)
 	client := cluster.Client(t)
 
-	between, p := begunImport(t, cluster, lines)
+	relay, p := startImport(t, cluster, lines)
 	put(t, client, name+"/lock/1", "me")
-	between.letGo()
-	wantsRest(t, cluster, p, "csid-etcd: --import: lock/1: me has the lock or waits for it, and must be stopped first; ", count)
+	relay.resume()
+	wantPartialImport(t, cluster, p, "csid-etcd: --import: lock/1: me has the lock or waits for it, and must be stopped first; ", count)
 	cluster.Ctl(t, "del", name+"/lock/1")
-	moves(t, lines, "--import", cluster.Endpoints()).wants(t, "a further import", 1, "", "csid-etcd: --import: attachments/00000000000000000002/node-2: it is there already; nothing was written\n")
-	log := start(t, cluster.Endpoints()).leads(t)
-	l := log.dial(t)
-	if read, _, err := l.walk(); err != nil || read["meta"] != "" || len(read) < 500 {
+	runOnce(t, lines, "--import", cluster.Endpoints()).check(t, "a further import", 1, "", "csid-etcd: --import: attachments/00000000000000000002/node-2: it is there already; nothing was written\n")
+	store := start(t, cluster.Endpoints()).waitLeading(t)
+	l := store.dial(t)
+	if read, _, err := l.readAll(); err != nil || read["meta"] != "" || len(read) < 500 {
 		t.Errorf("%d rows, meta %q, %v", len(read), read["meta"], err)
 	}
-	l.wants(t, makePath, "", codes.FailedPrecondition, "attachments/00000000000000000002/node-2 is there already")
+	l.wantReply(t, makePath, "", codes.FailedPrecondition, "attachments/00000000000000000002/node-2 is there already")
 	folder := processes.Folder(t)
-	csid := processes.Start(t, filepath.Join(folder, "csid.sock"), exec.Command(processes.CsidProgram(t), "serve", "--socket", filepath.Join(folder, "csid.sock"), "--log", log.Socket))
+	csid := processes.Start(t, filepath.Join(folder, "csid.sock"), exec.Command(processes.CsidProgram(t), "serve", "--socket", filepath.Join(folder, "csid.sock"), "--log", store.Socket))
 	processes.Eventually(t, "that csid refuses the rows", func() bool {
-		return csid.Log.String() == "csid: "+log.Socket+": meta has no row with the number of a format\n"
+		return csid.Log.String() == "csid: "+store.Socket+": meta has no row with the number of a format\n"
 	})
-	log.Terminate(t)
-	log.Status(t)
+	store.Terminate(t)
+	store.Status(t)
 	cluster.Ctl(t, "del", "--prefix", name+"/")
 
 	// What is taken away in the middle is not written on.
-	between, p = begunImport(t, cluster, lines)
+	relay, p = startImport(t, cluster, lines)
 	cluster.Ctl(t, "del", "--prefix", name+"/")
-	between.letGo()
-	wantsRest(t, cluster, p, "csid-etcd: --import: volumes/00000000000000000001: it was removed in the meantime; ", count)
+	relay.resume()
+	wantPartialImport(t, cluster, p, "csid-etcd: --import: volumes/00000000000000000001: it was removed in the meantime; ", count)
 	cluster.Ctl(t, "del", "--prefix", name+"/")
 
 	// A row that is put by hand in the middle is not written over.
-	between, p = begunImport(t, cluster, lines)
+	relay, p = startImport(t, cluster, lines)
 	put(t, client, name+"/volumes/00000000000000030000", "x")
-	between.letGo()
-	wantsRest(t, cluster, p, "csid-etcd: --import: volumes/00000000000000030000: it is there already; ", count)
+	relay.resume()
+	wantPartialImport(t, cluster, p, "csid-etcd: --import: volumes/00000000000000030000: it is there already; ", count)
 	cluster.Ctl(t, "del", "--prefix", name+"/")
 
 	// etcd ends, and comes again.
-	between, p = begunImport(t, cluster, lines, "--timeout", "2s")
+	relay, p = startImport(t, cluster, lines, "--timeout", "2s")
 	cluster.Members[0].Kill()
-	between.letGo()
-	wantsRest(t, cluster, p, "csid-etcd: --import: it is not known whether it was made: ", count)
+	relay.resume()
+	wantPartialImport(t, cluster, p, "csid-etcd: --import: it is not known whether it was made: ", count)
 	cluster.Members[0].Start(t)
-	cluster.Answers(t)
-	moves(t, "", "--export", cluster.Endpoints()).wants(t, "an export of the rest", 1, "",
+	cluster.WaitReady(t)
+	runOnce(t, "", "--export", cluster.Endpoints()).check(t, "an export of the rest", 1, "",
 		"csid-etcd: --export: meta is not there: nothing was made there yet, or an import was not ended\n")
 	cluster.Ctl(t, "del", "--prefix", name+"/")
-	moves(t, lines, "--import", cluster.Endpoints()).wants(t, "an import anew", 0, "volumes 30000, attachments 15000, next number 30001, format 2\n", "")
+	runOnce(t, lines, "--import", cluster.Endpoints()).check(t, "an import anew", 0, "volumes 30000, attachments 15000, next number 30001, format 2\n", "")
 }
 
 // Of several imports at once, of other rows each, one is made, and the others write nothing.
@@ -292,16 +292,16 @@ func TestImportsAtOnce(t *testing.T) {
 	lines, _ := manyLines(2000)
 	for i := 0; i < 12; i++ {
 		cluster.Ctl(t, "del", "--prefix", name+"/")
-		var all [6]ended
+		var all [6]result
 		processes.Together(len(all), func(caller int) {
 			others := strings.NewReplacer("/0000", fmt.Sprintf("/000%d", caller)).Replace(lines)
-			all[caller] = moves(t, others, "--import", cluster.Endpoints())
+			all[caller] = runOnce(t, others, "--import", cluster.Endpoints())
 		})
 		made := 0
 		for _, one := range all {
 			if one.status == 0 {
 				made++
-			} else if !strings.HasSuffix(one.fail, "it is there already; nothing was written\n") {
+			} else if !strings.HasSuffix(one.stderr, "it is there already; nothing was written\n") {
 				t.Errorf("%v", one)
 			}
 		}
@@ -323,11 +323,11 @@ func TestImportLongRows(t *testing.T) {
 		lines += long(n, 1000*n)
 	}
 	cluster := clusters.Start(t, 1)
-	moves(t, lines+"meta\t{\"format_no\":2,\"next_number\":101}\n", "--import", cluster.Endpoints()).wants(t, "long rows", 0, "volumes 100, attachments 0, next number 101, format 2\n", "")
-	if got := moves(t, "", "--export", cluster.Endpoints()); got.status != 0 || len(got.said) < 100*101*1000*2 {
-		t.Errorf("%d, %d bytes, %s", got.status, len(got.said), got.fail)
+	runOnce(t, lines+"meta\t{\"format_no\":2,\"next_number\":101}\n", "--import", cluster.Endpoints()).check(t, "long rows", 0, "volumes 100, attachments 0, next number 101, format 2\n", "")
+	if got := runOnce(t, "", "--export", cluster.Endpoints()); got.status != 0 || len(got.stdout) < 100*101*1000*2 {
+		t.Errorf("%d, %d bytes, %s", got.status, len(got.stdout), got.stderr)
 	}
 	cluster.Ctl(t, "del", "--prefix", name+"/")
-	moves(t, firstRow+long(2, 400000)+metaRow, "--import", cluster.Endpoints()).wants(t, "a row that is too long", 1, "",
+	runOnce(t, firstRow+long(2, 400000)+metaRow, "--import", cluster.Endpoints()).check(t, "a row that is too long", 1, "",
 		"csid-etcd: --import: volumes/00000000000000000002: etcdserver: request is too large; 1 of 3 rows were written: remove them, and start again ("+cluster.Endpoints()+")\n")
 }

@@ -36,9 +36,9 @@ func TestArguments(t *testing.T) {
 	}
 	defer answered.Close()
 	table := []struct {
-		words      []string
-		status     int
-		said, fail string
+		args           []string
+		status         int
+		stdout, stderr string
 	}{
 		{[]string{"--version"}, 0, "csid-etcd " + string(version), ""},
 		{[]string{"--name", name}, 2, "", "csid-etcd: --listen: the path of a socket is missing\n"},
@@ -47,17 +47,17 @@ func TestArguments(t *testing.T) {
 		{[]string{"--name", name, "--listen", at("log.sock"), "--revision", at("revision")}, 1, "", "csid-etcd: --revision: " + at("revision") + ": it has no revision\n"},
 	}
 	for _, row := range table {
-		var said, fail strings.Builder
-		command := exec.Command(processes.EtcdProgram(t), row.words...)
-		command.Stdout, command.Stderr = &said, &fail
+		var stdout, stderr strings.Builder
+		command := exec.Command(processes.EtcdProgram(t), row.args...)
+		command.Stdout, command.Stderr = &stdout, &stderr
 		command.Run()
-		if status := command.ProcessState.ExitCode(); status != row.status || said.String() != row.said || fail.String() != row.fail {
-			t.Errorf("%v: %d %q %q", row.words, status, said.String(), fail.String())
+		if status := command.ProcessState.ExitCode(); status != row.status || stdout.String() != row.stdout || stderr.String() != row.stderr {
+			t.Errorf("%v: %d %q %q", row.args, status, stdout.String(), stderr.String())
 		}
 	}
-	said, err := exec.Command(processes.EtcdProgram(t), "--help").Output()
-	if err != nil || !strings.HasPrefix(string(said), "Keeps the rows of a csid in etcd") {
-		t.Errorf("--help: %v, %s", err, said)
+	stdout, err := exec.Command(processes.EtcdProgram(t), "--help").Output()
+	if err != nil || !strings.HasPrefix(string(stdout), "Keeps the rows of a csid in etcd") {
+		t.Errorf("--help: %v, %s", err, stdout)
 	}
 }
 
@@ -68,12 +68,12 @@ func TestModes(t *testing.T) {
 	folder := processes.Folder(t)
 	socket, file := filepath.Join(folder, "log.sock"), filepath.Join(folder, "revision")
 	for i := 0; i < 2; i++ {
-		words := fmt.Sprintf("umask 0; exec %s --name %s --listen %s --endpoints %s --revision %s --lease 2", processes.EtcdProgram(t), name, socket, cluster.Endpoints(), file)
-		p := program{processes.Start(t, socket, exec.Command("sh", "-c", words)).Answers(t)}
-		p.leads(t)
+		args := fmt.Sprintf("umask 0; exec %s --name %s --listen %s --endpoints %s --revision %s --lease 2", processes.EtcdProgram(t), name, socket, cluster.Endpoints(), file)
+		p := program{processes.Start(t, socket, exec.Command("sh", "-c", args)).Answers(t)}
+		p.waitLeading(t)
 		l := p.dial(t)
 		l.call(makePath, nil)
-		if _, _, err := l.walk(); err != nil {
+		if _, _, err := l.readAll(); err != nil {
 			t.Fatal(err)
 		}
 		processes.Eventually(t, "the file of the revision", func() bool { _, err := os.Stat(file); return err == nil })
@@ -92,7 +92,7 @@ func TestBeforeEtcd(t *testing.T) {
 	t.Parallel()
 	cluster := clusters.New(t, 1, clusters.Settings{})
 	p := start(t, cluster.Endpoints(), "--timeout", "500ms")
-	p.says(t, "csid-etcd: no lock: ")
+	p.waitLog(t, "csid-etcd: no lock: ")
 	l := p.dial(t)
 	begin := time.Now()
 	reply, err := l.call(readPath, nil)
@@ -100,8 +100,8 @@ func TestBeforeEtcd(t *testing.T) {
 		t.Errorf("%v, %v, after %v", reply, err, time.Since(begin))
 	}
 	cluster.StartAll(t)
-	p.leads(t)
-	l.wants(t, readPath, "", codes.OK, "2200")
+	p.waitLeading(t)
+	l.wantReply(t, readPath, "", codes.OK, "2200")
 }
 
 // Until etcd was asked for the first time each call is refused, also whether the program leads.
@@ -116,9 +116,9 @@ func TestBeforeTheFirstAnswer(t *testing.T) {
 	l := start(t, silent.Addr().String(), "--timeout", "20s").dial(t)
 	const want = "waiting for the lock: etcd was not asked yet"
 	for _, path := range []string{leadPath, readPath, makePath} {
-		l.wants(t, path, "", codes.FailedPrecondition, want)
+		l.wantReply(t, path, "", codes.FailedPrecondition, want)
 	}
-	l.refuses(t, addVolume(1, "a"), codes.FailedPrecondition, want)
+	l.wantRefused(t, addVolume(1, "a"), codes.FailedPrecondition, want)
 }
 
 // Where etcd does not answer, an end waits for the change that is under way, as long as that may take; a second signal does not wait.
@@ -126,23 +126,23 @@ func TestEndWithoutEtcd(t *testing.T) {
 	t.Parallel()
 	cluster := clusters.Start(t, 1)
 	for _, isTwice := range []bool{false, true} {
-		between := newProxy(t, cluster.Members[0].Address)
-		p := start(t, between.address(), "--timeout", "1s", "--lease", "10").leads(t)
+		relay := newProxy(t, cluster.Members[0].Address)
+		p := start(t, relay.address(), "--timeout", "1s", "--lease", "10").waitLeading(t)
 		l := p.dial(t)
-		between.hold()
+		relay.pause()
 		message := detachAll(1)
 		l.Write(append(frameHead(commitPath, len(message)), message...))
 		time.Sleep(200 * time.Millisecond)
 		begin := time.Now()
 		p.Terminate(t)
-		wanted, limit := 0, 3*time.Second
+		wantStatus, limit := 0, 3*time.Second
 		if isTwice {
 			time.Sleep(100 * time.Millisecond)
 			p.Terminate(t)
-			wanted, limit = 1, 500*time.Millisecond
+			wantStatus, limit = 1, 500*time.Millisecond
 		}
 		status := p.Status(t)
-		if took := time.Since(begin); status != wanted || took > limit || (!isTwice && took < 500*time.Millisecond) {
+		if took := time.Since(begin); status != wantStatus || took > limit || (!isTwice && took < 500*time.Millisecond) {
 			t.Errorf("twice %v: %d after %v: %s", isTwice, status, took, p.Log)
 		}
 		if _, err := os.Lstat(p.Socket); err == nil {
@@ -150,9 +150,9 @@ func TestEndWithoutEtcd(t *testing.T) {
 		}
 		want := map[bool]string{false: commitPath + ": it is not known whether it was made: ", true: "ended, and cut off what was under way\n"}[isTwice]
 		if !strings.Contains(p.Log.String(), "csid-etcd: "+want) {
-			t.Errorf("twice %v: the log has %q, wanted %q", isTwice, p.Log, want)
+			t.Errorf("twice %v: the log has %q, want %q", isTwice, p.Log, want)
 		}
-		between.letGo()
+		relay.resume()
 		cluster.Ctl(t, "del", "--prefix", name+"/lock/")
 	}
 }

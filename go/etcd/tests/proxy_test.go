@@ -13,10 +13,10 @@ type proxy struct {
 	mutex    sync.Mutex
 	changed  *sync.Cond
 	// Whether nothing is handed on.
-	isHeld bool
+	isPaused bool
 	// Whether what comes of clients is dropped.
-	isDeaf bool
-	conns  []net.Conn
+	dropsClient bool
+	conns       []net.Conn
 }
 
 func newProxy(t *testing.T, member string) *proxy {
@@ -29,7 +29,7 @@ func newProxy(t *testing.T, member string) *proxy {
 	p.changed = sync.NewCond(&p.mutex)
 	t.Cleanup(func() {
 		listener.Close()
-		p.set(func() { p.isHeld = false })
+		p.set(func() { p.isPaused = false })
 		p.cut()
 	})
 	go p.run()
@@ -63,7 +63,7 @@ func (p *proxy) hand(from, to net.Conn, isOfClient bool) {
 		defer to.Close()
 		for {
 			p.mutex.Lock()
-			for !isOver && (p.isHeld || len(waiting) == 0) {
+			for !isOver && (p.isPaused || len(waiting) == 0) {
 				p.changed.Wait()
 			}
 			parts := waiting
@@ -83,7 +83,7 @@ func (p *proxy) hand(from, to net.Conn, isOfClient bool) {
 		p.set(func() {
 			if err != nil {
 				isOver = true
-			} else if !p.isDeaf || !isOfClient {
+			} else if !p.dropsClient || !isOfClient {
 				waiting = append(waiting, part[:size])
 			}
 		})
@@ -101,8 +101,8 @@ func (p *proxy) set(change func()) {
 	p.changed.Broadcast()
 }
 
-func (p *proxy) hold()  { p.set(func() { p.isHeld = true }) }
-func (p *proxy) letGo() { p.set(func() { p.isHeld, p.isDeaf = false, false }) }
+func (p *proxy) pause()  { p.set(func() { p.isPaused = true }) }
+func (p *proxy) resume() { p.set(func() { p.isPaused, p.dropsClient = false, false }) }
 
 // cut ends all connections.
 func (p *proxy) cut() {

@@ -20,31 +20,31 @@ import (
 func TestRows(t *testing.T) {
 	t.Parallel()
 	cluster := clusters.Start(t, 1)
-	p := start(t, cluster.Endpoints()).leads(t)
+	p := start(t, cluster.Endpoints()).waitLeading(t)
 	l := p.dial(t)
-	l.wants(t, readPath, "0a00", codes.OK, "2200")
-	has(t, cluster)
-	l.wants(t, leadPath, "", codes.OK, "")
-	l.wants(t, makePath, "", codes.OK, "")
-	l.wants(t, readPath, "0a00", codes.OK, "0a04 0802 1001 2200")
-	has(t, cluster, name+"/meta", `{"format_no":2,"next_number":1}`)
-	l.wants(t, makePath, "", codes.FailedPrecondition, "meta is there already")
-	p.says(t, "csid-etcd: "+makePath+` 9 "meta is there already"`+"\n")
+	l.wantReply(t, readPath, "0a00", codes.OK, "2200")
+	wantKeys(t, cluster)
+	l.wantReply(t, leadPath, "", codes.OK, "")
+	l.wantReply(t, makePath, "", codes.OK, "")
+	l.wantReply(t, readPath, "0a00", codes.OK, "0a04 0802 1001 2200")
+	wantKeys(t, cluster, name+"/meta", `{"format_no":2,"next_number":1}`)
+	l.wantReply(t, makePath, "", codes.FailedPrecondition, "meta is there already")
+	p.waitLog(t, "csid-etcd: "+makePath+` 9 "meta is there already"`+"\n")
 
-	l.commits(t, addVolumeWith(1, "pvc-1", 1048576, "ssd", block, "\x22\x06\x0a\x01k\x12\x01v\x42\x06\x0a\x01k\x12\x01v"))
-	l.commits(t, addVolumeWith(2, "a\"<é>\n", 2097152, "", "", ""))
-	l.commits(t, attach(1, "n/1", false))
-	l.commits(t, attach(1, "n é", true))
-	l.commits(t, attach(2, "n", true))
-	l.commits(t, setMutable(1, "\x42\x00"))
-	has(t, cluster,
+	l.mustCommit(t, addVolumeWith(1, "pvc-1", 1048576, "ssd", block, "\x22\x06\x0a\x01k\x12\x01v\x42\x06\x0a\x01k\x12\x01v"))
+	l.mustCommit(t, addVolumeWith(2, "a\"<é>\n", 2097152, "", "", ""))
+	l.mustCommit(t, attach(1, "n/1", false))
+	l.mustCommit(t, attach(1, "n é", true))
+	l.mustCommit(t, attach(2, "n", true))
+	l.mustCommit(t, setMutable(1, "\x42\x00"))
+	wantKeys(t, cluster,
 		name+"/attachments/00000000000000000001/n é", `{"cap":"1a060a001a020801","readonly":1}`,
 		name+"/attachments/00000000000000000001/n/1", `{"cap":"1a060a001a020801","readonly":0}`,
 		name+"/attachments/00000000000000000002/n", `{"cap":"1a060a001a020801","readonly":1}`,
 		name+"/meta", `{"format_no":2,"next_number":3}`,
 		name+"/volumes/00000000000000000001", `{"name":"pvc-1","bytes":1048576,"pool":"ssd","caps":"1a060a001a020801","params":"22060a016b1201764200"}`,
 		name+"/volumes/00000000000000000002", `{"name":"a\"<é>\n","bytes":2097152,"pool":"","caps":"","params":""}`)
-	l.wants(t, readPath, "", codes.OK, "0a04 0802 1003"+
+	l.wantReply(t, readPath, "", codes.OK, "0a04 0802 1003"+
 		"1228 0801 1205 7076632d31 18808040 2203 737364 2a08 1a060a001a020801 320a 22060a016b1201764200"+
 		"1216 0802 1207 61223cc3a93e0a 1880808001 2200 2a00 3200"+
 		"1a14 0801 1204 6e20c3a9 1a08 1a060a001a020801 2001"+
@@ -52,19 +52,19 @@ func TestRows(t *testing.T) {
 		"1a11 0802 1201 6e 1a08 1a060a001a020801 2001"+
 		"2200")
 
-	l.commits(t, detach(1, "n/1"))
-	l.commits(t, detach(1, "none"))
-	l.commits(t, detach(1<<64-1, "n"))
-	l.commits(t, detachAll(1))
-	l.commits(t, detachAll(9))
-	l.commits(t, removeVolume(1))
-	l.commits(t, removeVolume(1))
-	l.commits(t, removeVolume(1<<63))
-	has(t, cluster,
+	l.mustCommit(t, detach(1, "n/1"))
+	l.mustCommit(t, detach(1, "none"))
+	l.mustCommit(t, detach(1<<64-1, "n"))
+	l.mustCommit(t, detachAll(1))
+	l.mustCommit(t, detachAll(9))
+	l.mustCommit(t, removeVolume(1))
+	l.mustCommit(t, removeVolume(1))
+	l.mustCommit(t, removeVolume(1<<63))
+	wantKeys(t, cluster,
 		name+"/attachments/00000000000000000002/n", `{"cap":"1a060a001a020801","readonly":1}`,
 		name+"/meta", `{"format_no":2,"next_number":3}`,
 		name+"/volumes/00000000000000000002", `{"name":"a\"<é>\n","bytes":2097152,"pool":"","caps":"","params":""}`)
-	if read, pages, err := l.walk(); err != nil || pages != 1 || len(read) != 3 {
+	if read, pages, err := l.readAll(); err != nil || pages != 1 || len(read) != 3 {
 		t.Errorf("%v, %d pages, %v", read, pages, err)
 	}
 }
@@ -72,38 +72,38 @@ func TestRows(t *testing.T) {
 // What each change supposes is compared, and where it is otherwise nothing is made.
 func TestSuppositions(t *testing.T) {
 	t.Parallel()
-	cluster, _, l := begun(t)
-	l.commits(t, addVolume(1, "a"))
-	l.commits(t, attach(1, "n", false))
+	cluster, _, l := startLeading(t)
+	l.mustCommit(t, addVolume(1, "a"))
+	l.mustCommit(t, attach(1, "n", false))
 	before := cluster.Ctl(t, "get", "--prefix", name)
 	const precondition = codes.FailedPrecondition
-	l.refuses(t, addVolume(1, "b"), precondition, "volumes/00000000000000000001 is there already")
-	l.refuses(t, addVolume(3, "b"), precondition, `meta is {"format_no":2,"next_number":2}, and not {"format_no":2,"next_number":3}`)
-	l.refuses(t, removeVolume(1), precondition, "attachments/00000000000000000001/n is there")
-	l.refuses(t, attach(2, "n", false), precondition, "volumes/00000000000000000002 is not there")
-	l.refuses(t, attach(1<<64-1, "n", false), precondition, "volumes/18446744073709551615 is not there")
-	l.refuses(t, attach(1, "n", true), precondition, "attachments/00000000000000000001/n is there already")
-	l.refuses(t, setMutable(2, ""), precondition, "volumes/00000000000000000002 is not there")
-	l.wants(t, makePath, "", precondition, "attachments/00000000000000000001/n is there already")
-	l.refuses(t, addVolume(1<<63-1, "b"), codes.InvalidArgument, "a number is above 9223372036854775807")
-	l.refuses(t, addVolumeWith(2, "b", 1<<63, "", "", ""), codes.InvalidArgument, "a number is above 9223372036854775807")
-	l.refuses(t, setMutable(1, "\x22\x00"), codes.InvalidArgument, "params is not fields of mutable parameters")
-	l.refuses(t, []byte("\x12\x00\x2a\x00"), codes.InvalidArgument, "more than one change")
-	l.refuses(t, []byte("\x00"), codes.InvalidArgument, "malformed message")
-	l.wants(t, readPath, "0a0131", codes.InvalidArgument, "the token is not the last one that this connection was given")
-	l.wants(t, readPath, "0a02", codes.InvalidArgument, "malformed message")
-	l.wants(t, makePath, "00", codes.InvalidArgument, "malformed message")
-	l.wants(t, leadPath, "00", codes.InvalidArgument, "malformed message")
-	l.wants(t, "/fomaheti.log.v1.Log/Other", "", codes.Unimplemented, "unknown method")
+	l.wantRefused(t, addVolume(1, "b"), precondition, "volumes/00000000000000000001 is there already")
+	l.wantRefused(t, addVolume(3, "b"), precondition, `meta is {"format_no":2,"next_number":2}, and not {"format_no":2,"next_number":3}`)
+	l.wantRefused(t, removeVolume(1), precondition, "attachments/00000000000000000001/n is there")
+	l.wantRefused(t, attach(2, "n", false), precondition, "volumes/00000000000000000002 is not there")
+	l.wantRefused(t, attach(1<<64-1, "n", false), precondition, "volumes/18446744073709551615 is not there")
+	l.wantRefused(t, attach(1, "n", true), precondition, "attachments/00000000000000000001/n is there already")
+	l.wantRefused(t, setMutable(2, ""), precondition, "volumes/00000000000000000002 is not there")
+	l.wantReply(t, makePath, "", precondition, "attachments/00000000000000000001/n is there already")
+	l.wantRefused(t, addVolume(1<<63-1, "b"), codes.InvalidArgument, "a number is above 9223372036854775807")
+	l.wantRefused(t, addVolumeWith(2, "b", 1<<63, "", "", ""), codes.InvalidArgument, "a number is above 9223372036854775807")
+	l.wantRefused(t, setMutable(1, "\x22\x00"), codes.InvalidArgument, "params is not fields of mutable parameters")
+	l.wantRefused(t, []byte("\x12\x00\x2a\x00"), codes.InvalidArgument, "more than one change")
+	l.wantRefused(t, []byte("\x00"), codes.InvalidArgument, "malformed message")
+	l.wantReply(t, readPath, "0a0131", codes.InvalidArgument, "the token is not the last one that this connection was given")
+	l.wantReply(t, readPath, "0a02", codes.InvalidArgument, "malformed message")
+	l.wantReply(t, makePath, "00", codes.InvalidArgument, "malformed message")
+	l.wantReply(t, leadPath, "00", codes.InvalidArgument, "malformed message")
+	l.wantReply(t, "/fomaheti.log.v1.Log/Other", "", codes.Unimplemented, "unknown method")
 	cluster.Ctl(t, "del", name+"/meta")
-	l.refuses(t, addVolume(2, "b"), precondition, "meta is not there")
+	l.wantRefused(t, addVolume(2, "b"), precondition, "meta is not there")
 	cluster.Ctl(t, "put", name+"/meta", `{"format_no":2,"next_number":2}`)
 	if after := cluster.Ctl(t, "get", "--prefix", name); after != before {
 		t.Errorf("etcd has\n%s, and had\n%s", after, before)
 	}
 	// The greatest number, and the most bytes, that a volume can have.
 	cluster.Ctl(t, "put", name+"/meta", `{"format_no":2,"next_number":9223372036854775806}`)
-	l.commits(t, addVolumeWith(1<<63-2, "c", 1<<63-1, "", "", ""))
+	l.mustCommit(t, addVolumeWith(1<<63-2, "c", 1<<63-1, "", "", ""))
 	if got := cluster.Ctl(t, "get", name+"/meta"); got != name+"/meta\n{\"format_no\":2,\"next_number\":9223372036854775807}\n" {
 		t.Errorf("meta: %s", got)
 	}
@@ -112,7 +112,7 @@ func TestSuppositions(t *testing.T) {
 // A malformed frame is refused at its place, and ends the connection.
 func TestMalformedFrame(t *testing.T) {
 	t.Parallel()
-	_, _, l := begun(t)
+	_, _, l := startLeading(t)
 	if _, err := l.Write(fromHex(t, "0001 21 01")); err != nil {
 		t.Fatal(err)
 	}
@@ -120,7 +120,7 @@ func TestMalformedFrame(t *testing.T) {
 	l.SetDeadline(time.Now().Add(processes.Patience))
 	want := fmt.Sprintf("bad flag at byte %d", 7+len(makePath)+3)
 	if reply, err := l.in.Next(); err != nil || reply.Code != codes.InvalidArgument || reply.Text != want {
-		t.Errorf("%d %q, %v, wanted %q", reply.Code, reply.Text, err, want)
+		t.Errorf("%d %q, %v, want %q", reply.Code, reply.Text, err, want)
 	}
 	if reply, err := l.call(readPath, nil); err == nil {
 		t.Errorf("after a malformed frame: %v", reply)
@@ -130,17 +130,17 @@ func TestMalformedFrame(t *testing.T) {
 // A set_mutable compares that the row is still the one that it read: of many at once and changes by hand no one is lost.
 func TestChangedMeanwhile(t *testing.T) {
 	t.Parallel()
-	cluster, _, l := begun(t)
-	l.commits(t, addVolumeWith(1, "a", 1<<20, "p", block, "\x22\x00"))
+	cluster, _, l := startLeading(t)
+	l.mustCommit(t, addVolumeWith(1, "a", 1<<20, "p", block, "\x22\x00"))
 	client := cluster.Client(t)
 	key := name + "/volumes/00000000000000000001"
-	end, ended := make(chan struct{}), make(chan int)
+	end, done := make(chan struct{}), make(chan int)
 	go func() {
 		puts := 0
 		for {
 			select {
 			case <-end:
-				ended <- puts
+				done <- puts
 				return
 			default:
 			}
@@ -166,7 +166,7 @@ func TestChangedMeanwhile(t *testing.T) {
 		}
 	}
 	close(end)
-	t.Logf("%d made, %d refused, beside %d puts by hand", made, refused, <-ended)
+	t.Logf("%d made, %d refused, beside %d puts by hand", made, refused, <-done)
 	if refused == 0 {
 		t.Error("none was refused")
 	}
@@ -203,10 +203,10 @@ func TestManyRows(t *testing.T) {
 	cluster := clusters.Start(t, 1)
 	client := cluster.Client(t)
 	fill(t, client, count)
-	p := start(t, cluster.Endpoints()).leads(t)
+	p := start(t, cluster.Endpoints()).waitLeading(t)
 	l := p.dial(t)
 	ctx, cancel := context.WithCancel(context.Background())
-	ended := make(chan int)
+	done := make(chan int)
 	go func() {
 		changes := 0
 		for ctx.Err() == nil {
@@ -214,13 +214,13 @@ func TestManyRows(t *testing.T) {
 			client.Txn(ctx).Then(clientv3.OpDelete(fmt.Sprintf("%s/volumes/%020d", name, 1+changes%count))).Commit()
 			changes += 997
 		}
-		ended <- changes / 997
+		done <- changes / 997
 	}()
 	begin := time.Now()
-	read, pages, err := l.walk()
+	read, pages, err := l.readAll()
 	took := time.Since(begin)
 	cancel()
-	changes := <-ended
+	changes := <-done
 	if err != nil {
 		t.Fatal(err)
 	}
@@ -232,7 +232,7 @@ func TestManyRows(t *testing.T) {
 			attachments++
 		}
 	}
-	again, _, err := l.walk()
+	again, _, err := l.readAll()
 	if err != nil {
 		t.Fatal(err)
 	}
@@ -249,13 +249,13 @@ func TestManyRows(t *testing.T) {
 func TestLongRows(t *testing.T) {
 	t.Parallel()
 	cluster := clusters.Start(t, 1, "--max-request-bytes", "12000000")
-	p := start(t, cluster.Endpoints()).leads(t)
+	p := start(t, cluster.Endpoints()).waitLeading(t)
 	l := p.dial(t)
-	l.wants(t, makePath, "", codes.OK, "")
+	l.wantReply(t, makePath, "", codes.OK, "")
 	for n := uint64(1); n <= 12; n++ {
-		l.commits(t, addVolumeWith(n, fmt.Sprintf("a%d", n), 1<<20, "p", strings.Repeat("\x1a\x00", 450000), ""))
+		l.mustCommit(t, addVolumeWith(n, fmt.Sprintf("a%d", n), 1<<20, "p", strings.Repeat("\x1a\x00", 450000), ""))
 	}
-	read, pages, err := l.walk()
+	read, pages, err := l.readAll()
 	if err != nil || len(read) != 13 || pages < 4 {
 		t.Errorf("%d rows, %d pages, %v", len(read), pages, err)
 	}
@@ -263,32 +263,32 @@ func TestLongRows(t *testing.T) {
 	if _, err := cluster.Client(t).Put(context.Background(), name+"/volumes/00000000000000000001", value); err != nil {
 		t.Fatal(err)
 	}
-	l.wants(t, readPath, "", codes.FailedPrecondition, "volumes/00000000000000000001: the row is too long for a page")
+	l.wantReply(t, readPath, "", codes.FailedPrecondition, "volumes/00000000000000000001: the row is too long for a page")
 }
 
 // A change that is too long for etcd is refused as such, and the next one is made.
 func TestTooLong(t *testing.T) {
 	t.Parallel()
-	_, _, l := begun(t)
-	l.refuses(t, addVolumeWith(1, "a", 1<<20, "p", strings.Repeat("\x1a\x00", 500000), ""), codes.ResourceExhausted, "etcdserver: request is too large")
-	l.commits(t, addVolume(1, "a"))
+	_, _, l := startLeading(t)
+	l.wantRefused(t, addVolumeWith(1, "a", 1<<20, "p", strings.Repeat("\x1a\x00", 500000), ""), codes.ResourceExhausted, "etcdserver: request is too large")
+	l.mustCommit(t, addVolume(1, "a"))
 }
 
 // The newest connection is the one that is served.
 func TestNewestConnection(t *testing.T) {
 	t.Parallel()
-	_, p, first := begun(t)
+	_, p, first := startLeading(t)
 	second := p.dial(t)
-	first.ends(t)
-	second.commits(t, addVolume(1, "a"))
-	second.wants(t, readPath, "0a00", codes.OK, "0a04 0802 1002 121a 0801 1201 61 18808040 2203 737364 2a08 1a060a001a020801 3200 2200")
+	first.wantClosed(t)
+	second.mustCommit(t, addVolume(1, "a"))
+	second.wantReply(t, readPath, "0a00", codes.OK, "0a04 0802 1002 121a 0801 1201 61 18808040 2203 737364 2a08 1a060a001a020801 3200 2200")
 	// A connection that says nothing takes the place too.
 	p.dial(t)
-	second.ends(t)
+	second.wantClosed(t)
 }
 
-// ends waits until the program has closed a connection: it takes the newer one in its own time.
-func (l *link) ends(t *testing.T) {
+// wantClosed waits until the program has closed a connection: it takes the newer one in its own time.
+func (l *storeConn) wantClosed(t *testing.T) {
 	t.Helper()
 	l.SetDeadline(time.Now().Add(processes.Patience))
 	if got, err := l.in.Next(); err != io.EOF {
@@ -299,17 +299,17 @@ func (l *link) ends(t *testing.T) {
 // Connections that come while changes are made: each change that was answered is there, and no other.
 func TestReplacedConnections(t *testing.T) {
 	t.Parallel()
-	_, p, _ := begun(t)
+	_, p, _ := startLeading(t)
 	next := uint64(1)
 	for i := 0; i < 60; i++ {
 		l := p.dial(t)
-		read, _, err := l.walk()
+		read, _, err := l.readAll()
 		if err != nil {
 			t.Fatal(err)
 		}
 		got := uint64(len(read) - 1)
 		if got+1 != next && got != next {
-			t.Fatalf("%d volumes, wanted %d or one more", got, next-1)
+			t.Fatalf("%d volumes, want %d or one more", got, next-1)
 		}
 		next = got + 1
 		for ; ; next++ {
@@ -319,7 +319,7 @@ func TestReplacedConnections(t *testing.T) {
 				l.Write(append(frameHead(commitPath, len(message)), message...))
 				break
 			}
-			l.commits(t, addVolume(next, fmt.Sprintf("a%d", next)))
+			l.mustCommit(t, addVolume(next, fmt.Sprintf("a%d", next)))
 			if next%4 == 0 {
 				next++
 				break

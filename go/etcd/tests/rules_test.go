@@ -16,8 +16,8 @@ import (
 )
 
 // volumeRow and attachmentRow are rows as they are in etcd: a key without the name of the plugin, and a value.
-func volumeRow(number int, called string, mebibytes int, pool, caps, params string) [2]string {
-	return [2]string{fmt.Sprintf("volumes/%020d", number), fmt.Sprintf(`{"name":"%s","bytes":%d,"pool":"%s","caps":"%s","params":"%s"}`, called, mebibytes<<20, pool, caps, params)}
+func volumeRow(number int, volumeName string, mebibytes int, pool, caps, params string) [2]string {
+	return [2]string{fmt.Sprintf("volumes/%020d", number), fmt.Sprintf(`{"name":"%s","bytes":%d,"pool":"%s","caps":"%s","params":"%s"}`, volumeName, mebibytes<<20, pool, caps, params)}
 }
 
 func attachmentRow(number int, node, cap string) [2]string {
@@ -65,12 +65,12 @@ func TestRowsThatBreakRules(t *testing.T) {
 	cluster := clusters.Start(t, 1)
 	client, ctx := cluster.Client(t), context.Background()
 	s := newStack(t, "a", cluster.Endpoints())
-	s.startLog(t)
-	program{s.log}.leads(t)
+	s.startStore(t)
+	program{s.store}.waitLeading(t)
 	for i, row := range table {
 		ops := []clientv3.Op{clientv3.OpPut(name+"/meta", fmt.Sprintf(`{"format_no":2,"next_number":%d}`, row.next))}
-		for _, stored := range row.rows {
-			ops = append(ops, clientv3.OpPut(name+"/"+stored[0], stored[1]))
+		for _, storedRows := range row.rows {
+			ops = append(ops, clientv3.OpPut(name+"/"+storedRows[0], storedRows[1]))
 		}
 		clean(t, client)
 		if _, err := client.Txn(ctx).Then(ops...).Commit(); err != nil {

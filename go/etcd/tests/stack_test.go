@@ -54,14 +54,14 @@ type stack struct {
 	name      string
 	folder    string
 	endpoints string
-	log       *processes.Process
+	store     *processes.Process
 	csid      *processes.Process
 	front     *processes.Process
 }
 
-func newStack(t *testing.T, called, endpoints string) *stack {
+func newStack(t *testing.T, volumeName, endpoints string) *stack {
 	t.Helper()
-	s := &stack{name: called, folder: processes.Folder(t), endpoints: endpoints}
+	s := &stack{name: volumeName, folder: processes.Folder(t), endpoints: endpoints}
 	if err := os.WriteFile(s.path("config.toml"), []byte(configuration), 0o600); err != nil {
 		t.Fatal(err)
 	}
@@ -70,9 +70,9 @@ func newStack(t *testing.T, called, endpoints string) *stack {
 
 func (s *stack) path(name string) string { return filepath.Join(s.folder, name) }
 
-func (s *stack) startLog(t *testing.T) {
+func (s *stack) startStore(t *testing.T) {
 	t.Helper()
-	s.log = startAt(t, s.path("log.sock"), s.endpoints, append(shortLease, "--id", s.name, "--revision", s.path("revision"))...).Process
+	s.store = startAt(t, s.path("log.sock"), s.endpoints, append(shortLease, "--id", s.name, "--revision", s.path("revision"))...).Process
 }
 
 func (s *stack) startCsid(t *testing.T) {
@@ -89,17 +89,17 @@ func (s *stack) startFront(t *testing.T) {
 
 func (s *stack) start(t *testing.T) *stack {
 	t.Helper()
-	s.startLog(t)
+	s.startStore(t)
 	s.startCsid(t)
 	s.startFront(t)
 	return s
 }
 
-// revive starts again what has ended.
-func (s *stack) revive(t *testing.T) {
+// restartEnded starts again what has ended.
+func (s *stack) restartEnded(t *testing.T) {
 	t.Helper()
-	if hasEnded(s.log) {
-		s.startLog(t)
+	if hasEnded(s.store) {
+		s.startStore(t)
 	}
 	if hasEnded(s.csid) {
 		s.startCsid(t)
@@ -136,21 +136,21 @@ type fleet struct {
 	answers  map[string]int
 	lastCall time.Time
 	// Ids that were given, by the names that they were given for.
-	given map[string]string
+	ids map[string]string
 	// Calls that were answered OK.
-	oks int64
+	ok int64
 }
 
 func newFleet(t *testing.T) *fleet {
 	t.Helper()
-	f := &fleet{t: t, cluster: clusters.Start(t, 3), answers: map[string]int{}, given: map[string]string{}}
-	for _, called := range []string{"a", "b"} {
-		s := newStack(t, called, f.cluster.Endpoints()).start(t)
+	f := &fleet{t: t, cluster: clusters.Start(t, 3), answers: map[string]int{}, ids: map[string]string{}}
+	for _, volumeName := range []string{"a", "b"} {
+		s := newStack(t, volumeName, f.cluster.Endpoints()).start(t)
 		f.stacks = append(f.stacks, s)
 		dial := func(ctx context.Context, _ string) (net.Conn, error) {
 			return (&net.Dialer{}).DialContext(ctx, "unix", s.path("csi.sock"))
 		}
-		conn, err := grpc.Dial("passthrough:///"+called, grpc.WithInsecure(), grpc.WithContextDialer(dial),
+		conn, err := grpc.Dial("passthrough:///"+volumeName, grpc.WithInsecure(), grpc.WithContextDialer(dial),
 			grpc.WithDefaultCallOptions(grpc.ForceCodec(bytesCodec{})), grpc.WithConnectParams(grpc.ConnectParams{MinConnectTimeout: time.Second}))
 		if err != nil {
 			t.Fatal(err)
@@ -187,7 +187,7 @@ func (f *fleet) note(method string, why *status.Status, begin time.Time) {
 	defer f.mutex.Unlock()
 	switch why.Code() {
 	case codes.OK:
-		f.oks++
+		f.ok++
 		if begin.After(f.lastCall) {
 			f.lastCall = begin
 		}
@@ -198,32 +198,32 @@ func (f *fleet) note(method string, why *status.Status, begin time.Time) {
 	}
 }
 
-// served reports whether a call was answered OK that was begun after a time.
-func (f *fleet) served(since time.Time) bool {
+// servedSince reports whether a call was answered OK that was begun after a time.
+func (f *fleet) servedSince(since time.Time) bool {
 	f.mutex.Lock()
 	defer f.mutex.Unlock()
 	return f.lastCall.After(since)
 }
 
-// give notes the id of a volume, which no other one has ever been given.
-func (f *fleet) give(id, called string) {
+// noteID notes the id of a volume, which no other one has ever been given.
+func (f *fleet) noteID(id, volumeName string) {
 	f.mutex.Lock()
 	defer f.mutex.Unlock()
-	if before, is := f.given[id]; is && before != called {
-		f.t.Errorf("%s was given to %s, and then to %s", id, before, called)
+	if before, is := f.ids[id]; is && before != volumeName {
+		f.t.Errorf("%s was given to %s, and then to %s", id, before, volumeName)
 	}
-	f.given[id] = called
+	f.ids[id] = volumeName
 }
 
-// holding is a volume of a caller: what it was answered.
-type holding struct{ called, id, node, params string }
+// heldVolume is a volume of a caller: what it was answered.
+type heldVolume struct{ volumeName, id, node, params string }
 
 // caller has some volumes that no other one touches, so what it was answered is what must be there.
 type caller struct {
 	*fleet
 	number  int
 	random  *rand.Rand
-	volumes []*holding
+	volumes []*heldVolume
 	made    int
 }
 
@@ -242,24 +242,24 @@ func (c *caller) step() {
 	case what == 0:
 		value := strconv.Itoa(c.random.Intn(1000))
 		entry := text(text(nil, 1, "k"), 2, value)
-		if c.wants("ControllerModifyVolume", text(id, 3, string(entry))) {
+		if c.wantReply("ControllerModifyVolume", text(id, 3, string(entry))) {
 			v.params = fmt.Sprintf("%x", text(nil, 8, string(entry)))
 		}
 	case v.node == "" && what < 3:
 		node := []string{"n1", "n2"}[c.random.Intn(2)]
-		if c.wants("ControllerPublishVolume", text(text(id, 2, node), 3, block[2:]), "node is full") {
+		if c.wantReply("ControllerPublishVolume", text(text(id, 2, node), 3, block[2:]), "node is full") {
 			v.node = node
 		}
 	case v.node != "" && what < 4:
-		if c.wants("ControllerUnpublishVolume", text(id, 2, v.node)) {
+		if c.wantReply("ControllerUnpublishVolume", text(id, 2, v.node)) {
 			v.node = ""
 		}
 	case v.node == "":
-		if c.wants("DeleteVolume", id) {
+		if c.wantReply("DeleteVolume", id) {
 			c.volumes = append(c.volumes[:i], c.volumes[i+1:]...)
 		}
 	default:
-		if c.wants("DeleteVolume", id, "volume is in use") {
+		if c.wantReply("DeleteVolume", id, "volume is in use") {
 			c.t.Errorf("%s was deleted in use", v.id)
 		}
 	}
@@ -267,8 +267,8 @@ func (c *caller) step() {
 
 func (c *caller) create() {
 	c.made++
-	v := &holding{called: fmt.Sprintf("pvc-%d-%d", c.number, c.made)}
-	message := text(text(nil, 1, v.called), 3, block[2:])
+	v := &heldVolume{volumeName: fmt.Sprintf("pvc-%d-%d", c.number, c.made)}
+	message := text(text(nil, 1, v.volumeName), 3, block[2:])
 	for again := 0; again < 2; again++ {
 		body, why := c.call("CreateVolume", message)
 		if why.Code() == codes.ResourceExhausted && why.Message() == "no room in the topology" && again == 0 {
@@ -276,17 +276,17 @@ func (c *caller) create() {
 		}
 		id := string(volumeID.Find(body))
 		if why.Code() != codes.OK || id == "" || (again == 1 && id != v.id) {
-			c.t.Errorf("%s: %v %q, %q", v.called, why.Code(), why.Message(), id)
+			c.t.Errorf("%s: %v %q, %q", v.volumeName, why.Code(), why.Message(), id)
 			return
 		}
 		v.id = id
-		c.give(id, v.called)
+		c.noteID(id, v.volumeName)
 	}
 	c.volumes = append(c.volumes, v)
 }
 
-// wants makes a call that must be answered OK, or refused by one of these texts.
-func (c *caller) wants(method string, message []byte, refusals ...string) bool {
+// wantReply makes a call that must be answered OK, or refused by one of these texts.
+func (c *caller) wantReply(method string, message []byte, refusals ...string) bool {
 	_, why := c.call(method, message)
 	if why.Code() == codes.OK {
 		return true
@@ -300,12 +300,12 @@ func (c *caller) wants(method string, message []byte, refusals ...string) bool {
 	return false
 }
 
-// standing is the rows that callers were answered, as keys and values of etcd.
-func standing(callers []*caller) (all []string) {
+// wantedRows is the rows that callers were answered, as keys and values of etcd.
+func wantedRows(callers []*caller) (all []string) {
 	for _, c := range callers {
 		for _, v := range c.volumes {
 			number, _ := strconv.Atoi(strings.TrimPrefix(v.id, "vol-"))
-			all = append(all, fmt.Sprintf(`volumes/%020d {"name":"%s","bytes":1048576,"pool":"p1","caps":"%x","params":"%s"}`, number, v.called, block, v.params))
+			all = append(all, fmt.Sprintf(`volumes/%020d {"name":"%s","bytes":1048576,"pool":"p1","caps":"%x","params":"%s"}`, number, v.volumeName, block, v.params))
 			if v.node != "" {
 				all = append(all, fmt.Sprintf(`attachments/%020d/%s {"cap":"%x","readonly":0}`, number, v.node, block))
 			}
@@ -315,8 +315,8 @@ func standing(callers []*caller) (all []string) {
 	return all
 }
 
-// stored is the rows of etcd at one revision, but for meta; and the next number.
-func stored(client *clientv3.Client) (all []string, next int, err error) {
+// storedRows is the rows of etcd at one revision, but for meta; and the next number.
+func storedRows(client *clientv3.Client) (all []string, next int, err error) {
 	ctx, cancel := context.WithTimeout(context.Background(), 5*time.Second)
 	defer cancel()
 	read, err := client.Get(ctx, name+"/", clientv3.WithPrefix())
@@ -339,13 +339,13 @@ func stored(client *clientv3.Client) (all []string, next int, err error) {
 
 // watchRows looks at the rows again and again: at no revision is the pool overcommitted, a name twice there, a number above the next one, or an attachment
 // of no volume or next to another one.
-func watchRows(t *testing.T, client *clientv3.Client, ctx context.Context) (looks int) {
+func watchRows(t *testing.T, client *clientv3.Client, ctx context.Context) (checks int) {
 	for ; ctx.Err() == nil; time.Sleep(50 * time.Millisecond) {
-		all, next, err := stored(client)
+		all, next, err := storedRows(client)
 		if err != nil {
 			continue
 		}
-		looks++
+		checks++
 		names, volumes, attached := map[string]bool{}, map[string]bool{}, map[string]bool{}
 		for i := len(all) - 1; i >= 0; i-- {
 			key, value, _ := strings.Cut(all[i], " ")
@@ -370,7 +370,7 @@ func watchRows(t *testing.T, client *clientv3.Client, ctx context.Context) (look
 			t.Errorf("the pool has %d MiB, and volumes of %d MiB", poolMebibytes, len(volumes))
 		}
 	}
-	return looks
+	return checks
 }
 
 // leader is the stack whose csid-etcd has the lock; nil where none is known.
@@ -382,7 +382,7 @@ func (f *fleet) leader(client *clientv3.Client) *stack {
 		return nil
 	}
 	for _, s := range f.stacks {
-		if s.name == string(read.Kvs[0].Value) && !hasEnded(s.log) {
+		if s.name == string(read.Kvs[0].Value) && !hasEnded(s.store) {
 			return s
 		}
 	}
@@ -392,11 +392,11 @@ func (f *fleet) leader(client *clientv3.Client) *stack {
 // kills is how many there are: a few in the gate.
 func kills(t *testing.T) int {
 	t.Helper()
-	said := os.Getenv("KILLS")
-	if said == "" {
+	stdout := os.Getenv("KILLS")
+	if stdout == "" {
 		return 10
 	}
-	count, err := strconv.Atoi(said)
+	count, err := strconv.Atoi(stdout)
 	if err != nil {
 		t.Fatal(err)
 	}
@@ -443,8 +443,8 @@ func TestStacks(t *testing.T) {
 	f := newFleet(t)
 	client := f.cluster.Client(t)
 	watched, endWatch := context.WithCancel(context.Background())
-	looks := make(chan int, 1)
-	go func() { looks <- watchRows(t, client, watched) }()
+	checks := make(chan int, 1)
+	go func() { checks <- watchRows(t, client, watched) }()
 	callers, isOver := make([]*caller, 8), int32(0)
 	var running sync.WaitGroup
 	for i := range callers {
@@ -461,12 +461,12 @@ func TestStacks(t *testing.T) {
 	atomic.StoreInt32(&isOver, 1)
 	running.Wait()
 	endWatch()
-	all, next, err := stored(client)
-	told := standing(callers)
-	if err != nil || strings.Join(all, "\n") != strings.Join(told, "\n") {
-		t.Errorf("%v: etcd has\n%s\ntold\n%s", err, strings.Join(all, "\n"), strings.Join(told, "\n"))
+	all, next, err := storedRows(client)
+	want := wantedRows(callers)
+	if err != nil || strings.Join(all, "\n") != strings.Join(want, "\n") {
+		t.Errorf("%v: etcd has\n%s\ntold\n%s", err, strings.Join(all, "\n"), strings.Join(want, "\n"))
 	}
-	t.Logf("%d OK, answers beside them %v, %d volumes and attachments, next number %d, %d ids given, rows looked at %d times", f.oks, f.answers, len(all), next, len(f.given), <-looks)
+	t.Logf("%d OK, answers beside them %v, %d volumes and attachments, next number %d, %d ids given, rows looked at %d times", f.ok, f.answers, len(all), next, len(f.ids), <-checks)
 }
 
 // kill kills again and again, and wants that service is back within the lease and 2 s, after a member of etcd within 10 s.
@@ -481,7 +481,7 @@ func (f *fleet) kill(client *clientv3.Client) {
 		var s *stack
 		processes.Eventually(t, "service by a leader", func() bool {
 			s = f.leader(client)
-			return s != nil && f.served(begin)
+			return s != nil && f.servedSince(begin)
 		})
 		time.Sleep(time.Duration(100+random.Intn(400)) * time.Millisecond)
 		who := victims[i%len(victims)]
@@ -490,20 +490,20 @@ func (f *fleet) kill(client *clientv3.Client) {
 		if member != nil {
 			member.Kill()
 		} else {
-			map[string]*processes.Process{"csid-etcd": s.log, "csid": s.csid, "front": s.front}[who.name].Kill()
+			map[string]*processes.Process{"csid-etcd": s.store, "csid": s.csid, "front": s.front}[who.name].Kill()
 		}
 		if who.isBound {
-			s.log.Terminate(t)
-			s.log.Status(t)
+			s.store.Terminate(t)
+			s.store.Status(t)
 		}
 		revived := false
-		for !f.served(at) {
+		for !f.servedSince(at) {
 			if time.Since(at) > 20*time.Second {
-				t.Fatalf("kill %d of %v of %s: no service\n%s\n%s\n%s", i, who, s.name, s.log.Log, s.csid.Log, s.front.Log)
+				t.Fatalf("kill %d of %v of %s: no service\n%s\n%s\n%s", i, who, s.name, s.store.Log, s.csid.Log, s.front.Log)
 			}
 			// Another one is started instead after a moment.
 			if !revived && time.Since(at) > 200*time.Millisecond {
-				s.revive(t)
+				s.restartEnded(t)
 				revived = true
 			}
 			time.Sleep(2 * time.Millisecond)
@@ -517,10 +517,10 @@ func (f *fleet) kill(client *clientv3.Client) {
 			t.Errorf("kill %d of %v: no service for %v", i, who, gap)
 		}
 		gaps[who] = append(gaps[who], gap)
-		s.revive(t)
+		s.restartEnded(t)
 		if member != nil {
 			member.Start(t)
-			f.cluster.Answers(t)
+			f.cluster.WaitReady(t)
 			// A new leader of etcd's keeps each lease for its whole length, and that of an election more.
 			time.Sleep(leaseLength)
 		}

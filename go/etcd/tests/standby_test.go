@@ -19,34 +19,34 @@ const leaseLength = 3 * time.Second
 
 var shortLease = []string{"--lease", "3", "--timeout", "2s"}
 
-// pair is two programs before a cluster, of which the first leads.
-func pair(t *testing.T, cluster *clusters.Cluster) (first, second program) {
+// startPair is two programs before a cluster, of which the first leads.
+func startPair(t *testing.T, cluster *clusters.Cluster) (first, second program) {
 	t.Helper()
-	first = start(t, cluster.Endpoints(), append(shortLease, "--id", "first")...).leads(t)
+	first = start(t, cluster.Endpoints(), append(shortLease, "--id", "first")...).waitLeading(t)
 	second = start(t, cluster.Endpoints(), append(shortLease, "--id", "second")...)
-	second.says(t, "csid-etcd: waits for the lock, which first holds\n")
+	second.waitLog(t, "csid-etcd: waits for the lock, which first holds\n")
 	return first, second
 }
 
-// leadsSince waits until the program leads again after what its log had, and returns how long that took.
-func (p program) leadsSince(t *testing.T, before int) time.Duration {
+// waitLeadingSince waits until the program leads again after what its log had, and returns how long that took.
+func (p program) waitLeadingSince(t *testing.T, before int) time.Duration {
 	t.Helper()
 	begin := time.Now()
 	processes.Eventually(t, "another leader, whose log has "+p.Log.String(), func() bool { return strings.Contains(p.Log.String()[before:], "leads, from revision") })
 	return time.Since(begin)
 }
 
-// isWaiting reports whether a program refuses calls for want of the lock.
-func (p program) wantsWaiting(t *testing.T, holder string) {
+// wantWaiting reports whether a program refuses calls for want of the lock.
+func (p program) wantWaiting(t *testing.T, holder string) {
 	t.Helper()
 	l := p.dial(t)
 	want := "waiting for the lock, which " + holder + " holds"
 	begin := time.Now()
-	l.wants(t, readPath, "", codes.FailedPrecondition, want)
-	l.wants(t, makePath, "", codes.FailedPrecondition, want)
-	l.wants(t, leadPath, "", codes.FailedPrecondition, want)
-	l.refuses(t, addVolume(1, "a"), codes.FailedPrecondition, want)
-	l.wants(t, "/fomaheti.log.v1.Log/Other", "", codes.Unimplemented, "unknown method")
+	l.wantReply(t, readPath, "", codes.FailedPrecondition, want)
+	l.wantReply(t, makePath, "", codes.FailedPrecondition, want)
+	l.wantReply(t, leadPath, "", codes.FailedPrecondition, want)
+	l.wantRefused(t, addVolume(1, "a"), codes.FailedPrecondition, want)
+	l.wantReply(t, "/fomaheti.log.v1.Log/Other", "", codes.Unimplemented, "unknown method")
 	if took := time.Since(begin); took > time.Second {
 		t.Errorf("refusing took %v", took)
 	}
@@ -57,8 +57,8 @@ func (p program) wantsWaiting(t *testing.T, holder string) {
 func TestStandby(t *testing.T) {
 	t.Parallel()
 	cluster := clusters.Start(t, 3)
-	first, second := pair(t, cluster)
-	second.wantsWaiting(t, "first")
+	first, second := startPair(t, cluster)
+	second.wantWaiting(t, "first")
 	d := newDriver(t, first, second)
 	end := d.begin()
 	time.Sleep(500 * time.Millisecond)
@@ -70,7 +70,7 @@ func TestStandby(t *testing.T) {
 		} else {
 			first.Terminate(t)
 		}
-		took := second.leadsSince(t, before)
+		took := second.waitLeadingSince(t, before)
 		limit := time.Second
 		if isKilled {
 			limit = leaseLength + 2*time.Second
@@ -85,13 +85,13 @@ func TestStandby(t *testing.T) {
 			t.Errorf("killed %v: the socket: %v", isKilled, err)
 		}
 		again := startAt(t, first.Socket, cluster.Endpoints(), append(shortLease, "--id", fmt.Sprintf("again-%d", i))...)
-		again.says(t, "waits for the lock, which ")
+		again.waitLog(t, "waits for the lock, which ")
 		first, second = second, again
 		time.Sleep(300 * time.Millisecond)
 	}
 	end()
 	t.Log(d)
-	wantsTold(t, d, first)
+	wantRows(t, d, first)
 }
 
 // stop stops a program, and waits until each of its threads has stopped.
@@ -115,19 +115,19 @@ func (p program) stop(t *testing.T) {
 func TestStopped(t *testing.T) {
 	t.Parallel()
 	cluster := clusters.Start(t, 3)
-	first, second := pair(t, cluster)
+	first, second := startPair(t, cluster)
 	d := newDriver(t, second, first)
 	for i := 0; i < 3; i++ {
 		l := first.dial(t)
-		if _, _, err := l.walk(); err != nil {
+		if _, _, err := l.readAll(); err != nil {
 			t.Fatal(err)
 		}
 		l.call(makePath, nil)
-		read, _, err := l.walk()
+		read, _, err := l.readAll()
 		if err != nil {
 			t.Fatal(err)
 		}
-		d.known, d.open = nil, nil
+		d.known, d.pending = nil, nil
 		if err := d.compare(read); err != nil {
 			t.Fatal(err)
 		}
@@ -140,7 +140,7 @@ func TestStopped(t *testing.T) {
 		}
 		d.sockets = []string{second.Socket}
 		end := d.begin()
-		took := second.leadsSince(t, before)
+		took := second.waitLeadingSince(t, before)
 		if took > leaseLength+2*time.Second {
 			t.Errorf("the other one led after %v", took)
 		}
@@ -156,13 +156,13 @@ func TestStopped(t *testing.T) {
 			t.Errorf("a program that was stopped made a change, or said that it leads: %v", err)
 		}
 		closed := time.Since(begin)
-		first.says(t, "leads no more")
+		first.waitLog(t, "leads no more")
 		processes.Eventually(t, "that it waits again", func() bool {
 			return strings.Contains(first.Log.String()[stoppedLog:], "which second holds") || strings.Contains(first.Log.String()[stoppedLog:], "which first holds")
 		})
 		end()
 		t.Logf("the other one led after %v; let go, the connection was closed or refused after %v; %v", took.Round(time.Millisecond), closed.Round(time.Millisecond), d)
-		wantsTold(t, d, second)
+		wantRows(t, d, second)
 		first, second = second, first
 	}
 }
@@ -174,13 +174,13 @@ func TestEnd(t *testing.T) {
 	client, file := cluster.Client(t), filepath.Join(processes.Folder(t), "revision")
 	next := uint64(1)
 	for _, signal := range []syscall.Signal{syscall.SIGTERM, syscall.SIGINT} {
-		p := start(t, cluster.Endpoints(), "--revision", file).leads(t)
+		p := start(t, cluster.Endpoints(), "--revision", file).waitLeading(t)
 		l := p.dial(t)
 		if next == 1 {
-			l.wants(t, makePath, "", codes.OK, "")
+			l.wantReply(t, makePath, "", codes.OK, "")
 		}
 		for i := 0; i < 20; i++ {
-			l.commits(t, addVolume(next, fmt.Sprintf("a%d", next)))
+			l.mustCommit(t, addVolume(next, fmt.Sprintf("a%d", next)))
 			next++
 		}
 		answered := revision(t, client)
@@ -200,7 +200,7 @@ func TestEnd(t *testing.T) {
 			t.Errorf("%v: the socket stands", signal)
 		}
 		if text, err := os.ReadFile(file); err != nil || string(text) != fmt.Sprintf("%d\n", answered) {
-			t.Errorf("%v: the file has %q, %v, wanted %d", signal, text, err, answered)
+			t.Errorf("%v: the file has %q, %v, want %d", signal, text, err, answered)
 		}
 	}
 }
@@ -208,7 +208,7 @@ func TestEnd(t *testing.T) {
 // A lock whose key somebody took away is lost, and had again by another key; what the lock says is what --id has.
 func TestLockTakenAway(t *testing.T) {
 	t.Parallel()
-	cluster, p, l := begun(t)
+	cluster, p, l := startLeading(t)
 	lines := strings.Split(cluster.Ctl(t, "get", "--prefix", name+"/lock/"), "\n")
 	host, _ := os.Hostname()
 	if len(lines) != 3 || lines[1] != fmt.Sprintf("%s:%d", host, p.Cmd.Process.Pid) {
@@ -220,27 +220,27 @@ func TestLockTakenAway(t *testing.T) {
 	if err == nil && (reply.Code != codes.FailedPrecondition || reply.Text != "this program does not lead any more: its key of the lock is gone") {
 		t.Errorf("without the key: %v", reply)
 	}
-	p.leadsSince(t, before)
+	p.waitLeadingSince(t, before)
 	second := p.dial(t)
-	second.wants(t, readPath, "", codes.OK, "0a04 0802 1001 2200")
+	second.wantReply(t, readPath, "", codes.OK, "0a04 0802 1001 2200")
 	// The key is put again by hand: what comes next is refused, and then made after a fence.
 	lines = strings.Split(cluster.Ctl(t, "get", "--prefix", name+"/lock/"), "\n")
 	cluster.Ctl(t, "put", "--ignore-lease", lines[0], "other")
-	second.refuses(t, addVolume(1, "a"), codes.FailedPrecondition, "the key of the lock was put again")
-	second.commits(t, addVolume(1, "a"))
+	second.wantRefused(t, addVolume(1, "a"), codes.FailedPrecondition, "the key of the lock was put again")
+	second.mustCommit(t, addVolume(1, "a"))
 	// The lease is ended by hand.
 	before = len(p.Log.String())
 	cluster.Ctl(t, "lease", "revoke", lines[0][strings.LastIndex(lines[0], "/")+1:])
-	p.leadsSince(t, before)
-	p.says(t, "leads no more")
+	p.waitLeadingSince(t, before)
+	p.waitLog(t, "leads no more")
 	third := p.dial(t)
-	third.commits(t, addVolume(2, "b"))
+	third.mustCommit(t, addVolume(2, "b"))
 	// The key is put without its lease: the program leads again by another one, and nothing is left after its end.
 	lines = strings.Split(cluster.Ctl(t, "get", "--prefix", name+"/lock/"), "\n")
 	before = len(p.Log.String())
 	cluster.Ctl(t, "put", lines[0], "other")
-	p.leadsSince(t, before)
-	p.dial(t).commits(t, addVolume(3, "c"))
+	p.waitLeadingSince(t, before)
+	p.dial(t).mustCommit(t, addVolume(3, "c"))
 	p.Terminate(t)
 	p.Status(t)
 	if got := cluster.Ctl(t, "get", "--prefix", name+"/lock/"); got != "" {

@@ -15,8 +15,8 @@ import (
 	"./clusters"
 )
 
-// holder is the --id of who has the lock, and the lease of its key; empty where nobody has it.
-func holder(t *testing.T, client *clientv3.Client) (id string, lease clientv3.LeaseID) {
+// lockHolder is the --id of who has the lock, and the lease of its key; empty where nobody has it.
+func lockHolder(t *testing.T, client *clientv3.Client) (id string, lease clientv3.LeaseID) {
 	t.Helper()
 	read, err := client.Get(context.Background(), name+"/lock/", clientv3.WithFirstCreate()...)
 	if err != nil {
@@ -28,8 +28,8 @@ func holder(t *testing.T, client *clientv3.Client) (id string, lease clientv3.Le
 	return id, lease
 }
 
-// saysThatItLeads waits until a program answers that it leads.
-func (p program) saysThatItLeads(t *testing.T) {
+// waitConfirmsLead waits until a program answers that it leads.
+func (p program) waitConfirmsLead(t *testing.T) {
 	t.Helper()
 	processes.Eventually(t, "that it says that it leads", func() bool {
 		l, err := dial(p.Socket)
@@ -52,38 +52,38 @@ func TestUnreadLog(t *testing.T) {
 		cluster := clusters.Start(t, 1)
 		client := cluster.Client(t)
 		socket := filepath.Join(processes.Folder(t), "log.sock")
-		words := append([]string{"--name", name, "--listen", socket, "--endpoints", cluster.Endpoints(), "--id", "unread"}, shortLease...)
-		command := exec.Command(processes.EtcdProgram(t), words...)
+		args := append([]string{"--name", name, "--listen", socket, "--endpoints", cluster.Endpoints(), "--id", "unread"}, shortLease...)
+		command := exec.Command(processes.EtcdProgram(t), args...)
 		command.Stderr = errors
 		p := program{processes.Start(t, socket, command).Answers(t)}
-		p.saysThatItLeads(t)
+		p.waitConfirmsLead(t)
 		l := p.dial(t)
-		l.wants(t, makePath, "", codes.OK, "")
+		l.wantReply(t, makePath, "", codes.OK, "")
 		// Each of these is a line, and there is room for 1,024.
 		for i := 0; i < 1100; i++ {
-			l.refuses(t, attach(1, "n", false), codes.FailedPrecondition, "volumes/00000000000000000001 is not there")
+			l.wantRefused(t, attach(1, "n", false), codes.FailedPrecondition, "volumes/00000000000000000001 is not there")
 			if t.Failed() {
 				t.FailNow()
 			}
 		}
 		second := start(t, cluster.Endpoints(), append(shortLease, "--id", "second")...)
-		second.says(t, "waits for the lock, which unread holds")
+		second.waitLog(t, "waits for the lock, which unread holds")
 		// It has more than one lease's time to lose the lock, and keeps it.
 		time.Sleep(leaseLength + time.Second)
-		id, lease := holder(t, client)
+		id, lease := lockHolder(t, client)
 		if id != "unread" {
 			t.Errorf("%q has the lock", id)
 		}
-		l.commits(t, addVolume(1, "a"))
+		l.mustCommit(t, addVolume(1, "a"))
 		if _, err := client.Revoke(context.Background(), lease); err != nil {
 			t.Fatal(err)
 		}
-		second.leads(t)
+		second.waitLeading(t)
 		second.Terminate(t)
 		if status := second.Status(t); status != 0 {
 			t.Errorf("the other one ended with %d", status)
 		}
-		p.saysThatItLeads(t)
+		p.waitConfirmsLead(t)
 		if errors == pipe.Out {
 			pipe.Read(t, "csid-etcd: lines dropped, since standard error did not take them: ")
 		}

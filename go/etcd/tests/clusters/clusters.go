@@ -25,7 +25,7 @@ type Member struct {
 	Folder string
 	// HOST:PORT for clients.
 	Address string
-	words   []string
+	args    []string
 	Current *processes.Process
 }
 
@@ -34,23 +34,23 @@ type Cluster struct {
 	Members []*Member
 	scheme  string
 	// Words for etcdctl before all others.
-	Words []string
+	Args []string
 }
 
 // Settings is what a cluster has next to its members.
 type Settings struct {
 	// More words of the command line of each member.
-	Words []string
+	Args []string
 	// Whether clients speak TLS.
 	IsSecure bool
 }
 
 // Start starts a cluster of so many members, and waits until it answers.
-func Start(t *testing.T, count int, words ...string) *Cluster {
+func Start(t *testing.T, count int, args ...string) *Cluster {
 	t.Helper()
-	c := New(t, count, Settings{Words: words})
+	c := New(t, count, Settings{Args: args})
 	c.StartAll(t)
-	c.Answers(t)
+	c.WaitReady(t)
 	return c
 }
 
@@ -67,14 +67,14 @@ func New(t *testing.T, count int, settings Settings) *Cluster {
 		m := &Member{Name: fmt.Sprintf("m%d", i), Folder: processes.Folder(t), Address: ports[2*i]}
 		peer := "http://" + ports[2*i+1]
 		client := c.scheme + m.Address
-		m.words = append([]string{"--name", m.Name, "--data-dir", filepath.Join(m.Folder, "data"), "--logger", "zap", "--log-level", "warn",
-			"--listen-client-urls", client, "--advertise-client-urls", client, "--listen-peer-urls", peer, "--initial-advertise-peer-urls", peer}, settings.Words...)
+		m.args = append([]string{"--name", m.Name, "--data-dir", filepath.Join(m.Folder, "data"), "--logger", "zap", "--log-level", "warn",
+			"--listen-client-urls", client, "--advertise-client-urls", client, "--listen-peer-urls", peer, "--initial-advertise-peer-urls", peer}, settings.Args...)
 		all = append(all, m.Name+"="+peer)
 		c.Members = append(c.Members, m)
 	}
 	for _, m := range c.Members {
-		m.words = append(m.words, "--initial-cluster", strings.Join(all, ","), "--initial-cluster-state", "new", "--initial-cluster-token", m.Folder)
-		m.words[len(m.words)-1] = c.Members[0].Folder
+		m.args = append(m.args, "--initial-cluster", strings.Join(all, ","), "--initial-cluster-state", "new", "--initial-cluster-token", m.Folder)
+		m.args[len(m.args)-1] = c.Members[0].Folder
 	}
 	return c
 }
@@ -104,7 +104,7 @@ func (c *Cluster) StartAll(t *testing.T) {
 // Start starts a member where it was.
 func (m *Member) Start(t *testing.T) {
 	t.Helper()
-	command := exec.Command("etcd", m.words...)
+	command := exec.Command("etcd", m.args...)
 	command.Dir = m.Folder
 	m.Current = processes.Start(t, "", command)
 }
@@ -118,16 +118,16 @@ func (m *Member) Restore(t *testing.T, snapshot string) {
 	if err := os.RemoveAll(filepath.Join(m.Folder, "data")); err != nil {
 		t.Fatal(err)
 	}
-	said := map[string]string{}
-	for i := 0; i+1 < len(m.words); i += 2 {
-		said[m.words[i]] = m.words[i+1]
+	flags := map[string]string{}
+	for i := 0; i+1 < len(m.args); i += 2 {
+		flags[m.args[i]] = m.args[i+1]
 	}
-	words := []string{"snapshot", "restore", snapshot}
+	args := []string{"snapshot", "restore", snapshot}
 	for _, name := range []string{"--name", "--data-dir", "--initial-cluster", "--initial-cluster-token"} {
-		words = append(words, name, said[name])
+		args = append(args, name, flags[name])
 	}
-	words = append(words, "--initial-advertise-peer-urls", said["--initial-advertise-peer-urls"])
-	run(t, words)
+	args = append(args, "--initial-advertise-peer-urls", flags["--initial-advertise-peer-urls"])
+	run(t, args)
 }
 
 // Endpoints is all members, as --endpoints of csid-etcd has them.
@@ -146,8 +146,8 @@ func (m *Member) endpoint(scheme string) string {
 	return scheme + m.Address
 }
 
-// Answers waits until etcd answers, and has a leader.
-func (c *Cluster) Answers(t *testing.T) {
+// WaitReady waits until etcd answers, and has a leader.
+func (c *Cluster) WaitReady(t *testing.T) {
 	t.Helper()
 	client := c.Client(t)
 	processes.Eventually(t, "an answer of etcd", func() bool {
@@ -171,43 +171,43 @@ func (c *Cluster) Client(t *testing.T) *clientv3.Client {
 }
 
 // Ctl runs etcdctl, and gives what it says.
-func (c *Cluster) Ctl(t *testing.T, words ...string) string {
+func (c *Cluster) Ctl(t *testing.T, args ...string) string {
 	t.Helper()
-	return run(t, append(append([]string{"--endpoints", c.Endpoints()}, c.Words...), words...))
+	return run(t, append(append([]string{"--endpoints", c.Endpoints()}, c.Args...), args...))
 }
 
-// Try runs etcdctl, and reports whether it failed.
-func (c *Cluster) Try(words ...string) error {
-	_, err := ctl(append(append([]string{"--endpoints", c.Endpoints()}, c.Words...), words...), "")
+// Try runs etcdctl, and reports whether it stderr.
+func (c *Cluster) Try(args ...string) error {
+	_, err := ctl(append(append([]string{"--endpoints", c.Endpoints()}, c.Args...), args...), "")
 	return err
 }
 
 // Type runs etcdctl with a text on its standard input.
-func (c *Cluster) Type(t *testing.T, text string, words ...string) {
+func (c *Cluster) Type(t *testing.T, text string, args ...string) {
 	t.Helper()
-	if _, err := ctl(append(append([]string{"--endpoints", c.Endpoints()}, c.Words...), words...), text); err != nil {
+	if _, err := ctl(append(append([]string{"--endpoints", c.Endpoints()}, c.Args...), args...), text); err != nil {
 		t.Fatal(err)
 	}
 }
 
-func run(t *testing.T, words []string) string {
+func run(t *testing.T, args []string) string {
 	t.Helper()
-	said, err := ctl(words, "")
+	stdout, err := ctl(args, "")
 	if err != nil {
 		t.Fatal(err)
 	}
-	return said
+	return stdout
 }
 
-func ctl(words []string, typed string) (string, error) {
-	command := exec.Command("etcdctl", words...)
+func ctl(args []string, stdin string) (string, error) {
+	command := exec.Command("etcdctl", args...)
 	command.Env = append(os.Environ(), "ETCDCTL_API=3")
-	var said, failed bytes.Buffer
-	command.Stdin, command.Stdout, command.Stderr = strings.NewReader(typed), &said, &failed
+	var stdout, stderr bytes.Buffer
+	command.Stdin, command.Stdout, command.Stderr = strings.NewReader(stdin), &stdout, &stderr
 	if err := command.Run(); err != nil {
-		return "", fmt.Errorf("etcdctl %v: %w: %s", words, err, failed.String())
+		return "", fmt.Errorf("etcdctl %v: %w: %s", args, err, stderr.String())
 	}
-	return said.String(), nil
+	return stdout.String(), nil
 }
 
 // Leader is the member that leads.
