@@ -8,9 +8,9 @@ import (
 	"google.golang.org/grpc/codes"
 )
 
-// change is a change of the rows, as csid asks for it.
+// change is a change of the rows that csid requests.
 type change interface {
-	// plan is the transaction of the change. It may read for that, by the term.
+	// plan returns the transaction of the change. It may read rows in the term first.
 	plan(ctx context.Context, t *term) (plan, error)
 }
 
@@ -29,18 +29,19 @@ type (
 	}
 )
 
-// plan is one transaction: what it supposes and does, and what is read instead where it supposes wrongly.
+// plan is one transaction: etcd makes success if all compares hold, and otherwise reads failure.
 type plan struct {
 	compares []clientv3.Cmp
 	success  []clientv3.Op
 	failure  []clientv3.Op
-	// why says, by what was read, which supposition is wrong; empty where none is.
+	// explain names the failed comparison from the responses to failure. It returns "" if these
+	// show no reason.
 	explain func(read []*pb.RangeResponse) string
 }
 
 var errNumber = refusal{codes.InvalidArgument, "a number is above 9223372036854775807"}
 
-// The rows that make begins with (docs/TABLES.md).
+// firstMeta is the first row of meta (docs/TABLES.md).
 var firstMeta = meta{format: 2, next: 1}
 
 func keyExists(key string) clientv3.Cmp {
@@ -50,10 +51,10 @@ func keyMissing(key string) clientv3.Cmp {
 	return clientv3.Compare(clientv3.CreateRevision(key), "=", 0)
 }
 
-// rangeEmpty supposes that no key of a range is there: of each that is the revision of its making is above 0.
+// rangeEmpty compares that the range has no key: each existing key has a create revision above 0.
 func rangeEmpty(begin, end string) clientv3.Cmp { return keyMissing(begin).WithRange(end) }
 
-// firstKey reads whether a key is there, or any of a range where it has an end.
+// firstKey reads the key, or the first key of a range, without its value.
 func firstKey(key string, opts ...clientv3.OpOption) clientv3.Op {
 	return clientv3.OpGet(key, append(opts, clientv3.WithKeysOnly(), clientv3.WithLimit(1))...)
 }
@@ -65,9 +66,15 @@ func (c *addVolume) plan(_ context.Context, t *term) (plan, error) {
 	key := t.keys.volume(c.number)
 	before, after := meta{firstMeta.format, c.number}, meta{firstMeta.format, c.number + 1}
 	return plan{
-		compares: []clientv3.Cmp{keyMissing(key), clientv3.Compare(clientv3.Value(t.keys.meta()), "=", string(before.encoded()))},
-		success:  []clientv3.Op{clientv3.OpPut(key, string(c.encoded())), clientv3.OpPut(t.keys.meta(), string(after.encoded()))},
-		failure:  []clientv3.Op{firstKey(key), clientv3.OpGet(t.keys.meta())},
+		compares: []clientv3.Cmp{
+			keyMissing(key),
+			clientv3.Compare(clientv3.Value(t.keys.meta()), "=", string(before.encoded())),
+		},
+		success: []clientv3.Op{
+			clientv3.OpPut(key, string(c.encoded())),
+			clientv3.OpPut(t.keys.meta(), string(after.encoded())),
+		},
+		failure: []clientv3.Op{firstKey(key), clientv3.OpGet(t.keys.meta())},
 		explain: func(read []*pb.RangeResponse) string {
 			if len(read[0].Kvs) > 0 {
 				return t.keys.display(key) + " is there already"
@@ -125,7 +132,8 @@ func (c *detachAll) plan(_ context.Context, t *term) (plan, error) {
 	return plan{success: []clientv3.Op{clientv3.OpDelete(all, clientv3.WithRange(rangeEnd(all)))}}, nil
 }
 
-// plan reads the row, whose other columns stay, and supposes that it is the same still when it is put.
+// plan reads the row to keep its other columns, and compares that the row is unchanged when it is
+// put.
 func (c *setMutable) plan(ctx context.Context, t *term) (plan, error) {
 	if !isMutable(c.params) {
 		return plan{}, refusal{codes.InvalidArgument, "params is not fields of mutable parameters"}
@@ -144,7 +152,8 @@ func (c *setMutable) plan(ctx context.Context, t *term) (plan, error) {
 	}
 	params, ok := replaceMutable(row.params, c.params)
 	if !ok {
-		return plan{}, refuse("%s: its params are not fields of parameters and then of mutable ones", t.keys.display(key))
+		return plan{}, refuse("%s: its params are not fields of parameters and then of mutable ones",
+			t.keys.display(key))
 	}
 	row.params = params
 	revision := read.Kvs[0].ModRevision
@@ -164,18 +173,21 @@ func (c *setMutable) plan(ctx context.Context, t *term) (plan, error) {
 	}, nil
 }
 
-// makeMeta makes the first row.
+// makeMeta is the change that makes the first row.
 type makeMeta struct{}
 
 func (makeMeta) plan(_ context.Context, t *term) (plan, error) { return t.keys.firstRow(), nil }
 
-// firstRow makes the row of meta where there is no key at all but those of the lock.
+// firstRow makes the row of meta. It compares that the plugin has no key except those of the lock.
 func (k keys) firstRow() plan {
 	all, locks := k.all(), k.locks()
 	return plan{
 		compares: []clientv3.Cmp{rangeEmpty(all, locks), rangeEmpty(rangeEnd(locks), rangeEnd(all))},
 		success:  []clientv3.Op{clientv3.OpPut(k.meta(), string(firstMeta.encoded()))},
-		failure:  []clientv3.Op{firstKey(all, clientv3.WithRange(locks)), firstKey(rangeEnd(locks), clientv3.WithRange(rangeEnd(all)))},
+		failure: []clientv3.Op{
+			firstKey(all, clientv3.WithRange(locks)),
+			firstKey(rangeEnd(locks), clientv3.WithRange(rangeEnd(all))),
+		},
 		explain: func(read []*pb.RangeResponse) string {
 			for _, part := range read {
 				if len(part.Kvs) > 0 {
@@ -187,7 +199,7 @@ func (k keys) firstRow() plan {
 	}
 }
 
-// brokenRow refuses because of a row that no csid-etcd has written.
+// brokenRow refuses a call because of a row that no csid-etcd has written.
 func brokenRow(k keys, key string, err error) refusal {
 	return refuse("%s: %v", k.display(key), err)
 }

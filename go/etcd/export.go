@@ -14,14 +14,15 @@ import (
 	"go.etcd.io/etcd/etcdserver/api/v3rpc/rpctypes"
 )
 
-// SQL that brings rows into tables which csid has made and that have none yet (docs/TABLES.md). Each statement is one line.
+// SQL statements that add rows to new tables of csid (docs/TABLES.md), each on a line of its own.
 
 func (m meta) statement() string {
 	return fmt.Sprintf("UPDATE meta SET next_number = %d;", m.next)
 }
 
 func (v volume) statement() string {
-	return fmt.Sprintf("INSERT INTO volumes VALUES (%d,%s,%d,%s,X'%x',X'%x');", v.number, quoteSQL(v.name), v.bytes, quoteSQL(v.pool), v.caps, v.params)
+	return fmt.Sprintf("INSERT INTO volumes VALUES (%d,%s,%d,%s,X'%x',X'%x');", v.number, quoteSQL(v.name), v.bytes,
+		quoteSQL(v.pool), v.caps, v.params)
 }
 
 func (a attachment) statement() string {
@@ -32,8 +33,9 @@ func (a attachment) statement() string {
 	return fmt.Sprintf("INSERT INTO attachments VALUES (%d,%s,X'%x',%d);", a.number, quoteSQL(a.node), a.cap, readonly)
 }
 
-// quoteSQL is a text as SQL has it. One with control characters is written by its bytes: sqlite3 reads SQL line by line, takes a carriage return from
-// the end of a line, and ends a text at a zero.
+// quoteSQL returns a text as an SQL literal. A text with control characters is written as bytes:
+// sqlite3 reads SQL by lines, drops a carriage return at the end of a line, and ends a text at a
+// NUL.
 func quoteSQL(text string) string {
 	for i := 0; i < len(text); i++ {
 		if text[i] < 0x20 {
@@ -48,7 +50,7 @@ var (
 	errCompacted = errors.New("etcd compacted the revision of this reading: start again")
 )
 
-// snapshot reads rows at one revision, without the lock: that of the first answer.
+// snapshot reads rows at one revision without the lock: the revision of its first answer.
 type snapshot struct {
 	client   *clientv3.Client
 	timeout  time.Duration
@@ -69,7 +71,8 @@ func (r *snapshot) get(key string, opts ...clientv3.OpOption) (read *clientv3.Ge
 	return read, err
 }
 
-// export prints all rows at one revision as SQL. Until all are judged and printed there is no COMMIT: what ends before changes no tables.
+// export prints all rows at one revision as SQL. COMMIT comes last, once all rows were checked and
+// printed, so an export that stops early changes no tables.
 func export(m *members, to io.Writer, lines *log.Logger) error {
 	client, err := m.connect()
 	if err != nil {
@@ -91,7 +94,7 @@ func export(m *members, to io.Writer, lines *log.Logger) error {
 	return err
 }
 
-// readMeta reads the row of meta, without which there are no rows.
+// readMeta reads the row of meta. Without it there are no rows.
 func (r *snapshot) readMeta(k keys) (row meta, err error) {
 	read, err := r.get(k.meta())
 	if err != nil {
@@ -106,7 +109,7 @@ func (r *snapshot) readMeta(k keys) (row meta, err error) {
 	return row, checkFormat(row)
 }
 
-// print prints all but the end.
+// print prints the transaction up to its COMMIT.
 func (r *snapshot) print(k keys, out io.Writer) (found counts, err error) {
 	row, err := r.readMeta(k)
 	if err != nil {
@@ -122,7 +125,7 @@ func (r *snapshot) print(k keys, out io.Writer) (found counts, err error) {
 	})
 }
 
-// forEach hands on all rows but that of meta, in the order of keys.
+// forEach calls take for each row except meta, in the order of keys.
 func (r *snapshot) forEach(k keys, take func(tableRow) error) error {
 	limit := int64(firstLimit)
 	for from := k.all(); from != ""; {

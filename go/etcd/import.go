@@ -17,8 +17,9 @@ import (
 	"fomaheti/frames"
 )
 
-// A transaction of an import has at most so many rows, and ends after so many bytes. etcd takes 128 operations and 1.5 MiB where no option of its
-// own says otherwise; a key is in a transaction three times.
+// A transaction of an import has at most maxBatchRows rows, and no further row once it has
+// targetBatchBytes. By default etcd accepts 128 operations and 1.5 MiB; each key is in a
+// transaction three times.
 const (
 	maxBatchRows     = 64
 	targetBatchBytes = 1 << 20
@@ -37,8 +38,8 @@ var (
 	errMissing = errors.New("the last line is not meta: it is missing, or what comes in was cut off")
 )
 
-// readLines reads rows, a line each: the key without the name of the plugin, a tab, and the value as it is in etcd. All are judged. The last
-// one is meta, so that lines which are missing at the end are noticed.
+// readLines reads and checks rows, one per line: the key without the name of the plugin, a tab, and
+// the value as etcd has it. The last line must be meta, which reveals an input that was cut off.
 func readLines(in io.Reader, k keys) (rows []importLine, found counts, err error) {
 	from, lineOf := bufio.NewReaderSize(in, 1<<20), map[string]int{}
 	for {
@@ -88,7 +89,8 @@ func readLine(text []byte, k keys) (importLine, tableRow, error) {
 	return row, read, err
 }
 
-// importRows puts the rows of standard input into etcd, where there is nothing below the name of the plugin, and nobody leads or waits.
+// importRows writes the rows of standard input into etcd. The plugin must have no keys there, and
+// no program may hold the lock or wait for it.
 func importRows(m *members, in io.Reader, out io.Writer) error {
 	k := keys{m.opts.name}
 	rows, found, err := readLines(in, k)
@@ -114,7 +116,7 @@ func importRows(m *members, in io.Reader, out io.Writer) error {
 	return printLine(out, found.String())
 }
 
-// batchSize is how many rows, at least one, the next transaction has.
+// batchSize returns the number of rows in the next transaction, at least one.
 func batchSize(rows []importLine) int {
 	size := 0
 	for count, row := range rows {
@@ -126,18 +128,19 @@ func batchSize(rows []importLine) int {
 	return len(rows)
 }
 
-// importer is an import that is under way.
+// importer is a running import.
 type importer struct {
 	client  *clientv3.Client
 	keys    keys
 	timeout time.Duration
-	// How many rows were written, and the first key of them and the revision at which it was made.
+	// The number of rows written, the first of their keys, and its create revision.
 	written   int
 	first     string
 	firstMade int64
 }
 
-// checkEmpty finds out whether etcd answers, and whether anything is there. Each transaction supposes that again.
+// checkEmpty checks that etcd answers and has no key of the plugin. Each transaction compares this
+// again.
 func (i *importer) checkEmpty() error {
 	r, k := &snapshot{client: i.client, timeout: i.timeout}, i.keys
 	locks, err := r.get(k.locks(), clientv3.WithRange(rangeEnd(k.locks())), clientv3.WithLimit(1))
@@ -151,10 +154,11 @@ func (i *importer) checkEmpty() error {
 	return i.found(locks.Kvs, there.Kvs)
 }
 
-// found refuses where a key of the lock, or any other, was found.
+// found refuses if a key of the lock or any other key exists.
 func (i *importer) found(locks, there []*mvccpb.KeyValue) error {
 	for _, lock := range locks {
-		return fmt.Errorf("%s: %s has the lock or waits for it, and must be stopped first", i.keys.display(string(lock.Key)), frames.Text(string(lock.Value)))
+		return fmt.Errorf("%s: %s has the lock or waits for it, and must be stopped first",
+			i.keys.display(string(lock.Key)), frames.Text(string(lock.Value)))
 	}
 	for _, row := range there {
 		return fmt.Errorf("%s: it is there already", i.keys.display(string(row.Key)))
@@ -162,19 +166,21 @@ func (i *importer) found(locks, there []*mvccpb.KeyValue) error {
 	return nil
 }
 
-// write makes one transaction. The first one supposes that there is no key at all below the name of the plugin, so of two imports at most one gets
-// beyond it. Each later one supposes that the first key is still there as it was made: so none that is late is made after all were removed.
+// write makes one transaction. The first one compares that the plugin has no key, so at most one of
+// several imports continues. Each later one compares that the first key is still the one that this
+// import created: a late transaction fails after somebody has removed the rows.
 func (i *importer) write(rows []importLine) error {
 	k := i.keys
 	var compares []clientv3.Cmp
 	var success []clientv3.Op
-	// The first key that is there, and the lock, whose value says who has it.
+	// On failure, read the lock, whose value names its holder, and the keys that must not exist.
 	failure := []clientv3.Op{clientv3.OpGet(k.locks(), clientv3.WithRange(rangeEnd(k.locks())), clientv3.WithLimit(1))}
 	if i.written == 0 {
 		compares = append(compares, rangeEmpty(k.all(), rangeEnd(k.all())))
 		failure = append(failure, firstKey(k.all(), clientv3.WithRange(rangeEnd(k.all()))))
 	} else {
-		compares = append(compares, rangeEmpty(k.locks(), rangeEnd(k.locks())), clientv3.Compare(clientv3.CreateRevision(i.first), "=", i.firstMade))
+		compares = append(compares, rangeEmpty(k.locks(), rangeEnd(k.locks())),
+			clientv3.Compare(clientv3.CreateRevision(i.first), "=", i.firstMade))
 	}
 	for _, row := range rows {
 		compares = append(compares, keyMissing(row.key))
@@ -201,7 +207,7 @@ func (i *importer) write(rows []importLine) error {
 	return nil
 }
 
-// compareFailure says why a transaction was not made.
+// compareFailure returns the error that names the failed comparison.
 func (i *importer) compareFailure(read []*pb.ResponseOp) error {
 	var there []*mvccpb.KeyValue
 	for _, part := range read[1:] {
@@ -213,12 +219,13 @@ func (i *importer) compareFailure(read []*pb.ResponseOp) error {
 	return fmt.Errorf("%s: it was removed in the meantime", i.keys.display(i.first))
 }
 
-// explainStop says what an import has left that was not ended.
+// explainStop adds to an error how many rows an unfinished import has written.
 func (i *importer) explainStop(err error, all int) error {
 	_, isOpen := err.(unknownOutcome)
 	switch {
 	case isOpen:
-		return fmt.Errorf("%w; %d of %d rows were written before: remove what is there, and start again", err, i.written, all)
+		return fmt.Errorf("%w; %d of %d rows were written before: remove what is there, and start again", err,
+			i.written, all)
 	case i.written == 0:
 		return fmt.Errorf("%w; nothing was written", err)
 	}

@@ -12,33 +12,36 @@ import (
 	"google.golang.org/grpc"
 )
 
-// lease is a lease of etcd that is kept alive. It is over, by the clock of this process, as long after the last request to keep it as etcd keeps
-// it: etcd counts from when it got that request, which was later. So an answer that waited while this process was stopped does not count for long.
+// lease is a lease of etcd that is kept alive. Its expiry counts from the moment at which this
+// process sent the last request to keep it. etcd counts from the moment at which it received the
+// request, which is later, so the lease never expires in etcd before it expires here. An answer
+// that arrives late, after a stop of this process, extends it no further.
 type lease struct {
 	client *clientv3.Client
 	id     clientv3.LeaseID
 	length time.Duration
 	mutex  sync.Mutex
-	// When it is over, by sinceBoot.
+	// The time of its end on the clock of sinceBoot.
 	expiry time.Duration
 }
 
-// sinceBoot is the time since the machine started. It goes on while the machine sleeps, as etcd's clock elsewhere does; that of package time does not.
+// sinceBoot returns the time since the machine started. This clock goes on while the machine
+// sleeps, as etcd's clock elsewhere does. The clock of package time stops.
 func sinceBoot() time.Duration {
 	var now unix.Timespec
 	if err := unix.ClockGettime(unix.CLOCK_BOOTTIME, &now); err != nil {
-		// Linux has this clock since 2.6.39. Without it nobody knows how long a lease is.
+		// Linux has this clock since 2.6.39. Without it the end of a lease is unknown.
 		panic(err)
 	}
 	return time.Duration(now.Nano())
 }
 
-// How long it is waited at most until the clock is looked at again: timers stand while the machine sleeps.
+// clockPause limits the wait between two looks at the clock: timers stop while the machine sleeps.
 const clockPause = time.Second
 
 var errLeaseOver = errors.New("its lease is over")
 
-// grantLease gets a lease, and returns the revision that etcd has.
+// grantLease gets a lease of that many seconds. It also returns the revision of etcd.
 func grantLease(ctx context.Context, client *clientv3.Client, seconds int64) (*lease, int64, error) {
 	sent := sinceBoot()
 	granted, err := client.Grant(ctx, seconds)
@@ -50,7 +53,7 @@ func grantLease(ctx context.Context, client *clientv3.Client, seconds int64) (*l
 	return l, granted.ResponseHeader.Revision, nil
 }
 
-// isAlive reports whether the lease is alive, by the clock of this process.
+// isAlive reports whether the lease has time left on the clock of this process.
 func (l *lease) isAlive() bool { return l.remaining() > 0 }
 
 func (l *lease) remaining() time.Duration {
@@ -59,15 +62,16 @@ func (l *lease) remaining() time.Duration {
 	return l.expiry - sinceBoot()
 }
 
-// extend notes that etcd kept the lease by a request of that time.
+// extend moves the expiry after etcd kept the lease by a request sent at that time.
 func (l *lease) extend(sent time.Duration) {
 	l.mutex.Lock()
 	defer l.mutex.Unlock()
 	l.expiry = sent + l.length
 }
 
-// keepAlive keeps the lease alive until it is lost or the context ends, and returns how that was. Two things run side by side, so that the end is seen
-// in time whatever etcd's client does.
+// keepAlive keeps the lease alive and returns the reason of its end: errLeaseOver or the error of
+// the context. It watches the clock in a goroutine of its own, so that a request that hangs in
+// etcd's client does not delay the end.
 func (l *lease) keepAlive(ctx context.Context) error {
 	ctx, cancel := context.WithCancel(ctx)
 	defer cancel()
@@ -77,7 +81,7 @@ func (l *lease) keepAlive(ctx context.Context) error {
 	return <-done
 }
 
-// waitExpired waits until the lease is over.
+// waitExpired returns once the lease has expired or the context has ended.
 func (l *lease) waitExpired(ctx context.Context) error {
 	for {
 		remaining := l.remaining()
@@ -95,7 +99,8 @@ func (l *lease) waitExpired(ctx context.Context) error {
 	}
 }
 
-// renew asks etcd to keep the lease, again over another stream where one fails.
+// renew keeps the lease until it is lost or the context ends. After a failure it opens a new
+// stream.
 func (l *lease) renew(ctx context.Context) error {
 	for {
 		if err := l.renewStream(ctx); err == errLeaseOver || ctx.Err() != nil {
@@ -109,7 +114,8 @@ func (l *lease) renew(ctx context.Context) error {
 	}
 }
 
-// renewStream asks over one stream, four times a lease, and gives it up where an answer takes a quarter of the lease.
+// renewStream renews over one stream, four times per lease length. It gives up a stream on which an
+// answer takes longer than a quarter of the lease length.
 func (l *lease) renewStream(ctx context.Context) error {
 	ctx, cancel := context.WithCancel(clientv3.WithRequireLeader(ctx))
 	defer cancel()

@@ -9,18 +9,19 @@ import (
 	"google.golang.org/protobuf/encoding/protowire"
 )
 
-// What --list prints is what csid --list-tables prints of a file (docs/OPERATING.md, "Look into tables").
+// --list prints the rows of etcd as csid --list-tables prints the rows of a file
+// (docs/OPERATING.md, "Look into tables").
 
 var errColumns = errors.New("its caps or params are not those of a volume")
 
-// capability is what a volume may be used as: a block device, or a mount of a file system.
+// capability is a use of a volume: as a block device, or as a mounted file system.
 type capability struct {
 	isMount bool
 	fsType  string
 	mode    uint64
 }
 
-// listedVolume is a volume with the nodes that it is published at.
+// listedVolume is a volume with its decoded columns and the nodes where it is published.
 type listedVolume struct {
 	volume
 	capabilities        []capability
@@ -28,9 +29,11 @@ type listedVolume struct {
 	nodes               []string
 }
 
-// modeNames are the access modes of CSI by their numbers ("CreateVolume", VolumeCapability.AccessMode.Mode).
+// modeNames are the access modes of CSI by number ("CreateVolume",
+// VolumeCapability.AccessMode.Mode).
 var modeNames = []string{
-	"UNKNOWN", "SINGLE_NODE_WRITER", "SINGLE_NODE_READER_ONLY", "MULTI_NODE_READER_ONLY", "MULTI_NODE_SINGLE_WRITER", "MULTI_NODE_MULTI_WRITER",
+	"UNKNOWN", "SINGLE_NODE_WRITER", "SINGLE_NODE_READER_ONLY", "MULTI_NODE_READER_ONLY", "MULTI_NODE_SINGLE_WRITER",
+	"MULTI_NODE_MULTI_WRITER",
 	"SINGLE_NODE_SINGLE_WRITER", "SINGLE_NODE_MULTI_WRITER",
 }
 
@@ -41,7 +44,8 @@ func (c capability) modeName() string {
 	return modeNames[0]
 }
 
-// readCapability reads a VolumeCapability: block is field 1, mount field 2 with its fs_type in field 1, and access_mode field 3 with the mode in field 1.
+// readCapability decodes a VolumeCapability: block is field 1, mount is field 2 with fs_type in its
+// field 1, access_mode is field 3 with mode in its field 1.
 func readCapability(message []byte) (read capability, err error) {
 	err = readFields(message, func(f field) error {
 		if f.kind != protowire.BytesType {
@@ -61,7 +65,7 @@ func readCapability(message []byte) (read capability, err error) {
 	return read, err
 }
 
-// readPair reads an entry of a map: its key and its value.
+// readPair decodes an entry of a map.
 func readPair(message []byte, into map[string]string) error {
 	var key, value string
 	if err := readInto(message, map[protowire.Number]target{1: &key, 2: &value}); err != nil {
@@ -71,8 +75,8 @@ func readPair(message []byte, into map[string]string) error {
 	return nil
 }
 
-// readListed reads the columns of a volume, which are fields of a CreateVolumeRequest: capabilities are field 3, parameters field 4, and mutable
-// parameters field 8.
+// readListed decodes the columns of a volume. They are fields of a CreateVolumeRequest:
+// capabilities are field 3, parameters field 4, and mutable parameters field 8.
 func readListed(row volume) (*listedVolume, error) {
 	read := &listedVolume{volume: row, parameters: map[string]string{}, mutable: map[string]string{}}
 	err := readFields(append(append([]byte{}, row.caps...), row.params...), func(f field) error {
@@ -96,7 +100,7 @@ func readListed(row volume) (*listedVolume, error) {
 	return read, nil
 }
 
-// volumeFilter says which volumes are listed: those that have each of these that is given.
+// volumeFilter selects the volumes that have all given values. An empty value selects all.
 type volumeFilter struct{ volume, pool, node string }
 
 func (f volumeFilter) matches(v *listedVolume) bool {
@@ -107,7 +111,7 @@ func (f volumeFilter) matches(v *listedVolume) bool {
 	return isPublished && (f.volume == "" || v.name == f.volume) && (f.pool == "" || v.pool == f.pool)
 }
 
-// readAll reads all volumes at one revision, in the order of their numbers, with their nodes in the order of their ids.
+// readAll reads all volumes at one revision. Volumes are sorted by number, their nodes by id.
 func (r *snapshot) readAll(k keys) (volumes []*listedVolume, err error) {
 	found := map[uint64]*listedVolume{}
 	var at []attachment
@@ -134,7 +138,7 @@ func (r *snapshot) readAll(k keys) (volumes []*listedVolume, err error) {
 	return volumes, err
 }
 
-// list prints the volumes that are chosen, and what pools and nodes have of them. It needs no lock.
+// list prints the selected volumes, and their sums by pool and node. It needs no lock.
 func list(m *members, to io.Writer) error {
 	opts := m.opts
 	client, err := m.connect()

@@ -11,7 +11,7 @@ import (
 	"go.etcd.io/etcd/clientv3"
 )
 
-// counts is what rows have together, as csid says it of a file.
+// counts summarizes rows. Its text equals csid's summary of a file.
 type counts struct {
 	volumes, attachments int
 	meta                 meta
@@ -29,10 +29,12 @@ func (c *counts) add(row tableRow) {
 }
 
 func (c counts) String() string {
-	return fmt.Sprintf("volumes %d, attachments %d, next number %d, format %d", c.volumes, c.attachments, c.meta.next, c.meta.format)
+	return fmt.Sprintf("volumes %d, attachments %d, next number %d, format %d", c.volumes, c.attachments, c.meta.next,
+		c.meta.format)
 }
 
-// checkFormat refuses rows that another csid has made: neither changes of this program nor new tables are of their format.
+// checkFormat refuses rows in the format of another version of csid. This program makes changes,
+// and csid makes new tables, in the format of firstMeta only.
 func checkFormat(row meta) error {
 	if row.format != firstMeta.format {
 		return fmt.Errorf("meta: its format is %d, and that of rows in etcd %d", row.format, firstMeta.format)
@@ -40,9 +42,9 @@ func checkFormat(row meta) error {
 	return nil
 }
 
-// runOnce makes the first row, brings rows from a file of csid into etcd or from there into one, or lists them. It neither has the lock nor a socket.
+// runOnce makes the first row, imports, exports or lists rows. It needs no lock and no socket.
 func runOnce(opts options, lines *log.Logger) int {
-	// What is printed is all that was asked for: nothing is said of certificates.
+	// The output is the result alone, without lines on certificates.
 	m := newMembers(opts, func(string, ...interface{}) {})
 	var option string
 	var err error
@@ -65,7 +67,7 @@ func runOnce(opts options, lines *log.Logger) int {
 
 var errUnfinishedImport = errors.New("rows are there, and meta is not: an import was not ended")
 
-// makeNew makes the first row where there is none yet, and leaves rows that stand.
+// makeNew makes the first row unless rows exist.
 func makeNew(m *members, to io.Writer) error {
 	opts := m.opts
 	client, err := m.connect()
@@ -76,8 +78,9 @@ func makeNew(m *members, to io.Writer) error {
 	k := keys{opts.name}
 	first := k.firstRow()
 	var answer *clientv3.TxnResponse
+	getMeta := clientv3.OpGet(k.meta())
 	err = retry(context.Background(), client, opts.timeout, func(ctx context.Context) (err error) {
-		answer, err = client.Txn(ctx).If(first.compares...).Then(first.success...).Else(clientv3.OpGet(k.meta())).Commit()
+		answer, err = client.Txn(ctx).If(first.compares...).Then(first.success...).Else(getMeta).Commit()
 		return err
 	})
 	if err != nil {
@@ -97,7 +100,6 @@ func makeNew(m *members, to io.Writer) error {
 	return printLine(to, fmt.Sprintf("exists: next number %d, format %d", row.next, row.format))
 }
 
-// printLine writes one line.
 func printLine(to io.Writer, line string) error {
 	_, err := io.WriteString(to, line+"\n")
 	return err

@@ -14,8 +14,8 @@ import (
 	"fomaheti/words"
 )
 
-const usage = `Keeps the rows of a csid in etcd, and makes its changes there while it holds a lock (csid-etcd(1), docs/ETCD.md).
-
+const usage = "Keeps the rows of a csid in etcd, and makes its changes there while it holds a lock " +
+	"(csid-etcd(1), docs/ETCD.md).\n" + `
 usage: csid-etcd --name NAME --listen PATH [--endpoints HOST:PORT,..] [--cacert PATH] [--cert PATH --key PATH]
                  [--user NAME[:PASSWORD]] [--password-file PATH] [--timeout TIME] [--lease SECONDS] [--id TEXT]
                  [--revision PATH] [--accept-older] [--existing]
@@ -30,16 +30,16 @@ usage: csid-etcd --name NAME --listen PATH [--endpoints HOST:PORT,..] [--cacert 
        csid-etcd --version
 `
 
-// The bounds of --lease, in seconds: etcd gives none below 2.
+// The range of --lease in seconds. etcd grants no lease below 2.
 const (
 	minLease = 2
 	maxLease = 600
 )
 
-// The greatest length of --id.
+// maxID is the greatest length of --id in bytes.
 const maxID = 128
 
-// options is what the command line asks for.
+// options holds the parsed command line.
 type options struct {
 	name         string
 	listen       string
@@ -69,29 +69,12 @@ func readOptions(args []string, out io.Writer) (options, error) {
 	var endpoints, user string
 	flags := flag.NewFlagSet("csid-etcd", flag.ContinueOnError)
 	flags.SetOutput(io.Discard)
-	flags.StringVar(&opts.name, "name", "", "the `NAME` of the plugin: all keys in etcd begin with it and a slash")
-	flags.StringVar(&opts.listen, "listen", "", "the `PATH` of the socket for csid")
-	flags.StringVar(&endpoints, "endpoints", "127.0.0.1:2379", "the members of etcd, as `HOST:PORT,..`, each also after https://")
-	flags.StringVar(&opts.cacert, "cacert", "", "the `PATH` of the certificates of who signs for etcd")
-	flags.StringVar(&opts.cert, "cert", "", "the `PATH` of this program's own certificate")
-	flags.StringVar(&opts.key, "key", "", "the `PATH` of the key of --cert")
+	flags.StringVar(&endpoints, "endpoints", "127.0.0.1:2379",
+		"the members of etcd, as `HOST:PORT,..`, each also after https://")
 	flags.StringVar(&user, "user", "", "the user of etcd, as `NAME[:PASSWORD]`")
-	flags.StringVar(&opts.passwordFile, "password-file", "", "the `PATH` of a file whose first line is the password of --user")
-	flags.DurationVar(&opts.timeout, "timeout", 3*time.Second, "how long one request to etcd may take: a `TIME`")
-	flags.Int64Var(&opts.lease, "lease", 10, "how many `SECONDS` the lock outlives this program, 2 to 600")
-	flags.StringVar(&opts.id, "id", "", "the `TEXT` by which others know who holds the lock; without it the name of the host and the number of the process")
-	flags.StringVar(&opts.revision, "revision", "", "the `PATH` of a file that remembers the revision of etcd over a stop")
-	flags.BoolVar(&opts.acceptOlder, "accept-older", false, "go on with an etcd that was restored from an older snapshot")
-	flags.BoolVar(&opts.requireRows, "existing", false, "make no first row: rows have to be there")
-	flags.BoolVar(&opts.isNew, "new", false, "make the first row in an etcd that has none, and end")
-	flags.BoolVar(&opts.isExport, "export", false, "print all rows as SQL for a file of csid, and end")
-	flags.BoolVar(&opts.isImport, "import", false, "put the rows of standard input into an etcd that has none, and end")
-	flags.BoolVar(&opts.isList, "list", false, "list the volumes, and what each pool and node has of them, and end")
-	flags.StringVar(&opts.filter.volume, "volume", "", "list the volume with this `NAME` alone")
-	flags.StringVar(&opts.filter.pool, "pool", "", "list the volumes of the pool with this `NAME` alone")
-	flags.StringVar(&opts.filter.node, "node", "", "list the volumes that are published at the node with this `ID` alone")
-	flags.BoolVar(&opts.isJSON, "json", false, "list in JSON, with a volume a line")
-	flags.BoolVar(&opts.version, "version", false, "print the version, and end")
+	opts.addFlags(flags)
+	opts.addServingFlags(flags)
+	opts.addOneShotFlags(flags)
 	if err := words.Parse(flags, args, usage, out); err != nil {
 		return options{}, err
 	}
@@ -109,20 +92,59 @@ func readOptions(args []string, out io.Writer) (options, error) {
 	return opts, check(opts)
 }
 
-// onceFlags are what is done once, and then the program ends; listFlags are the options of --list, and servingFlags those of a program that stays and
-// answers csid.
+// addFlags adds the flags that every form of the command line takes.
+func (opts *options) addFlags(flags *flag.FlagSet) {
+	flags.StringVar(&opts.name, "name", "", "the `NAME` of the plugin: all keys in etcd begin with it and a slash")
+	flags.StringVar(&opts.cacert, "cacert", "", "the `PATH` of the certificates of who signs for etcd")
+	flags.StringVar(&opts.cert, "cert", "", "the `PATH` of this program's own certificate")
+	flags.StringVar(&opts.key, "key", "", "the `PATH` of the key of --cert")
+	flags.StringVar(&opts.passwordFile, "password-file", "",
+		"the `PATH` of a file whose first line is the password of --user")
+	flags.DurationVar(&opts.timeout, "timeout", 3*time.Second, "how long one request to etcd may take: a `TIME`")
+	flags.BoolVar(&opts.version, "version", false, "print the version, and end")
+}
+
+func (opts *options) addServingFlags(flags *flag.FlagSet) {
+	flags.StringVar(&opts.listen, "listen", "", "the `PATH` of the socket for csid")
+	flags.Int64Var(&opts.lease, "lease", 10, "how many `SECONDS` the lock outlives this program, 2 to 600")
+	flags.StringVar(&opts.id, "id", "",
+		"the `TEXT` by which others know who holds the lock; without it the name of the host and the number of "+
+			"the process")
+	flags.StringVar(&opts.revision, "revision", "",
+		"the `PATH` of a file that remembers the revision of etcd over a stop")
+	flags.BoolVar(&opts.acceptOlder, "accept-older", false,
+		"go on with an etcd that was restored from an older snapshot")
+	flags.BoolVar(&opts.requireRows, "existing", false, "make no first row: rows have to be there")
+}
+
+func (opts *options) addOneShotFlags(flags *flag.FlagSet) {
+	flags.BoolVar(&opts.isNew, "new", false, "make the first row in an etcd that has none, and end")
+	flags.BoolVar(&opts.isExport, "export", false, "print all rows as SQL for a file of csid, and end")
+	flags.BoolVar(&opts.isImport, "import", false, "put the rows of standard input into an etcd that has none, and end")
+	flags.BoolVar(&opts.isList, "list", false, "list the volumes, and what each pool and node has of them, and end")
+	flags.StringVar(&opts.filter.volume, "volume", "", "list the volume with this `NAME` alone")
+	flags.StringVar(&opts.filter.pool, "pool", "", "list the volumes of the pool with this `NAME` alone")
+	flags.StringVar(&opts.filter.node, "node", "",
+		"list the volumes that are published at the node with this `ID` alone")
+	flags.BoolVar(&opts.isJSON, "json", false, "list in JSON, with a volume a line")
+}
+
+// oneShotFlags do one thing and end the program. listFlags go with --list. servingFlags go with a
+// program that keeps running and answers csid.
 var (
 	oneShotFlags = map[string]bool{"new": true, "export": true, "import": true, "list": true}
 	listFlags    = map[string]bool{"volume": true, "pool": true, "node": true, "json": true}
-	servingFlags = map[string]bool{"listen": true, "lease": true, "id": true, "revision": true, "accept-older": true, "existing": true}
+	servingFlags = map[string]bool{"listen": true, "lease": true, "id": true, "revision": true, "accept-older": true,
+		"existing": true}
 )
 
-// isOneShot reports whether something is done once.
+// isOneShot reports whether the program does one thing and ends.
 func (opts options) isOneShot() bool {
 	return opts.isNew || opts.isExport || opts.isImport || opts.isList
 }
 
-// checkOneShot refuses what means nothing next to that which is done once.
+// checkOneShot refuses a second one-shot flag, a serving flag next to a one-shot flag, and a flag
+// of --list without --list.
 func checkOneShot(flags *flag.FlagSet) (err error) {
 	var once string
 	flags.Visit(func(f *flag.Flag) {
@@ -146,7 +168,7 @@ func checkOneShot(flags *flag.FlagSet) (err error) {
 	return err
 }
 
-// defaultID is who holds the lock where no option says it.
+// defaultID names this process as holder of the lock when --id is missing: HOST:PID.
 func defaultID() string {
 	host, err := os.Hostname()
 	if err != nil {
@@ -155,16 +177,17 @@ func defaultID() string {
 	return frames.Text(fmt.Sprintf("%s:%d", host, os.Getpid()))
 }
 
-// A name is one that a plugin of CSI can have.
+// nameForm matches the plugin names that CSI allows.
 var nameForm = regexp.MustCompile(`^[A-Za-z0-9]([A-Za-z0-9.-]{0,61}[A-Za-z0-9])?$`)
 
-// check refuses what cannot be meant.
+// check refuses missing options and values out of range.
 func check(opts options) error {
 	switch {
 	case opts.name == "":
 		return errors.New("--name: the name of the plugin is missing")
 	case !nameForm.MatchString(opts.name):
-		return fmt.Errorf("--name: %q is not 1 to 63 letters, digits, dots and dashes with a letter or digit at both ends", opts.name)
+		return fmt.Errorf("--name: %q is not 1 to 63 letters, digits, dots and dashes with a letter or digit at "+
+			"both ends", opts.name)
 	case opts.listen == "" && !opts.isOneShot():
 		return errors.New("--listen: the path of a socket is missing")
 	case opts.timeout <= 0:

@@ -12,7 +12,8 @@ import (
 	"google.golang.org/protobuf/encoding/protowire"
 )
 
-// The rows of docs/TABLES.md. A value in etcd is a JSON object of the columns that its key does not have, in their order.
+// The rows of docs/TABLES.md. The value of a row in etcd is a JSON object. It has the columns that
+// are not in the key, in the order of the table.
 
 type meta struct{ format, next uint64 }
 
@@ -33,11 +34,12 @@ type attachment struct {
 
 // tableRow is a row of one of the tables.
 type tableRow interface {
-	// encoded is its value in etcd, message its message, and field the number of the fields of a page that have such messages.
+	// encoded is the value in etcd, message the message of the row, and field the number of the
+	// field of a page that has such a message.
 	encoded() []byte
 	message() []byte
 	field() protowire.Number
-	// statement is the SQL that brings it into tables.
+	// statement is the SQL statement that adds the row to a file.
 	statement() string
 }
 
@@ -64,8 +66,8 @@ func (a attachment) encoded() []byte {
 	return []byte(fmt.Sprintf(`{"cap":"%x","readonly":%d}`, a.cap, readonly))
 }
 
-// appendJSONString puts a text after other bytes as JSON has it: as it is but for the characters that must be escaped. encoding/json escapes
-// others too.
+// appendJSONString appends text as a JSON string with the fewest escapes. encoding/json escapes
+// more characters.
 func appendJSONString(value []byte, text string) []byte {
 	value = append(value, '"')
 	for i := 0; i < len(text); i++ {
@@ -87,18 +89,19 @@ func appendJSONString(value []byte, text string) []byte {
 	return append(value, '"')
 }
 
-// Why a value is not one that a row can have.
+// Reasons for which a value is not the value of a row.
 var (
-	errNotText        = errors.New("its value is not UTF-8")
-	errRange          = errors.New("a number of its value is above 9223372036854775807")
-	errReadonly       = errors.New("its readonly is not 0 or 1")
-	errMetaForm       = errors.New(`its value is not of the form {"format_no":NUMBER,"next_number":NUMBER}`)
-	errVolumeForm     = errors.New(`its value is not of the form {"name":TEXT,"bytes":NUMBER,"pool":TEXT,"caps":HEX,"params":HEX}`)
+	errNotText    = errors.New("its value is not UTF-8")
+	errRange      = errors.New("a number of its value is above 9223372036854775807")
+	errReadonly   = errors.New("its readonly is not 0 or 1")
+	errMetaForm   = errors.New(`its value is not of the form {"format_no":NUMBER,"next_number":NUMBER}`)
+	errVolumeForm = errors.New(`its value is not of the form ` +
+		`{"name":TEXT,"bytes":NUMBER,"pool":TEXT,"caps":HEX,"params":HEX}`)
 	errAttachmentForm = errors.New(`its value is not of the form {"cap":HEX,"readonly":0 or 1}`)
 )
 
-// readObject reads the members of a value. What encoding/json accepts other than the one encoding of a row, as members twice, in other letters or in
-// another order, is found by encoding the row again.
+// readObject decodes a value. encoding/json also accepts duplicate members, other letter case and
+// any order of members. Callers find these by encoding the row again.
 func readObject(value []byte, into interface{}, form error) error {
 	if !utf8.Valid(value) {
 		return errNotText
@@ -169,13 +172,15 @@ func readAttachment(number uint64, node string, value []byte) (attachment, error
 	return row, nil
 }
 
-// Tags of the fields that params has: parameters and mutable parameters (docs/PROTOCOL.md, "Messages").
+// Tags of the two fields of params: parameters and mutable parameters (docs/PROTOCOL.md,
+// "Messages").
 const (
 	parametersTag = 0x22
 	mutableTag    = 0x42
 )
 
-// splitParams is params in its two parts, where it is fields of parameters and then fields of mutable parameters.
+// splitParams splits params into its parameters and its mutable parameters. ok is false unless
+// params consists of the first kind of field followed by the second.
 func splitParams(params []byte) (parameters, mutable []byte, ok bool) {
 	rest := params
 	for len(rest) > 0 && rest[0] == parametersTag {
@@ -195,7 +200,7 @@ func splitParams(params []byte) (parameters, mutable []byte, ok bool) {
 	return parameters, mutable, true
 }
 
-// skipField is what is after a field whose tag is one byte, and whose wire type is that of lengths.
+// skipField returns the rest after a field with a tag of one byte and a length.
 func skipField(fields []byte) (rest []byte, ok bool) {
 	size := protowire.ConsumeFieldValue(1, protowire.BytesType, fields[1:])
 	if size < 0 {
@@ -204,7 +209,7 @@ func skipField(fields []byte) (rest []byte, ok bool) {
 	return fields[1+size:], true
 }
 
-// replaceMutable puts mutable parameters instead of those that a row has.
+// replaceMutable returns params with other mutable parameters.
 func replaceMutable(params, mutable []byte) (replaced []byte, ok bool) {
 	parameters, _, ok := splitParams(params)
 	if !ok {
@@ -213,7 +218,7 @@ func replaceMutable(params, mutable []byte) (replaced []byte, ok bool) {
 	return append(append([]byte{}, parameters...), mutable...), true
 }
 
-// isMutable reports whether bytes are fields of mutable parameters, or none.
+// isMutable reports whether params has only fields of mutable parameters. Empty params pass.
 func isMutable(params []byte) bool {
 	parameters, _, ok := splitParams(params)
 	return ok && len(parameters) == 0

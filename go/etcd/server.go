@@ -13,35 +13,34 @@ import (
 	"fomaheti/frames"
 )
 
-// How long csid may take for taking a reply: a while, and a moment where another connection waits for the end of this one.
+// How long csid may take to read a reply: replyTime, or replacedTime once a newer connection waits.
 const (
 	replyTime    = 10 * time.Second
 	replacedTime = time.Second
 )
 
-// server answers the calls of csid: of the newest connection alone, in order.
+// server answers the calls of csid in order. It serves only the newest connection.
 type server struct {
 	state   *leadership
 	members *members
-	// Whether rows must be there: none is made first.
+	// If set, Make is refused: --existing wants rows that exist already.
 	requireRows bool
 	logf        func(format string, args ...interface{})
 	mutex       sync.Mutex
-	// The newest connection.
-	newest *connection
+	newest      *connection
 }
 
-// connection is one connection of csid.
+// connection is a connection from csid.
 type connection struct {
 	net.Conn
-	// Closed when a newer one came, and when its last call has ended.
+	// replaced is closed when a newer connection arrives, done after the last call has ended.
 	replaced chan struct{}
 	done     chan struct{}
 	once     sync.Once
 	walk     *walk
 }
 
-// take serves a connection instead of the one before.
+// take makes conn the newest connection. The connection before it ends after its running call.
 func (s *server) take(conn net.Conn) {
 	c := &connection{Conn: conn, replaced: make(chan struct{}), done: make(chan struct{})}
 	s.mutex.Lock()
@@ -57,7 +56,7 @@ func (s *server) take(conn net.Conn) {
 	}()
 }
 
-// replace ends a connection once the call that is under way has ended.
+// replace ends a connection after its running call.
 func (c *connection) replace() {
 	if c == nil {
 		return
@@ -78,14 +77,15 @@ func (c *connection) isReplaced() bool {
 	}
 }
 
-// wait waits until the last call of a connection has ended.
+// wait returns after the last call of the connection.
 func (c *connection) wait() {
 	if c != nil {
 		<-c.done
 	}
 }
 
-// serve answers calls until the connection ends, the first one not before the last call of the connection before has ended.
+// serve answers calls until the connection ends. It starts after the last call of the connection
+// before.
 func (s *server) serve(c, before *connection) {
 	requests := frames.NewRequests(c)
 	for {
@@ -121,7 +121,7 @@ func (c *connection) reply(r frames.Reply) error {
 	return err
 }
 
-// handle does what a call asks for. Where there is an error, it gets no reply.
+// handle answers a call. After an error the connection is closed without a reply.
 func (s *server) handle(c *connection, request frames.Request) (frames.Reply, error) {
 	if !isPath(request.Path) {
 		return refusalReply(refusal{codes.Unimplemented, "unknown method"}), nil
@@ -130,7 +130,7 @@ func (s *server) handle(c *connection, request frames.Request) (frames.Reply, er
 	if term == nil {
 		return refusalReply(why), nil
 	}
-	// The calls of a term come in order, and so does what is read ahead.
+	// A page that is read ahead belongs to the order of the calls too.
 	c.walk.waitAhead()
 	body, err := s.dispatch(c, term, request)
 	if term.isOver() {
@@ -151,7 +151,7 @@ func isPath(path string) bool {
 	return path == readPath || path == makePath || path == commitPath || path == leadPath
 }
 
-// dispatch does what a call asks for in a term, and gives the body of its reply.
+// dispatch runs a call in a term and returns the body of its reply.
 func (s *server) dispatch(c *connection, t *term, request frames.Request) ([]byte, error) {
 	switch request.Path {
 	case readPath:
@@ -178,7 +178,8 @@ func (s *server) dispatch(c *connection, t *term, request frames.Request) ([]byt
 	}
 }
 
-// read gives a page of the rows: the first of a walk that it begins, or the next one of the walk of this connection.
+// read returns a page of rows. Without a token it starts a new walk; with one it continues the walk
+// of this connection.
 func (c *connection) read(ctx context.Context, t *term, message []byte) (page []byte, err error) {
 	token, err := readToken(message)
 	if err != nil {
@@ -210,7 +211,7 @@ func (s *server) drop() {
 	}
 }
 
-// end ends the newest connection once the call that is under way has ended.
+// end closes the newest connection after its running call.
 func (s *server) end() {
 	s.mutex.Lock()
 	last := s.newest
@@ -219,7 +220,7 @@ func (s *server) end() {
 	last.wait()
 }
 
-// accept takes connections until the listener is closed, or fails.
+// accept serves connections until the listener is closed, or returns its error.
 func (s *server) accept(listener net.Listener) error {
 	for {
 		conn, err := listener.Accept()

@@ -13,54 +13,56 @@ import (
 	"google.golang.org/grpc/codes"
 )
 
-// term is a time in which this program leads. Its calls come in order.
+// term is a period in which this program leads. Its calls are served in order.
 type term struct {
 	client    *clientv3.Client
 	keys      keys
 	lease     *lease
 	revisions *revisions
 	timeout   time.Duration
-	// Ends with the term.
+	// ctx ends with the term.
 	ctx context.Context
 	end context.CancelFunc
-	// The key of the lock, what is there, and the revision of its making.
+	// The key of the lock, its value, and its create revision.
 	key     string
 	id      string
 	created int64
-	// The revision at which the key was put the last time. Each transaction supposes it.
+	// The revision at which the key was last put. Each transaction compares it.
 	put int64
-	// Whether a transaction may still be made whose outcome was not known.
+	// Set after a transaction with an unknown outcome: etcd may still make it.
 	needsFence bool
-	// The greatest revision that was seen.
+	// The greatest revision in an answer so far.
 	seen int64
-	// Holds a value once the key of the lock was found to be gone. It has room for one.
+	// Receives a value when the key of the lock turns out to be gone. Its capacity is one.
 	gone chan struct{}
 }
 
 // isOver reports whether this program may have lost the lock, by its own clock.
 func (t *term) isOver() bool { return t.ctx.Err() != nil || !t.lease.isAlive() }
 
-// errOver is the end of a term in the middle of a call.
+// errOver ends a call in whose course the term ended.
 var errOver = errors.New("the lock was lost")
 
-// request is the context of one request to etcd. A member without a leader refuses it at once, so that another one can be asked.
+// request returns the context of one request to etcd. A member without a leader refuses it at once,
+// so that another member can be asked.
 func (t *term) request(ctx context.Context) (context.Context, context.CancelFunc) {
 	return context.WithTimeout(clientv3.WithRequireLeader(ctx), t.timeout)
 }
 
-// leadRetryPause is between two questions whether this program leads, where etcd did not answer the first one.
+// leadRetryPause is the pause before confirmLead asks again if etcd did not answer.
 const leadRetryPause = 50 * time.Millisecond
 
-// maxTries is how often a request is made at most that may be made again.
+// maxTries limits the attempts of a request that may be repeated.
 const maxTries = 3
 
-// retry makes a request that may be made twice, and again where a member does not answer it: each time has its share of all, since calls go to the
-// members in turn.
+// retry makes a request that may be repeated, and repeats it if a member does not answer. The
+// attempts share the timeout, since calls go to the members in turn.
 func (t *term) retry(ctx context.Context, request func(context.Context) error) error {
 	return retry(ctx, t.client, t.timeout, request)
 }
 
-func retry(ctx context.Context, client *clientv3.Client, timeout time.Duration, request func(context.Context) error) (err error) {
+func retry(ctx context.Context, client *clientv3.Client, timeout time.Duration,
+	request func(context.Context) error) (err error) {
 	count := 1
 	if len(client.Endpoints()) > 1 {
 		count = maxTries
@@ -76,7 +78,7 @@ func retry(ctx context.Context, client *clientv3.Client, timeout time.Duration, 
 	return err
 }
 
-// get reads, at the newest revision where no option says another.
+// get reads a key or a range: at the newest revision unless an option names another.
 func (t *term) get(ctx context.Context, key string, opts ...clientv3.OpOption) (read *clientv3.GetResponse, err error) {
 	least := t.revisions.least()
 	err = t.retry(ctx, func(ctx context.Context) error {
@@ -92,7 +94,8 @@ func (t *term) get(ctx context.Context, key string, opts ...clientv3.OpOption) (
 	return read, nil
 }
 
-// readError is what an error of reading is answered with. A reading changes nothing, but of an error that is not known nothing is reported either.
+// readError turns an error of a read into the answer of the call. A read changes nothing, but after
+// an error that is not known to be a refusal the call gets no reply.
 func readError(err error) error {
 	if err == rpctypes.ErrCompacted {
 		return refuse("etcd compacted the revision of this walk over the rows: start again")
@@ -103,7 +106,9 @@ func readError(err error) error {
 	return unknownOutcome{err}
 }
 
-// observe notes the revision of an answer. One that is lower than the least when it was asked for is of an older snapshot.
+// observe notes the revision of an answer. It ends the term if etcd is at a lower revision than
+// least, the lowest possible one when the request was sent: then it was restored from an older
+// snapshot.
 func (t *term) observe(least, revision int64) error {
 	if err := t.revisions.check(least, revision); err != nil {
 		t.end()
@@ -115,7 +120,7 @@ func (t *term) observe(least, revision int64) error {
 	return nil
 }
 
-// commit makes one change, whole or not at all.
+// commit makes one change, as a whole or not at all.
 func (t *term) commit(ctx context.Context, c change) error {
 	if err := t.fence(ctx); err != nil {
 		return err
@@ -128,8 +133,9 @@ func (t *term) commit(ctx context.Context, c change) error {
 	return err
 }
 
-// fence sees to it that no earlier transaction is made any more, where the outcome of one is open: it may still be on its way within etcd, and be
-// made after what csid reads next. The key of the lock is put again, which makes what that transaction supposes wrong.
+// fence stops an earlier transaction with an unknown outcome, if there is one. Without the fence,
+// etcd might still make that transaction after csid's next read. The fence puts the key of the lock
+// again, and so makes the comparison of that transaction fail.
 func (t *term) fence(ctx context.Context) error {
 	if !t.needsFence {
 		return nil
@@ -155,7 +161,8 @@ func (t *term) fence(ctx context.Context) error {
 	return t.observe(least, done.Header.Revision)
 }
 
-// endTerm ends the term because the key of the lock is not there any more, or is another one.
+// endTerm ends the term because the key of the lock is gone or was replaced. It returns the refusal
+// of the running call.
 func (t *term) endTerm() error {
 	select {
 	case t.gone <- struct{}{}:
@@ -165,7 +172,7 @@ func (t *term) endTerm() error {
 	return refuse("this program does not lead any more: its key of the lock is gone")
 }
 
-// endReason is why the term has ended.
+// endReason returns the reason for which the term ended.
 func (t *term) endReason() error {
 	select {
 	case <-t.gone:
@@ -175,9 +182,11 @@ func (t *term) endReason() error {
 	}
 }
 
-// confirmLead asks etcd whether this program leads. It is an error where the program does not lead, and where etcd does not answer within the time of a request.
-// The answer is true at a moment after the question came. The program's own clock and a watch cannot give such an answer: where the key is deleted by
-// hand, or its lease is revoked, another program may lead before a watch reports it.
+// confirmLead asks etcd whether this program leads. It returns an error if the program does not
+// lead, or if etcd does not answer within the timeout of a request. A nil error holds for some
+// moment after the question arrived. Neither the program's own clock nor a watch can confirm that:
+// if somebody deletes the key or revokes the lease by hand, another program may lead before a watch
+// reports it.
 func (t *term) confirmLead(ctx context.Context) error {
 	ctx, cancel := context.WithTimeout(ctx, t.timeout)
 	defer cancel()
@@ -193,7 +202,7 @@ func (t *term) confirmLead(ctx context.Context) error {
 		if unknown, ok := err.(unknownOutcome); ok {
 			err = unknown.err
 		}
-		// That the time is over says less than an error before it.
+		// An error before the deadline tells more than the deadline itself.
 		if why == nil || ctx.Err() == nil {
 			why = err
 		}
@@ -204,10 +213,10 @@ func (t *term) confirmLead(ctx context.Context) error {
 	}
 }
 
-// watch ends the term as soon as etcd reports that the key of the lock is gone, was made again, or
-// does not go with the lease any more. It begins after a revision at which the key was seen. Where
-// etcd ends the watch it begins again, and leaves out what was compacted: hold looks too, though
-// less often.
+// watch ends the term as soon as etcd reports that the key of the lock is gone, was created again,
+// or lost its lease. It starts after the revision seen, at which the key existed. If etcd ends the
+// watch, it starts again and skips compacted revisions: holdLock also reads the key, though less
+// often.
 func (t *term) watch(seen int64) {
 	for t.ctx.Err() == nil {
 		seen = t.watchStream(seen)
@@ -215,9 +224,8 @@ func (t *term) watch(seen int64) {
 	}
 }
 
-// watchStream watches over one stream until that ends, and returns the last revision that was seen.
-// It does without the watcher of etcd's client, which panics where etcd creates or cancels a watch
-// twice.
+// watchStream watches over one stream until it ends, and returns the last revision that it saw. It
+// avoids the watcher of etcd's client, which panics if etcd creates or cancels a watch twice.
 func (t *term) watchStream(seen int64) int64 {
 	ctx, cancel := context.WithCancel(clientv3.WithRequireLeader(t.ctx))
 	defer cancel()
@@ -226,7 +234,8 @@ func (t *term) watchStream(seen int64) int64 {
 		return seen
 	}
 	create := &pb.WatchCreateRequest{Key: []byte(t.key), StartRevision: seen + 1}
-	if err := stream.Send(&pb.WatchRequest{RequestUnion: &pb.WatchRequest_CreateRequest{CreateRequest: create}}); err != nil {
+	request := &pb.WatchRequest{RequestUnion: &pb.WatchRequest_CreateRequest{CreateRequest: create}}
+	if err := stream.Send(request); err != nil {
 		return seen
 	}
 	for {
@@ -235,7 +244,8 @@ func (t *term) watchStream(seen int64) int64 {
 			return seen
 		}
 		for _, event := range report.Events {
-			if event.Type == mvccpb.DELETE || event.Kv.CreateRevision != t.created || event.Kv.Lease != int64(t.lease.id) {
+			if event.Type == mvccpb.DELETE || event.Kv.CreateRevision != t.created ||
+				event.Kv.Lease != int64(t.lease.id) {
 				t.endTerm()
 			}
 			seen = event.Kv.ModRevision
@@ -249,12 +259,13 @@ func (t *term) watchStream(seen int64) int64 {
 	}
 }
 
-// lockHeld supposes that this program leads, and that no fence came after the transaction.
+// lockHeld compares that the key of the lock is as last put: this program leads, and etcd has made
+// no later fence.
 func (t *term) lockHeld() clientv3.Cmp {
 	return clientv3.Compare(clientv3.ModRevision(t.key), "=", t.put)
 }
 
-// transact makes a transaction while this program holds the lock, and gives what it read.
+// transact makes a transaction while this program holds the lock. It returns etcd's responses.
 func (t *term) transact(ctx context.Context, planned plan) (*clientv3.TxnResponse, error) {
 	least := t.revisions.least()
 	done, err := t.send(ctx, planned)
@@ -278,7 +289,8 @@ func (t *term) transact(ctx context.Context, planned plan) (*clientv3.TxnRespons
 	return done, nil
 }
 
-// send sends a transaction once. Where a member has no leader it was not made, and the next member is asked.
+// send sends a transaction once. A member without a leader has not made it, so the next member is
+// asked.
 func (t *term) send(ctx context.Context, planned plan) (done *clientv3.TxnResponse, err error) {
 	ctx, cancel := t.request(ctx)
 	defer cancel()
@@ -293,7 +305,7 @@ func (t *term) send(ctx context.Context, planned plan) (done *clientv3.TxnRespon
 	return done, err
 }
 
-// lockedRead reads several things at one revision, the newest, while this program holds the lock.
+// lockedRead makes several reads at one revision, the newest, while this program holds the lock.
 func (t *term) lockedRead(ctx context.Context, reads ...clientv3.Op) (done *clientv3.TxnResponse, err error) {
 	least := t.revisions.least()
 	err = t.retry(ctx, func(ctx context.Context) error {
@@ -312,7 +324,7 @@ func (t *term) lockedRead(ctx context.Context, reads ...clientv3.Op) (done *clie
 	return done, nil
 }
 
-// compareFailure says what a transaction that was not made has supposed wrongly.
+// compareFailure returns the refusal that names the failed comparison of a transaction.
 func (t *term) compareFailure(done *clientv3.TxnResponse, planned plan) error {
 	read := make([]*pb.RangeResponse, len(done.Responses))
 	for i, part := range done.Responses {
@@ -333,8 +345,9 @@ func (t *term) compareFailure(done *clientv3.TxnResponse, planned plan) error {
 	return refuse("a comparison failed")
 }
 
-// noSpaceOutcome finds out whether a transaction was made of which etcd says that it has no space for it. Its outcome was decided when etcd said so,
-// so what it puts shows: where that is not newer than what was seen before, it was not made.
+// noSpaceOutcome finds out whether etcd made a transaction although it answered that it has no
+// space. The outcome was decided before that answer. So a key that the transaction puts shows it:
+// if its revision is not newer than all revisions seen before, the transaction was not made.
 func (t *term) noSpaceOutcome(ctx context.Context, planned plan) error {
 	before := t.seen
 	for _, op := range planned.success {

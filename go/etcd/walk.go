@@ -12,43 +12,46 @@ import (
 	"fomaheti/frames"
 )
 
-// A page ends after so many bytes, or before a row with which it would have more than most.
+// A page ends once it has targetPageBytes, and never has more than maxPageBytes.
 const (
 	targetPageBytes = 1 << 20
 	maxPageBytes    = 3 << 20
 )
 
-// How many rows are read at once: few at first, and then so many that they have about enough for a page. etcd looks at the keys of all rows that
-// are left each time, whatever the limit is.
+// The limits of a read in rows. The first read is small; later ones have about the rows of a page,
+// at most maxLimit. For each read etcd visits the keys of all remaining rows, whatever the limit
+// is.
 const (
 	firstLimit = 64
 	maxLimit   = 10000
 )
 
-// walk is a walk over the rows at one revision, a page at a time.
+// walk reads all rows at one revision, page by page.
 type walk struct {
 	term     *term
 	revision int64
-	// Whether it is past its volumes.
+	// Set once the walk has read all volumes.
 	isAtAttachments bool
-	// The least key that is still to come.
+	// The lowest key that was not read yet; empty after the last key of this kind.
 	from  string
 	pages int
-	// How many rows are read next.
+	// The limit of the next read, in rows.
 	limit int64
-	// What must be said for the next page, and that page once it is read. Nothing of it is there after the last one.
+	// The token of the next page, and the channel that delivers that page. Both are nil after the
+	// last page.
 	token []byte
 	ahead chan page
 }
 
-// page is the body of a page, what must be said for the next one (nothing, where it is the last), or why it could not be read.
+// page is the body of a page and the token of the next one (nil for the last page), or the error of
+// reading it.
 type page struct {
 	body  []byte
 	token []byte
 	err   error
 }
 
-// newWalk begins a walk, and gives what its first page has before volumes: the row of meta, where that is there.
+// newWalk starts a walk and returns the start of its first page: the row of meta, if it exists.
 func newWalk(ctx context.Context, t *term) (*walk, []byte, error) {
 	if err := t.fence(ctx); err != nil {
 		return nil, nil, err
@@ -74,7 +77,7 @@ func newWalk(ctx context.Context, t *term) (*walk, []byte, error) {
 	return w, nil, nil
 }
 
-// unknownKeys reads whether there is a key below the name of the plugin that is neither a row's nor the lock's.
+// unknownKeys reads the gaps between the keys of rows and of the lock. A key there is unknown.
 func (k keys) unknownKeys() (reads []clientv3.Op) {
 	begin := k.all()
 	for _, known := range []struct{ begin, end string }{
@@ -90,16 +93,16 @@ func (k keys) unknownKeys() (reads []clientv3.Op) {
 	return reads
 }
 
-// first gives the first page, which begins with this.
+// first returns the first page, which starts with begin.
 func (w *walk) first(ctx context.Context, begin []byte) ([]byte, error) {
 	return w.deliver(ctx, w.read(ctx, begin))
 }
 
-// next gives the next page.
+// next returns the next page.
 func (w *walk) next(ctx context.Context) ([]byte, error) { return w.deliver(ctx, <-w.ahead) }
 
-// deliver gives a page, and begins to read the one after it: csid puts the rows of a page into its tables in the meantime. Nothing else is asked of the term until
-// that is read (settle).
+// deliver returns a page and starts to read the next one while csid puts the rows of this page into
+// its tables. waitAhead must be called before the term is used for anything else.
 func (w *walk) deliver(ctx context.Context, given page) ([]byte, error) {
 	w.token, w.ahead = given.token, nil
 	if given.token != nil {
@@ -109,14 +112,14 @@ func (w *walk) deliver(ctx context.Context, given page) ([]byte, error) {
 	return given.body, given.err
 }
 
-// waitAhead waits until nothing is read.
+// waitAhead returns once no page is being read.
 func (w *walk) waitAhead() {
 	if w != nil && w.ahead != nil {
 		w.ahead <- <-w.ahead
 	}
 }
 
-// read puts rows after what a page begins with, until there are enough or none is left.
+// read appends rows to the start of a page until the page is large enough or no row is left.
 func (w *walk) read(ctx context.Context, body []byte) page {
 	for isFull := false; !isFull; {
 		var err error
@@ -136,13 +139,14 @@ func (w *walk) read(ctx context.Context, body []byte) page {
 	return page{body: appendBytes(body, 4, token), token: token}
 }
 
-// appendRows puts the next rows after a page. Where no row of this kind is left, it is at none.
+// appendRows appends the next rows to a page. isFull reports that the next row did not fit.
 func (w *walk) appendRows(ctx context.Context, page []byte) (longer []byte, isFull bool, err error) {
 	all := w.term.keys.volumes()
 	if w.isAtAttachments {
 		all = w.term.keys.attachments()
 	}
-	read, err := w.term.get(ctx, w.from, clientv3.WithRange(rangeEnd(all)), clientv3.WithRev(w.revision), clientv3.WithLimit(w.limit))
+	read, err := w.term.get(ctx, w.from, clientv3.WithRange(rangeEnd(all)), clientv3.WithRev(w.revision),
+		clientv3.WithLimit(w.limit))
 	if err != nil {
 		return nil, false, err
 	}
@@ -168,7 +172,8 @@ func (w *walk) appendRows(ctx context.Context, page []byte) (longer []byte, isFu
 	return page, false, nil
 }
 
-// nextLimit is how many rows are read next, where the last ones, at least one, had so many bytes.
+// nextLimit returns the limit of the next read. The last read had that many rows, at least one, and
+// that many bytes.
 func nextLimit(rows, bytes int64) int64 {
 	limit := targetPageBytes / (bytes/rows + 1)
 	if limit > 8*rows {
@@ -183,7 +188,7 @@ func nextLimit(rows, bytes int64) int64 {
 	return limit
 }
 
-// row is a row as a field of a page.
+// row encodes a row as a field of a page.
 func (w *walk) row(found *mvccpb.KeyValue) ([]byte, error) {
 	key := string(found.Key)
 	_, field, err := w.term.keys.pageRow(key, found.Value)
@@ -193,9 +198,10 @@ func (w *walk) row(found *mvccpb.KeyValue) ([]byte, error) {
 	return field, nil
 }
 
-var errToken = refusal{codes.InvalidArgument, frames.Text("the token is not the last one that this connection was given")}
+var errToken = refusal{codes.InvalidArgument,
+	frames.Text("the token is not the last one that this connection was given")}
 
-// isNext reports whether the walk goes on with this token.
+// isNext reports whether token is the token of the next page of this walk.
 func (w *walk) isNext(token []byte) bool {
 	return w != nil && w.token != nil && bytes.Equal(w.token, token)
 }

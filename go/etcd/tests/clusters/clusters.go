@@ -67,13 +67,16 @@ func New(t *testing.T, count int, settings Settings) *Cluster {
 		m := &Member{Name: fmt.Sprintf("m%d", i), Folder: processes.Folder(t), Address: ports[2*i]}
 		peer := "http://" + ports[2*i+1]
 		client := c.scheme + m.Address
-		m.args = append([]string{"--name", m.Name, "--data-dir", filepath.Join(m.Folder, "data"), "--logger", "zap", "--log-level", "warn",
-			"--listen-client-urls", client, "--advertise-client-urls", client, "--listen-peer-urls", peer, "--initial-advertise-peer-urls", peer}, settings.Args...)
+		m.args = append([]string{"--name", m.Name, "--data-dir", filepath.Join(m.Folder, "data"), "--logger", "zap",
+			"--log-level", "warn",
+			"--listen-client-urls", client, "--advertise-client-urls", client, "--listen-peer-urls", peer,
+			"--initial-advertise-peer-urls", peer}, settings.Args...)
 		all = append(all, m.Name+"="+peer)
 		c.Members = append(c.Members, m)
 	}
 	for _, m := range c.Members {
-		m.args = append(m.args, "--initial-cluster", strings.Join(all, ","), "--initial-cluster-state", "new", "--initial-cluster-token", m.Folder)
+		m.args = append(m.args, "--initial-cluster", strings.Join(all, ","), "--initial-cluster-state", "new",
+			"--initial-cluster-token", m.Folder)
 		m.args[len(m.args)-1] = c.Members[0].Folder
 	}
 	return c
@@ -161,7 +164,8 @@ func (c *Cluster) WaitReady(t *testing.T) {
 // Client is a client of etcd's own, without TLS.
 func (c *Cluster) Client(t *testing.T) *clientv3.Client {
 	t.Helper()
-	client, err := clientv3.New(clientv3.Config{Endpoints: strings.Split(c.Endpoints(), ","), DialTimeout: 2 * time.Second, MaxCallSendMsgSize: 16 << 20,
+	client, err := clientv3.New(clientv3.Config{Endpoints: strings.Split(c.Endpoints(), ","),
+		DialTimeout: 2 * time.Second, MaxCallSendMsgSize: 16 << 20,
 		LogConfig: &zap.Config{Level: zap.NewAtomicLevelAt(zap.FatalLevel), Encoding: "json"}})
 	if err != nil {
 		t.Fatal(err)
