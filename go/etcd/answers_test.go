@@ -12,13 +12,14 @@ import (
 	"go.etcd.io/etcd/mvcc/mvccpb"
 )
 
-// responses is one to each operation, of its kind. A reading finds the key that it begins with.
+// responses returns a response of the right kind for each operation. A read finds its first key.
 func responses(operations []*pb.RequestOp) (all []*pb.ResponseOp) {
 	for _, operation := range operations {
 		response := &pb.ResponseOp{}
 		switch request := operation.Request.(type) {
 		case *pb.RequestOp_RequestRange:
-			read := &pb.RangeResponse{Kvs: []*mvccpb.KeyValue{{Key: request.RequestRange.Key, CreateRevision: 10, ModRevision: 10}}}
+			read := &pb.RangeResponse{Kvs: []*mvccpb.KeyValue{{Key: request.RequestRange.Key, CreateRevision: 10,
+				ModRevision: 10}}}
 			response.Response = &pb.ResponseOp_ResponseRange{ResponseRange: read}
 		case *pb.RequestOp_RequestPut:
 			response.Response = &pb.ResponseOp_ResponsePut{ResponsePut: &pb.PutResponse{}}
@@ -30,41 +31,43 @@ func responses(operations []*pb.RequestOp) (all []*pb.ResponseOp) {
 	return all
 }
 
-// partialServer is an etcd whose answers are whole until a test takes a part of them away.
+// partialServer is an etcd with complete answers, until remove takes a part away.
 type partialServer struct {
 	pb.KVServer
 	pb.LeaseServer
-	// Whether each transaction supposes wrongly, or has no space.
+	// Set if each comparison fails, or if etcd has no space.
 	isRefused, isFull bool
 	remove            func(reply interface{})
 }
 
-func (l *partialServer) Range(_ context.Context, request *pb.RangeRequest) (*pb.RangeResponse, error) {
-	reply := &pb.RangeResponse{Header: &pb.ResponseHeader{Revision: 100}, Kvs: []*mvccpb.KeyValue{{Key: request.Key, CreateRevision: 10, ModRevision: 10}}}
-	l.remove(reply)
+func (s *partialServer) Range(_ context.Context, request *pb.RangeRequest) (*pb.RangeResponse, error) {
+	reply := &pb.RangeResponse{Header: &pb.ResponseHeader{Revision: 100},
+		Kvs: []*mvccpb.KeyValue{{Key: request.Key, CreateRevision: 10, ModRevision: 10}}}
+	s.remove(reply)
 	return reply, nil
 }
 
-func (l *partialServer) Txn(_ context.Context, request *pb.TxnRequest) (*pb.TxnResponse, error) {
-	if l.isFull {
+func (s *partialServer) Txn(_ context.Context, request *pb.TxnRequest) (*pb.TxnResponse, error) {
+	if s.isFull {
 		return nil, rpctypes.ErrGRPCNoSpace
 	}
 	operations := request.Success
-	if l.isRefused {
+	if s.isRefused {
 		operations = request.Failure
 	}
-	reply := &pb.TxnResponse{Header: &pb.ResponseHeader{Revision: 100}, Succeeded: !l.isRefused, Responses: responses(operations)}
-	l.remove(reply)
+	reply := &pb.TxnResponse{Header: &pb.ResponseHeader{Revision: 100}, Succeeded: !s.isRefused,
+		Responses: responses(operations)}
+	s.remove(reply)
 	return reply, nil
 }
 
-func (l *partialServer) LeaseGrant(context.Context, *pb.LeaseGrantRequest) (*pb.LeaseGrantResponse, error) {
+func (s *partialServer) LeaseGrant(context.Context, *pb.LeaseGrantRequest) (*pb.LeaseGrantResponse, error) {
 	reply := &pb.LeaseGrantResponse{Header: &pb.ResponseHeader{Revision: 100}, ID: 7, TTL: 10}
-	l.remove(reply)
+	s.remove(reply)
 	return reply, nil
 }
 
-// What a lying peer takes away, each of one kind of answer.
+// Functions that remove a part of one kind of answer.
 func noHeader(reply interface{}) {
 	switch reply := reply.(type) {
 	case *pb.RangeResponse:
@@ -128,7 +131,7 @@ func anotherRow(reply interface{}) {
 	}
 }
 
-// The places that read an answer.
+// The places that read an answer of etcd.
 var (
 	askLease      = func(t *term) error { _, _, err := grantLease(t.ctx, t.client, 10); return err }
 	askQueue      = func(t *term) error { _, err := t.queue(); return err }
@@ -156,11 +159,12 @@ var (
 		return err
 	}
 	makeFirstRow = func(t *term) error {
-		return makeNew(newMembers(options{endpoints: t.client.Endpoints(), timeout: t.timeout, name: "x"}, nil), io.Discard)
+		return makeNew(newMembers(options{endpoints: t.client.Endpoints(), timeout: t.timeout, name: "x"}, nil),
+			io.Discard)
 	}
 )
 
-// What is said of malformed answers.
+// Texts of errors for malformed answers.
 const (
 	saysRevision = "has no revision"
 	saysCount    = "responses to"
@@ -169,8 +173,9 @@ const (
 	saysOther    = `the row "of nobody" was not asked for`
 )
 
-// How an etcd answers whose answers are whole.
-var wholeServer, refusingServer, fullServer = partialServer{}, partialServer{isRefused: true}, partialServer{isFull: true}
+// Servers with complete answers.
+var wholeServer, refusingServer, fullServer = partialServer{}, partialServer{isRefused: true},
+	partialServer{isFull: true}
 
 var malformedCases = []struct {
 	name   string
@@ -222,8 +227,7 @@ var malformedCases = []struct {
 	{"a first row that is there, of another kind", refusingServer, makeFirstRow, anotherKind, saysKind},
 }
 
-// An answer that lacks a part, or has another one, is refused wherever it is read, and ends nothing
-// else.
+// An answer with a missing or a wrong part is refused by each of its readers.
 func TestMalformedAnswers(t *testing.T) {
 	for _, c := range malformedCases {
 		c := c
@@ -231,32 +235,35 @@ func TestMalformedAnswers(t *testing.T) {
 			server := c.server
 			server.remove = c.remove
 			err := c.call(server.newTerm(t))
-			if err == nil || !strings.Contains(err.Error(), "etcd's answer is malformed: ") || !strings.Contains(err.Error(), c.want) {
-				t.Errorf("%v, want %q", err, c.want)
+			if err == nil || !strings.Contains(err.Error(), "etcd's answer is malformed: ") ||
+				!strings.Contains(err.Error(), c.want) {
+				t.Errorf("got error %v, want %q", err, c.want)
 			}
 		})
 	}
 }
 
-// newTerm is a term before it, by the program's own client.
-func (l *partialServer) newTerm(t *testing.T) *term {
+// newTerm returns a term over the program's own client.
+func (s *partialServer) newTerm(t *testing.T) *term {
 	t.Helper()
-	client, err := newMembers(options{endpoints: []string{serveEtcd(t, l)}, timeout: 5 * time.Second}, t.Logf).connect()
+	client, err := newMembers(options{endpoints: []string{serveEtcd(t, s)}, timeout: 5 * time.Second}, t.Logf).connect()
 	if err != nil {
 		t.Fatal(err)
 	}
 	t.Cleanup(func() { client.Close() })
 	ctx, cancel := context.WithCancel(context.Background())
 	t.Cleanup(cancel)
-	return &term{client: client, keys: sampleKeys, lease: &lease{id: 7, expiry: sinceBoot() + time.Hour}, revisions: &revisions{}, timeout: time.Second,
+	return &term{client: client, keys: sampleKeys, lease: &lease{id: 7, expiry: sinceBoot() + time.Hour},
+		revisions: &revisions{}, timeout: time.Second,
 		ctx: ctx, end: cancel, key: "k", created: 10, put: 10, gone: make(chan struct{}, 1)}
 }
 
-// A change whose answer is malformed has an unknown outcome: a fence comes before the next one.
+// After a malformed answer the outcome of a change is unknown, and a fence comes before the next
+// one.
 func TestMalformedAnswerIsOpen(t *testing.T) {
 	server := &partialServer{remove: noHeader}
 	term := server.newTerm(t)
 	if _, is := commitAttach(term).(unknownOutcome); !is || !term.needsFence {
-		t.Errorf("the outcome is known, and open is %v", term.needsFence)
+		t.Errorf("got needsFence %v, want an unknown outcome and a fence", term.needsFence)
 	}
 }

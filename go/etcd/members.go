@@ -199,7 +199,8 @@ func (m *members) credentials() credentials.TransportCredentials {
 // Clone implements credentials.TransportCredentials.
 func (c memberCredentials) Clone() credentials.TransportCredentials { return c.members.credentials() }
 
-// ClientHandshake implements credentials.TransportCredentials. The name to verify is the endpoint's.
+// ClientHandshake implements credentials.TransportCredentials. The name to verify is the
+// endpoint's.
 func (c memberCredentials) ClientHandshake(ctx context.Context, _ string, raw net.Conn) (
 	net.Conn, credentials.AuthInfo, error) {
 	to := c.members.endpointOf(raw.RemoteAddr())
