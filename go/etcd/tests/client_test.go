@@ -1,4 +1,5 @@
-// Package tests runs the built csid-etcd as a process before etcd, with clients of its protocol instead of csid, and with csid and the front.
+// Package tests runs the built csid-etcd over etcd: with clients of its protocol, and with csid and
+// the front.
 package tests
 
 import (
@@ -29,10 +30,10 @@ const (
 	leadPath   = "/fomaheti.log.v1.Log/Lead"
 )
 
-// program is a csid-etcd that runs.
+// program is a running csid-etcd.
 type program struct{ *processes.Process }
 
-// start starts a csid-etcd before a cluster, with further words, and waits until it answers.
+// start starts a csid-etcd with further arguments, and waits until it answers.
 func start(t *testing.T, endpoints string, args ...string) program {
 	t.Helper()
 	socket := filepath.Join(processes.Folder(t), "log.sock")
@@ -55,10 +56,11 @@ func (p program) waitLeading(t *testing.T) program {
 // waitLog waits for a text on standard error.
 func (p program) waitLog(t *testing.T, text string) {
 	t.Helper()
-	processes.Eventually(t, fmt.Sprintf("%q in the log, which has %q", text, p.Log), func() bool { return strings.Contains(p.Log.String(), text) })
+	processes.Eventually(t, fmt.Sprintf("%q in the log, which has %q", text, p.Log),
+		func() bool { return strings.Contains(p.Log.String(), text) })
 }
 
-// storeConn is a connection to a csid-etcd.
+// storeConn is a connection to csid-etcd.
 type storeConn struct {
 	net.Conn
 	in *frames.Replies
@@ -82,7 +84,7 @@ func dial(socket string) (*storeConn, error) {
 	return &storeConn{conn, frames.NewReplies(conn)}, nil
 }
 
-// call makes a call; an error is an end without a reply.
+// call makes a call. Its error means that the connection ended without a reply.
 func (l *storeConn) call(path string, message []byte) (frames.Reply, error) {
 	l.SetDeadline(time.Now().Add(processes.Patience))
 	if _, err := l.Write(append(frames.AppendRequestHead(nil, path, len(message)), message...)); err != nil {
@@ -91,7 +93,8 @@ func (l *storeConn) call(path string, message []byte) (frames.Reply, error) {
 	return l.in.Next()
 }
 
-// wantReply makes a call with a message in hexadecimal, and compares its reply: OK and a body, or a status and a text.
+// wantReply makes a call with a message in hexadecimal and checks the reply: OK and a body in
+// hexadecimal, or a status and a text.
 func (l *storeConn) wantReply(t *testing.T, path, message string, code codes.Code, want string) {
 	t.Helper()
 	got, err := l.call(path, fromHex(t, message))
@@ -100,13 +103,13 @@ func (l *storeConn) wantReply(t *testing.T, path, message string, code codes.Cod
 		said, want = hex.EncodeToString(got.Body), strings.ReplaceAll(want, " ", "")
 	}
 	if err != nil || got.Code != code || said != want {
-		t.Errorf("%s %.200s: %d %.1000q, %v, want %d %.1000q", path, message, got.Code, said, err, code, want)
+		t.Errorf("%s %.200s: got %d %.1000q, error %v, want %d %.1000q", path, message, got.Code, said, err, code, want)
 	}
 }
 
 var fromHex = fixtures.FromHex
 
-// rows is what a walk has read: the row of meta, and each other one by its key, all as text.
+// rows holds all rows as text: meta, and each other row by its key.
 type rows map[string]string
 
 func (r rows) String() string {
@@ -118,7 +121,7 @@ func (r rows) String() string {
 	return strings.Join(all, "\n")
 }
 
-// readAll reads all rows, and counts the pages.
+// readAll reads all rows and counts the pages.
 func (l *storeConn) readAll() (read rows, pages int, err error) {
 	read = rows{}
 	var token []byte
@@ -151,7 +154,8 @@ func (l *storeConn) readAll() (read rows, pages int, err error) {
 				continue
 			case 2:
 				key = fmt.Sprintf("1 %020d", values[1].varint)
-				read[key] = fmt.Sprintf("%s %d %s %x %x", values[2].bytes, values[3].varint, values[4].bytes, values[5].bytes, values[6].bytes)
+				read[key] = fmt.Sprintf("%s %d %s %x %x", values[2].bytes, values[3].varint, values[4].bytes,
+					values[5].bytes, values[6].bytes)
 			case 3:
 				key = fmt.Sprintf("2 %020d %s", values[1].varint, values[2].bytes)
 				read[key] = fmt.Sprintf("%x %d", values[3].bytes, values[4].varint)
@@ -176,7 +180,7 @@ type field struct {
 	bytes  []byte
 }
 
-// fields is the fields of a message of varints and bytes.
+// fields returns the fields of a message of varints and bytes.
 func fields(message []byte) (all []field) {
 	for len(message) > 0 {
 		number, kind, size := protowire.ConsumeTag(message)
@@ -193,7 +197,7 @@ func fields(message []byte) (all []field) {
 	return all
 }
 
-// Messages of changes, as csid writes them: each field, in rising order.
+// Messages of changes as csid writes them: with each field, in ascending order.
 
 func varint(message []byte, number protowire.Number, value uint64) []byte {
 	return protowire.AppendVarint(protowire.AppendTag(message, number, protowire.VarintType), value)
@@ -244,7 +248,8 @@ func (l *storeConn) wantRefused(t *testing.T, message []byte, code codes.Code, w
 	l.wantReply(t, commitPath, hex.EncodeToString(message), code, want)
 }
 
-// startLeading is a csid-etcd that leads before a new etcd of one member, with the row of meta, and a connection to it.
+// startLeading starts an etcd of one member and a csid-etcd that leads, makes the row of meta, and
+// connects.
 func startLeading(t *testing.T) (*clusters.Cluster, program, *storeConn) {
 	t.Helper()
 	cluster := clusters.Start(t, 1)
@@ -254,7 +259,7 @@ func startLeading(t *testing.T) (*clusters.Cluster, program, *storeConn) {
 	return cluster, p, l
 }
 
-// wantKeys wants that etcd has exactly these keys and values next to the lock, a line each.
+// wantKeys checks that the plugin has exactly these keys and values next to the lock.
 func wantKeys(t *testing.T, cluster *clusters.Cluster, want ...string) {
 	t.Helper()
 	got := ""
@@ -266,6 +271,6 @@ func wantKeys(t *testing.T, cluster *clusters.Cluster, want ...string) {
 		all += line + "\n"
 	}
 	if got != all {
-		t.Errorf("etcd has\n%swanted\n%s", got, all)
+		t.Errorf("got the rows\n%swant\n%s", got, all)
 	}
 }

@@ -15,14 +15,14 @@ import (
 	"./clusters"
 )
 
-// takeLock takes the lock away by hand from who has it: its key, or its lease.
+// takeLock takes the lock from its holder by hand: it deletes the key or revokes the lease.
 func takeLock(t *testing.T, client *clientv3.Client, isByLease bool) {
 	t.Helper()
 	ctx, cancel := context.WithTimeout(context.Background(), processes.Patience)
 	defer cancel()
 	read, err := client.Get(ctx, name+"/lock/", clientv3.WithFirstCreate()...)
 	if err != nil || len(read.Kvs) == 0 {
-		t.Fatalf("the lock: %v, %v", read, err)
+		t.Fatalf("got the lock %v, error %v", read, err)
 	}
 	if isByLease {
 		_, err = client.Revoke(ctx, clientv3.LeaseID(read.Kvs[0].Lease))
@@ -34,7 +34,8 @@ func takeLock(t *testing.T, client *clientv3.Client, isByLease bool) {
 	}
 }
 
-// lastConfirmedLead asks a program whether it leads until it does not say so any more, and gives when the last question was sent to which it did.
+// lastConfirmedLead asks a program whether it leads until it no longer confirms it. It returns the
+// time at which the last confirmed question was sent.
 func (p program) lastConfirmedLead(t *testing.T, asking chan<- struct{}) (last time.Time) {
 	l, err := dial(p.Socket)
 	if err != nil {
@@ -56,7 +57,7 @@ func (p program) lastConfirmedLead(t *testing.T, asking chan<- struct{}) (last t
 	}
 }
 
-// firstChangeTime makes a change by a program as soon as it leads, and gives when that was answered by OK.
+// firstChangeTime makes a change as soon as the program leads, and returns the time of its OK.
 func (p program) firstChangeTime(t *testing.T) time.Time {
 	t.Helper()
 	processes.Eventually(t, "a change that is answered by OK", func() bool {
@@ -77,7 +78,8 @@ func (p program) firstChangeTime(t *testing.T) time.Time {
 	return time.Now()
 }
 
-// Where the lock is taken away by hand while nothing is stopped, a program says that it leads to no question that was sent after another one's OK.
+// If the lock is taken by hand, the old program confirms its lead for no question that was sent
+// after the new one's first OK.
 func TestLockTakenByHand(t *testing.T) {
 	t.Parallel()
 	cluster := clusters.Start(t, 3)
@@ -93,19 +95,21 @@ func TestLockTakenByHand(t *testing.T) {
 		changed := second.firstChangeTime(t)
 		last := <-lasts
 		if last.IsZero() || last.After(changed) {
-			t.Errorf("round %d: it said that it leads to a question that was sent %v after the other one's OK", round, last.Sub(changed))
+			t.Errorf("round %d: it said that it leads to a question that was sent %v after the other one's OK", round,
+				last.Sub(changed))
 		}
 		processes.Eventually(t, "why it leads no more", func() bool {
 			return strings.Contains(first.Log.String()[before:], "leads no more: its key is gone\n") ||
 				round%2 == 1 && strings.Contains(first.Log.String()[before:], "leads no more: its lease is over\n")
 		})
-		processes.Eventually(t, "that it waits", func() bool { return strings.Contains(first.Log.String()[before:], "waits for the lock, which ") })
+		processes.Eventually(t, "that it waits",
+			func() bool { return strings.Contains(first.Log.String()[before:], "waits for the lock, which ") })
 		first, second = second, first
 	}
 }
 
-// A program that is cut off from etcd when its key is deleted hears nothing of that, and its lease goes on by its own clock. It does not say that it leads
-// after another one's OK either.
+// A program without a connection to etcd does not learn that its key was deleted, and its lease has
+// time left. Even so it does not confirm its lead after another program's OK.
 func TestLockTakenWhileCutOff(t *testing.T) {
 	t.Parallel()
 	cluster := clusters.Start(t, 1)
@@ -122,13 +126,14 @@ func TestLockTakenWhileCutOff(t *testing.T) {
 	const want = "etcd does not say whether this program leads: "
 	reply, err := l.call(leadPath, nil)
 	if err != nil || reply.Code != codes.FailedPrecondition || !strings.HasPrefix(reply.Text, want) {
-		t.Errorf("%d %q, %v", reply.Code, reply.Text, err)
+		t.Errorf("got %d %q, error %v, want %s", reply.Code, reply.Text, err, want)
 	}
 	relay.resume()
 	first.waitLog(t, "leads no more: its key is gone\n")
 }
 
-// Of two stacks whose lock is taken away by hand none answers a list without a volume that the other one answered by OK before the list was asked for.
+// Two stacks whose lock is taken by hand: no list lacks a volume that the other stack had created
+// before the list was requested.
 func TestListsWhileLockIsTaken(t *testing.T) {
 	t.Parallel()
 	help, err := exec.Command(processes.CsidProgram(t), "serve", "--help").Output()
@@ -160,7 +165,8 @@ func TestListsWhileLockIsTaken(t *testing.T) {
 		all := <-listings
 		for _, listed := range all {
 			if listed.sent.After(created) && !strings.Contains(listed.body, id) {
-				t.Errorf("round %d: a list that was asked for %v after %s was created is without it", round, listed.sent.Sub(created), id)
+				t.Errorf("round %d: a list that was asked for %v after %s was created is without it", round,
+					listed.sent.Sub(created), id)
 			}
 		}
 		if len(all) == 0 || all[0].sent.After(created) {
@@ -170,13 +176,13 @@ func TestListsWhileLockIsTaken(t *testing.T) {
 	}
 }
 
-// listing is a list that was answered, and when it was asked for.
+// listing is the reply to a ListVolumes, and the time of its request.
 type listing struct {
 	sent time.Time
 	body string
 }
 
-// listUntil asks a csid for all volumes again and again until it is over.
+// listUntil requests all volumes again and again until over is closed.
 func (s *stack) listUntil(over <-chan struct{}) (all []listing) {
 	for {
 		l, err := dial(s.path("csid.sock"))
@@ -205,7 +211,7 @@ func (s *stack) listUntil(over <-chan struct{}) (all []listing) {
 	}
 }
 
-// create creates a volume by a csid as soon as that serves, and gives its id.
+// create creates a volume as soon as csid serves, and returns its id.
 func (s *stack) create(t *testing.T, volumeName string) (id string) {
 	t.Helper()
 	processes.Eventually(t, volumeName+" by "+s.name, func() bool {

@@ -9,8 +9,8 @@ import (
 	"./clusters"
 )
 
-// Of three members one is killed again and again, the leader each second time, while changes are made. Each answer is OK, a refusal because the
-// program does not lead, or an end without a reply; and what was answered OK is there.
+// One of three members is killed again and again, every second time the leader. Each change gets
+// OK, a refusal because the program does not lead, or no reply. All changes with an OK are there.
 func TestKilledMembers(t *testing.T) {
 	t.Parallel()
 	cluster := clusters.Start(t, 3)
@@ -32,13 +32,13 @@ func TestKilledMembers(t *testing.T) {
 	end()
 	t.Logf("8 kills: %v", d)
 	if d.ok < 100 {
-		t.Errorf("%d changes", d.ok)
+		t.Errorf("got %d changes, want 100 or more", d.ok)
 	}
 	wantRows(t, d, p)
 }
 
-// Where etcd had no leader for longer than the lease, the program leads again as soon as there is one: etcd keeps the old lease for its whole length then, so the
-// program ends it.
+// After etcd had no leader for longer than the lease, the program leads as soon as etcd has one:
+// the new leader would keep the old lease for its whole length, so the program revokes it.
 func TestWithoutLeader(t *testing.T) {
 	t.Parallel()
 	cluster := clusters.Start(t, 3)
@@ -57,15 +57,15 @@ func TestWithoutLeader(t *testing.T) {
 	before := len(p.Log.String())
 	signal(syscall.SIGSTOP)
 	p.waitLog(t, "leads no more: its lease is over")
-	// What of it waits for etcd is given up.
+	// By now its requests to etcd have timed out.
 	time.Sleep(2 * time.Second)
 	signal(syscall.SIGCONT)
 	if took := p.waitLeadingSince(t, before); took > 9*time.Second {
-		t.Errorf("it led after %v", took)
+		t.Errorf("the program led after %v, want 9 s or less", took)
 	}
 }
 
-// wantRows wants that the rows are those that were reported.
+// wantRows checks that the rows are those that the replies promised.
 func wantRows(t *testing.T, d *driver, p program) {
 	t.Helper()
 	var err error

@@ -6,15 +6,16 @@ import (
 	"testing"
 )
 
-// proxy is between a csid-etcd and a member of etcd, and hands bytes on, unless it is asked otherwise.
+// proxy forwards bytes between csid-etcd and a member of etcd. It can pause, or drop clients'
+// bytes.
 type proxy struct {
 	listener net.Listener
 	member   string
 	mutex    sync.Mutex
 	changed  *sync.Cond
-	// Whether nothing is handed on.
+	// If set, no bytes are forwarded.
 	isPaused bool
-	// Whether what comes of clients is dropped.
+	// If set, bytes from clients are dropped.
 	dropsClient bool
 	conns       []net.Conn
 }
@@ -55,7 +56,8 @@ func (p *proxy) run() {
 	}
 }
 
-// hand hands bytes on in one direction. What comes while the proxy holds waits, and what comes of a client while it is deaf is dropped.
+// hand forwards bytes in one direction. They wait while the proxy is paused, and are dropped if
+// dropsClient is set and they come from a client.
 func (p *proxy) hand(from, to net.Conn, isOfClient bool) {
 	var waiting [][]byte
 	isOver := false
@@ -104,7 +106,7 @@ func (p *proxy) set(change func()) {
 func (p *proxy) pause()  { p.set(func() { p.isPaused = true }) }
 func (p *proxy) resume() { p.set(func() { p.isPaused, p.dropsClient = false, false }) }
 
-// cut ends all connections.
+// cut closes all connections.
 func (p *proxy) cut() {
 	p.mutex.Lock()
 	defer p.mutex.Unlock()

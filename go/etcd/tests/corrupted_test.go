@@ -16,8 +16,7 @@ import (
 	"./clusters"
 )
 
-// corruptingProxy is between a csid-etcd and a member of etcd, and takes parts of its answers away while it is
-// asked to.
+// corruptingProxy is a proxy of a member of etcd. On request it removes parts of answers.
 type corruptingProxy struct {
 	pb.KVServer
 	pb.LeaseServer
@@ -29,7 +28,7 @@ type corruptingProxy struct {
 	corrupted    int
 }
 
-// newCorruptingProxy starts one, and says where it answers.
+// newCorruptingProxy starts a proxy and returns its address.
 func newCorruptingProxy(t *testing.T, member string) (*corruptingProxy, string) {
 	t.Helper()
 	conn, err := grpc.Dial(member, grpc.WithInsecure())
@@ -53,7 +52,7 @@ func newCorruptingProxy(t *testing.T, member string) (*corruptingProxy, string) 
 	return l, listener.Addr().String()
 }
 
-// set begins or ends the lies, and gives how many there were.
+// set starts or stops the corruption, and returns the number of corrupted answers.
 func (l *corruptingProxy) set(isCorrupting bool) int {
 	l.mutex.Lock()
 	defer l.mutex.Unlock()
@@ -61,7 +60,7 @@ func (l *corruptingProxy) set(isCorrupting bool) int {
 	return l.corrupted
 }
 
-// corrupt takes a part of every second answer away.
+// corrupt removes a part of about every second answer.
 func (l *corruptingProxy) corrupt(answer interface{}) {
 	l.mutex.Lock()
 	defer l.mutex.Unlock()
@@ -71,7 +70,7 @@ func (l *corruptingProxy) corrupt(answer interface{}) {
 	}
 }
 
-// removePart takes a part away: a field of the answer itself, or of one of its parts.
+// removePart removes a field of the answer or of one of its parts.
 func (l *corruptingProxy) removePart(part reflect.Value) {
 	for part.Kind() == reflect.Ptr || part.Kind() == reflect.Interface {
 		if part.IsNil() {
@@ -104,19 +103,22 @@ func (l *corruptingProxy) Txn(ctx context.Context, request *pb.TxnRequest) (*pb.
 	return answer, err
 }
 
-func (l *corruptingProxy) DeleteRange(ctx context.Context, request *pb.DeleteRangeRequest) (*pb.DeleteRangeResponse, error) {
+func (l *corruptingProxy) DeleteRange(ctx context.Context, request *pb.DeleteRangeRequest) (*pb.DeleteRangeResponse,
+	error) {
 	answer, err := pb.NewKVClient(l.member).DeleteRange(ctx, request)
 	l.corrupt(answer)
 	return answer, err
 }
 
-func (l *corruptingProxy) LeaseGrant(ctx context.Context, request *pb.LeaseGrantRequest) (*pb.LeaseGrantResponse, error) {
+func (l *corruptingProxy) LeaseGrant(ctx context.Context, request *pb.LeaseGrantRequest) (*pb.LeaseGrantResponse,
+	error) {
 	answer, err := pb.NewLeaseClient(l.member).LeaseGrant(ctx, request)
 	l.corrupt(answer)
 	return answer, err
 }
 
-func (l *corruptingProxy) LeaseRevoke(ctx context.Context, request *pb.LeaseRevokeRequest) (*pb.LeaseRevokeResponse, error) {
+func (l *corruptingProxy) LeaseRevoke(ctx context.Context, request *pb.LeaseRevokeRequest) (*pb.LeaseRevokeResponse,
+	error) {
 	answer, err := pb.NewLeaseClient(l.member).LeaseRevoke(ctx, request)
 	l.corrupt(answer)
 	return answer, err
@@ -163,9 +165,9 @@ func (l *corruptingProxy) Watch(stream pb.Watch_WatchServer) error {
 	}
 }
 
-// A program whose peer takes parts of its answers away for a while refuses calls, or ends
-// connections, and goes on. Once the answers are whole again, it leads and makes changes.
-func TestLies(t *testing.T) {
+// While etcd's answers lack parts, a program refuses calls or closes connections, and keeps
+// running. Afterwards it leads and makes changes.
+func TestCorruptedAnswers(t *testing.T) {
 	t.Parallel()
 	cluster := clusters.Start(t, 1)
 	relay, address := newCorruptingProxy(t, cluster.Members[0].Address)
@@ -175,7 +177,7 @@ func TestLies(t *testing.T) {
 	for end := time.Now().Add(15 * time.Second); time.Now().Before(end); time.Sleep(10 * time.Millisecond) {
 		l, err := dial(p.Socket)
 		if err != nil {
-			t.Fatalf("it takes no connection: %v: %s", err, p.Log)
+			t.Fatalf("got no connection: %v: %s", err, p.Log)
 		}
 		l.call(readPath, nil)
 		l.call(commitPath, attach(1, "n", false))
@@ -184,11 +186,12 @@ func TestLies(t *testing.T) {
 		l.Close()
 	}
 	if corrupted := relay.set(false); corrupted < 50 {
-		t.Errorf("%d lies", corrupted)
+		t.Errorf("got %d corrupted answers, want 50 or more", corrupted)
 	}
 	p.waitConfirmsLead(t)
 	p.dial(t).mustCommit(t, addVolume(1, "a"))
-	if log := p.Log.String(); strings.Contains(log, "panic") || hasEnded(p.Process) || !strings.Contains(log, "etcd's answer is malformed: ") {
-		t.Errorf("it has ended: %v: %s", hasEnded(p.Process), log)
+	if log := p.Log.String(); strings.Contains(log, "panic") || hasEnded(p.Process) ||
+		!strings.Contains(log, "etcd's answer is malformed: ") {
+		t.Errorf("ended: %v, want a program that reports malformed answers: %s", hasEnded(p.Process), log)
 	}
 }
