@@ -93,8 +93,8 @@ type tokenServer struct {
 	issued []string
 }
 
-func (s *tokenServer) Authenticate(ctx context.Context, request *pb.AuthenticateRequest) (*pb.AuthenticateResponse,
-	error) {
+func (s *tokenServer) Authenticate(ctx context.Context, request *pb.AuthenticateRequest) (
+	*pb.AuthenticateResponse, error) {
 	if md, _ := metadata.FromIncomingContext(ctx); len(md.Get("token")) > 0 {
 		return nil, rpctypes.ErrGRPCInvalidAuthToken
 	}

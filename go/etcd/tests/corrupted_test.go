@@ -103,22 +103,22 @@ func (l *corruptingProxy) Txn(ctx context.Context, request *pb.TxnRequest) (*pb.
 	return answer, err
 }
 
-func (l *corruptingProxy) DeleteRange(ctx context.Context, request *pb.DeleteRangeRequest) (*pb.DeleteRangeResponse,
-	error) {
+func (l *corruptingProxy) DeleteRange(ctx context.Context, request *pb.DeleteRangeRequest) (
+	*pb.DeleteRangeResponse, error) {
 	answer, err := pb.NewKVClient(l.member).DeleteRange(ctx, request)
 	l.corrupt(answer)
 	return answer, err
 }
 
-func (l *corruptingProxy) LeaseGrant(ctx context.Context, request *pb.LeaseGrantRequest) (*pb.LeaseGrantResponse,
-	error) {
+func (l *corruptingProxy) LeaseGrant(ctx context.Context, request *pb.LeaseGrantRequest) (
+	*pb.LeaseGrantResponse, error) {
 	answer, err := pb.NewLeaseClient(l.member).LeaseGrant(ctx, request)
 	l.corrupt(answer)
 	return answer, err
 }
 
-func (l *corruptingProxy) LeaseRevoke(ctx context.Context, request *pb.LeaseRevokeRequest) (*pb.LeaseRevokeResponse,
-	error) {
+func (l *corruptingProxy) LeaseRevoke(ctx context.Context, request *pb.LeaseRevokeRequest) (
+	*pb.LeaseRevokeResponse, error) {
 	answer, err := pb.NewLeaseClient(l.member).LeaseRevoke(ctx, request)
 	l.corrupt(answer)
 	return answer, err
