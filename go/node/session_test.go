@@ -95,9 +95,9 @@ func (s *session) at(name string) string { return filepath.Join(s.folder, name) 
 
 // call makes a call, in whose message AT/ means the folder, and gives what is shown.
 func (s *session) call(socket, method, message string) string {
-	var shown, log strings.Builder
-	run([]string{"call", "--socket", s.at(socket), method, strings.ReplaceAll(message, "AT/", s.folder+"/")}, &shown, &log)
-	return strings.ReplaceAll(strings.TrimSuffix(shown.String()+log.String(), "\n"), s.folder+"/", "AT/")
+	var out, log strings.Builder
+	run([]string{"call", "--socket", s.at(socket), method, strings.ReplaceAll(message, "AT/", s.folder+"/")}, &out, &log)
+	return strings.ReplaceAll(strings.TrimSuffix(out.String()+log.String(), "\n"), s.folder+"/", "AT/")
 }
 
 // row is a call to the front or to the node plugin, and what is shown of its answer.
@@ -128,7 +128,7 @@ const (
 	noVolume         = "node-plugin: NotFound: volume not found"
 )
 
-// attached is how an orchestrator gets a volume of 4 MiB at this node.
+// attachedRows is how an orchestrator gets a volume of 4 MiB at this node.
 func attachedRows(as string) []row {
 	return []row{
 		{controllerSocket, "CreateVolume", `{"name":"a","capacity_range":{"required_bytes":4194304},"volume_capabilities":[` + as + `]}`,
@@ -310,18 +310,18 @@ func TestControllerThatIsAway(t *testing.T) {
 func TestSocket(t *testing.T) {
 	t.Parallel()
 	s := newSession(t, "--without-devices")
-	var shown, log strings.Builder
-	if status := run(s.words, &shown, &log); status != failed || log.String() != "node-plugin: "+s.at("node.sock")+": somebody answers on it already\n" {
+	var out, log strings.Builder
+	if status := run(s.words, &out, &log); status != exitFailure || log.String() != "node-plugin: "+s.at("node.sock")+": somebody answers on it already\n" {
 		t.Errorf("%d, %q", status, log.String())
 	}
 	if err := s.node.Process.Signal(syscall.SIGTERM); err != nil {
 		t.Fatal(err)
 	}
 	<-s.node.ended
-	if _, err := os.Lstat(s.at("node.sock")); s.node.ProcessState.ExitCode() != done || !errors.Is(err, os.ErrNotExist) {
+	if _, err := os.Lstat(s.at("node.sock")); s.node.ProcessState.ExitCode() != exitOK || !errors.Is(err, os.ErrNotExist) {
 		t.Errorf("%v, %v", s.node.ProcessState, err)
 	}
-	s.endsAtOnce(t)
+	s.wantEndAtOnce(t)
 	s.writes(t, "node.sock")
 	if listener, err := listen(s.at("node.sock")); !errors.Is(err, syscall.EADDRINUSE) {
 		t.Errorf("%v, %v", listener, err)
@@ -329,8 +329,8 @@ func TestSocket(t *testing.T) {
 	s.finds(t, "node.sock")
 }
 
-// endsAtOnce wants a plugin to end as ever where it is asked to in the moment in which its socket comes.
-func (s *session) endsAtOnce(t *testing.T) {
+// wantEndAtOnce wants a plugin to end as ever where it is asked to in the moment in which its socket comes.
+func (s *session) wantEndAtOnce(t *testing.T) {
 	t.Helper()
 	for i := 0; i < 20; i++ {
 		node := exec.Command(s.node.Path, s.words...)
