@@ -7,15 +7,18 @@ import (
 	"testing"
 )
 
-// Messages and their bytes, written by hand from the field numbers in CSI's csi.proto.
-func TestMessages(t *testing.T) {
+// messageCase is a message and its bytes in hexadecimal.
+type messageCase struct {
+	name  string
+	value interface{}
+	bytes string
+}
+
+// messageCases are written by hand from the field numbers in CSI's csi.proto.
+func messageCases() []messageCase {
 	mode1 := &accessMode{Mode: 1}
 	pool := map[string]string{"pool": "p1"}
-	cases := []struct {
-		name  string
-		value interface{}
-		bytes string
-	}{
+	return []messageCase{
 		{"empty", &empty{}, ""},
 		{"GetPluginInfo response", &pluginInfo{Name: "a.b", VendorVersion: "1"}, "0a03 612e62 1201 31"},
 		{"GetPluginCapabilities response",
@@ -60,7 +63,11 @@ func TestMessages(t *testing.T) {
 			Status: &volumeStatus{NodeIDs: []string{"n1"}}}}, NextToken: "7"},
 			"0a0b 0a03 1201 76 1204 0a02 6e31 1201 37"},
 	}
-	for _, c := range cases {
+}
+
+// Each message is encoded as its bytes, and the bytes are decoded as the message.
+func TestMessages(t *testing.T) {
+	for _, c := range messageCases() {
 		t.Run(c.name, func(t *testing.T) {
 			got, err := codec{}.Marshal(c.value)
 			if want := strings.ReplaceAll(c.bytes, " ", ""); err != nil || hex.EncodeToString(got) != want {
