@@ -17,6 +17,7 @@ import (
 // malformed is an error: the part that an answer of etcd lacks.
 type malformed string
 
+// Error implements error.
 func (m malformed) Error() string { return "etcd's answer is malformed: " + string(m) }
 
 // checkUnary is an interceptor that checks the answer to a single request.
@@ -38,8 +39,10 @@ func checkStream(ctx context.Context, description *grpc.StreamDesc, conn *grpc.C
 	return checkedStream{stream}, nil
 }
 
+// checkedStream checks each answer that it receives.
 type checkedStream struct{ grpc.ClientStream }
 
+// RecvMsg implements grpc.ClientStream. It refuses a malformed answer.
 func (s checkedStream) RecvMsg(reply interface{}) error {
 	if err := s.ClientStream.RecvMsg(reply); err != nil {
 		return err

@@ -98,11 +98,13 @@ func (c certificates) used() (all []usedCertificate) {
 	return all
 }
 
+// usedCertificate is a certificate and the option of its file.
 type usedCertificate struct {
 	option      string
 	certificate *x509.Certificate
 }
 
+// String describes the certificate, after its option.
 func (u usedCertificate) String() string { return u.option + " " + describeCertificate(u.certificate) }
 
 // describeCertificate names the subject of a certificate and the end of its validity.

@@ -119,6 +119,7 @@ func sortedKeys(pairs map[string]string) []string {
 	return keys
 }
 
+// String formats the capability for the table: its access, or its file system, and its mode.
 func (c capability) String() string {
 	switch {
 	case !c.isMount:

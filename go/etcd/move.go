@@ -28,6 +28,7 @@ func (c *counts) add(row tableRow) {
 	}
 }
 
+// String is the summary in a line.
 func (c counts) String() string {
 	return fmt.Sprintf("volumes %d, attachments %d, next number %d, format %d", c.volumes, c.attachments, c.meta.next,
 		c.meta.format)

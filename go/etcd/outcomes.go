@@ -19,6 +19,7 @@ type refusal struct {
 	text string
 }
 
+// Error is the text of the reply.
 func (r refusal) Error() string { return r.text }
 
 // refuse returns a FAILED_PRECONDITION: a comparison failed, or this program does not lead.
@@ -30,6 +31,7 @@ func refuse(format string, args ...interface{}) refusal {
 // call gets no reply.
 type unknownOutcome struct{ err error }
 
+// Error implements error.
 func (o unknownOutcome) Error() string {
 	return "it is not known whether it was made: " + o.err.Error()
 }

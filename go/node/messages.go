@@ -11,22 +11,30 @@ import (
 // empty.
 type message struct{}
 
-func (message) Reset()         {}
+// Reset implements proto.Message.
+func (message) Reset() {}
+
+// String implements proto.Message.
 func (message) String() string { return "" }
-func (message) ProtoMessage()  {}
+
+// ProtoMessage implements proto.Message.
+func (message) ProtoMessage() {}
 
 // codec encodes and decodes these messages. It replaces gRPC's codec, which accepts only generated
 // ones.
 type codec struct{}
 
+// Marshal implements encoding.Codec.
 func (codec) Marshal(v interface{}) ([]byte, error) {
 	return proto.Marshal(protoimpl.X.ProtoMessageV2Of(v))
 }
 
+// Unmarshal implements encoding.Codec.
 func (codec) Unmarshal(data []byte, v interface{}) error {
 	return proto.Unmarshal(data, protoimpl.X.ProtoMessageV2Of(v))
 }
 
+// Name implements encoding.Codec, with the name of the codec that this one replaces.
 func (codec) Name() string { return "proto" }
 
 func init() { encoding.RegisterCodec(codec{}) }
