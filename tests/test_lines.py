@@ -1,4 +1,6 @@
-"""How long lines are: 110 columns for text, 160 for a definition."""
+"""How long lines are: 110 columns for text, 160 for a definition; in Go 100 for a comment and 120 for a
+line, with a tab as 4.
+"""
 
 import glob
 import os
@@ -12,6 +14,10 @@ CLAUSE = re.compile(r"\s*(?:requires|ensures)\b")
 # Code whose lines have a length of their own: names that are used, attributes, and texts.
 OWN_LENGTH = re.compile(r"\s*(?:(?:ghost |pub )?use |#)|.*\"")
 SOURCES = ["crates/*/src/**/*.rt", "crates/*/specs/**/*.antt", "crates/*/proofs/**/*.antt"]
+GO = ["go/**/*.go"]
+# Comments, texts and characters of Go. The group is a text between backquotes, which may have several lines.
+GO_TOKEN = re.compile(r"//[^\n]*|/\*.*?\*/|\"(?:\\.|[^\"\\\n])*\"|'(?:\\.|[^'\\\n])+'|(`[^`]*`)", re.DOTALL)
+GO_TAG = re.compile(r"`\w+:\"")
 SCRIPTS = ["build", "bench/**/*", "packaging/**/*", "scripts/*", "tests/*", "tests/*/*.py"]
 
 
@@ -24,6 +30,23 @@ def files_of(patterns):
 def lines_of(path):
     with open(os.path.join(TOP, path), encoding="utf-8", errors="replace") as file:
         return file.read().split("\n")
+
+
+def without_text(token):
+    """Returns a token of Go unchanged, but of a text with several lines only the line ends."""
+    text = token.group(1) or ""
+    return "\n" * text.count("\n") if "\n" in text else token.group()
+
+
+def go_lines(path):
+    """The lines of a Go file. Those of texts with several lines are empty."""
+    text = GO_TOKEN.sub(without_text, "\n".join(lines_of(path)))
+    return text.expandtabs(4).split("\n")
+
+
+def is_go_code(line):
+    """Whether a line can be broken: one with the tag of a field cannot."""
+    return not GO_TAG.search(line)
 
 
 def is_python(path):
@@ -44,11 +67,13 @@ class Lines(RowTest):
             ("clauses and code", files_of(SOURCES[:1]), 110, is_code),
             ("definitions", files_of(SOURCES[1:2]), 160, bool),
             ("Python", filter(is_python, files_of(SCRIPTS)), 110, bool),
+            ("comments of Go", files_of(GO), 100, COMMENT.match),
+            ("Go", files_of(GO), 120, is_go_code),
         ]:
             longer = [
                 "%s:%d" % (path, number)
                 for path in paths
-                for number, line in enumerate(lines_of(path), 1)
+                for number, line in enumerate(go_lines(path) if path.endswith(".go") else lines_of(path), 1)
                 if len(line) > most and is_meant(line)
             ]
             self.check(name, longer, [])

@@ -9,38 +9,40 @@ import (
 	"google.golang.org/grpc"
 )
 
-// Each answer of etcd is checked as it comes in, once for all that read it: a revision, a row or a
-// response that etcd always sends is there, and none of their readers has to look. An answer that
-// lacks one comes from something that is not etcd. Of a change it says nothing: its outcome is
-// unknown. A revision that is missing would look like an older snapshot, which ends service.
+// Interceptors check each answer of etcd once, so that their readers need not check for a missing
+// revision, row or response: etcd always sends these. An answer without them comes from something
+// else. It says nothing about a change, so the outcome of that change is unknown. A missing
+// revision must not count as an older snapshot, which would end service.
 
-// malformed is what an answer of etcd lacks.
+// malformed is an error: the part that an answer of etcd lacks.
 type malformed string
 
+// Error implements error.
 func (m malformed) Error() string { return "etcd's answer is malformed: " + string(m) }
 
-// checkUnary is between etcd's client and the connection, and checks each answer to a single
-// request.
-func checkUnary(ctx context.Context, method string, request, reply interface{}, connection *grpc.ClientConn,
-	send grpc.UnaryInvoker, options ...grpc.CallOption) error {
-	if err := send(ctx, method, request, reply, connection, options...); err != nil {
+// checkUnary is an interceptor that checks the answer to a single request.
+func checkUnary(ctx context.Context, method string, request, reply interface{}, conn *grpc.ClientConn,
+	invoke grpc.UnaryInvoker, options ...grpc.CallOption) error {
+	if err := invoke(ctx, method, request, reply, conn, options...); err != nil {
 		return err
 	}
 	return checkAnswer(request, reply)
 }
 
-// checkStream is the same for streams.
-func checkStream(ctx context.Context, description *grpc.StreamDesc, connection *grpc.ClientConn, method string,
+// checkStream is an interceptor that checks each answer of a stream.
+func checkStream(ctx context.Context, description *grpc.StreamDesc, conn *grpc.ClientConn, method string,
 	open grpc.Streamer, options ...grpc.CallOption) (grpc.ClientStream, error) {
-	stream, err := open(ctx, description, connection, method, options...)
+	stream, err := open(ctx, description, conn, method, options...)
 	if err != nil {
 		return nil, err
 	}
 	return checkedStream{stream}, nil
 }
 
+// checkedStream checks each answer that it receives.
 type checkedStream struct{ grpc.ClientStream }
 
+// RecvMsg implements grpc.ClientStream. It refuses a malformed answer.
 func (s checkedStream) RecvMsg(reply interface{}) error {
 	if err := s.ClientStream.RecvMsg(reply); err != nil {
 		return err
@@ -48,8 +50,8 @@ func (s checkedStream) RecvMsg(reply interface{}) error {
 	return checkAnswer(nil, reply)
 }
 
-// checkAnswer refuses an answer that lacks a part which this program reads, or has another one than
-// its request asks for. Of a stream the request is nil.
+// checkAnswer refuses an answer without a part that this program reads, or with a part that does
+// not fit the request. For streams request is nil.
 func checkAnswer(request, reply interface{}) error {
 	switch answer := reply.(type) {
 	case *pb.RangeResponse:
@@ -63,7 +65,7 @@ func checkAnswer(request, reply interface{}) error {
 		}
 		return checkTransaction(request.(*pb.TxnRequest), answer)
 	case *pb.LeaseGrantResponse:
-		// A key with the lease 0 would have none, and stay for ever.
+		// Lease 0 means no lease: a key with it would never expire.
 		if answer.Header.GetRevision() <= 0 || answer.ID == 0 || answer.TTL <= 0 {
 			return malformed("a lease has no revision, no id or no length")
 		}
@@ -77,16 +79,16 @@ func checkAnswer(request, reply interface{}) error {
 	return nil
 }
 
-// checkRows refuses rows that were not asked for, and a page that has none and is not the last one.
-func checkRows(asked *pb.RangeRequest, answer *pb.RangeResponse) error {
+// checkRows refuses rows outside the request, and an empty page that is not the last one.
+func checkRows(request *pb.RangeRequest, answer *pb.RangeResponse) error {
 	if answer.More && len(answer.Kvs) == 0 {
 		return malformed("more rows follow none")
 	}
-	if asked.Limit > 0 && int64(len(answer.Kvs)) > asked.Limit {
-		return malformed(fmt.Sprintf("%d rows, and %d were asked for", len(answer.Kvs), asked.Limit))
+	if request.Limit > 0 && int64(len(answer.Kvs)) > request.Limit {
+		return malformed(fmt.Sprintf("%d rows, and %d were asked for", len(answer.Kvs), request.Limit))
 	}
 	for _, row := range answer.Kvs {
-		if !isAsked(asked, row) {
+		if !isRequested(request, row) {
 			return malformed(fmt.Sprintf("the row %q was not asked for", row.Key))
 		}
 		if row.CreateRevision <= 0 || row.ModRevision <= 0 {
@@ -96,21 +98,22 @@ func checkRows(asked *pb.RangeRequest, answer *pb.RangeResponse) error {
 	return nil
 }
 
-// isAsked reports whether a reading asks for a row: by its key, or by a range without its end.
-func isAsked(asked *pb.RangeRequest, row *mvccpb.KeyValue) bool {
-	key, begin, end := string(row.Key), string(asked.Key), string(asked.RangeEnd)
+// isRequested reports whether the request covers the row: by its key, or by a range that excludes
+// its end.
+func isRequested(request *pb.RangeRequest, row *mvccpb.KeyValue) bool {
+	key, begin, end := string(row.Key), string(request.Key), string(request.RangeEnd)
 	if end == "" {
 		return key == begin
 	}
 	return key >= begin && key < end
 }
 
-// checkTransaction refuses an answer that has not one response of the right kind for each
+// checkTransaction refuses an answer unless it has one response of the right kind for each
 // operation.
-func checkTransaction(asked *pb.TxnRequest, answer *pb.TxnResponse) error {
-	operations := asked.Failure
+func checkTransaction(request *pb.TxnRequest, answer *pb.TxnResponse) error {
+	operations := request.Failure
 	if answer.Succeeded {
-		operations = asked.Success
+		operations = request.Success
 	}
 	if len(answer.Responses) != len(operations) {
 		return malformed(fmt.Sprintf("%d responses to %d operations", len(answer.Responses), len(operations)))
@@ -128,7 +131,7 @@ func checkTransaction(asked *pb.TxnRequest, answer *pb.TxnResponse) error {
 	return nil
 }
 
-// isOfKind reports whether a response is there, and is one to this operation.
+// isOfKind reports whether the response exists and answers this kind of operation.
 func isOfKind(operation *pb.RequestOp, response *pb.ResponseOp) bool {
 	switch operation.Request.(type) {
 	case *pb.RequestOp_RequestRange:

@@ -12,13 +12,14 @@ import (
 	"go.etcd.io/etcd/mvcc/mvccpb"
 )
 
-// responses is one to each operation, of its kind. A reading finds the key that it begins with.
+// responses returns a response of the right kind for each operation. A read finds its first key.
 func responses(operations []*pb.RequestOp) (all []*pb.ResponseOp) {
 	for _, operation := range operations {
 		response := &pb.ResponseOp{}
-		switch asked := operation.Request.(type) {
+		switch request := operation.Request.(type) {
 		case *pb.RequestOp_RequestRange:
-			read := &pb.RangeResponse{Kvs: []*mvccpb.KeyValue{{Key: asked.RequestRange.Key, CreateRevision: 10, ModRevision: 10}}}
+			read := &pb.RangeResponse{Kvs: []*mvccpb.KeyValue{{Key: request.RequestRange.Key, CreateRevision: 10,
+				ModRevision: 10}}}
 			response.Response = &pb.ResponseOp_ResponseRange{ResponseRange: read}
 		case *pb.RequestOp_RequestPut:
 			response.Response = &pb.ResponseOp_ResponsePut{ResponsePut: &pb.PutResponse{}}
@@ -30,41 +31,43 @@ func responses(operations []*pb.RequestOp) (all []*pb.ResponseOp) {
 	return all
 }
 
-// lacking is an etcd whose answers are whole until a test takes a part of them away.
-type lacking struct {
+// partialServer is an etcd with complete answers, until remove takes a part away.
+type partialServer struct {
 	pb.KVServer
 	pb.LeaseServer
-	// Whether each transaction supposes wrongly, or has no space.
-	isRefusing, isFull bool
-	take               func(reply interface{})
+	// Set if each comparison fails, or if etcd has no space.
+	isRefused, isFull bool
+	remove            func(reply interface{})
 }
 
-func (l *lacking) Range(_ context.Context, asked *pb.RangeRequest) (*pb.RangeResponse, error) {
-	reply := &pb.RangeResponse{Header: &pb.ResponseHeader{Revision: 100}, Kvs: []*mvccpb.KeyValue{{Key: asked.Key, CreateRevision: 10, ModRevision: 10}}}
-	l.take(reply)
+func (s *partialServer) Range(_ context.Context, request *pb.RangeRequest) (*pb.RangeResponse, error) {
+	reply := &pb.RangeResponse{Header: &pb.ResponseHeader{Revision: 100},
+		Kvs: []*mvccpb.KeyValue{{Key: request.Key, CreateRevision: 10, ModRevision: 10}}}
+	s.remove(reply)
 	return reply, nil
 }
 
-func (l *lacking) Txn(_ context.Context, asked *pb.TxnRequest) (*pb.TxnResponse, error) {
-	if l.isFull {
+func (s *partialServer) Txn(_ context.Context, request *pb.TxnRequest) (*pb.TxnResponse, error) {
+	if s.isFull {
 		return nil, rpctypes.ErrGRPCNoSpace
 	}
-	operations := asked.Success
-	if l.isRefusing {
-		operations = asked.Failure
+	operations := request.Success
+	if s.isRefused {
+		operations = request.Failure
 	}
-	reply := &pb.TxnResponse{Header: &pb.ResponseHeader{Revision: 100}, Succeeded: !l.isRefusing, Responses: responses(operations)}
-	l.take(reply)
+	reply := &pb.TxnResponse{Header: &pb.ResponseHeader{Revision: 100}, Succeeded: !s.isRefused,
+		Responses: responses(operations)}
+	s.remove(reply)
 	return reply, nil
 }
 
-func (l *lacking) LeaseGrant(context.Context, *pb.LeaseGrantRequest) (*pb.LeaseGrantResponse, error) {
+func (s *partialServer) LeaseGrant(context.Context, *pb.LeaseGrantRequest) (*pb.LeaseGrantResponse, error) {
 	reply := &pb.LeaseGrantResponse{Header: &pb.ResponseHeader{Revision: 100}, ID: 7, TTL: 10}
-	l.take(reply)
+	s.remove(reply)
 	return reply, nil
 }
 
-// What a lying peer takes away, each of one kind of answer.
+// Functions that remove a part of one kind of answer.
 func noHeader(reply interface{}) {
 	switch reply := reply.(type) {
 	case *pb.RangeResponse:
@@ -128,39 +131,40 @@ func anotherRow(reply interface{}) {
 	}
 }
 
-// The places that read an answer.
+// The places that read an answer of etcd.
 var (
-	asksLease = func(t *term) error { _, _, err := grantLease(t.ctx, t.client, 10); return err }
-	asksQueue = func(t *term) error { _, err := t.queue(); return err }
-	asksLeads = func(t *term) error { return t.leads(t.ctx) }
-	asksGet   = func(t *term) error { _, err := t.get(t.ctx, "a"); return err }
-	attaches  = func(t *term) error { return t.commit(t.ctx, &attach{attachment{7, "n", nil, false}}) }
-	modifies  = func(t *term) error { return t.commit(t.ctx, &setMutable{7, nil}) }
-	fences    = func(t *term) error { t.isOpen = true; return t.fence(t.ctx) }
-	walks     = func(t *term) error { _, _, err := newWalk(t.ctx, t); return err }
-	pages     = func(t *term) error {
-		_, _, err := (&walk{term: t, from: t.keys.volumes(), limit: 1}).rows(t.ctx, nil)
+	askLease      = func(t *term) error { _, _, err := grantLease(t.ctx, t.client, 10); return err }
+	askQueue      = func(t *term) error { _, err := t.queue(); return err }
+	askLead       = func(t *term) error { return t.confirmLead(t.ctx) }
+	askKey        = func(t *term) error { _, err := t.get(t.ctx, "a"); return err }
+	commitAttach  = func(t *term) error { return t.commit(t.ctx, &attach{attachment{7, "n", nil, false}}) }
+	commitMutable = func(t *term) error { return t.commit(t.ctx, &setMutable{7, nil}) }
+	askFence      = func(t *term) error { t.needsFence = true; return t.fence(t.ctx) }
+	beginWalk     = func(t *term) error { _, _, err := newWalk(t.ctx, t); return err }
+	askPage       = func(t *term) error {
+		_, _, err := (&walk{term: t, from: t.keys.volumes(), limit: 1}).appendRows(t.ctx, nil)
 		return err
 	}
-	imports = func(t *term) error {
-		return (&importing{client: t.client, keys: t.keys, timeout: t.timeout}).write([]line{{"a", nil}})
+	importRow = func(t *term) error {
+		return (&importer{client: t.client, keys: t.keys, timeout: t.timeout}).write([]importLine{{"a", nil}})
 	}
-	looks = func(t *term) error {
-		return (&importing{client: t.client, keys: t.keys, timeout: t.timeout}).look()
+	lookBeforeImport = func(t *term) error {
+		return (&importer{client: t.client, keys: t.keys, timeout: t.timeout}).checkEmpty()
 	}
-	exports = func(t *term) error {
-		return (&reading{client: t.client, timeout: t.timeout}).each(t.keys, func(tableRow) error { return nil })
+	exportRows = func(t *term) error {
+		return (&snapshot{client: t.client, timeout: t.timeout}).forEach(t.keys, func(tableRow) error { return nil })
 	}
-	beginsExport = func(t *term) error {
-		_, err := (&reading{client: t.client, timeout: t.timeout}).readMeta(t.keys)
+	beginExport = func(t *term) error {
+		_, err := (&snapshot{client: t.client, timeout: t.timeout}).readMeta(t.keys)
 		return err
 	}
-	makesNew = func(t *term) error {
-		return makeNew(newMembers(options{endpoints: t.client.Endpoints(), timeout: t.timeout, name: "x"}, nil), io.Discard)
+	makeFirstRow = func(t *term) error {
+		return makeNew(newMembers(options{endpoints: t.client.Endpoints(), timeout: t.timeout, name: "x"}, nil),
+			io.Discard)
 	}
 )
 
-// What is said of malformed answers.
+// Texts of errors for malformed answers.
 const (
 	saysRevision = "has no revision"
 	saysCount    = "responses to"
@@ -169,94 +173,97 @@ const (
 	saysOther    = `the row "of nobody" was not asked for`
 )
 
-// How an etcd answers whose answers are whole.
-var willing, refusing, withoutSpace = lacking{}, lacking{isRefusing: true}, lacking{isFull: true}
+// Servers with complete answers.
+var wholeServer, refusingServer, fullServer = partialServer{}, partialServer{isRefused: true},
+	partialServer{isFull: true}
 
 var malformedCases = []struct {
 	name   string
-	server lacking
-	ask    func(t *term) error
-	take   func(reply interface{})
+	server partialServer
+	call   func(t *term) error
+	remove func(reply interface{})
 	want   string
 }{
-	{"a lease without a header", willing, asksLease, noHeader, saysRevision},
-	{"a lease without an id", willing, asksLease, noID, saysRevision},
-	{"a lease without a length", willing, asksLease, noLength, saysRevision},
-	{"a reading without a revision", willing, asksGet, noRevision, saysRevision},
-	{"the own key without its revision", willing, asksLeads, noRowRevision, saysRevision},
-	{"the queue without a header", willing, asksQueue, noHeader, saysRevision},
-	{"the queue with another row", willing, asksQueue, anotherRow, saysOther},
-	{"the own key without a header", willing, asksLeads, noHeader, saysRevision},
-	{"a reading without a header", willing, asksGet, noHeader, saysRevision},
-	{"a reading of another row", willing, asksGet, anotherRow, saysOther},
-	{"a change that was made, without a header", willing, attaches, noHeader, saysRevision},
-	{"a change that was made, without responses", willing, attaches, noResponses, saysCount},
-	{"a change that was made, of another kind", willing, attaches, anotherKind, saysKind},
-	{"a change that was refused, without a header", refusing, attaches, noHeader, saysRevision},
-	{"a change that was refused, without responses", refusing, attaches, noResponses, saysCount},
-	{"a change that was refused, without one", refusing, attaches, oneLess, saysCount},
-	{"a change that was refused, with an empty one", refusing, attaches, emptyResponse, saysKind},
-	{"a change that was refused, of another kind", refusing, attaches, anotherKind, saysKind},
-	{"the row of a change without a header", willing, modifies, noHeader, saysRevision},
-	{"a reading after no space, without a header", withoutSpace, attaches, noHeader, saysRevision},
-	{"a fence without a header", willing, fences, noHeader, saysRevision},
-	{"a fence without a response", willing, fences, noResponses, saysCount},
-	{"a walk without a header", willing, walks, noHeader, saysRevision},
-	{"a walk without responses", willing, walks, noResponses, saysCount},
-	{"a walk without the last one", willing, walks, oneLess, saysCount},
-	{"a walk with an empty one", willing, walks, emptyResponse, saysKind},
-	{"a walk of another kind", willing, walks, anotherKind, saysKind},
-	{"a walk that is refused, without responses", refusing, walks, noResponses, saysCount},
-	{"a page without a header", willing, pages, noHeader, saysRevision},
-	{"a page of no rows that is not the last", willing, pages, moreAfterNone, saysRows},
-	{"a page of another row", willing, pages, anotherRow, saysOther},
-	{"an import that looks, without a header", willing, looks, noHeader, saysRevision},
-	{"an import without a header", willing, imports, noHeader, saysRevision},
-	{"an import that is refused, without responses", refusing, imports, noResponses, saysCount},
-	{"an import that is refused, with an empty one", refusing, imports, emptyResponse, saysKind},
-	{"an import that is refused, of another kind", refusing, imports, anotherKind, saysKind},
-	{"an export without a header", willing, beginsExport, noHeader, saysRevision},
-	{"an export of no rows that is not at its end", willing, exports, moreAfterNone, saysRows},
-	{"a first row without a header", willing, makesNew, noHeader, saysRevision},
-	{"a first row that is there, without a response", refusing, makesNew, noResponses, saysCount},
-	{"a first row that is there, of another kind", refusing, makesNew, anotherKind, saysKind},
+	{"a lease without a header", wholeServer, askLease, noHeader, saysRevision},
+	{"a lease without an id", wholeServer, askLease, noID, saysRevision},
+	{"a lease without a length", wholeServer, askLease, noLength, saysRevision},
+	{"a reading without a revision", wholeServer, askKey, noRevision, saysRevision},
+	{"the own key without its revision", wholeServer, askLead, noRowRevision, saysRevision},
+	{"the queue without a header", wholeServer, askQueue, noHeader, saysRevision},
+	{"the queue with another row", wholeServer, askQueue, anotherRow, saysOther},
+	{"the own key without a header", wholeServer, askLead, noHeader, saysRevision},
+	{"a reading without a header", wholeServer, askKey, noHeader, saysRevision},
+	{"a reading of another row", wholeServer, askKey, anotherRow, saysOther},
+	{"a change that was made, without a header", wholeServer, commitAttach, noHeader, saysRevision},
+	{"a change that was made, without responses", wholeServer, commitAttach, noResponses, saysCount},
+	{"a change that was made, of another kind", wholeServer, commitAttach, anotherKind, saysKind},
+	{"a change that was refused, without a header", refusingServer, commitAttach, noHeader, saysRevision},
+	{"a change that was refused, without responses", refusingServer, commitAttach, noResponses, saysCount},
+	{"a change that was refused, without one", refusingServer, commitAttach, oneLess, saysCount},
+	{"a change that was refused, with an empty one", refusingServer, commitAttach, emptyResponse, saysKind},
+	{"a change that was refused, of another kind", refusingServer, commitAttach, anotherKind, saysKind},
+	{"the row of a change without a header", wholeServer, commitMutable, noHeader, saysRevision},
+	{"a reading after no space, without a header", fullServer, commitAttach, noHeader, saysRevision},
+	{"a fence without a header", wholeServer, askFence, noHeader, saysRevision},
+	{"a fence without a response", wholeServer, askFence, noResponses, saysCount},
+	{"a walk without a header", wholeServer, beginWalk, noHeader, saysRevision},
+	{"a walk without responses", wholeServer, beginWalk, noResponses, saysCount},
+	{"a walk without the last one", wholeServer, beginWalk, oneLess, saysCount},
+	{"a walk with an empty one", wholeServer, beginWalk, emptyResponse, saysKind},
+	{"a walk of another kind", wholeServer, beginWalk, anotherKind, saysKind},
+	{"a walk that is refused, without responses", refusingServer, beginWalk, noResponses, saysCount},
+	{"a page without a header", wholeServer, askPage, noHeader, saysRevision},
+	{"a page of no rows that is not the last", wholeServer, askPage, moreAfterNone, saysRows},
+	{"a page of another row", wholeServer, askPage, anotherRow, saysOther},
+	{"an import that looks, without a header", wholeServer, lookBeforeImport, noHeader, saysRevision},
+	{"an import without a header", wholeServer, importRow, noHeader, saysRevision},
+	{"an import that is refused, without responses", refusingServer, importRow, noResponses, saysCount},
+	{"an import that is refused, with an empty one", refusingServer, importRow, emptyResponse, saysKind},
+	{"an import that is refused, of another kind", refusingServer, importRow, anotherKind, saysKind},
+	{"an export without a header", wholeServer, beginExport, noHeader, saysRevision},
+	{"an export of no rows that is not at its end", wholeServer, exportRows, moreAfterNone, saysRows},
+	{"a first row without a header", wholeServer, makeFirstRow, noHeader, saysRevision},
+	{"a first row that is there, without a response", refusingServer, makeFirstRow, noResponses, saysCount},
+	{"a first row that is there, of another kind", refusingServer, makeFirstRow, anotherKind, saysKind},
 }
 
-// An answer that lacks a part, or has another one, is refused wherever it is read, and ends nothing
-// else.
+// An answer with a missing or a wrong part is refused by each of its readers.
 func TestMalformedAnswers(t *testing.T) {
 	for _, c := range malformedCases {
 		c := c
 		t.Run(c.name, func(t *testing.T) {
 			server := c.server
-			server.take = c.take
-			err := c.ask(server.begin(t))
-			if err == nil || !strings.Contains(err.Error(), "etcd's answer is malformed: ") || !strings.Contains(err.Error(), c.want) {
-				t.Errorf("%v, wanted %q", err, c.want)
+			server.remove = c.remove
+			err := c.call(server.newTerm(t))
+			if err == nil || !strings.Contains(err.Error(), "etcd's answer is malformed: ") ||
+				!strings.Contains(err.Error(), c.want) {
+				t.Errorf("got error %v, want %q", err, c.want)
 			}
 		})
 	}
 }
 
-// begin is a term before it, by the program's own client.
-func (l *lacking) begin(t *testing.T) *term {
+// newTerm returns a term over the program's own client.
+func (s *partialServer) newTerm(t *testing.T) *term {
 	t.Helper()
-	client, err := newMembers(options{endpoints: []string{listening(t, l)}, timeout: 5 * time.Second}, t.Logf).connect()
+	client, err := newMembers(options{endpoints: []string{serveEtcd(t, s)}, timeout: 5 * time.Second}, t.Logf).connect()
 	if err != nil {
 		t.Fatal(err)
 	}
 	t.Cleanup(func() { client.Close() })
 	ctx, cancel := context.WithCancel(context.Background())
 	t.Cleanup(cancel)
-	return &term{client: client, keys: sampleKeys, lease: &lease{id: 7, until: sinceBoot() + time.Hour}, revisions: &revisions{}, timeout: time.Second,
+	return &term{client: client, keys: sampleKeys, lease: &lease{id: 7, expiry: sinceBoot() + time.Hour},
+		revisions: &revisions{}, timeout: time.Second,
 		ctx: ctx, end: cancel, key: "k", created: 10, put: 10, gone: make(chan struct{}, 1)}
 }
 
-// A change whose answer is malformed has an unknown outcome: a fence comes before the next one.
+// After a malformed answer the outcome of a change is unknown, and a fence comes before the next
+// one.
 func TestMalformedAnswerIsOpen(t *testing.T) {
-	server := &lacking{take: noHeader}
-	held := server.begin(t)
-	if _, is := attaches(held).(open); !is || !held.isOpen {
-		t.Errorf("the outcome is known, and open is %v", held.isOpen)
+	server := &partialServer{remove: noHeader}
+	term := server.newTerm(t)
+	if _, is := commitAttach(term).(unknownOutcome); !is || !term.needsFence {
+		t.Errorf("got needsFence %v, want an unknown outcome and a fence", term.needsFence)
 	}
 }

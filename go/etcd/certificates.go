@@ -12,47 +12,47 @@ import (
 	"time"
 )
 
-// How long before its end a certificate is warned of, and how often; and how often the files are
-// looked at.
+// A certificate that ends within expirySoon is reported every warningPause. The files are read
+// every filesPause.
 const (
 	expirySoon   = 30 * 24 * time.Hour
 	warningPause = 24 * time.Hour
 	filesPause   = time.Minute
 )
 
-// certificates is what the files of TLS have: the certificates that sign etcd's, and the program's
-// own one with its key. Without --cacert those of the system sign.
+// certificates holds the contents of the TLS files: the authorities that sign etcd's certificates,
+// and this program's own certificate and key. Without --cacert the system's authorities apply.
 type certificates struct {
 	roots []*x509.Certificate
 	own   *tls.Certificate
 	leaf  *x509.Certificate
 }
 
-// readCertificates reads the files of the options anew.
-func readCertificates(asked options) (read certificates, err error) {
-	if asked.cacert != "" {
-		text, err := os.ReadFile(asked.cacert)
+// readCertificates reads the files that the options name.
+func readCertificates(opts options) (certs certificates, err error) {
+	if opts.cacert != "" {
+		text, err := os.ReadFile(opts.cacert)
 		if err != nil {
-			return read, fmt.Errorf("--cacert: %w", err)
+			return certs, fmt.Errorf("--cacert: %w", err)
 		}
-		if read.roots = parseCertificates(text); len(read.roots) == 0 {
-			return read, fmt.Errorf("--cacert: %s has no certificate", asked.cacert)
+		if certs.roots = parseCertificates(text); len(certs.roots) == 0 {
+			return certs, fmt.Errorf("--cacert: %s has no certificate", opts.cacert)
 		}
 	}
-	if asked.cert != "" {
-		pair, err := tls.LoadX509KeyPair(asked.cert, asked.key)
+	if opts.cert != "" {
+		pair, err := tls.LoadX509KeyPair(opts.cert, opts.key)
 		if err == nil {
-			read.own = &pair
-			read.leaf, err = x509.ParseCertificate(pair.Certificate[0])
+			certs.own = &pair
+			certs.leaf, err = x509.ParseCertificate(pair.Certificate[0])
 		}
 		if err != nil {
-			return read, fmt.Errorf("--cert, --key: %w", err)
+			return certs, fmt.Errorf("--cert, --key: %w", err)
 		}
 	}
-	return read, nil
+	return certs, nil
 }
 
-// parseCertificates is the certificates of a file; what else it has is left out.
+// parseCertificates returns the certificates of a PEM file and skips its other blocks.
 func parseCertificates(text []byte) (all []*x509.Certificate) {
 	for block, rest := pem.Decode(text); block != nil; block, rest = pem.Decode(rest) {
 		if one, err := x509.ParseCertificate(block.Bytes); block.Type == "CERTIFICATE" && err == nil {
@@ -62,22 +62,22 @@ func parseCertificates(text []byte) (all []*x509.Certificate) {
 	return all
 }
 
-// settings is how a connection is secured by these certificates.
-func (c certificates) settings() *tls.Config {
-	settings := &tls.Config{MinVersion: tls.VersionTLS12}
+// tlsConfig returns the configuration of a connection that uses these certificates.
+func (c certificates) tlsConfig() *tls.Config {
+	tlsConfig := &tls.Config{MinVersion: tls.VersionTLS12}
 	if c.roots != nil {
-		settings.RootCAs = x509.NewCertPool()
+		tlsConfig.RootCAs = x509.NewCertPool()
 		for _, root := range c.roots {
-			settings.RootCAs.AddCert(root)
+			tlsConfig.RootCAs.AddCert(root)
 		}
 	}
 	if c.own != nil {
-		settings.Certificates = []tls.Certificate{*c.own}
+		tlsConfig.Certificates = []tls.Certificate{*c.own}
 	}
-	return settings
+	return tlsConfig
 }
 
-// equal reports whether the same certificates are in use.
+// equal reports whether both hold the same certificates in the same order.
 func (c certificates) equal(other certificates) bool { return bytes.Equal(c.raw(), other.raw()) }
 
 func (c certificates) raw() (all []byte) {
@@ -87,7 +87,7 @@ func (c certificates) raw() (all []byte) {
 	return all
 }
 
-// used is each certificate with the option that names its file.
+// used returns each certificate with the option that names its file.
 func (c certificates) used() (all []usedCertificate) {
 	if c.leaf != nil {
 		all = append(all, usedCertificate{"--cert", c.leaf})
@@ -98,19 +98,21 @@ func (c certificates) used() (all []usedCertificate) {
 	return all
 }
 
+// usedCertificate is a certificate and the option of its file.
 type usedCertificate struct {
 	option      string
 	certificate *x509.Certificate
 }
 
-func (u usedCertificate) String() string { return u.option + " " + named(u.certificate) }
+// String describes the certificate, after its option.
+func (u usedCertificate) String() string { return u.option + " " + describeCertificate(u.certificate) }
 
-// named is whose a certificate is, and how long it is valid.
-func named(c *x509.Certificate) string {
+// describeCertificate names the subject of a certificate and the end of its validity.
+func describeCertificate(c *x509.Certificate) string {
 	return fmt.Sprintf("%q until %s", c.Subject.String(), c.NotAfter.UTC().Format(time.RFC3339))
 }
 
-// line says which certificates are in use; empty where there are none.
+// line describes the certificates in use. It is empty if the files have no certificate.
 func (c certificates) line() string {
 	var all []string
 	for _, used := range c.used() {
@@ -122,7 +124,7 @@ func (c certificates) line() string {
 	return "certificates: " + strings.Join(all, ", ")
 }
 
-// warnings is a line for each certificate that is over at a time, or soon after it.
+// warnings returns a line for each certificate that has expired or ends within expirySoon.
 func (c certificates) warnings(now time.Time) (lines []string) {
 	for _, used := range c.used() {
 		left := used.certificate.NotAfter.Sub(now)
@@ -136,22 +138,23 @@ func (c certificates) warnings(now time.Time) (lines []string) {
 	return lines
 }
 
-// handshakeError says why a handshake failed, with the certificate of the member that was refused,
-// and without what is another text each time.
+// handshakeError describes a failed handshake with the refused certificate. It leaves out the parts
+// of the error that differ between attempts, so that equal failures give equal lines.
 func handshakeError(err error) string {
 	var unknown x509.UnknownAuthorityError
 	var invalid x509.CertificateInvalidError
 	var host x509.HostnameError
 	switch {
 	case errors.As(err, &unknown):
-		return fmt.Sprintf("its certificate %s is refused: x509: signed by unknown authority %q", named(unknown.Cert), unknown.Cert.Issuer.String())
+		return fmt.Sprintf("its certificate %s is refused: x509: signed by unknown authority %q",
+			describeCertificate(unknown.Cert), unknown.Cert.Issuer.String())
 	case errors.As(err, &invalid) && invalid.Reason == x509.Expired:
-		return fmt.Sprintf("the certificate %s is refused: x509: it is over, or not valid before %s", named(invalid.Cert),
-			invalid.Cert.NotBefore.UTC().Format(time.RFC3339))
+		return fmt.Sprintf("the certificate %s is refused: x509: it is over, or not valid before %s",
+			describeCertificate(invalid.Cert), invalid.Cert.NotBefore.UTC().Format(time.RFC3339))
 	case errors.As(err, &invalid):
-		return fmt.Sprintf("the certificate %s is refused: %v", named(invalid.Cert), err)
+		return fmt.Sprintf("the certificate %s is refused: %v", describeCertificate(invalid.Cert), err)
 	case errors.As(err, &host):
-		return fmt.Sprintf("its certificate %s is refused: %v", named(host.Certificate), err)
+		return fmt.Sprintf("its certificate %s is refused: %v", describeCertificate(host.Certificate), err)
 	}
 	return err.Error()
 }

@@ -18,16 +18,17 @@ import (
 	"time"
 )
 
-// certify writes a new certificate, which signs itself, and its key.
-func certify(t *testing.T, cert, key, name string, until time.Time) {
+// writeCertificate writes a new self-signed certificate and its key.
+func writeCertificate(t *testing.T, cert, key, name string, until time.Time) {
 	t.Helper()
 	pair, err := ecdsa.GenerateKey(elliptic.P256(), rand.Reader)
 	if err != nil {
 		t.Fatal(err)
 	}
-	asked := &x509.Certificate{SerialNumber: big.NewInt(1), Subject: pkix.Name{CommonName: name}, NotBefore: until.AddDate(-1, 0, 0), NotAfter: until,
+	template := &x509.Certificate{SerialNumber: big.NewInt(1), Subject: pkix.Name{CommonName: name},
+		NotBefore: until.AddDate(-1, 0, 0), NotAfter: until,
 		IPAddresses: []net.IP{net.IPv4(127, 0, 0, 1)}}
-	der, err := x509.CreateCertificate(rand.Reader, asked, asked, &pair.PublicKey, pair)
+	der, err := x509.CreateCertificate(rand.Reader, template, template, &pair.PublicKey, pair)
 	if err != nil {
 		t.Fatal(err)
 	}
@@ -35,27 +36,28 @@ func certify(t *testing.T, cert, key, name string, until time.Time) {
 	if err != nil {
 		t.Fatal(err)
 	}
-	for path, block := range map[string]*pem.Block{cert: {Type: "CERTIFICATE", Bytes: der}, key: {Type: "EC PRIVATE KEY", Bytes: secret}} {
+	for path, block := range map[string]*pem.Block{cert: {Type: "CERTIFICATE", Bytes: der},
+		key: {Type: "EC PRIVATE KEY", Bytes: secret}} {
 		if err := os.WriteFile(path, pem.EncodeToMemory(block), 0o600); err != nil {
 			t.Fatal(err)
 		}
 	}
 }
 
-// What the files of --cacert, --cert and --key have, and why they are refused.
+// The contents of --cacert, --cert and --key, and the errors of reading them.
 func TestReadCertificates(t *testing.T) {
 	folder := t.TempDir()
 	cert, key, empty := filepath.Join(folder, "cert"), filepath.Join(folder, "key"), filepath.Join(folder, "empty")
-	certify(t, cert, key, "a", time.Now().AddDate(1, 0, 0))
+	writeCertificate(t, cert, key, "a", time.Now().AddDate(1, 0, 0))
 	if err := os.WriteFile(empty, nil, 0o600); err != nil {
 		t.Fatal(err)
 	}
 	cases := []struct {
-		name  string
-		asked options
-		roots int
-		isOwn bool
-		want  string
+		name     string
+		template options
+		roots    int
+		hasOwn   bool
+		want     string
 	}{
 		{"none", options{}, 0, false, ""},
 		{"roots", options{cacert: cert}, 1, false, ""},
@@ -68,49 +70,66 @@ func TestReadCertificates(t *testing.T) {
 	}
 	for _, c := range cases {
 		t.Run(c.name, func(t *testing.T) {
-			got, err := readCertificates(c.asked)
+			got, err := readCertificates(c.template)
 			if (err == nil) != (c.want == "") || err != nil && !strings.HasPrefix(err.Error(), c.want) {
-				t.Fatalf("%v, wanted %q", err, c.want)
+				t.Fatalf("got error %v, want %q", err, c.want)
 			}
-			settings := got.settings()
-			if err == nil && (len(got.roots) != c.roots || (got.own != nil) != c.isOwn || (settings.RootCAs != nil) != (c.roots > 0) || settings.InsecureSkipVerify) {
-				t.Errorf("%+v", got)
+			tlsConfig := got.tlsConfig()
+			if err != nil {
+				return
+			}
+			if len(got.roots) != c.roots || (tlsConfig.RootCAs != nil) != (c.roots > 0) {
+				t.Errorf("got %d roots and the pool %v, want %d", len(got.roots), tlsConfig.RootCAs, c.roots)
+			}
+			if (got.own != nil) != c.hasOwn {
+				t.Errorf("got own certificate %v, want one: %v", got.own, c.hasOwn)
+			}
+			if tlsConfig.InsecureSkipVerify {
+				t.Error("members are not verified")
 			}
 		})
 	}
 }
 
-// Which connections speak TLS: the scheme of the first endpoint says so, and an option where it has
-// none.
+// The scheme of the first endpoint decides on TLS; without a scheme an option does.
 func TestIsSecure(t *testing.T) {
-	for _, c := range []struct {
+	cases := []struct {
+		name                   string
 		endpoint, cacert, cert string
 		want                   bool
 	}{
-		{"a:1", "", "", false}, {"a:1", "ca", "", true}, {"a:1", "", "own", true}, {"https://a:1", "", "", true}, {"https://a:1", "ca", "own", true},
-		{"http://a:1", "ca", "own", false},
-	} {
-		if got := newMembers(options{endpoints: []string{c.endpoint}, cacert: c.cacert, cert: c.cert}, nil).isSecure(); got != c.want {
-			t.Errorf("%+v: %v", c, got)
-		}
+		{"no scheme", "a:1", "", "", false},
+		{"no scheme, --cacert", "a:1", "ca", "", true},
+		{"no scheme, --cert", "a:1", "", "own", true},
+		{"https", "https://a:1", "", "", true},
+		{"https, both options", "https://a:1", "ca", "own", true},
+		{"http, both options", "http://a:1", "ca", "own", false},
+	}
+	for _, c := range cases {
+		t.Run(c.name, func(t *testing.T) {
+			m := newMembers(options{endpoints: []string{c.endpoint}, cacert: c.cacert, cert: c.cert}, nil)
+			if got := m.isSecure(); got != c.want {
+				t.Errorf("got %v, want %v", got, c.want)
+			}
+		})
 	}
 }
 
-// A line says whose the certificates are and how long they are valid: at first, and once they are
-// others.
+// A line names the subject and the end of each certificate: at the start, and after a change.
 func TestCertificatesLine(t *testing.T) {
 	folder := t.TempDir()
 	cert, key, roots := filepath.Join(folder, "cert"), filepath.Join(folder, "key"), filepath.Join(folder, "roots")
 	first, second := time.Date(2031, 1, 2, 3, 4, 5, 0, time.UTC), time.Date(2032, 1, 2, 3, 4, 5, 0, time.UTC)
-	certify(t, roots, filepath.Join(folder, "other"), "root", second)
-	certify(t, cert, key, "csid", first)
+	writeCertificate(t, roots, filepath.Join(folder, "other"), "root", second)
+	writeCertificate(t, cert, key, "csid", first)
 	var lines []string
-	m := newMembers(options{endpoints: []string{"a"}, cacert: roots, cert: cert, key: key}, func(format string, parts ...interface{}) {
-		lines = append(lines, fmt.Sprintf(format, parts...))
-	})
+	m := newMembers(options{endpoints: []string{"a"}, cacert: roots, cert: cert, key: key},
+		func(format string, parts ...interface{}) {
+			lines = append(lines, fmt.Sprintf(format, parts...))
+		})
 	for i := 0; i < 3; i++ {
 		if i == 2 {
-			certify(t, cert, key, "csid", second)
+			writeCertificate(t, cert, key, "csid", second)
 		}
 		if _, err := m.certificates(); err != nil {
 			t.Fatal(err)
@@ -121,24 +140,30 @@ func TestCertificatesLine(t *testing.T) {
 		`certificates: --cert "CN=csid" until 2032-01-02T03:04:05Z, --cacert "CN=root" until 2032-01-02T03:04:05Z`,
 	}
 	if !reflect.DeepEqual(lines, want) {
-		t.Errorf("%q, wanted %q", lines, want)
+		t.Errorf("got %q, want %q", lines, want)
 	}
 }
 
-// A certificate that ends within 30 days is warned of, and one that is over.
+// A warning is given for a certificate that has expired or ends within 30 days.
 func TestExpiryWarnings(t *testing.T) {
 	until := time.Date(2031, 1, 31, 0, 0, 0, 0, time.UTC)
-	c := certificates{leaf: &x509.Certificate{Subject: pkix.Name{CommonName: "csid"}, NotAfter: until}}
+	held := certificates{leaf: &x509.Certificate{Subject: pkix.Name{CommonName: "csid"}, NotAfter: until}}
 	const line = `certificate: --cert "CN=csid" until 2031-01-31T00:00:00Z: `
-	for _, row := range []struct {
+	cases := []struct {
+		name string
 		left time.Duration
 		want []string
 	}{
-		{30 * 24 * time.Hour, nil}, {30*24*time.Hour - 1, []string{line + "it ends in 29 days"}}, {time.Hour, []string{line + "it ends in 0 days"}},
-		{-1, []string{line + "it is over"}},
-	} {
-		if got := c.warnings(until.Add(-row.left)); !reflect.DeepEqual(got, row.want) {
-			t.Errorf("%v before its end: %q, wanted %q", row.left, got, row.want)
-		}
+		{"30 days left", 30 * 24 * time.Hour, nil},
+		{"a moment less than 30 days left", 30*24*time.Hour - 1, []string{line + "it ends in 29 days"}},
+		{"an hour left", time.Hour, []string{line + "it ends in 0 days"}},
+		{"expired a moment ago", -1, []string{line + "it is over"}},
+	}
+	for _, c := range cases {
+		t.Run(c.name, func(t *testing.T) {
+			if got := held.warnings(until.Add(-c.left)); !reflect.DeepEqual(got, c.want) {
+				t.Errorf("got %q, want %q", got, c.want)
+			}
+		})
 	}
 }

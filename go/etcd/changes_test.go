@@ -3,60 +3,78 @@ package main
 import (
 	"context"
 	"errors"
+	"fmt"
 	"testing"
 	"time"
 
 	pb "go.etcd.io/etcd/etcdserver/etcdserverpb"
 )
 
-// judging is an etcd that makes a transaction where none of the keys is there that it supposes not to be there, and else reads.
-type judging struct{ written }
+// compareServer is an etcd that evaluates comparisons for missing keys. If all hold, it makes the
+// transaction; otherwise it reads.
+type compareServer struct{ rowServer }
 
-func (j *judging) Txn(_ context.Context, asked *pb.TxnRequest) (*pb.TxnResponse, error) {
+func (s *compareServer) Txn(_ context.Context, request *pb.TxnRequest) (*pb.TxnResponse, error) {
 	done := &pb.TxnResponse{Header: &pb.ResponseHeader{Revision: firstRevision}, Succeeded: true}
-	for _, compare := range asked.Compare {
-		if compare.Target != pb.Compare_CREATE || compare.Result != pb.Compare_EQUAL || compare.GetCreateRevision() != 0 {
+	for _, compare := range request.Compare {
+		if compare.Target != pb.Compare_CREATE || compare.Result != pb.Compare_EQUAL ||
+			compare.GetCreateRevision() != 0 {
 			return nil, errors.New("another comparison")
 		}
-		found := j.read(&pb.RangeRequest{Key: compare.Key, RangeEnd: compare.RangeEnd}, done.Header)
+		found := s.read(&pb.RangeRequest{Key: compare.Key, RangeEnd: compare.RangeEnd}, done.Header)
 		done.Succeeded = done.Succeeded && len(found.Kvs) == 0
 	}
 	if !done.Succeeded {
-		for _, part := range asked.Failure {
-			read := j.read(part.GetRequestRange(), done.Header)
-			done.Responses = append(done.Responses, &pb.ResponseOp{Response: &pb.ResponseOp_ResponseRange{ResponseRange: read}})
+		for _, part := range request.Failure {
+			read := s.read(part.GetRequestRange(), done.Header)
+			done.Responses = append(done.Responses,
+				&pb.ResponseOp{Response: &pb.ResponseOp_ResponseRange{ResponseRange: read}})
 		}
 	}
 	return done, nil
 }
 
-// The first row is made, and an import begun, only where nothing is below the name of the plugin, whatever its key is: a key of the lock does not
-// hinder the first row, and does hinder an import. Keys next to those of the plugin hinder neither.
+// The first row is made, and an import starts, only if the plugin has no key. A key of the lock
+// stops an import but not the first row. Keys next to those of the plugin stop neither.
 func TestFirstOfAll(t *testing.T) {
 	const name = "example.fomaheti"
-	rows := []struct {
+	cases := []struct {
 		key               string
 		isFirst, isImport bool
 	}{
-		{"", true, true}, {name, true, true}, {name + ".other/meta", true, true}, {name + "0", true, true}, {"a", true, true},
-		{name + "/lock/1", true, false}, {name + "/lock/", true, false},
-		{name + "/", false, false}, {name + "/attachments/00000000000000000001/n", false, false}, {name + "/lock", false, false}, {name + "/lock0", false, false},
-		{name + "/meta", false, false}, {name + "/volumes/00000000000000000001", false, false}, {name + "/z", false, false}, {name + "/\xff", false, false},
+		{"", true, true},
+		{name, true, true},
+		{name + ".other/meta", true, true},
+		{name + "0", true, true},
+		{"a", true, true},
+		{name + "/lock/1", true, false},
+		{name + "/lock/", true, false},
+		{name + "/", false, false},
+		{name + "/attachments/00000000000000000001/n", false, false},
+		{name + "/lock", false, false},
+		{name + "/lock0", false, false},
+		{name + "/meta", false, false},
+		{name + "/volumes/00000000000000000001", false, false},
+		{name + "/z", false, false},
+		{name + "/\xff", false, false},
 	}
-	for _, row := range rows {
-		server := &judging{written{rows: map[string]string{}}}
-		if row.key != "" {
-			server.rows[row.key] = "x"
-		}
-		client := startServer(t, server, 1)
-		first := sampleKeys.firstRow()
-		done, err := client.Txn(context.Background()).If(first.supposes...).Then(first.does...).Else(first.reads...).Commit()
-		if err != nil || done.Succeeded != row.isFirst {
-			t.Errorf("%q: the first row: %v, %v", row.key, done, err)
-		}
-		i := &importing{client: client, keys: sampleKeys, timeout: 5 * time.Second}
-		if err := i.write([]line{{sampleKeys.meta(), firstMeta.encoded()}}); (err == nil) != row.isImport {
-			t.Errorf("%q: an import: %v", row.key, err)
-		}
+	for _, c := range cases {
+		t.Run(fmt.Sprintf("key %q", c.key), func(t *testing.T) {
+			server := &compareServer{rowServer{rows: map[string]string{}}}
+			if c.key != "" {
+				server.rows[c.key] = "x"
+			}
+			client := startServer(t, server, 1)
+			first := sampleKeys.firstRow()
+			txn := client.Txn(context.Background()).If(first.compares...).Then(first.success...).Else(first.failure...)
+			if done, err := txn.Commit(); err != nil || done.Succeeded != c.isFirst {
+				t.Errorf("first row: got %v, error %v, want made: %v", done, err, c.isFirst)
+			}
+			i := &importer{client: client, keys: sampleKeys, timeout: 5 * time.Second}
+			err := i.write([]importLine{{sampleKeys.meta(), firstMeta.encoded()}})
+			if (err == nil) != c.isImport {
+				t.Errorf("import: got error %v, want made: %v", err, c.isImport)
+			}
+		})
 	}
 }

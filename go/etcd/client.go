@@ -13,28 +13,29 @@ import (
 	"google.golang.org/grpc"
 )
 
-// The most bytes of a request: a change of the greatest message that csid can send fits, and etcd says what it takes.
+// maxRequestBytes limits a request. csid's longest change fits; etcd has a limit of its own.
 const maxRequestBytes = 4 << 20
 
-// How long a connection to etcd may be silent before it is asked for a sign of life. It is the least that gRPC has, and etcd allows.
-const silence = 10 * time.Second
+// keepAliveTime is the silence after which a connection is pinged. gRPC allows no shorter time, and
+// etcd accepts this one.
+const keepAliveTime = 10 * time.Second
 
-// How many bytes of answers may be on their way: more than a page of rows has.
-const answerWindow = 4 << 20
+// windowSize is the flow-control window in bytes. It is larger than a page of rows.
+const windowSize = 4 << 20
 
-// connect makes a client of etcd. Files are read each time, and those of TLS at each connection
-// too.
+// connect makes a client of etcd. It reads the password file now and the TLS files again for each
+// connection.
 func (m *members) connect() (*clientv3.Client, error) {
-	password, err := readPassword(m.asked)
+	password, err := readPassword(m.opts)
 	if err != nil {
 		return nil, err
 	}
-	login := &login{user: m.asked.user, password: password}
-	settings := clientv3.Config{
-		Endpoints:            m.asked.endpoints,
-		DialTimeout:          m.asked.timeout,
-		DialKeepAliveTime:    silence,
-		DialKeepAliveTimeout: m.asked.timeout,
+	login := &login{user: m.opts.user, password: password}
+	config := clientv3.Config{
+		Endpoints:            m.opts.endpoints,
+		DialTimeout:          m.opts.timeout,
+		DialKeepAliveTime:    keepAliveTime,
+		DialKeepAliveTimeout: m.opts.timeout,
 		MaxCallSendMsgSize:   maxRequestBytes,
 		DialOptions:          m.dialOptions(login),
 		LogConfig:            noLog,
@@ -44,15 +45,16 @@ func (m *members) connect() (*clientv3.Client, error) {
 		if err != nil {
 			return nil, err
 		}
-		// Without this the client would ask for no TLS. What is used are the credentials of the options.
-		settings.TLS = used.settings()
-		settings.DialOptions = append(settings.DialOptions, grpc.WithTransportCredentials(m.credentials()))
+		// The client speaks TLS only if this is set. The credentials come from the dial options
+		// below.
+		config.TLS = used.tlsConfig()
+		config.DialOptions = append(config.DialOptions, grpc.WithTransportCredentials(m.credentials()))
 	}
-	client, err := clientv3.New(settings)
+	client, err := clientv3.New(config)
 	if err != nil {
 		return nil, err
 	}
-	ctx, cancel := context.WithTimeout(context.Background(), m.asked.timeout)
+	ctx, cancel := context.WithTimeout(context.Background(), m.opts.timeout)
 	defer cancel()
 	if err := login.renew(ctx, client.ActiveConnection()); err != nil {
 		client.Close()
@@ -61,35 +63,37 @@ func (m *members) connect() (*clientv3.Client, error) {
 	return client, nil
 }
 
-// noLog is a log of etcd's client that has no lines: csid-etcd writes its own.
-var noLog = &zap.Config{Level: zap.NewAtomicLevelAt(zap.FatalLevel), Encoding: "json", EncoderConfig: zap.NewProductionEncoderConfig()}
+// noLog silences the log of etcd's client: csid-etcd writes its own lines.
+var noLog = &zap.Config{Level: zap.NewAtomicLevelAt(zap.FatalLevel), Encoding: "json",
+	EncoderConfig: zap.NewProductionEncoderConfig()}
 
-// dialOptions is what each connection has but for its security.
+// dialOptions are the options of each connection except its transport credentials.
 func (m *members) dialOptions(login *login) []grpc.DialOption {
 	return []grpc.DialOption{
 		grpc.WithContextDialer(m.dial),
 		grpc.WithPerRPCCredentials(login),
-		grpc.WithChainUnaryInterceptor(login.unary, sendOnce, m.answered, checkUnary),
+		grpc.WithChainUnaryInterceptor(login.unary, sendOnce, m.recordAnswer, checkUnary),
 		grpc.WithChainStreamInterceptor(login.stream, checkStream),
 		grpc.WithDisableRetry(),
-		// With windows that are set, grpc does not measure the connection by a ping after each answer.
-		grpc.WithInitialWindowSize(answerWindow),
-		grpc.WithInitialConnWindowSize(answerWindow),
+		// With fixed windows gRPC does not send a ping after each answer to measure the connection.
+		grpc.WithInitialWindowSize(windowSize),
+		grpc.WithInitialConnWindowSize(windowSize),
 	}
 }
 
-// readPassword is the password of the user: the first line of its file, or what the command line has.
-func readPassword(asked options) (string, error) {
-	if asked.passwordFile == "" {
-		return asked.password, nil
+// readPassword returns the first line of the password file, or the password of --user without a
+// file.
+func readPassword(opts options) (string, error) {
+	if opts.passwordFile == "" {
+		return opts.password, nil
 	}
-	text, err := os.ReadFile(asked.passwordFile)
+	text, err := os.ReadFile(opts.passwordFile)
 	if err != nil {
 		return "", fmt.Errorf("--password-file: %w", err)
 	}
 	password, _, _ := strings.Cut(string(text), "\n")
 	if password == "" {
-		return "", fmt.Errorf("--password-file: %s has no password", asked.passwordFile)
+		return "", fmt.Errorf("--password-file: %s has no password", opts.passwordFile)
 	}
 	return password, nil
 }

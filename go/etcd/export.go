@@ -14,14 +14,15 @@ import (
 	"go.etcd.io/etcd/etcdserver/api/v3rpc/rpctypes"
 )
 
-// SQL that brings rows into tables which csid has made and that have none yet (docs/TABLES.md). Each statement is one line.
+// SQL statements that add rows to new tables of csid (docs/TABLES.md), each on a line of its own.
 
 func (m meta) statement() string {
 	return fmt.Sprintf("UPDATE meta SET next_number = %d;", m.next)
 }
 
 func (v volume) statement() string {
-	return fmt.Sprintf("INSERT INTO volumes VALUES (%d,%s,%d,%s,X'%x',X'%x');", v.number, quoted(v.name), v.bytes, quoted(v.pool), v.caps, v.params)
+	return fmt.Sprintf("INSERT INTO volumes VALUES (%d,%s,%d,%s,X'%x',X'%x');", v.number, quoteSQL(v.name), v.bytes,
+		quoteSQL(v.pool), v.caps, v.params)
 }
 
 func (a attachment) statement() string {
@@ -29,12 +30,13 @@ func (a attachment) statement() string {
 	if a.isReadonly {
 		readonly = 1
 	}
-	return fmt.Sprintf("INSERT INTO attachments VALUES (%d,%s,X'%x',%d);", a.number, quoted(a.node), a.cap, readonly)
+	return fmt.Sprintf("INSERT INTO attachments VALUES (%d,%s,X'%x',%d);", a.number, quoteSQL(a.node), a.cap, readonly)
 }
 
-// quoted is a text as SQL has it. One with control characters is written by its bytes: sqlite3 reads SQL line by line, takes a carriage return from
-// the end of a line, and ends a text at a zero.
-func quoted(text string) string {
+// quoteSQL returns a text as an SQL literal. A text with control characters is written as bytes:
+// sqlite3 reads SQL by lines, drops a carriage return at the end of a line, and ends a text at a
+// NUL.
+func quoteSQL(text string) string {
 	for i := 0; i < len(text); i++ {
 		if text[i] < 0x20 {
 			return fmt.Sprintf("CAST(X'%x' AS TEXT)", text)
@@ -48,16 +50,16 @@ var (
 	errCompacted = errors.New("etcd compacted the revision of this reading: start again")
 )
 
-// reading reads rows at one revision, without the lock: that of the first answer.
-type reading struct {
+// snapshot reads rows at one revision without the lock: the revision of its first answer.
+type snapshot struct {
 	client   *clientv3.Client
 	timeout  time.Duration
 	revision int64
 }
 
-func (r *reading) get(key string, more ...clientv3.OpOption) (read *clientv3.GetResponse, err error) {
-	err = tries(context.Background(), r.client, r.timeout, func(ctx context.Context) error {
-		read, err = r.client.Get(ctx, key, append(more, clientv3.WithRev(r.revision))...)
+func (r *snapshot) get(key string, opts ...clientv3.OpOption) (read *clientv3.GetResponse, err error) {
+	err = retry(context.Background(), r.client, r.timeout, func(ctx context.Context) error {
+		read, err = r.client.Get(ctx, key, append(opts, clientv3.WithRev(r.revision))...)
 		return err
 	})
 	if err == rpctypes.ErrCompacted {
@@ -69,18 +71,19 @@ func (r *reading) get(key string, more ...clientv3.OpOption) (read *clientv3.Get
 	return read, err
 }
 
-// export prints all rows at one revision as SQL. Until all are judged and printed there is no COMMIT: what ends before changes no tables.
+// export prints all rows at one revision as SQL. COMMIT comes last, once all rows were checked and
+// printed, so an export that stops early changes no tables.
 func export(m *members, to io.Writer, lines *log.Logger) error {
 	client, err := m.connect()
 	if err != nil {
 		return err
 	}
 	defer client.Close()
-	r := &reading{client: client, timeout: m.asked.timeout}
+	r := &snapshot{client: client, timeout: m.opts.timeout}
 	out := bufio.NewWriter(to)
-	found, err := r.print(keys{m.asked.name}, out)
+	found, err := r.print(keys{m.opts.name}, out)
 	if err == nil {
-		err = printed(out, "COMMIT;")
+		err = printLine(out, "COMMIT;")
 	}
 	if err == nil {
 		err = out.Flush()
@@ -91,8 +94,8 @@ func export(m *members, to io.Writer, lines *log.Logger) error {
 	return err
 }
 
-// readMeta reads the row of meta, without which there are no rows.
-func (r *reading) readMeta(k keys) (row meta, err error) {
+// readMeta reads the row of meta. Without it there are no rows.
+func (r *snapshot) readMeta(k keys) (row meta, err error) {
 	read, err := r.get(k.meta())
 	if err != nil {
 		return row, err
@@ -101,30 +104,30 @@ func (r *reading) readMeta(k keys) (row meta, err error) {
 		return row, errNoMeta
 	}
 	if row, err = readMeta(read.Kvs[0].Value); err != nil {
-		return row, broken(k, k.meta(), err)
+		return row, brokenRow(k, k.meta(), err)
 	}
 	return row, checkFormat(row)
 }
 
-// print prints all but the end.
-func (r *reading) print(k keys, out io.Writer) (found counts, err error) {
+// print prints the transaction up to its COMMIT.
+func (r *snapshot) print(k keys, out io.Writer) (found counts, err error) {
 	row, err := r.readMeta(k)
 	if err != nil {
 		return found, err
 	}
-	if err := printed(out, "BEGIN;\n"+row.statement()); err != nil {
+	if err := printLine(out, "BEGIN;\n"+row.statement()); err != nil {
 		return found, err
 	}
 	found.add(row)
-	return found, r.each(k, func(row tableRow) error {
+	return found, r.forEach(k, func(row tableRow) error {
 		found.add(row)
-		return printed(out, row.statement())
+		return printLine(out, row.statement())
 	})
 }
 
-// each hands on all rows but that of meta, in the order of keys.
-func (r *reading) each(k keys, take func(tableRow) error) error {
-	limit := int64(fewRows)
+// forEach calls take for each row except meta, in the order of keys.
+func (r *snapshot) forEach(k keys, take func(tableRow) error) error {
+	limit := int64(firstLimit)
 	for from := k.all(); from != ""; {
 		read, err := r.get(from, clientv3.WithRange(rangeEnd(k.all())), clientv3.WithLimit(limit))
 		if err != nil {
@@ -134,9 +137,9 @@ func (r *reading) each(k keys, take func(tableRow) error) error {
 		for _, found := range read.Kvs {
 			size += int64(len(found.Value))
 			if key := string(found.Key); key != k.meta() && !strings.HasPrefix(key, k.locks()) {
-				row, _, err := k.rowInPage(key, found.Value)
+				row, _, err := k.pageRow(key, found.Value)
 				if err != nil {
-					return broken(k, key, err)
+					return brokenRow(k, key, err)
 				}
 				if err := take(row); err != nil {
 					return err
@@ -145,8 +148,8 @@ func (r *reading) each(k keys, take func(tableRow) error) error {
 		}
 		from = ""
 		if read.More {
-			from = next(string(read.Kvs[len(read.Kvs)-1].Key))
-			limit = paced(int64(len(read.Kvs)), size)
+			from = keyAfter(string(read.Kvs[len(read.Kvs)-1].Key))
+			limit = nextLimit(int64(len(read.Kvs)), size)
 		}
 	}
 	return nil

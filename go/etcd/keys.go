@@ -13,13 +13,14 @@ import (
 	"fomaheti/frames"
 )
 
-// Numbers have so many decimal digits in keys, so that the order of keys is that of numbers.
+// numberDigits is the width of numbers in keys. With a fixed width, keys sort in the order of
+// numbers.
 const numberDigits = 20
 
-// maxNumber is the greatest number that a row can have, as in the tables of SQLite.
+// maxNumber is the greatest number in a row, as in SQLite's tables.
 const maxNumber = math.MaxInt64
 
-// keys writes the keys of etcd that belong to a plugin: all that begin with its name and a slash.
+// keys builds the keys of a plugin in etcd. Each starts with the plugin's name and a slash.
 type keys struct{ name string }
 
 func (k keys) all() string         { return k.name + "/" }
@@ -28,52 +29,53 @@ func (k keys) locks() string       { return k.name + "/lock/" }
 func (k keys) volumes() string     { return k.name + "/volumes/" }
 func (k keys) attachments() string { return k.name + "/attachments/" }
 
-// lock is the key of a candidate for the lock, by its lease.
+// lock returns the key of a candidate with this lease.
 func (k keys) lock(id clientv3.LeaseID) string { return fmt.Sprintf("%s%x", k.locks(), id) }
 
 func (k keys) volume(number uint64) string {
 	return fmt.Sprintf("%s%0*d", k.volumes(), numberDigits, number)
 }
 
-// attachmentsOf is what the keys of the attachments of a volume begin with, and those of no other.
+// attachmentsOf returns the prefix of the keys of a volume's attachments.
 func (k keys) attachmentsOf(number uint64) string {
 	return fmt.Sprintf("%s%0*d/", k.attachments(), numberDigits, number)
 }
 
-// attachment ends with the node's id as it is, whatever it has.
+// attachment ends with the node's id, unescaped.
 func (k keys) attachment(number uint64, node string) string {
 	return k.attachmentsOf(number) + node
 }
 
-// shown is a key without the name of the plugin, as it is in a text.
-func (k keys) shown(key string) string { return frames.Text(strings.TrimPrefix(key, k.all())) }
+// display returns a key for a line or a reply, without the plugin's name.
+func (k keys) display(key string) string { return frames.Text(strings.TrimPrefix(key, k.all())) }
 
-// rangeEnd is the end of the range of all keys that begin with these bytes, of which the last is not 0xFF.
+// rangeEnd returns the end of the range of keys with this prefix. The prefix must not end with
+// 0xFF.
 func rangeEnd(prefix string) string {
 	end := []byte(prefix)
 	end[len(end)-1]++
 	return string(end)
 }
 
-// next is the least key that is greater than this one.
-func next(key string) string { return key + "\x00" }
+// keyAfter returns the lowest key above this one.
+func keyAfter(key string) string { return key + "\x00" }
 
 var (
-	errKeyNumber = errors.New("its key has no number of 20 digits")
-	errKeyRange  = errors.New("the number of its key is above 9223372036854775807")
-	errKeyNode   = errors.New("its key is not UTF-8")
-	errLong      = errors.New("the row is too long for a page")
+	errKeyNumber  = errors.New("its key has no number of 20 digits")
+	errKeyRange   = errors.New("the number of its key is above 9223372036854775807")
+	errKeyNode    = errors.New("its key is not UTF-8")
+	errRowTooLong = errors.New("the row is too long for a page")
 )
 
-// volumeNumber reads the key of a volume.
+// volumeNumber parses the key of a volume.
 func (k keys) volumeNumber(key string) (uint64, error) {
 	return readNumber(strings.TrimPrefix(key, k.volumes()))
 }
 
-// attachmentParts reads the key of an attachment.
+// attachmentParts parses the key of an attachment.
 func (k keys) attachmentParts(key string) (number uint64, node string, err error) {
-	digits, node, isParted := strings.Cut(strings.TrimPrefix(key, k.attachments()), "/")
-	if !isParted {
+	digits, node, ok := strings.Cut(strings.TrimPrefix(key, k.attachments()), "/")
+	if !ok {
 		return 0, "", errKeyNumber
 	}
 	if number, err = readNumber(digits); err != nil {
@@ -87,7 +89,7 @@ func (k keys) attachmentParts(key string) (number uint64, node string, err error
 
 var errUnknownKey = errors.New("no row has such a key")
 
-// row judges what is at a key below the name of the plugin, and gives the row that it is. Keys of the lock are no rows.
+// row decodes the row at a key of the plugin. Keys of the lock are not rows.
 func (k keys) row(key string, value []byte) (tableRow, error) {
 	switch {
 	case key == k.meta():
@@ -111,15 +113,16 @@ func (k keys) row(key string, value []byte) (tableRow, error) {
 	return nil, errUnknownKey
 }
 
-// rowInPage is a row, and the field of a page that it is. A row that no page can have is none.
-func (k keys) rowInPage(key string, value []byte) (tableRow, []byte, error) {
+// pageRow decodes a row, and also returns it as a field of a page. It refuses a row that is too
+// long for a page.
+func (k keys) pageRow(key string, value []byte) (tableRow, []byte, error) {
 	row, err := k.row(key, value)
 	if err != nil {
 		return nil, nil, err
 	}
 	field := appendBytes(nil, row.field(), row.message())
-	if len(field) > mostPage {
-		return nil, nil, errLong
+	if len(field) > maxPageBytes {
+		return nil, nil, errRowTooLong
 	}
 	return row, field, nil
 }

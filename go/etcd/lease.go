@@ -12,93 +12,98 @@ import (
 	"google.golang.org/grpc"
 )
 
-// lease is a lease of etcd that is kept alive. It is over, by the clock of this process, as long after the last request to keep it as etcd keeps
-// it: etcd counts from when it got that request, which was later. So an answer that waited while this process was stopped does not count for long.
+// lease is a lease of etcd that is kept alive. Its expiry counts from the moment at which this
+// process sent the last request to keep it. etcd counts from the moment at which it received the
+// request, which is later, so the lease never expires in etcd before it expires here. An answer
+// that arrives late, after a stop of this process, extends it no further.
 type lease struct {
 	client *clientv3.Client
 	id     clientv3.LeaseID
 	length time.Duration
 	mutex  sync.Mutex
-	// When it is over, by sinceBoot.
-	until time.Duration
+	// The time of its end on the clock of sinceBoot.
+	expiry time.Duration
 }
 
-// sinceBoot is the time since the machine started. It goes on while the machine sleeps, as etcd's clock elsewhere does; that of package time does not.
+// sinceBoot returns the time since the machine started. This clock goes on while the machine
+// sleeps, as etcd's clock elsewhere does. The clock of package time stops.
 func sinceBoot() time.Duration {
 	var now unix.Timespec
 	if err := unix.ClockGettime(unix.CLOCK_BOOTTIME, &now); err != nil {
-		// Linux has this clock since 2.6.39. Without it nobody knows how long a lease is.
+		// Linux has this clock since 2.6.39. Without it the end of a lease is unknown.
 		panic(err)
 	}
 	return time.Duration(now.Nano())
 }
 
-// How long it is waited at most until the clock is looked at again: timers stand while the machine sleeps.
+// clockPause limits the wait between two looks at the clock: timers stop while the machine sleeps.
 const clockPause = time.Second
 
 var errLeaseOver = errors.New("its lease is over")
 
-// grantLease gets a lease, and returns the revision that etcd has.
+// grantLease gets a lease of that many seconds. It also returns the revision of etcd.
 func grantLease(ctx context.Context, client *clientv3.Client, seconds int64) (*lease, int64, error) {
-	asked := sinceBoot()
-	got, err := client.Grant(ctx, seconds)
+	sent := sinceBoot()
+	granted, err := client.Grant(ctx, seconds)
 	if err != nil {
 		return nil, 0, err
 	}
-	l := &lease{client: client, id: got.ID, length: time.Duration(got.TTL) * time.Second}
-	l.extend(asked)
-	return l, got.ResponseHeader.Revision, nil
+	l := &lease{client: client, id: granted.ID, length: time.Duration(granted.TTL) * time.Second}
+	l.extend(sent)
+	return l, granted.ResponseHeader.Revision, nil
 }
 
-// isAlive reports whether the lease is alive, by the clock of this process.
-func (l *lease) isAlive() bool { return l.left() > 0 }
+// isAlive reports whether the lease has time left on the clock of this process.
+func (l *lease) isAlive() bool { return l.remaining() > 0 }
 
-func (l *lease) left() time.Duration {
+func (l *lease) remaining() time.Duration {
 	l.mutex.Lock()
 	defer l.mutex.Unlock()
-	return l.until - sinceBoot()
+	return l.expiry - sinceBoot()
 }
 
-// extend notes that etcd kept the lease by a request of that time.
-func (l *lease) extend(asked time.Duration) {
+// extend moves the expiry after etcd kept the lease by a request sent at that time.
+func (l *lease) extend(sent time.Duration) {
 	l.mutex.Lock()
 	defer l.mutex.Unlock()
-	l.until = asked + l.length
+	l.expiry = sent + l.length
 }
 
-// keep keeps the lease alive until it is lost or the context ends, and returns how that was. Two things run side by side, so that the end is seen
-// in time whatever etcd's client does.
-func (l *lease) keep(ctx context.Context) error {
+// keepAlive keeps the lease alive and returns the reason of its end: errLeaseOver or the error of
+// the context. It watches the clock in a goroutine of its own, so that a request that hangs in
+// etcd's client does not delay the end.
+func (l *lease) keepAlive(ctx context.Context) error {
 	ctx, cancel := context.WithCancel(ctx)
 	defer cancel()
-	ended := make(chan error, 2)
-	go func() { ended <- l.watch(ctx) }()
-	go func() { ended <- l.renew(ctx) }()
-	return <-ended
+	done := make(chan error, 2)
+	go func() { done <- l.waitExpired(ctx) }()
+	go func() { done <- l.renew(ctx) }()
+	return <-done
 }
 
-// watch waits until the lease is over.
-func (l *lease) watch(ctx context.Context) error {
+// waitExpired returns once the lease has expired or the context has ended.
+func (l *lease) waitExpired(ctx context.Context) error {
 	for {
-		left := l.left()
-		if left <= 0 {
+		remaining := l.remaining()
+		if remaining <= 0 {
 			return errLeaseOver
 		}
-		if left > clockPause {
-			left = clockPause
+		if remaining > clockPause {
+			remaining = clockPause
 		}
 		select {
-		case <-time.After(left):
+		case <-time.After(remaining):
 		case <-ctx.Done():
 			return ctx.Err()
 		}
 	}
 }
 
-// renew asks etcd to keep the lease, again over another stream where one fails.
+// renew keeps the lease until it is lost or the context ends. After a failure it opens a new
+// stream.
 func (l *lease) renew(ctx context.Context) error {
 	for {
-		if err := l.renewOver(ctx); err == errLeaseOver || ctx.Err() != nil {
+		if err := l.renewStream(ctx); err == errLeaseOver || ctx.Err() != nil {
 			return err
 		}
 		select {
@@ -109,18 +114,19 @@ func (l *lease) renew(ctx context.Context) error {
 	}
 }
 
-// renewOver asks over one stream, four times a lease, and gives it up where an answer takes a quarter of the lease.
-func (l *lease) renewOver(ctx context.Context) error {
+// renewStream renews over one stream, four times per lease length. It gives up a stream on which an
+// answer takes longer than a quarter of the lease length.
+func (l *lease) renewStream(ctx context.Context) error {
 	ctx, cancel := context.WithCancel(clientv3.WithRequireLeader(ctx))
 	defer cancel()
-	late := time.AfterFunc(l.length/4, cancel)
-	defer late.Stop()
+	timer := time.AfterFunc(l.length/4, cancel)
+	defer timer.Stop()
 	stream, err := pb.NewLeaseClient(l.client.ActiveConnection()).LeaseKeepAlive(ctx, grpc.WaitForReady(true))
 	if err != nil {
 		return err
 	}
 	for {
-		asked := sinceBoot()
+		sent := sinceBoot()
 		if err := stream.Send(&pb.LeaseKeepAliveRequest{ID: int64(l.id)}); err != nil {
 			return err
 		}
@@ -131,13 +137,13 @@ func (l *lease) renewOver(ctx context.Context) error {
 		if answer.TTL <= 0 {
 			return errLeaseOver
 		}
-		l.extend(asked)
-		late.Stop()
+		l.extend(sent)
+		timer.Stop()
 		select {
 		case <-time.After(l.length / 4):
 		case <-ctx.Done():
 			return ctx.Err()
 		}
-		late.Reset(l.length / 4)
+		timer.Reset(l.length / 4)
 	}
 }

@@ -16,208 +16,223 @@ import (
 	"google.golang.org/grpc/status"
 )
 
-// lender is an etcd that gives a lease, and keeps it.
-type lender struct {
+// leaseServer is an etcd that grants a lease and renews it.
+type leaseServer struct {
 	pb.KVServer
 	pb.LeaseServer
-	// How long the lease is reported to be, in seconds, and how long each answer takes.
+	// The length of the lease in seconds, and the delay of each answer.
 	length int64
-	late   time.Duration
-	// When each request came, by sinceBoot; and how many of one stream are answered.
-	came     chan time.Duration
+	delay  time.Duration
+	// The time of each request on the clock of sinceBoot, and the number of answers per stream.
+	requests chan time.Duration
 	answered int
-	// What an end of a lease is answered, where it is an error; and those that were ended.
-	refusals map[int64]error
-	ended    []int64
-	// The same of keys that are to be deleted.
-	kept    map[string]error
-	deleted []string
+	// Errors of revocations by lease, and the revoked leases.
+	revokeErrors map[int64]error
+	revoked      []int64
+	// Errors of deletions by key, and the deleted keys.
+	deleteErrors map[string]error
+	deleted      []string
 }
 
-func (l *lender) LeaseRevoke(_ context.Context, asked *pb.LeaseRevokeRequest) (*pb.LeaseRevokeResponse, error) {
-	if err := l.refusals[asked.ID]; err != nil {
+func (s *leaseServer) LeaseRevoke(_ context.Context, request *pb.LeaseRevokeRequest) (*pb.LeaseRevokeResponse, error) {
+	if err := s.revokeErrors[request.ID]; err != nil {
 		return nil, err
 	}
-	l.ended = append(l.ended, asked.ID)
+	s.revoked = append(s.revoked, request.ID)
 	return &pb.LeaseRevokeResponse{Header: &pb.ResponseHeader{}}, nil
 }
 
-func (l *lender) DeleteRange(_ context.Context, asked *pb.DeleteRangeRequest) (*pb.DeleteRangeResponse, error) {
-	if err := l.kept[string(asked.Key)]; err != nil {
+func (s *leaseServer) DeleteRange(_ context.Context, request *pb.DeleteRangeRequest) (*pb.DeleteRangeResponse, error) {
+	if err := s.deleteErrors[string(request.Key)]; err != nil {
 		return nil, err
 	}
-	l.deleted = append(l.deleted, string(asked.Key))
+	s.deleted = append(s.deleted, string(request.Key))
 	return &pb.DeleteRangeResponse{Header: &pb.ResponseHeader{}}, nil
 }
 
-func (l *lender) LeaseGrant(context.Context, *pb.LeaseGrantRequest) (*pb.LeaseGrantResponse, error) {
-	l.came <- sinceBoot()
-	time.Sleep(l.late)
-	return &pb.LeaseGrantResponse{Header: &pb.ResponseHeader{Revision: 7}, ID: 1, TTL: l.length}, nil
+func (s *leaseServer) LeaseGrant(context.Context, *pb.LeaseGrantRequest) (*pb.LeaseGrantResponse, error) {
+	s.requests <- sinceBoot()
+	time.Sleep(s.delay)
+	return &pb.LeaseGrantResponse{Header: &pb.ResponseHeader{Revision: 7}, ID: 1, TTL: s.length}, nil
 }
 
-func (l *lender) LeaseKeepAlive(stream pb.Lease_LeaseKeepAliveServer) error {
+func (s *leaseServer) LeaseKeepAlive(stream pb.Lease_LeaseKeepAliveServer) error {
 	for answered := 0; ; answered++ {
-		asked, err := stream.Recv()
+		request, err := stream.Recv()
 		if err != nil {
 			return err
 		}
-		l.came <- sinceBoot()
-		time.Sleep(l.late)
-		if answered < l.answered {
-			if err := stream.Send(&pb.LeaseKeepAliveResponse{ID: asked.ID, TTL: l.length}); err != nil {
+		s.requests <- sinceBoot()
+		time.Sleep(s.delay)
+		if answered < s.answered {
+			if err := stream.Send(&pb.LeaseKeepAliveResponse{ID: request.ID, TTL: s.length}); err != nil {
 				return err
 			}
 		}
 	}
 }
 
-// A lease counts from when etcd was asked for it, and to keep it: etcd counts from when that came. An answer that waited does not make it longer.
+// The length of a lease counts from the moment at which the request for it, or for its renewal, was
+// sent. A delayed answer does not make it longer.
 func TestLeaseCounts(t *testing.T) {
-	server := &lender{length: 600, late: 50 * time.Millisecond, came: make(chan time.Duration, 99), answered: 1}
+	server := &leaseServer{length: 600, delay: 50 * time.Millisecond, requests: make(chan time.Duration, 99),
+		answered: 1}
 	client := startServer(t, server, 1)
 	l, revision, err := grantLease(context.Background(), client, 600)
 	if err != nil || revision != 7 || l.length != 600*time.Second || !l.isAlive() {
-		t.Fatalf("%+v, %d, %v", l, revision, err)
+		t.Fatalf("got %+v, revision %d, error %v, want a lease of 600 s at revision 7", l, revision, err)
 	}
-	if latest := <-server.came + l.length; l.until > latest {
-		t.Errorf("it counts from %v after the request", l.until-latest)
+	if latest := <-server.requests + l.length; l.expiry > latest {
+		t.Errorf("the lease counts from %v after the request", l.expiry-latest)
 	}
-	l.until = sinceBoot() + time.Minute
+	l.expiry = sinceBoot() + time.Minute
 	ctx, cancel := context.WithCancel(context.Background())
-	ended := make(chan error, 1)
-	go func() { ended <- l.keep(ctx) }()
-	latest := <-server.came + l.length
-	for end := time.Now().Add(10 * time.Second); l.left() <= time.Minute; time.Sleep(time.Millisecond) {
+	done := make(chan error, 1)
+	go func() { done <- l.keepAlive(ctx) }()
+	latest := <-server.requests + l.length
+	for end := time.Now().Add(10 * time.Second); l.remaining() <= time.Minute; time.Sleep(time.Millisecond) {
 		if time.Now().After(end) {
-			t.Fatal("it was not kept")
+			t.Fatal("the lease was not renewed")
 		}
 	}
 	cancel()
-	<-ended
-	if l.until > latest {
-		t.Errorf("kept, it counts from %v after the request", l.until-latest)
+	<-done
+	if l.expiry > latest {
+		t.Errorf("the renewed lease counts from %v after the request", l.expiry-latest)
 	}
 }
 
-// The clock of leases goes on while the machine sleeps: it is that of the time since the boot, which a namespace of clocks moves apart from all others.
+// The clock of leases is the time since the boot, which goes on while the machine sleeps. A time
+// namespace shifts this clock and no other.
 func TestClock(t *testing.T) {
 	const isWithin, moved = "CLOCK_IS_MOVED", 100000 * time.Second
 	if os.Getenv(isWithin) != "" {
 		fmt.Println(int64(sinceBoot()))
 		return
 	}
-	command := exec.Command("unshare", "--time", "--boottime", "100000", "--fork", os.Args[0], "-test.run", "^TestClock$")
+	command := exec.Command("unshare", "--time", "--boottime", "100000", "--fork", os.Args[0], "-test.run",
+		"^TestClock$")
 	command.Env = append(os.Environ(), isWithin+"=1")
 	begin := sinceBoot()
-	said, err := command.Output()
+	output, err := command.Output()
 	if err != nil {
 		t.Skipf("left out: no namespace of clocks: %v", err)
 	}
 	var within int64
-	if _, err := fmt.Sscan(string(said), &within); err != nil {
-		t.Fatalf("%v: %s", err, said)
+	if _, err := fmt.Sscan(string(output), &within); err != nil {
+		t.Fatalf("%v: %s", err, output)
 	}
 	if apart := time.Duration(within) - begin; apart < moved || apart > moved+time.Minute {
-		t.Errorf("the clock that is moved by %v is %v apart", moved, apart)
+		t.Errorf("got clocks %v apart, want %v", apart, moved)
 	}
 }
 
-// A lease that ends while timers stand, as while the machine sleeps, is over as soon as the clock is looked at again.
+// A lease that ends while timers stop, as during a sleep of the machine, is over at the next look
+// at the clock.
 func TestLeaseOverAfterSleep(t *testing.T) {
-	l := &lease{length: time.Hour, until: sinceBoot() + time.Hour}
-	ended := make(chan error, 1)
-	go func() { ended <- l.watch(context.Background()) }()
+	l := &lease{length: time.Hour, expiry: sinceBoot() + time.Hour}
+	done := make(chan error, 1)
+	go func() { done <- l.waitExpired(context.Background()) }()
 	select {
-	case err := <-ended:
-		t.Fatalf("it ended: %v", err)
+	case err := <-done:
+		t.Fatalf("the wait ended: %v", err)
 	case <-time.After(50 * time.Millisecond):
 	}
 	l.extend(sinceBoot() - l.length)
 	select {
-	case err := <-ended:
+	case err := <-done:
 		if err != errLeaseOver {
-			t.Error(err)
+			t.Errorf("got error %v, want %v", err, errLeaseOver)
 		}
 	case <-time.After(5 * time.Second):
-		t.Error("nobody looks at the clock")
+		t.Error("the clock was not read again")
 	}
 }
 
-// A lease is kept four times in its length: a request comes a quarter of it after the answer before, and not twice as late.
+// A lease is renewed four times in its length: a request comes a quarter of it after the last
+// answer, and not after half of it.
 func TestRenewedInTime(t *testing.T) {
 	const length = 6 * time.Second
-	server := &lender{length: 600, came: make(chan time.Duration, 99), answered: 99}
-	l := &lease{client: startServer(t, server, 1), length: length, until: sinceBoot()}
+	server := &leaseServer{length: 600, requests: make(chan time.Duration, 99), answered: 99}
+	l := &lease{client: startServer(t, server, 1), length: length, expiry: sinceBoot()}
 	ctx, cancel := context.WithCancel(context.Background())
-	ended := make(chan error, 1)
-	go func() { ended <- l.renew(ctx) }()
-	first := <-server.came
-	if took := <-server.came - first; took < length/5 || took > length/2 {
-		t.Errorf("it was kept again after %v", took)
+	done := make(chan error, 1)
+	go func() { done <- l.renew(ctx) }()
+	first := <-server.requests
+	if took := <-server.requests - first; took < length/5 || took > length/2 {
+		t.Errorf("got the next request after %v, want about %v", took, length/4)
 	}
 	cancel()
-	<-ended
+	<-done
 }
 
-// A lease that etcd does not know any more, or that no answer kept in time, is over.
+// A lease is over once etcd no longer knows it, or once no answer has kept it in time.
 func TestLeaseOver(t *testing.T) {
-	rows := []struct {
+	cases := []struct {
 		name   string
-		server *lender
+		server *leaseServer
 		left   time.Duration
 	}{
-		{"not known", &lender{length: 0, answered: 1}, time.Minute},
-		{"not answered", &lender{length: 60}, 50 * time.Millisecond},
+		{"not known", &leaseServer{length: 0, answered: 1}, time.Minute},
+		{"not answered", &leaseServer{length: 60}, 50 * time.Millisecond},
 	}
-	for _, row := range rows {
-		row.server.came = make(chan time.Duration, 99)
-		ctx, cancel := context.WithTimeout(context.Background(), 10*time.Second)
-		l := &lease{client: startServer(t, row.server, 1), length: time.Minute, until: sinceBoot() + row.left}
-		if err := l.keep(ctx); err != errLeaseOver {
-			t.Errorf("%s: %v", row.name, err)
-		}
-		cancel()
+	for _, c := range cases {
+		t.Run(c.name, func(t *testing.T) {
+			c.server.requests = make(chan time.Duration, 99)
+			ctx, cancel := context.WithTimeout(context.Background(), 10*time.Second)
+			defer cancel()
+			client := startServer(t, c.server, 1)
+			l := &lease{client: client, length: time.Minute, expiry: sinceBoot() + c.left}
+			if err := l.keepAlive(ctx); err != errLeaseOver {
+				t.Errorf("got error %v, want %v", err, errLeaseOver)
+			}
+		})
 	}
 }
 
-// A stream on which an answer is late is given up for another one, also where it had answers before.
+// A stream with a late answer is given up for another one, even after earlier answers.
 func TestLateLease(t *testing.T) {
 	for _, answered := range []int{0, 1} {
-		server := &lender{length: 1, came: make(chan time.Duration, 99), answered: answered}
-		l := &lease{client: startServer(t, server, 1), length: 80 * time.Millisecond, until: sinceBoot()}
-		ctx, cancel := context.WithCancel(context.Background())
-		ended := make(chan error, 1)
-		go func() { ended <- l.renew(ctx) }()
-		// Of one stream come those that are answered, and the one that is not.
-		for i := 0; i < answered+2; i++ {
-			select {
-			case <-server.came:
-			case <-time.After(10 * time.Second):
-				t.Fatalf("after %d answers: %d requests", answered, i)
+		t.Run(fmt.Sprintf("after %d answers", answered), func(t *testing.T) {
+			server := &leaseServer{length: 1, requests: make(chan time.Duration, 99), answered: answered}
+			l := &lease{client: startServer(t, server, 1), length: 80 * time.Millisecond, expiry: sinceBoot()}
+			ctx, cancel := context.WithCancel(context.Background())
+			done := make(chan error, 1)
+			go func() { done <- l.renew(ctx) }()
+			// A stream carries the answered requests and one that is not answered.
+			for i := 0; i < answered+2; i++ {
+				select {
+				case <-server.requests:
+				case <-time.After(10 * time.Second):
+					t.Fatalf("got %d requests, want %d", i, answered+2)
+				}
 			}
-		}
-		cancel()
-		<-ended
+			cancel()
+			<-done
+		})
 	}
 }
 
-// A lease that etcd could not end is ended the next time, and so is one whose key could not be deleted; one that etcd does not know has ended.
-func TestGiveBack(t *testing.T) {
-	any := status.Error(codes.Internal, "any")
+// If etcd could not revoke a lease or delete its key, both are tried again the next time. A lease
+// that etcd does not know has ended.
+func TestReleaseLeases(t *testing.T) {
+	failure := status.Error(codes.Internal, "any")
 	locks := sampleKeys.locks()
-	server := &lender{refusals: map[int64]error{1: any, 3: rpctypes.ErrGRPCLeaseNotFound}, kept: map[string]error{locks + "1a": any}}
+	server := &leaseServer{revokeErrors: map[int64]error{1: failure, 3: rpctypes.ErrGRPCLeaseNotFound},
+		deleteErrors: map[string]error{locks + "1a": failure}}
 	client := startServer(t, server, 1)
-	c := &candidate{asked: options{timeout: 5 * time.Second}, keys: sampleKeys, leases: []clientv3.LeaseID{1, 2, 3, 26}}
-	wants := func(left []clientv3.LeaseID, ended []int64, deleted []string) {
+	c := &candidate{opts: options{timeout: 5 * time.Second}, keys: sampleKeys, leases: []clientv3.LeaseID{1, 2, 3, 26}}
+	check := func(left []clientv3.LeaseID, revoked []int64, deleted []string) {
 		t.Helper()
-		c.giveBack(client)
-		if !reflect.DeepEqual(c.leases, left) || !reflect.DeepEqual(server.ended, ended) || !reflect.DeepEqual(server.deleted, deleted) {
-			t.Errorf("%v are left, %v were ended, and %q deleted", c.leases, server.ended, server.deleted)
+		c.releaseLeases(client)
+		if !reflect.DeepEqual(c.leases, left) || !reflect.DeepEqual(server.revoked, revoked) ||
+			!reflect.DeepEqual(server.deleted, deleted) {
+			t.Errorf("got %v left, %v revoked, %q deleted, want %v, %v, %q",
+				c.leases, server.revoked, server.deleted, left, revoked, deleted)
 		}
 	}
 	deleted := []string{locks + "1", locks + "2", locks + "3"}
-	wants([]clientv3.LeaseID{1, 26}, []int64{2}, deleted)
-	server.refusals, server.kept = nil, nil
-	wants(nil, []int64{2, 1, 26}, append(deleted, locks+"1", locks+"1a"))
+	check([]clientv3.LeaseID{1, 26}, []int64{2}, deleted)
+	server.revokeErrors, server.deleteErrors = nil, nil
+	check(nil, []int64{2, 1, 26}, append(deleted, locks+"1", locks+"1a"))
 }

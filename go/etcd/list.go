@@ -9,28 +9,31 @@ import (
 	"google.golang.org/protobuf/encoding/protowire"
 )
 
-// What --list prints is what csid --list-tables prints of a file (docs/OPERATING.md, "Look into tables").
+// --list prints the rows of etcd as csid --list-tables prints the rows of a file
+// (docs/OPERATING.md, "Look into tables").
 
 var errColumns = errors.New("its caps or params are not those of a volume")
 
-// capability is what a volume may be used as: a block device, or a mount of a file system.
+// capability is a use of a volume: as a block device, or as a mounted file system.
 type capability struct {
 	isMount bool
 	fsType  string
 	mode    uint64
 }
 
-// listed is a volume with the nodes that it is published at.
-type listed struct {
+// listedVolume is a volume with its decoded columns and the nodes where it is published.
+type listedVolume struct {
 	volume
 	capabilities        []capability
 	parameters, mutable map[string]string
 	nodes               []string
 }
 
-// modeNames are the access modes of CSI by their numbers ("CreateVolume", VolumeCapability.AccessMode.Mode).
+// modeNames are the access modes of CSI by number ("CreateVolume",
+// VolumeCapability.AccessMode.Mode).
 var modeNames = []string{
-	"UNKNOWN", "SINGLE_NODE_WRITER", "SINGLE_NODE_READER_ONLY", "MULTI_NODE_READER_ONLY", "MULTI_NODE_SINGLE_WRITER", "MULTI_NODE_MULTI_WRITER",
+	"UNKNOWN", "SINGLE_NODE_WRITER", "SINGLE_NODE_READER_ONLY", "MULTI_NODE_READER_ONLY", "MULTI_NODE_SINGLE_WRITER",
+	"MULTI_NODE_MULTI_WRITER",
 	"SINGLE_NODE_SINGLE_WRITER", "SINGLE_NODE_MULTI_WRITER",
 }
 
@@ -41,27 +44,28 @@ func (c capability) modeName() string {
 	return modeNames[0]
 }
 
-// readCapability reads a VolumeCapability: block is field 1, mount field 2 with its fs_type in field 1, and access_mode field 3 with the mode in field 1.
+// readCapability decodes a VolumeCapability: block is field 1, mount is field 2 with fs_type in its
+// field 1, access_mode is field 3 with mode in its field 1.
 func readCapability(message []byte) (read capability, err error) {
-	err = readFields(message, func(got field) error {
-		if got.kind != protowire.BytesType {
+	err = readFields(message, func(f field) error {
+		if f.kind != protowire.BytesType {
 			return errMessage
 		}
-		switch got.number {
+		switch f.number {
 		case 1:
 			read.isMount = false
 		case 2:
 			read.isMount = true
-			return readInto(got.bytes, map[protowire.Number]target{1: &read.fsType})
+			return readInto(f.bytes, map[protowire.Number]target{1: &read.fsType})
 		case 3:
-			return readInto(got.bytes, map[protowire.Number]target{1: &read.mode})
+			return readInto(f.bytes, map[protowire.Number]target{1: &read.mode})
 		}
 		return nil
 	})
 	return read, err
 }
 
-// readPair reads an entry of a map: its key and its value.
+// readPair decodes an entry of a map.
 func readPair(message []byte, into map[string]string) error {
 	var key, value string
 	if err := readInto(message, map[protowire.Number]target{1: &key, 2: &value}); err != nil {
@@ -71,22 +75,22 @@ func readPair(message []byte, into map[string]string) error {
 	return nil
 }
 
-// readListed reads the columns of a volume, which are fields of a CreateVolumeRequest: capabilities are field 3, parameters field 4, and mutable
-// parameters field 8.
-func readListed(row volume) (*listed, error) {
-	read := &listed{volume: row, parameters: map[string]string{}, mutable: map[string]string{}}
-	err := readFields(append(append([]byte{}, row.caps...), row.params...), func(got field) error {
+// readListed decodes the columns of a volume. They are fields of a CreateVolumeRequest:
+// capabilities are field 3, parameters field 4, and mutable parameters field 8.
+func readListed(row volume) (*listedVolume, error) {
+	read := &listedVolume{volume: row, parameters: map[string]string{}, mutable: map[string]string{}}
+	err := readFields(append(append([]byte{}, row.caps...), row.params...), func(f field) error {
 		switch {
-		case got.kind != protowire.BytesType:
+		case f.kind != protowire.BytesType:
 			return errMessage
-		case got.number == 3:
-			one, err := readCapability(got.bytes)
+		case f.number == 3:
+			one, err := readCapability(f.bytes)
 			read.capabilities = append(read.capabilities, one)
 			return err
-		case got.number == 4:
-			return readPair(got.bytes, read.parameters)
-		case got.number == 8:
-			return readPair(got.bytes, read.mutable)
+		case f.number == 4:
+			return readPair(f.bytes, read.parameters)
+		case f.number == 8:
+			return readPair(f.bytes, read.mutable)
 		}
 		return errMessage
 	})
@@ -96,27 +100,27 @@ func readListed(row volume) (*listed, error) {
 	return read, nil
 }
 
-// chosen says which volumes are listed: those that have each of these that is given.
-type chosen struct{ volume, pool, node string }
+// volumeFilter selects the volumes that have all given values. An empty value selects all.
+type volumeFilter struct{ volume, pool, node string }
 
-func (c chosen) has(v *listed) bool {
-	isAt := c.node == ""
+func (f volumeFilter) matches(v *listedVolume) bool {
+	isPublished := f.node == ""
 	for _, node := range v.nodes {
-		isAt = isAt || node == c.node
+		isPublished = isPublished || node == f.node
 	}
-	return isAt && (c.volume == "" || v.name == c.volume) && (c.pool == "" || v.pool == c.pool)
+	return isPublished && (f.volume == "" || v.name == f.volume) && (f.pool == "" || v.pool == f.pool)
 }
 
-// readAll reads all volumes at one revision, in the order of their numbers, with their nodes in the order of their ids.
-func (r *reading) readAll(k keys) (volumes []*listed, err error) {
-	found := map[uint64]*listed{}
+// readAll reads all volumes at one revision. Volumes are sorted by number, their nodes by id.
+func (r *snapshot) readAll(k keys) (volumes []*listedVolume, err error) {
+	found := map[uint64]*listedVolume{}
 	var at []attachment
-	err = r.each(k, func(row tableRow) error {
+	err = r.forEach(k, func(row tableRow) error {
 		switch row := row.(type) {
 		case volume:
 			read, err := readListed(row)
 			if err != nil {
-				return broken(k, k.volume(row.number), err)
+				return brokenRow(k, k.volume(row.number), err)
 			}
 			found[row.number] = read
 			volumes = append(volumes, read)
@@ -134,16 +138,16 @@ func (r *reading) readAll(k keys) (volumes []*listed, err error) {
 	return volumes, err
 }
 
-// list prints the volumes that are chosen, and what pools and nodes have of them. It needs no lock.
+// list prints the selected volumes, and their sums by pool and node. It needs no lock.
 func list(m *members, to io.Writer) error {
-	asked := m.asked
+	opts := m.opts
 	client, err := m.connect()
 	if err != nil {
 		return err
 	}
 	defer client.Close()
-	r := &reading{client: client, timeout: asked.timeout}
-	k := keys{asked.name}
+	r := &snapshot{client: client, timeout: opts.timeout}
+	k := keys{opts.name}
 	if _, err := r.readMeta(k); err != nil {
 		return err
 	}
@@ -151,14 +155,14 @@ func list(m *members, to io.Writer) error {
 	if err != nil {
 		return err
 	}
-	var volumes []*listed
+	var volumes []*listedVolume
 	for _, v := range all {
-		if asked.chosen.has(v) {
+		if opts.filter.matches(v) {
 			volumes = append(volumes, v)
 		}
 	}
 	out := bufio.NewWriter(to)
-	if asked.isJSON {
+	if opts.isJSON {
 		writeJSON(out, volumes)
 	} else {
 		writeTable(out, volumes)

@@ -8,7 +8,7 @@ import (
 	"strings"
 )
 
-// sum is how many volumes a pool or a node has, and their bytes, each up to the greatest uint64.
+// sum is the number of volumes of a pool or node, and their bytes, at most the greatest uint64.
 type sum struct{ volumes, bytes uint64 }
 
 type sums map[string]sum
@@ -31,7 +31,7 @@ func (s sums) names() []string {
 	return names
 }
 
-func count(volumes []*listed) (pools, nodes sums) {
+func count(volumes []*listedVolume) (pools, nodes sums) {
 	pools, nodes = sums{}, sums{}
 	for _, v := range volumes {
 		pools.add(v.pool, v.bytes)
@@ -42,11 +42,11 @@ func count(volumes []*listed) (pools, nodes sums) {
 	return pools, nodes
 }
 
-// sizeUnits are the units in which sizes are shown.
+// sizeUnits are the binary units of formatSize, largest first.
 var sizeUnits = []string{"EiB", "PiB", "TiB", "GiB", "MiB", "KiB"}
 
-// shownSize is a size in the greatest unit in which it is exact to one decimal, otherwise in bytes.
-func shownSize(bytes uint64) string {
+// formatSize formats a size in the largest unit that is exact with one decimal, or else in bytes.
+func formatSize(bytes uint64) string {
 	for i, unit := range sizeUnits {
 		half := uint64(1) << (59 - 10*i)
 		if halves := bytes / half; halves > 1 && bytes%half == 0 {
@@ -56,15 +56,16 @@ func shownSize(bytes uint64) string {
 	return strconv.FormatUint(bytes, 10) + " B"
 }
 
-// word is a text as one word, as csictl shows it: bytes outside 0x21 to 0x7E, and %, as % and two hexadecimal digits. The empty text is a dash.
-func word(text string) string {
+// formatWord formats a text as one word, as csictl does: % and the bytes outside 0x21 to 0x7E
+// become % and two hexadecimal digits. The empty text becomes a dash.
+func formatWord(text string) string {
 	if text == "" {
 		return "-"
 	}
-	return partOfWord(text)
+	return escapeWord(text)
 }
 
-func partOfWord(text string) string {
+func escapeWord(text string) string {
 	var out strings.Builder
 	for i := 0; i < len(text); i++ {
 		if character := text[i]; 0x21 <= character && character <= 0x7e && character != '%' {
@@ -76,7 +77,7 @@ func partOfWord(text string) string {
 	return out.String()
 }
 
-// quotedJSON is a text as JSON has it: only what must be is escaped.
+// quotedJSON returns a text as a JSON string with the fewest escapes.
 func quotedJSON(text string) string {
 	shorts := map[byte]string{'"': `\"`, '\\': `\\`, '\b': `\b`, '\f': `\f`, '\n': `\n`, '\r': `\r`, '\t': `\t`}
 	out := []byte{'"'}
@@ -93,7 +94,7 @@ func quotedJSON(text string) string {
 	return string(append(out, '"'))
 }
 
-// orDash joins the parts of a cell; one that has none has a dash.
+// orDash joins the parts of a cell with commas. Without parts the cell is a dash.
 func orDash(parts []string) string {
 	if len(parts) == 0 {
 		return "-"
@@ -101,10 +102,10 @@ func orDash(parts []string) string {
 	return strings.Join(parts, ",")
 }
 
-func shownPairs(pairs map[string]string) string {
+func formatPairs(pairs map[string]string) string {
 	var parts []string
 	for _, key := range sortedKeys(pairs) {
-		parts = append(parts, partOfWord(key)+"="+partOfWord(pairs[key]))
+		parts = append(parts, escapeWord(key)+"="+escapeWord(pairs[key]))
 	}
 	return orDash(parts)
 }
@@ -118,6 +119,7 @@ func sortedKeys(pairs map[string]string) []string {
 	return keys
 }
 
+// String formats the capability for the table: its access, or its file system, and its mode.
 func (c capability) String() string {
 	switch {
 	case !c.isMount:
@@ -125,34 +127,36 @@ func (c capability) String() string {
 	case c.fsType == "":
 		return "mount:" + c.modeName()
 	}
-	return word(c.fsType) + ":" + c.modeName()
+	return formatWord(c.fsType) + ":" + c.modeName()
 }
 
-// cells is the row of a volume.
-func (v *listed) cells() []string {
+// cells returns the row of a volume in the table.
+func (v *listedVolume) cells() []string {
 	var capabilities, nodes []string
 	for _, one := range v.capabilities {
 		capabilities = append(capabilities, one.String())
 	}
 	for _, node := range v.nodes {
-		nodes = append(nodes, partOfWord(node))
+		nodes = append(nodes, escapeWord(node))
 	}
 	return []string{
-		fmt.Sprintf("vol-%d", v.number), word(v.name), word(v.pool), shownSize(v.bytes), orDash(capabilities), shownPairs(v.parameters), shownPairs(v.mutable),
+		fmt.Sprintf("vol-%d", v.number), formatWord(v.name), formatWord(v.pool), formatSize(v.bytes),
+		orDash(capabilities), formatPairs(v.parameters), formatPairs(v.mutable),
 		orDash(nodes),
 	}
 }
 
-// A longer cell than this makes no column wider, so that one long cell costs no space in each other row.
-const widest = 80
+// maxCellWidth is the widest cell that widens its column. Without this limit one long cell would
+// add spaces to every row.
+const maxCellWidth = 80
 
-// writeRows writes rows in columns, of which two are two spaces apart. A cell that is longer than its column moves the rest of its own row to the
-// right.
+// writeRows writes rows in columns with two spaces between them. A cell that is longer than its
+// column moves the rest of its row to the right.
 func writeRows(out *bufio.Writer, rows [][]string) {
 	widths := make([]int, len(rows[0]))
 	for _, row := range rows {
 		for i, cell := range row {
-			if len(cell) > widths[i] && len(cell) <= widest {
+			if len(cell) > widths[i] && len(cell) <= maxCellWidth {
 				widths[i] = len(cell)
 			}
 		}
@@ -174,13 +178,14 @@ func writeRows(out *bufio.Writer, rows [][]string) {
 func (s sums) write(out *bufio.Writer, heading string) {
 	rows := [][]string{{heading, "VOLUMES", "SIZE"}}
 	for _, name := range s.names() {
-		rows = append(rows, []string{word(name), strconv.FormatUint(s[name].volumes, 10), shownSize(s[name].bytes)})
+		rows = append(rows, []string{formatWord(name), strconv.FormatUint(s[name].volumes, 10),
+			formatSize(s[name].bytes)})
 	}
 	out.WriteByte('\n')
 	writeRows(out, rows)
 }
 
-func writeTable(out *bufio.Writer, volumes []*listed) {
+func writeTable(out *bufio.Writer, volumes []*listedVolume) {
 	rows := [][]string{{"ID", "NAME", "POOL", "SIZE", "CAPABILITIES", "PARAMETERS", "MUTABLE", "NODES"}}
 	for _, v := range volumes {
 		rows = append(rows, v.cells())
@@ -206,7 +211,7 @@ func (c capability) json() string {
 	return `{"access":"mount","fsType":` + quotedJSON(c.fsType) + `,"mode":` + quotedJSON(c.modeName()) + "}"
 }
 
-func (v *listed) json() string {
+func (v *listedVolume) json() string {
 	var capabilities, nodes []string
 	for _, one := range v.capabilities {
 		capabilities = append(capabilities, one.json())
@@ -214,21 +219,24 @@ func (v *listed) json() string {
 	for _, node := range v.nodes {
 		nodes = append(nodes, quotedJSON(node))
 	}
-	return fmt.Sprintf(`{"id":"vol-%d","name":%s,"pool":%s,"bytes":%d,"capabilities":[%s],"parameters":%s,"mutableParameters":%s,"nodes":[%s]}`,
-		v.number, quotedJSON(v.name), quotedJSON(v.pool), v.bytes, strings.Join(capabilities, ","), jsonPairs(v.parameters), jsonPairs(v.mutable),
+	return fmt.Sprintf(`{"id":"vol-%d","name":%s,"pool":%s,"bytes":%d,"capabilities":[%s],`+
+		`"parameters":%s,"mutableParameters":%s,"nodes":[%s]}`,
+		v.number, quotedJSON(v.name), quotedJSON(v.pool), v.bytes, strings.Join(capabilities, ","),
+		jsonPairs(v.parameters), jsonPairs(v.mutable),
 		strings.Join(nodes, ","))
 }
 
 func (s sums) json(key string) string {
 	var parts []string
 	for _, name := range s.names() {
-		parts = append(parts, fmt.Sprintf(`{%q:%s,"volumes":%d,"bytes":%d}`, key, quotedJSON(name), s[name].volumes, s[name].bytes))
+		parts = append(parts, fmt.Sprintf(`{%q:%s,"volumes":%d,"bytes":%d}`, key, quotedJSON(name), s[name].volumes,
+			s[name].bytes))
 	}
 	return "[" + strings.Join(parts, ",") + "]"
 }
 
-// writeJSON writes one document, with a volume a line.
-func writeJSON(out *bufio.Writer, volumes []*listed) {
+// writeJSON writes one JSON document with each volume on a line of its own.
+func writeJSON(out *bufio.Writer, volumes []*listedVolume) {
 	out.WriteString(`{"volumes":[`)
 	for i, v := range volumes {
 		if i > 0 {

@@ -4,6 +4,7 @@ import (
 	"bufio"
 	"bytes"
 	"encoding/json"
+	"fmt"
 	"reflect"
 	"strings"
 	"testing"
@@ -11,29 +12,32 @@ import (
 	"google.golang.org/protobuf/encoding/protowire"
 )
 
-// The bytes of capabilities: a block device of mode 1, a mount of any file system with mode 1, and one of ext4 with mode 5.
+// Encoded capabilities: a block device with mode 1, a mount of any file system with mode 1, and a
+// mount of ext4 with mode 5.
 const (
 	blockCap = "1a060a001a020801"
 	mountCap = "1a0612001a020801"
 	ext4Cap  = "1a0c12060a04657874341a020805"
 )
 
-// The bytes of the parameters k=v and l="a b", and of the mutable parameter m of no bytes.
+// The encoded parameters k=v and l="a b", and the mutable parameter m with an empty value.
 const someParams = "22060a016b120176" + "22080a016c1203612062" + "42050a016d1200"
 
-// volumesToList are four volumes of two pools, of which three are at nodes.
-func volumesToList(t *testing.T) []*listed {
+// volumesToList returns four volumes in two pools. Three of them are published.
+func volumesToList(t *testing.T) []*listedVolume {
+	t.Helper()
 	rows := []struct {
 		volume
 		caps, params string
 		nodes        []string
 	}{
 		{volume{number: 1, name: "pvc-1", bytes: 3 << 30, pool: "ssd"}, blockCap, "", []string{"n1"}},
-		{volume{number: 2, name: "a b", bytes: 1536 << 20, pool: "hdd"}, mountCap + ext4Cap, someParams, []string{"n1", "n2"}},
+		{volume{number: 2, name: "a b", bytes: 1536 << 20, pool: "hdd"}, mountCap +
+			ext4Cap, someParams, []string{"n1", "n2"}},
 		{volume{number: 7, name: `pvc-"7"`, bytes: 5 << 20, pool: "ssd"}, blockCap, "", nil},
 		{volume{number: 8, name: "ä\n", bytes: 1 << 62, pool: "hdd"}, blockCap, "", []string{"n,1"}},
 	}
-	var volumes []*listed
+	var volumes []*listedVolume
 	for _, row := range rows {
 		row.volume.caps, row.volume.params = fromHex(t, row.caps), fromHex(t, row.params)
 		v, err := readListed(row.volume)
@@ -63,34 +67,42 @@ n2    1        1.5 GiB
 `
 
 func TestListedTable(t *testing.T) {
-	for _, row := range []struct {
-		volumes []*listed
+	cases := []struct {
+		name    string
+		volumes []*listedVolume
 		want    string
 	}{
-		{volumesToList(t), listedTable},
-		{nil, "ID  NAME  POOL  SIZE  CAPABILITIES  PARAMETERS  MUTABLE  NODES\n\nPOOL  VOLUMES  SIZE\n\nNODE  VOLUMES  SIZE\n"},
-	} {
-		var shown bytes.Buffer
-		out := bufio.NewWriter(&shown)
-		writeTable(out, row.volumes)
-		out.Flush()
-		if shown.String() != row.want {
-			t.Errorf("%s\nwanted\n%s", shown.String(), row.want)
-		}
+		{"four volumes", volumesToList(t), listedTable},
+		{"no volumes", nil, "ID  NAME  POOL  SIZE  CAPABILITIES  PARAMETERS  MUTABLE  NODES\n\n" +
+			"POOL  VOLUMES  SIZE\n\nNODE  VOLUMES  SIZE\n"},
+	}
+	for _, c := range cases {
+		t.Run(c.name, func(t *testing.T) {
+			var shown bytes.Buffer
+			out := bufio.NewWriter(&shown)
+			writeTable(out, c.volumes)
+			out.Flush()
+			if shown.String() != c.want {
+				t.Errorf("got\n%s\nwant\n%s", shown.String(), c.want)
+			}
+		})
 	}
 }
 
-// A cell of 80 bytes makes its column wider; a longer one moves the rest of its own row alone.
+// A cell of 80 bytes widens its column. A longer one moves only the rest of its own row.
 func TestLongCells(t *testing.T) {
-	for _, row := range []struct{ length, width int }{{80, 80}, {81, 1}} {
-		long := strings.Repeat("x", row.length)
-		var shown bytes.Buffer
-		out := bufio.NewWriter(&shown)
-		writeRows(out, [][]string{{"a", "b"}, {long, "c"}})
-		out.Flush()
-		if want := "a" + strings.Repeat(" ", row.width+1) + "b\n" + long + "  c\n"; shown.String() != want {
-			t.Errorf("%q, not %q", shown.String(), want)
-		}
+	for _, c := range []struct{ length, width int }{{80, 80}, {81, 1}} {
+		t.Run(fmt.Sprintf("%d bytes", c.length), func(t *testing.T) {
+			long := strings.Repeat("x", c.length)
+			var shown bytes.Buffer
+			out := bufio.NewWriter(&shown)
+			writeRows(out, [][]string{{"a", "b"}, {long, "c"}})
+			out.Flush()
+			want := "a" + strings.Repeat(" ", c.width+1) + "b\n" + long + "  c\n"
+			if got := shown.String(); got != want {
+				t.Errorf("got %q, want %q", got, want)
+			}
+		})
 	}
 }
 
@@ -117,111 +129,157 @@ func readJSON(t *testing.T, text string) (value interface{}) {
 }
 
 func TestListedJSON(t *testing.T) {
-	for _, row := range []struct {
-		volumes []*listed
+	cases := []struct {
+		name    string
+		volumes []*listedVolume
 		want    string
 		lines   int
-	}{{volumesToList(t), listedDocument, 8}, {nil, `{"volumes": [], "pools": [], "nodes": []}`, 4}} {
-		var shown bytes.Buffer
-		out := bufio.NewWriter(&shown)
-		writeJSON(out, row.volumes)
-		out.Flush()
-		if got := shown.String(); !reflect.DeepEqual(readJSON(t, got), readJSON(t, row.want)) || strings.Count(got, "\n") != row.lines {
-			t.Errorf("%s\nwanted\n%s", got, row.want)
-		}
-		if strings.Contains(shown.String(), `\u0020`) {
-			t.Errorf("a space is escaped: %s", shown.String())
-		}
+	}{
+		{"four volumes", volumesToList(t), listedDocument, 8},
+		{"no volumes", nil, `{"volumes": [], "pools": [], "nodes": []}`, 4},
+	}
+	for _, c := range cases {
+		t.Run(c.name, func(t *testing.T) {
+			var shown bytes.Buffer
+			out := bufio.NewWriter(&shown)
+			writeJSON(out, c.volumes)
+			out.Flush()
+			got := shown.String()
+			if !reflect.DeepEqual(readJSON(t, got), readJSON(t, c.want)) {
+				t.Errorf("got\n%s\nwant\n%s", got, c.want)
+			}
+			if lines := strings.Count(got, "\n"); lines != c.lines {
+				t.Errorf("got %d lines, want %d:\n%s", lines, c.lines, got)
+			}
+			if strings.Contains(got, `\u0020`) {
+				t.Errorf("a space is escaped: %s", got)
+			}
+		})
 	}
 }
 
-func TestChosen(t *testing.T) {
-	for _, row := range []struct {
-		chosen chosen
+func TestVolumeFilter(t *testing.T) {
+	cases := []struct {
+		name   string
+		filter volumeFilter
 		want   []uint64
 	}{
-		{chosen{}, []uint64{1, 2, 7, 8}}, {chosen{volume: "a b"}, []uint64{2}}, {chosen{volume: "pvc-"}, nil}, {chosen{pool: "ssd"}, []uint64{1, 7}},
-		{chosen{node: "n1"}, []uint64{1, 2}}, {chosen{node: "n2"}, []uint64{2}}, {chosen{node: "n"}, nil}, {chosen{pool: "hdd", node: "n1"}, []uint64{2}},
-		{chosen{volume: "pvc-1", pool: "hdd"}, nil},
-	} {
-		var got []uint64
-		for _, v := range volumesToList(t) {
-			if row.chosen.has(v) {
-				got = append(got, v.number)
+		{"none", volumeFilter{}, []uint64{1, 2, 7, 8}},
+		{"name", volumeFilter{volume: "a b"}, []uint64{2}},
+		{"start of a name", volumeFilter{volume: "pvc-"}, nil},
+		{"pool", volumeFilter{pool: "ssd"}, []uint64{1, 7}},
+		{"node", volumeFilter{node: "n1"}, []uint64{1, 2}},
+		{"node of one volume", volumeFilter{node: "n2"}, []uint64{2}},
+		{"start of a node", volumeFilter{node: "n"}, nil},
+		{"pool and node", volumeFilter{pool: "hdd", node: "n1"}, []uint64{2}},
+		{"name in another pool", volumeFilter{volume: "pvc-1", pool: "hdd"}, nil},
+	}
+	for _, c := range cases {
+		t.Run(c.name, func(t *testing.T) {
+			var got []uint64
+			for _, v := range volumesToList(t) {
+				if c.filter.matches(v) {
+					got = append(got, v.number)
+				}
 			}
-		}
-		if !reflect.DeepEqual(got, row.want) {
-			t.Errorf("%+v: %v", row.chosen, got)
-		}
+			if !reflect.DeepEqual(got, c.want) {
+				t.Errorf("got %v, want %v", got, c.want)
+			}
+		})
 	}
 }
 
-func TestWords(t *testing.T) {
-	for _, row := range []struct{ text, want string }{
-		{"pvc-1", "pvc-1"}, {"", "-"}, {"-", "-"}, {"a b", "a%20b"}, {"100%", "100%25"}, {"a,b=c", "a,b=c"}, {"~!", "~!"}, {"\x7f\x20\x1f", "%7F%20%1F"}, {"ä", "%C3%A4"},
-	} {
-		if got := word(row.text); got != row.want {
-			t.Errorf("%q: %s, wanted %s", row.text, got, row.want)
-		}
+func TestFormatWord(t *testing.T) {
+	cases := []struct{ text, want string }{
+		{"pvc-1", "pvc-1"}, {"", "-"}, {"-", "-"}, {"a b", "a%20b"}, {"100%", "100%25"}, {"a,b=c", "a,b=c"},
+		{"~!", "~!"}, {"\x7f\x20\x1f", "%7F%20%1F"}, {"ä", "%C3%A4"},
+	}
+	for _, c := range cases {
+		t.Run(fmt.Sprintf("%q", c.text), func(t *testing.T) {
+			if got := formatWord(c.text); got != c.want {
+				t.Errorf("got %s, want %s", got, c.want)
+			}
+		})
 	}
 }
 
 func TestQuotedJSON(t *testing.T) {
-	for _, row := range []struct{ text, want string }{
+	cases := []struct{ text, want string }{
 		{"", `""`}, {`a"\`, `"a\"\\"`}, {"\x01\b\f\n\r\t", `"\u0001\b\f\n\r\t"`}, {"ä", `"ä"`}, {"<&>", `"<&>"`},
-	} {
-		if got := quotedJSON(row.text); got != row.want {
-			t.Errorf("%q: %s, wanted %s", row.text, got, row.want)
-		}
+	}
+	for _, c := range cases {
+		t.Run(fmt.Sprintf("%q", c.text), func(t *testing.T) {
+			if got := quotedJSON(c.text); got != c.want {
+				t.Errorf("got %s, want %s", got, c.want)
+			}
+		})
 	}
 }
 
-func TestShownSizes(t *testing.T) {
-	for _, row := range []struct {
+func TestFormatSize(t *testing.T) {
+	cases := []struct {
 		bytes uint64
 		want  string
 	}{
-		{0, "0 B"}, {1, "1 B"}, {512, "512 B"}, {1000, "1000 B"}, {1023, "1023 B"}, {1024, "1 KiB"}, {1025, "1025 B"}, {1536, "1.5 KiB"}, {1 << 20, "1 MiB"},
-		{1<<20 + 1024, "1025 KiB"}, {3 << 29, "1.5 GiB"}, {1 << 40, "1 TiB"}, {1 << 50, "1 PiB"}, {1 << 60, "1 EiB"}, {1 << 63, "8 EiB"},
-		{1<<64 - 1, "18446744073709551615 B"},
-	} {
-		if got := shownSize(row.bytes); got != row.want {
-			t.Errorf("%d: %s, wanted %s", row.bytes, got, row.want)
-		}
+		{0, "0 B"}, {1, "1 B"}, {512, "512 B"}, {1000, "1000 B"}, {1023, "1023 B"}, {1024, "1 KiB"}, {1025, "1025 B"},
+		{1536, "1.5 KiB"}, {1 << 20, "1 MiB"}, {1<<20 + 1024, "1025 KiB"}, {3 << 29, "1.5 GiB"}, {1 << 40, "1 TiB"},
+		{1 << 50, "1 PiB"}, {1 << 60, "1 EiB"}, {1 << 63, "8 EiB"}, {1<<64 - 1, "18446744073709551615 B"},
+	}
+	for _, c := range cases {
+		t.Run(fmt.Sprintf("%d bytes", c.bytes), func(t *testing.T) {
+			if got := formatSize(c.bytes); got != c.want {
+				t.Errorf("got %s, want %s", got, c.want)
+			}
+		})
 	}
 }
 
-// Sums end at the greatest number.
+// Sums stop at the greatest number.
 func TestSums(t *testing.T) {
 	s := sums{}
 	s.add("p", 1<<63)
 	s.add("p", 1<<63)
 	if s["p"] != (sum{2, 1<<64 - 1}) {
-		t.Errorf("%+v", s["p"])
+		t.Errorf("got %+v, want 2 volumes of 2^64-1 bytes", s["p"])
 	}
 }
 
 // Columns that are not the fields of a volume are refused.
 func TestBrokenColumns(t *testing.T) {
-	for _, row := range []struct{ caps, params string }{
-		{"1a", ""}, {"1a020801", ""}, {"08011a060a001a020801", ""}, {blockCap, "22"}, {blockCap, "2a00"}, {blockCap, "22030a01ff"}, {"1a0612040a02ffff", ""},
-	} {
-		if v, err := readListed(volume{caps: fromHex(t, row.caps), params: fromHex(t, row.params)}); err != errColumns {
-			t.Errorf("%s, %s: %+v, %v", row.caps, row.params, v, err)
-		}
+	cases := []struct{ name, caps, params string }{
+		{"cut off capability", "1a", ""},
+		{"capability with a number", "1a020801", ""},
+		{"field before the capabilities", "08011a060a001a020801", ""},
+		{"cut off parameter", blockCap, "22"},
+		{"unknown field", blockCap, "2a00"},
+		{"key that is not UTF-8", blockCap, "22030a01ff"},
+		{"file system that is not UTF-8", "1a0612040a02ffff", ""},
+	}
+	for _, c := range cases {
+		t.Run(c.name, func(t *testing.T) {
+			v, err := readListed(volume{caps: fromHex(t, c.caps), params: fromHex(t, c.params)})
+			if err != errColumns {
+				t.Errorf("got %+v, error %v, want %v", v, err, errColumns)
+			}
+		})
 	}
 }
 
 // A mode without a name is shown as unknown.
-func TestModes(t *testing.T) {
-	for _, row := range []struct {
+func TestModeName(t *testing.T) {
+	cases := []struct {
 		mode uint64
 		want string
-	}{{1, "SINGLE_NODE_WRITER"}, {7, "SINGLE_NODE_MULTI_WRITER"}, {8, "UNKNOWN"}, {0, "UNKNOWN"}} {
-		message := append([]byte{0x0a, 0, 0x1a}, protowire.AppendBytes(nil, protowire.AppendVarint([]byte{8}, row.mode))...)
-		read, err := readCapability(message)
-		if err != nil || read.String() != "block:"+row.want {
-			t.Errorf("%d: %v, %v", row.mode, read, err)
-		}
+	}{
+		{1, "SINGLE_NODE_WRITER"}, {7, "SINGLE_NODE_MULTI_WRITER"}, {8, "UNKNOWN"}, {0, "UNKNOWN"},
+	}
+	for _, c := range cases {
+		t.Run(fmt.Sprintf("mode %d", c.mode), func(t *testing.T) {
+			access := protowire.AppendBytes(nil, protowire.AppendVarint([]byte{8}, c.mode))
+			got, err := readCapability(append([]byte{0x0a, 0, 0x1a}, access...))
+			if err != nil || got.String() != "block:"+c.want {
+				t.Errorf("got %v, error %v, want block:%s", got, err, c.want)
+			}
+		})
 	}
 }

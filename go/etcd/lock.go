@@ -14,124 +14,128 @@ import (
 	"fomaheti/frames"
 )
 
-// How often it is looked who holds the lock: often while this program waits for it, since it leads then.
+// Pauses between two reads of the queue. A waiting program reads more often: its turn to lead may
+// come at any time.
 const (
 	waitingPause = 250 * time.Millisecond
 	leadingPause = time.Second
 )
 
-// leadership is who leads: this program in a term, or it does not, and each call is refused.
+// leadership holds the current term, or without one the refusal that answers each call.
 type leadership struct {
 	mutex   sync.Mutex
 	term    *term
 	refusal refusal
 }
 
-// current is the term of this program, or the refusal of each call.
+// current returns the term, or nil and the refusal of each call.
 func (l *leadership) current() (*term, refusal) {
 	l.mutex.Lock()
 	defer l.mutex.Unlock()
 	return l.term, l.refusal
 }
 
-func (l *leadership) set(term *term, why refusal) {
+func (l *leadership) set(term *term, reason refusal) {
 	l.mutex.Lock()
 	defer l.mutex.Unlock()
-	l.term, l.refusal = term, why
+	l.term, l.refusal = term, reason
 }
 
-// candidate waits for the lock again and again, and leads while it has it. The lock is an election by the rule of etcd's own: each candidate puts
-// a key with its lease below one prefix, and the key that was made first leads. Unlike clientv3/concurrency it looks for its own key too, and never
-// waits without a deadline.
+// candidate campaigns for the lock and leads while it holds it. The lock is an election by etcd's
+// own rule: each candidate puts a key with its lease below one prefix, and the key created first
+// leads. Unlike clientv3/concurrency, a candidate also checks that its own key exists, and each of
+// its waits has a deadline.
 type candidate struct {
-	asked     options
+	opts      options
 	members   *members
 	keys      keys
 	revisions *revisions
 	state     *leadership
-	say       func(format string, parts ...interface{})
-	// Closes the connection of csid.
+	logf      func(format string, args ...interface{})
+	// drop closes the connection of csid.
 	drop func()
-	// The leases of terms that are over, as long as etcd did not end them.
+	// Leases of earlier terms that etcd has not revoked yet.
 	leases []clientv3.LeaseID
-	// The last line about who holds the lock, or why etcd does not answer, and why members could not
-	// be reached then. It does not have who refused a call: calls go to the members in turn.
-	said string
+	// The last line on the lock or on unreachable members, without the member that refused a call:
+	// calls go to the members in turn, so this member differs from line to line.
+	lastLine string
 }
 
-// begin is before the first look at etcd.
-func (c *candidate) begin() { c.state.set(nil, refuse("waiting for the lock: etcd was not asked yet")) }
+// init sets the refusal of calls that arrive before the first answer of etcd.
+func (c *candidate) init() { c.state.set(nil, refuse("waiting for the lock: etcd was not asked yet")) }
 
 // run campaigns for the lock until the context ends.
 func (c *candidate) run(ctx context.Context) {
 	for ctx.Err() == nil {
 		if err := c.campaign(ctx); ctx.Err() == nil {
-			c.waits(err)
+			c.reportWaiting(err)
 		}
-		pause(ctx, waitingPause)
+		sleep(ctx, waitingPause)
 	}
 }
 
-// report writes a line, unless it is the last one again.
+// report writes a line unless it repeats the last one.
 func (c *candidate) report(line string) { c.reportError(line, nil) }
 
-// reportError writes a line with the members that an error comes from.
+// reportError writes a line with the members that caused the error, unless it repeats the last one.
 func (c *candidate) reportError(line string, err error) {
-	if what := line + c.members.reasons(err); what != c.said {
-		c.say("%s", frames.Text(line+c.members.where(err)))
-		c.said = what
+	if what := line + c.members.reasons(err); what != c.lastLine {
+		c.logf("%s", frames.Text(line+c.members.membersOf(err)))
+		c.lastLine = what
 	}
 }
 
-// campaign gets a lease, queues up by a key, and leads when it is its turn. It ends when the lease or the key is lost, or with an error where it got
-// no lease. Certificates and the password are read each time.
-func (c *candidate) campaign(ending context.Context) error {
+// campaign gets a lease, puts a key into the queue and leads when its turn comes. It returns nil
+// after the lease or the key is lost, or the error that kept it from a lease. Each campaign reads
+// the certificates and the password again.
+func (c *candidate) campaign(parent context.Context) error {
 	client, err := c.members.connect()
 	if err != nil {
 		return err
 	}
 	defer client.Close()
 	least := c.revisions.least()
-	requested, cancelRequest := context.WithTimeout(ending, c.asked.timeout)
-	lease, revision, err := grantLease(clientv3.WithRequireLeader(requested), client, c.asked.lease)
+	requestCtx, cancelRequest := context.WithTimeout(parent, c.opts.timeout)
+	lease, revision, err := grantLease(clientv3.WithRequireLeader(requestCtx), client, c.opts.lease)
 	cancelRequest()
 	if err != nil {
 		return err
 	}
 	c.revisions.check(least, revision)
-	ctx, cancel := context.WithCancel(ending)
+	ctx, cancel := context.WithCancel(parent)
 	defer cancel()
-	kept := make(chan error, 1)
+	leaseDone := make(chan error, 1)
 	go func() {
-		why := lease.keep(ctx)
+		reason := lease.keepAlive(ctx)
 		cancel()
-		// Here too, so that it waits for nothing.
+		// Dropped here too: stopLeading below may first wait for an answer of etcd.
 		c.drop()
-		kept <- why
+		leaseDone <- reason
 	}()
-	c.giveBack(client)
+	c.releaseLeases(client)
 	c.leases = append(c.leases, lease.id)
-	defer c.giveBack(client)
-	t := &term{
-		client: client, keys: c.keys, lease: lease, revisions: c.revisions, timeout: c.asked.timeout, ctx: ctx, end: cancel,
-		key: c.keys.lock(lease.id), id: c.asked.id, gone: make(chan struct{}, 1),
-	}
-	err = c.hold(t)
+	defer c.releaseLeases(client)
+	err = c.holdLock(c.newTerm(ctx, cancel, client, lease))
 	cancel()
-	if over := <-kept; over == errLeaseOver {
+	if over := <-leaseDone; over == errLeaseOver {
 		err = over
-	} else if ending.Err() != nil {
+	} else if parent.Err() != nil {
 		err = errEnding
 	}
-	c.stop(err, refuse("waiting for the lock: %v", err))
+	c.stopLeading(err, refuse("waiting for the lock: %v", err))
 	return nil
 }
 
-// giveBack ends the leases of terms that are over, with the keys that are attached to them, so that nobody waits until they end on their own. A key that was put
-// by hand without its lease would stay for ever, so keys are deleted too. A lease for which etcd does not answer, as while it elects a leader, is ended
-// before the next term.
-func (c *candidate) giveBack(client *clientv3.Client) {
-	ctx, cancel := context.WithTimeout(context.Background(), c.asked.timeout)
+func (c *candidate) newTerm(ctx context.Context, end context.CancelFunc, client *clientv3.Client, lease *lease) *term {
+	return &term{client: client, keys: c.keys, lease: lease, revisions: c.revisions, timeout: c.opts.timeout,
+		ctx: ctx, end: end, key: c.keys.lock(lease.id), id: c.opts.id, gone: make(chan struct{}, 1)}
+}
+
+// releaseLeases revokes the leases of earlier terms, so that the next candidate need not wait until
+// they expire. It also deletes their keys: a key that somebody put by hand without the lease would
+// stay for ever. If etcd does not answer, the next campaign tries again.
+func (c *candidate) releaseLeases(client *clientv3.Client) {
+	ctx, cancel := context.WithTimeout(context.Background(), c.opts.timeout)
 	defer cancel()
 	var left []clientv3.LeaseID
 	for _, id := range c.leases {
@@ -146,31 +150,32 @@ func (c *candidate) giveBack(client *clientv3.Client) {
 	c.leases = left
 }
 
-// Why a term is over, other than that its lease is.
+// Ends of a term other than the end of its lease.
 var (
 	errKeyGone = errors.New("its key is gone")
 	errEnding  = errors.New("it was asked to end")
 )
 
-// hold puts the key, and looks who holds the lock until the term ends.
-func (c *candidate) hold(t *term) error {
-	isPut, isLeading := false, false
+// holdLock puts the key, and reads the queue until the term ends. It returns the reason of the end.
+func (c *candidate) holdLock(t *term) error {
+	hasKey, isLeading := false, false
 	for t.ctx.Err() == nil {
-		if !isPut {
+		if !hasKey {
 			err := t.putKey()
-			isPut = err == nil
-			c.waits(err)
+			hasKey = err == nil
+			c.reportWaiting(err)
 		}
 		queue, err := t.queue()
 		switch {
 		case err == rpctypes.ErrAuthFailed:
-			// The user has another password than that which was read, and the lease may be kept for ever. The next term reads it again.
+			// The password was changed after it was read. The lease might still be renewed for
+			// ever, so the term ends here, and the next one reads the password again.
 			return err
 		case err != nil && !isLeading:
-			c.waits(err)
+			c.reportWaiting(err)
 		case err != nil:
-			// The lease reports whether this program leads still.
-		case isLeading && (queue.own != t.created || queue.first != t.created), isPut && queue.own == 0:
+			// The lease decides whether this program still leads.
+		case isLeading && (queue.own != t.created || queue.first != t.created), hasKey && queue.own == 0:
 			return errKeyGone
 		case queue.own == 0:
 		case queue.own != queue.first:
@@ -180,75 +185,79 @@ func (c *candidate) hold(t *term) error {
 			isLeading = c.lead(t, queue, isLeading)
 		}
 		if isLeading {
-			// Calls go to the members in turn: in a steady rhythm one could always reach a member that does not answer, and this one never.
-			pause(t.ctx, leadingPause/2+time.Duration(rand.Int63n(int64(leadingPause))))
+			// Calls go to the members in turn. With a steady rhythm this read might always reach
+			// the same member, which may be one that does not answer.
+			sleep(t.ctx, leadingPause/2+time.Duration(rand.Int63n(int64(leadingPause))))
 		} else {
-			pause(t.ctx, waitingPause)
+			sleep(t.ctx, waitingPause)
 		}
 	}
-	return t.why()
+	return t.endReason()
 }
 
-// waits says why there is no lock, where there is an error.
-func (c *candidate) waits(err error) {
+// reportWaiting reports why the program has no lock, and refuses calls with this reason. It does
+// nothing without an error.
+func (c *candidate) reportWaiting(err error) {
 	if err != nil {
 		c.reportError(fmt.Sprintf("no lock: %v", err), err)
 		c.state.set(nil, refuse("waiting for the lock: %v", err))
 	}
 }
 
-// lead begins to lead, unless an older snapshot was seen. The lock is kept then, so that no other program leads either.
+// lead starts to lead, and reports whether the program leads. If etcd was restored from an older
+// snapshot it does not lead, but keeps the lock: then no other program leads either.
 func (c *candidate) lead(t *term, queue queue, isLeading bool) bool {
 	if err := c.revisions.check(queue.least, queue.revision); err != nil {
-		c.stop(err, err.(refusal))
+		c.stopLeading(err, err.(refusal))
 		return false
 	}
 	if !isLeading {
 		t.created, t.put, t.seen = queue.own, queue.ownPut, queue.revision
 		c.state.set(t, refusal{})
-		c.report(fmt.Sprintf("leads, from revision %d on, by the key %s", queue.revision, c.keys.shown(t.key)))
+		c.report(fmt.Sprintf("leads, from revision %d on, by the key %s", queue.revision, c.keys.display(t.key)))
 		go t.watch(queue.revision)
 	}
 	return true
 }
 
-// stop ends leading, where this program does, and closes the connection of csid at once.
-func (c *candidate) stop(why error, answer refusal) {
+// stopLeading ends the term, if there is one, and closes the connection of csid at once.
+func (c *candidate) stopLeading(reason error, answer refusal) {
 	before, _ := c.state.current()
 	c.state.set(nil, answer)
 	if before == nil {
-		c.reportError(fmt.Sprintf("no lock: %v", why), why)
+		c.reportError(fmt.Sprintf("no lock: %v", reason), reason)
 		return
 	}
 	c.drop()
-	c.reportError(fmt.Sprintf("leads no more: %v", why), why)
+	c.reportError(fmt.Sprintf("leads no more: %v", reason), reason)
 }
 
-// putKey puts the key of this program, where it is not there yet.
+// putKey puts the key of this program unless it exists.
 func (t *term) putKey() error {
 	ctx, cancel := t.request(t.ctx)
 	defer cancel()
 	put := clientv3.OpPut(t.key, t.id, clientv3.WithLease(t.lease.id))
-	_, err := t.client.Txn(ctx).If(isAbsent(t.key)).Then(put).Commit()
+	_, err := t.client.Txn(ctx).If(keyMissing(t.key)).Then(put).Commit()
 	return err
 }
 
-// queue is who waits for the lock: the revisions of the making of the first key and of this program's own, 0 where it is not there.
+// queue is the state of the election: the create revisions of the first key and of this program's
+// own key, 0 for a missing key.
 type queue struct {
 	first, own int64
-	// The revision at which the own key was put the last time.
+	// The revision at which the own key was last put.
 	ownPut int64
-	// The revision of etcd, and the least that it could be.
+	// The revision of etcd in this answer, and the lowest revision that it could have.
 	revision, least int64
 	holder          string
 }
 
-// queue reads who waits for the lock.
+// queue reads the keys of all candidates.
 func (t *term) queue() (queue, error) {
 	least := t.revisions.least()
 	order := clientv3.WithSort(clientv3.SortByCreateRevision, clientv3.SortAscend)
 	var read *clientv3.GetResponse
-	err := t.tries(t.ctx, func(ctx context.Context) (err error) {
+	err := t.retry(t.ctx, func(ctx context.Context) (err error) {
 		read, err = t.client.Get(ctx, t.keys.locks(), clientv3.WithRange(rangeEnd(t.keys.locks())), order)
 		return err
 	})
@@ -267,8 +276,8 @@ func (t *term) queue() (queue, error) {
 	return q, nil
 }
 
-// pause waits, unless the context ends before.
-func pause(ctx context.Context, length time.Duration) {
+// sleep pauses until the time has passed or the context ends.
+func sleep(ctx context.Context, length time.Duration) {
 	select {
 	case <-time.After(length):
 	case <-ctx.Done():

@@ -12,81 +12,90 @@ import (
 	"go.etcd.io/etcd/mvcc/mvccpb"
 )
 
-// Who leads and sees an older snapshot closes the connection of csid and refuses its calls, whatever is seen after that. A line that would be the one
-// before is not said again.
+// A leading program that sees an older snapshot closes the connection of csid and refuses its
+// calls, whatever it sees later. It does not repeat its last line.
 func TestOlderWhileLeading(t *testing.T) {
-	const older = "etcd is at revision 90, and 110 was answered: it was restored from an older snapshot, and volumes may be missing; --accept-older goes on"
-	var said []string
+	const older = "etcd is at revision 90, and 110 was answered: it was restored from an older snapshot, and volumes " +
+		"may be missing; --accept-older goes on"
+	var lines []string
 	drops := 0
 	state := &leadership{}
 	c := &candidate{keys: sampleKeys, revisions: &revisions{}, state: state, drop: func() { drops++ },
-		say: func(format string, parts ...interface{}) { said = append(said, fmt.Sprintf(format, parts...)) }}
+		logf: func(format string, args ...interface{}) { lines = append(lines, fmt.Sprintf(format, args...)) }}
 	ctx, cancel := context.WithCancel(context.Background())
 	defer cancel()
-	held := &term{key: sampleKeys.locks() + "1", client: startServer(t, &waiters{}, 1), ctx: ctx, end: cancel}
-	isLeading := c.lead(held, queue{own: 5, ownPut: 6, revision: 110, least: 100}, false)
-	if term, _ := state.current(); term != held || !isLeading || held.created != 5 || held.put != 6 || held.seen != 110 || drops != 0 {
-		t.Errorf("it leads: %+v, %d drops", term, drops)
+	term := &term{key: sampleKeys.locks() + "1", client: startServer(t, &queueServer{}, 1), ctx: ctx, end: cancel}
+	isLeading := c.lead(term, queue{own: 5, ownPut: 6, revision: 110, least: 100}, false)
+	if got, _ := state.current(); got != term || !isLeading || term.created != 5 || term.put != 6 || term.seen != 110 ||
+		drops != 0 {
+		t.Errorf("first look: got term %+v, %d drops, want %+v, 0 drops", got, drops, term)
 	}
-	for _, seen := range []queue{{revision: 90, least: 110}, {revision: 200, least: 110}, {revision: 201, least: 110}} {
-		isLeading = c.lead(held, seen, isLeading)
+	for _, observed := range []queue{{revision: 90, least: 110}, {revision: 200, least: 110},
+		{revision: 201, least: 110}} {
+		isLeading = c.lead(term, observed, isLeading)
 		if term, why := state.current(); term != nil || why.code != 9 || why.text != older || isLeading || drops != 1 {
-			t.Errorf("at revision %d: %+v, %v, %d drops", seen.revision, term, why, drops)
+			t.Errorf("at revision %d: got term %+v, refusal %v, %d drops, want %s and 1 drop",
+				observed.revision, term, why, drops, older)
 		}
 	}
 	want := []string{"leads, from revision 110 on, by the key lock/1", "leads no more: " + older, "no lock: " + older}
-	if !reflect.DeepEqual(said, want) {
-		t.Errorf("%q, wanted %q", said, want)
+	if !reflect.DeepEqual(lines, want) {
+		t.Errorf("got %q, want %q", lines, want)
 	}
 }
 
-// waiters is an etcd that takes each key, and answers who waits for the lock by what a test says, at last by the end of the term.
-type waiters struct {
+// queueServer is an etcd that accepts each key. It answers reads of the queue with looks in turn,
+// and then ends the term.
+type queueServer struct {
 	pb.KVServer
-	looks []look
-	came  int
-	state *leadership
-	end   context.CancelFunc
-	// Whether this program led when each look came.
+	looks    []look
+	requests int
+	state    *leadership
+	end      context.CancelFunc
+	// Whether this program led at each read.
 	led []bool
 }
 
-// look is the revisions of the making of the keys of others and of this program, 0 where one is not there, or an error.
+// look is an answer: the create revisions of another key and of this program's key, 0 for a missing
+// key; or an error.
 type look struct {
 	others, own int64
 	err         error
 }
 
-func (w *waiters) Txn(context.Context, *pb.TxnRequest) (*pb.TxnResponse, error) {
+func (s *queueServer) Txn(context.Context, *pb.TxnRequest) (*pb.TxnResponse, error) {
 	return &pb.TxnResponse{Header: &pb.ResponseHeader{}, Succeeded: true}, nil
 }
 
-func (w *waiters) Range(context.Context, *pb.RangeRequest) (*pb.RangeResponse, error) {
-	held, _ := w.state.current()
-	w.led = append(w.led, held != nil)
-	if w.came == len(w.looks) {
-		w.end()
+func (s *queueServer) Range(context.Context, *pb.RangeRequest) (*pb.RangeResponse, error) {
+	term, _ := s.state.current()
+	s.led = append(s.led, term != nil)
+	if s.requests == len(s.looks) {
+		s.end()
 		return nil, errors.New("the end")
 	}
-	seen := w.looks[w.came]
-	w.came++
-	if seen.err != nil {
-		return nil, seen.err
+	observed := s.looks[s.requests]
+	s.requests++
+	if observed.err != nil {
+		return nil, observed.err
 	}
 	read := &pb.RangeResponse{Header: &pb.ResponseHeader{Revision: 100}}
-	if seen.others != 0 {
-		read.Kvs = append(read.Kvs, &mvccpb.KeyValue{Key: []byte("other"), Value: []byte("other"), CreateRevision: seen.others})
+	if observed.others != 0 {
+		read.Kvs = append(read.Kvs, &mvccpb.KeyValue{Key: []byte("other"), Value: []byte("other"),
+			CreateRevision: observed.others})
 	}
-	if seen.own != 0 {
-		read.Kvs = append(read.Kvs, &mvccpb.KeyValue{Key: []byte("own"), Value: []byte("me"), CreateRevision: seen.own})
+	if observed.own != 0 {
+		read.Kvs = append(read.Kvs, &mvccpb.KeyValue{Key: []byte("own"), Value: []byte("me"),
+			CreateRevision: observed.own})
 	}
 	return read, nil
 }
 
-// A key that is gone ends the term, whether this program leads or waits; a look that failed does not, and who leads then leads on.
-func TestHold(t *testing.T) {
+// The end of the key ends the term, whether this program leads or waits. A failed read does not,
+// and a leading program keeps leading.
+func TestHoldLock(t *testing.T) {
 	failed := errors.New("any")
-	rows := []struct {
+	cases := []struct {
 		name  string
 		looks []look
 		led   []bool
@@ -95,23 +104,27 @@ func TestHold(t *testing.T) {
 		{"it waits, and then leads", []look{{5, 6, nil}, {0, 6, nil}}, []bool{false, false, true}, context.Canceled},
 		{"gone while it waits", []look{{5, 6, nil}, {5, 0, nil}}, []bool{false, false}, errKeyGone},
 		{"gone while it leads", []look{{0, 6, nil}, {0, 0, nil}}, []bool{false, true}, errKeyGone},
-		{"made anew while it leads", []look{{0, 6, nil}, {0, 7, nil}}, []bool{false, true}, errKeyGone},
-		{"a key of before while it leads", []look{{0, 6, nil}, {5, 6, nil}}, []bool{false, true}, errKeyGone},
-		{"a look that failed while it leads", []look{{0, 6, nil}, {0, 0, failed}}, []bool{false, true, true}, context.Canceled},
-		{"a look that failed while it waits", []look{{5, 6, nil}, {0, 0, failed}, {0, 6, nil}}, []bool{false, false, false, true}, context.Canceled},
+		{"made again while it leads", []look{{0, 6, nil}, {0, 7, nil}}, []bool{false, true}, errKeyGone},
+		{"an earlier key while it leads", []look{{0, 6, nil}, {5, 6, nil}}, []bool{false, true}, errKeyGone},
+		{"a look that failed while it leads", []look{{0, 6, nil}, {0, 0, failed}}, []bool{false, true, true},
+			context.Canceled},
+		{"a look that failed while it waits", []look{{5, 6, nil}, {0, 0, failed}, {0, 6, nil}},
+			[]bool{false, false, false, true}, context.Canceled},
 	}
-	for _, row := range rows {
-		row := row
-		t.Run(row.name, func(t *testing.T) {
+	for _, c := range cases {
+		c := c
+		t.Run(c.name, func(t *testing.T) {
 			t.Parallel()
 			state := &leadership{}
 			ctx, cancel := context.WithTimeout(context.Background(), 20*time.Second)
 			defer cancel()
-			server := &waiters{looks: row.looks, state: state, end: cancel}
-			c := &candidate{keys: sampleKeys, revisions: &revisions{}, state: state, drop: func() {}, say: t.Logf}
-			err := c.hold(&term{client: startServer(t, server, 1), keys: sampleKeys, lease: &lease{}, revisions: c.revisions, timeout: 5 * time.Second, ctx: ctx, end: cancel, key: "own", id: "me"})
-			if err != row.want || !reflect.DeepEqual(server.led, row.led) {
-				t.Errorf("%v, and it led %v, wanted %v", err, server.led, row.led)
+			server := &queueServer{looks: c.looks, state: state, end: cancel}
+			campaign := &candidate{keys: sampleKeys, revisions: &revisions{}, state: state, drop: func() {},
+				logf: t.Logf}
+			err := campaign.holdLock(&term{client: startServer(t, server, 1), keys: sampleKeys, lease: &lease{},
+				revisions: campaign.revisions, timeout: 5 * time.Second, ctx: ctx, end: cancel, key: "own", id: "me"})
+			if err != c.want || !reflect.DeepEqual(server.led, c.led) {
+				t.Errorf("got error %v, led %v, want %v, %v", err, server.led, c.want, c.led)
 			}
 		})
 	}

@@ -10,23 +10,23 @@ import (
 	"google.golang.org/grpc"
 )
 
-// The service of etcd that gives tokens, and its method.
+// etcd's authentication service and the method that returns tokens.
 const (
 	authService      = "/etcdserverpb.Auth"
 	authenticatePath = authService + "/Authenticate"
 )
 
-// login has the token by which etcd knows the user, and puts it on each call. etcd's own client
-// does that too, but makes a connection of its own for each token, and checks it by the
-// certificates of its start.
+// login holds the token that identifies the user to etcd and adds it to each call. etcd's own
+// client does this too, but it opens another connection for each token, and verifies that
+// connection with the certificates that it read at its start.
 type login struct {
 	user, password string
 	mutex          sync.Mutex
 	token          string
 }
 
-// GetRequestMetadata is the token, where there is one (credentials.PerRPCCredentials). A call for
-// another token has none: etcd refuses it for one that it does not know any more.
+// GetRequestMetadata implements credentials.PerRPCCredentials. It adds no token to a request for a
+// new token: etcd refuses that request if the old token is no longer valid.
 func (l *login) GetRequestMetadata(_ context.Context, services ...string) (map[string]string, error) {
 	l.mutex.Lock()
 	defer l.mutex.Unlock()
@@ -36,19 +36,20 @@ func (l *login) GetRequestMetadata(_ context.Context, services ...string) (map[s
 	return map[string]string{rpctypes.TokenFieldNameGRPC: l.token}, nil
 }
 
-// RequireTransportSecurity is false: an etcd without TLS may have users.
+// RequireTransportSecurity returns false: an etcd without TLS may have users.
 func (l *login) RequireTransportSecurity() bool { return false }
 
-// renew gets another token. An etcd whose authentication is not enabled gives none, and needs none.
-func (l *login) renew(ctx context.Context, connection *grpc.ClientConn) error {
+// renew gets a new token. If authentication is disabled in etcd, no token is needed, and renew
+// succeeds.
+func (l *login) renew(ctx context.Context, conn *grpc.ClientConn) error {
 	if l.user == "" {
 		return nil
 	}
-	asked := &pb.AuthenticateRequest{Name: l.user, Password: l.password}
-	got, err := pb.NewAuthClient(connection).Authenticate(ctx, asked, grpc.WaitForReady(true))
+	request := &pb.AuthenticateRequest{Name: l.user, Password: l.password}
+	response, err := pb.NewAuthClient(conn).Authenticate(ctx, request, grpc.WaitForReady(true))
 	switch {
 	case err == nil:
-		l.set(got.Token)
+		l.set(response.Token)
 	case rpctypes.Error(err) == rpctypes.ErrAuthNotEnabled:
 	case ctx.Err() != nil:
 		return ctx.Err()
@@ -64,25 +65,26 @@ func (l *login) set(token string) {
 	l.token = token
 }
 
-// unary is between etcd's client and the connection: a call that etcd refused for its token is made
-// once more with another one.
-func (l *login) unary(ctx context.Context, method string, request, reply interface{}, connection *grpc.ClientConn,
-	send grpc.UnaryInvoker, options ...grpc.CallOption) error {
-	err := send(ctx, method, request, reply, connection, options...)
-	if err == nil || l.user == "" || method == authenticatePath || !isOfToken(err) {
+// unary is an interceptor. If etcd refuses the token of a call, it renews the token and sends the
+// call once more.
+func (l *login) unary(ctx context.Context, method string, request, reply interface{}, conn *grpc.ClientConn,
+	invoke grpc.UnaryInvoker, options ...grpc.CallOption) error {
+	err := invoke(ctx, method, request, reply, conn, options...)
+	if err == nil || l.user == "" || method == authenticatePath || !isTokenError(err) {
 		return err
 	}
-	if err := l.renew(ctx, connection); err != nil {
+	if err := l.renew(ctx, conn); err != nil {
 		return err
 	}
-	return send(ctx, method, request, reply, connection, options...)
+	return invoke(ctx, method, request, reply, conn, options...)
 }
 
-// stream gives each stream a token of its own, which lasts as long as the stream does.
-func (l *login) stream(ctx context.Context, description *grpc.StreamDesc, connection *grpc.ClientConn, method string,
+// stream is an interceptor that gets a new token for each stream. The token lasts as long as the
+// stream.
+func (l *login) stream(ctx context.Context, description *grpc.StreamDesc, conn *grpc.ClientConn, method string,
 	open grpc.Streamer, options ...grpc.CallOption) (grpc.ClientStream, error) {
-	if err := l.renew(ctx, connection); err != nil {
+	if err := l.renew(ctx, conn); err != nil {
 		return nil, err
 	}
-	return open(ctx, description, connection, method, options...)
+	return open(ctx, description, conn, method, options...)
 }

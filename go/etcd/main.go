@@ -1,5 +1,6 @@
-// csid-etcd is the change store of a csid whose rows are in etcd. It hands rows and changes between the two while it holds a lock of etcd: so of several,
-// each with a csid, one serves, and another takes over where that is lost.
+// csid-etcd is the change store of a csid whose rows are in etcd: it reads rows and makes changes
+// for that csid while it holds a lock in etcd. Of several csid-etcd, each with a csid of its own,
+// the holder of the lock serves. When it loses the lock, another one takes over.
 package main
 
 import (
@@ -18,28 +19,29 @@ import (
 	"fomaheti/sockets"
 )
 
-// Exit statuses; those that csid has too have the same numbers there.
+// Exit statuses. csid uses the same numbers for the same outcomes.
 const (
-	done     = 0
-	failed   = 1
-	badWords = 2
-	noSocket = 7
+	exitOK      = 0
+	exitFailure = 1
+	exitUsage   = 2
+	exitSocket  = 7
 )
 
-// version is the repository's: go/etcd/build takes it from the file VERSION.
+// version is set by go/etcd/build from the file VERSION.
 var version = "unknown"
 
-// What each line begins with.
+// prefix starts each line on standard error.
 const prefix = "csid-etcd: "
 
-// How long the end of the program waits for its last lines to be written.
+// lastLinesTime is how long the program waits at its end until its last lines are written.
 const lastLinesTime = time.Second
 
 func main() {
-	// A reader of standard error who has gone ends nothing.
+	// The program goes on when the reader of standard error closes the pipe.
 	signal.Ignore(syscall.SIGPIPE)
-	// No line waits for whoever reads standard error: the lock is not kept by who waits. What packages say by Go's own log is no exception; that of
-	// gRPC is off, by etcd's client.
+	// A slow reader of standard error must not delay the renewal of the lock, so lines go through a
+	// queue. This includes lines that packages write with Go's log. etcd's client turns gRPC's log
+	// off.
 	queue := logqueue.New(os.Stderr, func(count uint64) string { return prefix + logqueue.Report(count) + "\n" })
 	log.SetFlags(0)
 	log.SetPrefix(prefix)
@@ -50,87 +52,109 @@ func main() {
 }
 
 func run(lines *log.Logger) int {
-	asked, err := readOptions(os.Args[1:], os.Stdout)
+	opts, err := readOptions(os.Args[1:], os.Stdout)
 	if errors.Is(err, flag.ErrHelp) {
-		return done
+		return exitOK
 	}
 	if err != nil {
 		lines.Print(err)
-		return badWords
+		return exitUsage
 	}
-	if asked.version {
+	if opts.version {
 		fmt.Println("csid-etcd", version)
-		return done
+		return exitOK
 	}
-	if asked.isOnce() {
-		return once(asked, lines)
+	if opts.isOneShot() {
+		return runOnce(opts, lines)
 	}
 	stop := make(chan os.Signal, 2)
 	signal.Notify(stop, syscall.SIGTERM, syscall.SIGINT)
-	revisions, err := openRevisions(asked.revision, asked.acceptOlder)
+	revisions, err := openRevisions(opts.revision, opts.acceptOlder)
 	if err != nil {
 		lines.Printf("--revision: %v", err)
-		return failed
+		return exitFailure
 	}
-	// Calls come in order: a further processor would have to be woken for each step of one.
+	// Calls are served in order. With a second processor each step of a call would have to wake it.
 	if os.Getenv("GOMAXPROCS") == "" {
 		runtime.GOMAXPROCS(1)
 	}
-	// Whatever is made from here on is its user's alone.
+	// Only the user of this process may use the files and the socket that it makes.
 	syscall.Umask(0o177)
-	socket, err := sockets.Listen(asked.listen)
+	socket, err := sockets.Listen(opts.listen)
 	if err != nil {
 		lines.Print(err)
-		return noSocket
+		return exitSocket
 	}
 	defer socket.Close()
-	return serve(asked, socket, revisions, stop, lines)
+	return serve(opts, socket, revisions, stop, lines)
 }
 
-// serve queues for the lock and answers csid until a signal comes.
-func serve(asked options, socket *sockets.Socket, revisions *revisions, stop <-chan os.Signal, lines *log.Logger) int {
+// service is a running csid-etcd: it campaigns for the lock, answers csid, and saves the revision.
+type service struct {
+	socket *sockets.Socket
+	server *server
+	// Ends the campaign.
+	cancel       context.CancelFunc
+	campaignDone chan struct{}
+	// Receives the error after which the socket takes no more connections.
+	acceptFailed      chan error
+	stopSaving, saved chan struct{}
+}
+
+func startService(opts options, socket *sockets.Socket, revisions *revisions, lines *log.Logger) *service {
 	ctx, cancel := context.WithCancel(context.Background())
-	defer cancel()
 	state := &leadership{}
-	members := newMembers(asked, lines.Printf)
-	server := &server{state: state, members: members, isExisting: asked.isExisting, say: lines.Printf}
-	candidate := &candidate{asked: asked, members: members, keys: keys{asked.name}, revisions: revisions, state: state, say: lines.Printf, drop: server.drop}
-	candidate.begin()
-	ended, broken := make(chan struct{}), make(chan error, 1)
-	saving, saved := make(chan struct{}), make(chan struct{})
+	members := newMembers(opts, lines.Printf)
+	server := &server{state: state, members: members, requireRows: opts.requireRows, logf: lines.Printf}
+	candidate := &candidate{opts: opts, members: members, keys: keys{opts.name}, revisions: revisions, state: state,
+		logf: lines.Printf, drop: server.drop}
+	candidate.init()
+	s := &service{socket: socket, server: server, cancel: cancel, campaignDone: make(chan struct{}),
+		acceptFailed: make(chan error, 1), stopSaving: make(chan struct{}), saved: make(chan struct{})}
 	go func() {
-		defer close(ended)
+		defer close(s.campaignDone)
 		candidate.run(ctx)
 	}()
 	go members.watchCertificates(ctx)
-	go func() { broken <- server.accept(socket) }()
+	go func() { s.acceptFailed <- server.accept(socket) }()
 	go func() {
-		defer close(saved)
-		revisions.keep(saving, lines.Printf)
+		defer close(s.saved)
+		revisions.saveUntil(s.stopSaving, lines.Printf)
 	}()
-	status := done
+	return s
+}
+
+// end ends the running call, then releases the lock, and then saves the revision.
+func (s *service) end() {
+	s.socket.Close()
+	s.server.end()
+	s.cancel()
+	<-s.campaignDone
+	close(s.stopSaving)
+	<-s.saved
+}
+
+// serve campaigns for the lock and answers csid until a signal arrives. It returns the exit status.
+func serve(opts options, socket *sockets.Socket, revisions *revisions, stop <-chan os.Signal, lines *log.Logger) int {
+	s := startService(opts, socket, revisions, lines)
+	defer s.cancel()
+	status := exitOK
 	select {
-	case err := <-broken:
+	case err := <-s.acceptFailed:
 		lines.Print(err)
-		status = noSocket
+		status = exitSocket
 	case <-stop:
 	}
 	finished := make(chan struct{})
 	go func() {
 		defer close(finished)
-		// The call that is under way ends before the lock is given back.
-		socket.Close()
-		server.end()
-		cancel()
-		<-ended
-		close(saving)
-		<-saved
+		s.end()
 	}()
 	select {
 	case <-finished:
 		return status
 	case <-stop:
 		lines.Print("ended, and cut off what was under way")
-		return failed
+		return exitFailure
 	}
 }

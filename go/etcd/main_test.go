@@ -13,7 +13,8 @@ import (
 	"fomaheti/sockets"
 )
 
-// A socket on which no connection can be taken any more ends the program, with the status of a socket that could not be made.
+// If the socket can accept no connection any more, the program ends with the status for a socket
+// that could not be made.
 func TestSocketThatFails(t *testing.T) {
 	folder := t.TempDir()
 	socket, err := sockets.Listen(filepath.Join(folder, "log.sock"))
@@ -21,7 +22,8 @@ func TestSocketThatFails(t *testing.T) {
 		t.Fatal(err)
 	}
 	defer socket.Close()
-	// A file that is no socket takes its place under its number: no connection comes of it, and the program has not closed it.
+	// Another file takes over the descriptor of the socket: no connection can be accepted from it,
+	// and the program has not closed it.
 	null, err := os.Open(os.DevNull)
 	if err != nil {
 		t.Fatal(err)
@@ -38,23 +40,25 @@ func TestSocketThatFails(t *testing.T) {
 	if err != nil {
 		t.Fatal(err)
 	}
-	// An etcd that takes connections, and answers nothing.
+	// An etcd that accepts connections and answers nothing.
 	silent, err := net.Listen("tcp", "127.0.0.1:0")
 	if err != nil {
 		t.Fatal(err)
 	}
 	defer silent.Close()
-	asked := options{name: "a", endpoints: []string{silent.Addr().String()}, timeout: 200 * time.Millisecond, lease: 2, id: "me"}
-	ended := make(chan int, 1)
+	opts := options{name: "a", endpoints: []string{silent.Addr().String()}, timeout: 200 * time.Millisecond, lease: 2,
+		id: "me"}
+	exitStatus := make(chan int, 1)
 	go func() {
-		ended <- serve(asked, socket, &revisions{noticed: make(chan struct{}, 1)}, make(chan os.Signal), log.New(io.Discard, "", 0))
+		exitStatus <- serve(opts, socket, &revisions{olderSeen: make(chan struct{}, 1)}, make(chan os.Signal),
+			log.New(io.Discard, "", 0))
 	}()
 	select {
-	case status := <-ended:
+	case status := <-exitStatus:
 		if status != 7 {
-			t.Errorf("it ended with %d", status)
+			t.Errorf("got status %d, want 7", status)
 		}
 	case <-time.After(20 * time.Second):
-		t.Error("it did not end")
+		t.Error("the program did not end")
 	}
 }

@@ -17,35 +17,36 @@ import (
 	"google.golang.org/grpc/status"
 )
 
-// members makes the connections to the members of etcd, each by the certificates that the files
-// have then, and remembers why a member could not be reached or what it refused, for lines.
+// members connects to the members of etcd, with the certificates that the files have at that
+// moment. For lines it also notes why a member could not be reached and which error it returned.
 type members struct {
-	asked options
-	say   func(format string, parts ...interface{})
+	opts  options
+	logf  func(format string, args ...interface{})
 	mutex sync.Mutex
-	// The certificates of the last connection.
+	// The certificates at the last reading of the files.
 	last certificates
-	// The endpoint, as the options have it, of each address that was reached.
-	reached map[string]string
-	// By endpoint: why the last connection to it failed, and the last error that it answered. Both
-	// are forgotten once it answers a call.
+	// The endpoint of the options for each address that was reached.
+	endpoints map[string]string
+	// By endpoint: the error of the last connection, and the last error in an answer. A successful
+	// call removes both.
 	unreached, refused map[string]string
 }
 
-func newMembers(asked options, say func(format string, parts ...interface{})) *members {
-	return &members{asked: asked, say: say, reached: map[string]string{}, unreached: map[string]string{}, refused: map[string]string{}}
+func newMembers(opts options, logf func(format string, args ...interface{})) *members {
+	return &members{opts: opts, logf: logf, endpoints: map[string]string{}, unreached: map[string]string{},
+		refused: map[string]string{}}
 }
 
-// isSecure reports whether connections speak TLS: the first endpoint says so, or else an option.
+// isSecure reports whether connections use TLS. The scheme of the first endpoint decides; without a
+// scheme --cacert or --cert does.
 func (m *members) isSecure() bool {
-	_, _, scheme := endpoint.ParseEndpoint(m.asked.endpoints[0])
-	return scheme == "https" || scheme == "" && (m.asked.cacert != "" || m.asked.cert != "")
+	_, _, scheme := endpoint.ParseEndpoint(m.opts.endpoints[0])
+	return scheme == "https" || scheme == "" && (m.opts.cacert != "" || m.opts.cert != "")
 }
 
-// certificates reads the files, and says in a line which certificates they have where these are
-// others than the last ones.
+// certificates reads the files, and writes a line if their certificates have changed.
 func (m *members) certificates() (certificates, error) {
-	read, err := readCertificates(m.asked)
+	read, err := readCertificates(m.opts)
 	if err != nil {
 		return read, err
 	}
@@ -54,53 +55,53 @@ func (m *members) certificates() (certificates, error) {
 	m.last = read
 	m.mutex.Unlock()
 	if isNew && read.line() != "" {
-		m.say("%s", read.line())
+		m.logf("%s", read.line())
 	}
 	return read, nil
 }
 
-// watchCertificates looks at the files until the context ends, so that a change is a line also
-// while no connection is made. Once a day it says which certificates end soon.
+// watchCertificates reads the files until the context ends, so that a change is reported even while
+// no connection is made. Once a day it reports certificates that end soon.
 func (m *members) watchCertificates(ctx context.Context) {
 	var warned time.Time
 	for m.isSecure() && ctx.Err() == nil {
-		// A connection says why files cannot be read.
+		// A connection reports why files cannot be read.
 		if read, err := m.certificates(); err == nil && time.Since(warned) >= warningPause {
 			warned = time.Now()
 			for _, line := range read.warnings(warned) {
-				m.say("%s", line)
+				m.logf("%s", line)
 			}
 		}
-		pause(ctx, filesPause)
+		sleep(ctx, filesPause)
 	}
 }
 
-// dial connects to a member.
+// dial opens a connection to the endpoint.
 func (m *members) dial(ctx context.Context, to string) (net.Conn, error) {
 	conn, err := endpoint.Dialer(ctx, to)
 	if err != nil {
-		m.cannotReach(ctx, to, err)
+		m.noteUnreached(ctx, to, err)
 		return nil, err
 	}
 	m.mutex.Lock()
 	defer m.mutex.Unlock()
-	m.reached[conn.RemoteAddr().String()] = to
+	m.endpoints[conn.RemoteAddr().String()] = to
 	return conn, nil
 }
 
-// endpointOf is the endpoint of an address; the address itself where none is known.
+// endpointOf returns the endpoint of an address, or the address itself if it is unknown.
 func (m *members) endpointOf(address net.Addr) string {
 	m.mutex.Lock()
 	defer m.mutex.Unlock()
-	if to, is := m.reached[address.String()]; is {
+	if to, ok := m.endpoints[address.String()]; ok {
 		return to
 	}
 	return address.String()
 }
 
-// cannotReach remembers why a member was not reached, unless the attempt was given up. It leaves out
-// the addresses of a connection, of which one is another each time.
-func (m *members) cannotReach(ctx context.Context, to string, err error) {
+// noteUnreached notes why a member could not be reached, unless the attempt was canceled. It leaves
+// out the addresses of the connection: the local one differs each time.
+func (m *members) noteUnreached(ctx context.Context, to string, err error) {
 	if ctx.Err() == context.Canceled {
 		return
 	}
@@ -114,12 +115,11 @@ func (m *members) cannotReach(ctx context.Context, to string, err error) {
 	m.unreached[to] = why
 }
 
-// answered is between etcd's client and the connection, and notes which member answered a call, and
-// how.
-func (m *members) answered(ctx context.Context, method string, request, reply interface{}, connection *grpc.ClientConn,
-	send grpc.UnaryInvoker, options ...grpc.CallOption) error {
+// recordAnswer is an interceptor that notes the member that answered a call, and its error.
+func (m *members) recordAnswer(ctx context.Context, method string, request, reply interface{}, conn *grpc.ClientConn,
+	invoke grpc.UnaryInvoker, options ...grpc.CallOption) error {
 	var from peer.Peer
-	err := send(ctx, method, request, reply, connection, append(options[:len(options):len(options)], grpc.Peer(&from))...)
+	err := invoke(ctx, method, request, reply, conn, append(options[:len(options):len(options)], grpc.Peer(&from))...)
 	if from.Addr == nil {
 		return err
 	}
@@ -135,26 +135,26 @@ func (m *members) answered(ctx context.Context, method string, request, reply in
 	return err
 }
 
-// where says of an error which members it comes from, in parentheses: those that could not be
-// reached, with the reason, where none answered; otherwise those whose last answer it was. It is
-// empty where the error is not one of etcd.
-func (m *members) where(err error) string {
+// membersOf names the members behind an error, in parentheses. If no member answered, these are the
+// unreachable ones with their reasons; otherwise the members that returned the error last. It is
+// empty for an error that does not come from etcd.
+func (m *members) membersOf(err error) string {
 	if m == nil || err == nil {
 		return ""
 	}
 	m.mutex.Lock()
 	defer m.mutex.Unlock()
 	var found []string
-	for _, to := range m.asked.endpoints {
+	for _, to := range m.opts.endpoints {
 		refused := m.refused[to]
-		if why := m.unreached[to]; why != "" && isSilence(err) {
+		if why := m.unreached[to]; why != "" && isNoAnswer(err) {
 			found = append(found, to+": "+why)
 		} else if refused != "" && strings.Contains(err.Error(), refused) {
 			found = append(found, to)
 		}
 	}
-	if len(found) == 0 && isSilence(err) {
-		found = m.asked.endpoints
+	if len(found) == 0 && isNoAnswer(err) {
+		found = m.opts.endpoints
 	}
 	if len(found) == 0 {
 		return ""
@@ -162,30 +162,31 @@ func (m *members) where(err error) string {
 	return " (" + strings.Join(found, "; ") + ")"
 }
 
-// reasons is why members could not be reached, where an error says that none answered.
+// reasons joins the reasons for which members were unreachable. It is empty if a member answered.
 func (m *members) reasons(err error) string {
-	if m == nil || err == nil || !isSilence(err) {
+	if m == nil || err == nil || !isNoAnswer(err) {
 		return ""
 	}
 	m.mutex.Lock()
 	defer m.mutex.Unlock()
 	var found []string
-	for _, to := range m.asked.endpoints {
+	for _, to := range m.opts.endpoints {
 		found = append(found, m.unreached[to])
 	}
 	return strings.Join(found, ";")
 }
 
-// isSilence reports whether an error says that no member answered in time.
-func isSilence(err error) bool {
-	if unknown, is := err.(open); is {
+// isNoAnswer reports whether the error means that no member answered in time.
+func isNoAnswer(err error) bool {
+	if unknown, ok := err.(unknownOutcome); ok {
 		err = unknown.err
 	}
-	return errors.Is(err, errLeaseOver) || status.Code(err) == codes.Unavailable || strings.Contains(err.Error(), context.DeadlineExceeded.Error())
+	return errors.Is(err, errLeaseOver) || status.Code(err) == codes.Unavailable ||
+		strings.Contains(err.Error(), context.DeadlineExceeded.Error())
 }
 
-// memberCredentials secures each connection by the certificates that the files have then, and wants
-// the name of its own endpoint in the certificate of the member.
+// memberCredentials secures each connection with the certificates that the files have then. The
+// certificate of the member must name the endpoint.
 type memberCredentials struct {
 	credentials.TransportCredentials
 	members *members
@@ -195,27 +196,31 @@ func (m *members) credentials() credentials.TransportCredentials {
 	return memberCredentials{credentials.NewTLS(nil), m}
 }
 
+// Clone implements credentials.TransportCredentials.
 func (c memberCredentials) Clone() credentials.TransportCredentials { return c.members.credentials() }
 
-func (c memberCredentials) ClientHandshake(ctx context.Context, _ string, raw net.Conn) (net.Conn, credentials.AuthInfo, error) {
+// ClientHandshake implements credentials.TransportCredentials. The name to verify is the
+// endpoint's.
+func (c memberCredentials) ClientHandshake(ctx context.Context, _ string, raw net.Conn) (
+	net.Conn, credentials.AuthInfo, error) {
 	to := c.members.endpointOf(raw.RemoteAddr())
 	used, err := c.members.certificates()
 	if err != nil {
 		raw.Close()
-		c.members.cannotReach(ctx, to, err)
+		c.members.noteUnreached(ctx, to, err)
 		return nil, nil, err
 	}
 	_, host, _ := endpoint.ParseEndpoint(to)
-	conn, info, err := credentials.NewTLS(used.settings()).ClientHandshake(ctx, host, raw)
+	conn, info, err := credentials.NewTLS(used.tlsConfig()).ClientHandshake(ctx, host, raw)
 	if err != nil {
-		c.members.cannotReach(ctx, to, err)
+		c.members.noteUnreached(ctx, to, err)
 		return nil, nil, err
 	}
 	return &memberConn{conn, to, used, c.members}, info, nil
 }
 
-// memberConn is a connection whose end by an alert of TLS is noted: a member that refuses this
-// program's certificate ends the connection so, after the handshake.
+// memberConn notes a TLS alert: a member that refuses this program's certificate sends it after the
+// handshake.
 type memberConn struct {
 	net.Conn
 	to      string
@@ -223,15 +228,16 @@ type memberConn struct {
 	members *members
 }
 
+// Read implements net.Conn.
 func (c *memberConn) Read(into []byte) (int, error) {
 	count, err := c.Conn.Read(into)
 	var failure *net.OpError
 	if errors.As(err, &failure) && failure.Op == "remote error" {
 		own := "no certificate"
 		if c.used.leaf != nil {
-			own = "--cert " + named(c.used.leaf)
+			own = "--cert " + describeCertificate(c.used.leaf)
 		}
-		c.members.cannotReach(context.Background(), c.to, fmt.Errorf("it refuses %s: %v", own, failure.Err))
+		c.members.noteUnreached(context.Background(), c.to, fmt.Errorf("it refuses %s: %v", own, failure.Err))
 	}
 	return count, err
 }

@@ -18,9 +18,9 @@ import (
 	"google.golang.org/grpc/status"
 )
 
-// A line has the members that an error comes from: those that refused, those that could not be
-// reached, or all that were asked where none answered; and none where the error is not etcd's.
-func TestWhere(t *testing.T) {
+// A line names the members behind an error: those that refused, those that were unreachable, or all
+// of them if none answered. It names none for an error that does not come from etcd.
+func TestMembersOf(t *testing.T) {
 	m := newMembers(options{endpoints: []string{"a:1", "b:2", "c:3"}}, t.Logf)
 	m.refused["b:2"] = "etcdserver: permission denied"
 	silence := status.Error(codes.Unavailable, "transport is closing")
@@ -32,26 +32,29 @@ func TestWhere(t *testing.T) {
 	}{
 		{"nothing", nil, nil, ""},
 		{"refused", nil, rpctypes.ErrPermissionDenied, " (b:2)"},
-		{"refused, within a text", nil, errors.New("volumes/1: etcdserver: permission denied; nothing was written"), " (b:2)"},
-		{"refused, while others cannot be reached", map[string]string{"a:1": "no"}, rpctypes.ErrPermissionDenied, " (b:2)"},
+		{"refused, within a text", nil, errors.New("volumes/1: etcdserver: permission denied; nothing was written"),
+			" (b:2)"},
+		{"refused, while others cannot be reached", map[string]string{"a:1": "no"}, rpctypes.ErrPermissionDenied,
+			" (b:2)"},
 		{"not of etcd", map[string]string{"a:1": "no"}, errKeyGone, ""},
 		{"silence", nil, context.DeadlineExceeded, " (a:1; b:2; c:3)"},
-		{"silence of an open outcome", nil, open{silence}, " (a:1; b:2; c:3)"},
-		{"some cannot be reached", map[string]string{"a:1": "no", "c:3": "its certificate"}, context.DeadlineExceeded, " (a:1: no; c:3: its certificate)"},
+		{"silence of an open outcome", nil, unknownOutcome{silence}, " (a:1; b:2; c:3)"},
+		{"some cannot be reached", map[string]string{"a:1": "no", "c:3": "its certificate"}, context.DeadlineExceeded,
+			" (a:1: no; c:3: its certificate)"},
 		{"the lease is over", map[string]string{"c:3": "no"}, errLeaseOver, " (c:3: no)"},
 	}
 	for _, c := range cases {
 		t.Run(c.name, func(t *testing.T) {
 			m.unreached = c.unreached
-			if got := m.where(c.err); got != c.want {
-				t.Errorf("%q, wanted %q", got, c.want)
+			if got := m.membersOf(c.err); got != c.want {
+				t.Errorf("got %q, want %q", got, c.want)
 			}
 		})
 	}
 }
 
-// A member that refuses connections is named in the line of a candidate, again once the reason is
-// another one, and not any more once it answers.
+// A line names a member that refuses connections. It is repeated after the reason has changed, and
+// leaves the reason out after an answer.
 func TestUnreachedMember(t *testing.T) {
 	listener, err := net.Listen("tcp", "127.0.0.1:0")
 	if err != nil {
@@ -64,75 +67,80 @@ func TestUnreachedMember(t *testing.T) {
 		t.Fatal("somebody answers")
 	}
 	var lines []string
-	c := &candidate{members: m, state: &leadership{}, say: func(_ string, parts ...interface{}) { lines = append(lines, parts[0].(string)) }}
-	c.waits(context.DeadlineExceeded)
-	c.waits(context.DeadlineExceeded)
+	c := &candidate{members: m, state: &leadership{},
+		logf: func(_ string, args ...interface{}) { lines = append(lines, args[0].(string)) }}
+	c.reportWaiting(context.DeadlineExceeded)
+	c.reportWaiting(context.DeadlineExceeded)
 	ctx, cancel := context.WithCancel(context.Background())
-	m.cannotReach(ctx, address, errors.New("another reason"))
+	m.noteUnreached(ctx, address, errors.New("another reason"))
 	cancel()
-	m.cannotReach(ctx, address, errors.New("given up"))
-	c.waits(context.DeadlineExceeded)
+	m.noteUnreached(ctx, address, errors.New("given up"))
+	c.reportWaiting(context.DeadlineExceeded)
 	delete(m.unreached, address)
-	c.waits(context.DeadlineExceeded)
+	c.reportWaiting(context.DeadlineExceeded)
 	const silent = "no lock: context deadline exceeded ("
-	want := silent + address + ": connect: connection refused)\n" + silent + address + ": another reason)\n" + silent + address + ")"
+	want := silent + address + ": connect: connection refused)\n" + silent + address + ": another reason)\n" + silent +
+		address + ")"
 	if got := strings.Join(lines, "\n"); got != want {
 		t.Errorf("%s\nwanted\n%s", got, want)
 	}
 }
 
-// guarded is an etcd that takes the newest token alone.
-type guarded struct {
-	moody
+// tokenServer is an etcd that accepts only its newest token.
+type tokenServer struct {
+	failingServer
 	pb.AuthServer
-	asked []string
+	issued []string
 }
 
-func (g *guarded) Authenticate(ctx context.Context, asked *pb.AuthenticateRequest) (*pb.AuthenticateResponse, error) {
-	if said, _ := metadata.FromIncomingContext(ctx); len(said.Get("token")) > 0 {
+func (s *tokenServer) Authenticate(ctx context.Context, request *pb.AuthenticateRequest) (
+	*pb.AuthenticateResponse, error) {
+	if md, _ := metadata.FromIncomingContext(ctx); len(md.Get("token")) > 0 {
 		return nil, rpctypes.ErrGRPCInvalidAuthToken
 	}
-	if asked.Name != "csid" || asked.Password != "secret" {
+	if request.Name != "csid" || request.Password != "secret" {
 		return nil, rpctypes.ErrGRPCAuthFailed
 	}
-	g.asked = append(g.asked, "token"+strings.Repeat("+", len(g.asked)))
-	return &pb.AuthenticateResponse{Header: &pb.ResponseHeader{}, Token: g.asked[len(g.asked)-1]}, nil
+	s.issued = append(s.issued, "token"+strings.Repeat("+", len(s.issued)))
+	return &pb.AuthenticateResponse{Header: &pb.ResponseHeader{}, Token: s.issued[len(s.issued)-1]}, nil
 }
 
-func (g *guarded) Txn(ctx context.Context, asked *pb.TxnRequest) (*pb.TxnResponse, error) {
-	said, _ := metadata.FromIncomingContext(ctx)
-	if tokens := said.Get("token"); len(tokens) != 1 || tokens[0] != g.asked[len(g.asked)-1] {
+func (s *tokenServer) Txn(ctx context.Context, request *pb.TxnRequest) (*pb.TxnResponse, error) {
+	md, _ := metadata.FromIncomingContext(ctx)
+	if tokens := md.Get("token"); len(tokens) != 1 || tokens[0] != s.issued[len(s.issued)-1] {
 		return nil, rpctypes.ErrGRPCInvalidAuthToken
 	}
-	return g.moody.Txn(ctx, asked)
+	return s.failingServer.Txn(ctx, request)
 }
 
-// A user has a token from the start on, and another one once etcd does not know it any more: the
-// transaction is made then, once.
+// A user gets a token at the start, and another one if etcd no longer knows it. Then the
+// transaction is made once.
 func TestLogin(t *testing.T) {
-	server := &guarded{}
+	server := &tokenServer{}
 	password := filepath.Join(t.TempDir(), "password")
 	if err := os.WriteFile(password, []byte("wrong\n"), 0o600); err != nil {
 		t.Fatal(err)
 	}
-	asked := options{endpoints: []string{listening(t, server)}, timeout: 5 * time.Second, user: "csid", passwordFile: password}
-	if _, err := newMembers(asked, t.Logf).connect(); err != rpctypes.ErrAuthFailed {
-		t.Fatalf("with another password: %v", err)
+	issued := options{endpoints: []string{serveEtcd(t, server)}, timeout: 5 * time.Second, user: "csid",
+		passwordFile: password}
+	if _, err := newMembers(issued, t.Logf).connect(); err != rpctypes.ErrAuthFailed {
+		t.Fatalf("wrong password: got error %v, want %v", err, rpctypes.ErrAuthFailed)
 	}
-	asked.passwordFile, asked.password = "", "secret"
-	client, err := newMembers(asked, t.Logf).connect()
+	issued.passwordFile, issued.password = "", "secret"
+	client, err := newMembers(issued, t.Logf).connect()
 	if err != nil {
 		t.Fatal(err)
 	}
 	defer client.Close()
 	for i := 1; i <= 2; i++ {
 		ctx, cancel := context.WithTimeout(context.Background(), 5*time.Second)
-		_, err := client.Txn(sentOnce(ctx)).Then(clientv3.OpPut("a", "b")).Commit()
+		_, err := client.Txn(withSendOnce(ctx)).Then(clientv3.OpPut("a", "b")).Commit()
 		cancel()
-		if err != nil || int(server.came) != i || len(server.asked) != i {
-			t.Errorf("%d: %v, %d transactions, %d tokens", i, err, server.came, len(server.asked))
+		if err != nil || int(server.requests) != i || len(server.issued) != i {
+			t.Errorf("got error %v, %d transactions, %d tokens, want %d of each", err, server.requests,
+				len(server.issued), i)
 		}
-		// As after a start of etcd.
-		server.asked[len(server.asked)-1] = "forgotten"
+		// As after a restart of etcd.
+		server.issued[len(server.issued)-1] = "forgotten"
 	}
 }

@@ -7,7 +7,7 @@ import (
 	"google.golang.org/protobuf/encoding/protowire"
 )
 
-// Paths of the calls that are answered (docs/PROTOCOL.md, "The change store").
+// Paths of the calls of a change store (docs/PROTOCOL.md, "The change store").
 const (
 	readPath   = "/fomaheti.log.v1.Log/Read"
 	makePath   = "/fomaheti.log.v1.Log/Make"
@@ -17,7 +17,7 @@ const (
 
 var errMessage = refusal{codes.InvalidArgument, "malformed message"}
 
-// field is one field of a message: of the wire type varint its number, of the wire type of lengths its bytes.
+// field is one field of a message. varint is set for the wire type VARINT, bytes for LEN.
 type field struct {
 	number protowire.Number
 	kind   protowire.Type
@@ -25,8 +25,8 @@ type field struct {
 	bytes  []byte
 }
 
-// readFields hands the fields of a message on, in order. Groups are malformed.
-func readFields(message []byte, take func(field) error) error {
+// readFields calls handle for each field of a message in order. Groups are malformed.
+func readFields(message []byte, handle func(field) error) error {
 	for len(message) > 0 {
 		number, kind, size := protowire.ConsumeTag(message)
 		if size < 0 || kind == protowire.StartGroupType || kind == protowire.EndGroupType {
@@ -37,14 +37,14 @@ func readFields(message []byte, take func(field) error) error {
 		if size < 0 {
 			return errMessage
 		}
-		got := field{number: number, kind: kind}
+		f := field{number: number, kind: kind}
 		switch kind {
 		case protowire.VarintType:
-			got.varint, _ = protowire.ConsumeVarint(message)
+			f.varint, _ = protowire.ConsumeVarint(message)
 		case protowire.BytesType:
-			got.bytes, _ = protowire.ConsumeBytes(message)
+			f.bytes, _ = protowire.ConsumeBytes(message)
 		}
-		if err := take(got); err != nil {
+		if err := handle(f); err != nil {
 			return err
 		}
 		message = message[size:]
@@ -52,50 +52,51 @@ func readFields(message []byte, take func(field) error) error {
 	return nil
 }
 
-// target is where a field goes: to a *uint64, a *bool, a *string or a *[]byte.
+// target is the destination of a field: a *uint64, *bool, *string or *[]byte.
 type target interface{}
 
-// readInto reads a message into the targets of its fields, by their numbers. Of a field that comes again the last counts, and one that is not
-// known, or of another wire type, is skipped.
+// readInto decodes a message into the targets by field number. The last of repeated fields counts.
+// Unknown fields and fields of another wire type are skipped.
 func readInto(message []byte, targets map[protowire.Number]target) error {
-	return readFields(message, func(got field) error {
-		switch into := targets[got.number].(type) {
+	return readFields(message, func(f field) error {
+		switch into := targets[f.number].(type) {
 		case *uint64:
-			if got.kind == protowire.VarintType {
-				*into = got.varint
+			if f.kind == protowire.VarintType {
+				*into = f.varint
 			}
 		case *bool:
-			if got.kind == protowire.VarintType {
-				*into = got.varint != 0
+			if f.kind == protowire.VarintType {
+				*into = f.varint != 0
 			}
 		case *[]byte:
-			if got.kind == protowire.BytesType {
-				*into = got.bytes
+			if f.kind == protowire.BytesType {
+				*into = f.bytes
 			}
 		case *string:
-			if got.kind == protowire.BytesType {
-				if !utf8.Valid(got.bytes) {
+			if f.kind == protowire.BytesType {
+				if !utf8.Valid(f.bytes) {
 					return errMessage
 				}
-				*into = string(got.bytes)
+				*into = string(f.bytes)
 			}
 		}
 		return nil
 	})
 }
 
-// readToken reads the message of Read.
+// readToken decodes the message of Read.
 func readToken(message []byte) (token []byte, err error) {
 	err = readInto(message, map[protowire.Number]target{1: &token})
 	return token, err
 }
 
-// changeMessages has how each change is read of the message of Commit, by the number of its field. Where a field comes again the messages are
-// merged, so each is read into the change that is there.
+// changeMessages returns, for each field number of Commit, a new change and the targets of its
+// fields. Repeated fields are merged, as proto3 wants: each is decoded into the same change.
 var changeMessages = map[protowire.Number]func() (change, map[protowire.Number]target){
 	1: func() (change, map[protowire.Number]target) {
 		c := &addVolume{}
-		return c, map[protowire.Number]target{1: &c.number, 2: &c.name, 3: &c.bytes, 4: &c.pool, 5: &c.caps, 6: &c.params}
+		return c, map[protowire.Number]target{1: &c.number, 2: &c.name, 3: &c.bytes, 4: &c.pool, 5: &c.caps,
+			6: &c.params}
 	},
 	2: func() (change, map[protowire.Number]target) {
 		c := &removeVolume{}
@@ -119,35 +120,35 @@ var changeMessages = map[protowire.Number]func() (change, map[protowire.Number]t
 	},
 }
 
-// readChange reads the message of Commit, which has exactly one change.
+// readChange decodes the message of Commit, which has exactly one change.
 func readChange(message []byte) (change, error) {
-	var asked change
+	var read change
 	var targets map[protowire.Number]target
-	var which protowire.Number
-	err := readFields(message, func(got field) error {
-		begin := changeMessages[got.number]
-		if begin == nil || got.kind != protowire.BytesType {
+	var first protowire.Number
+	err := readFields(message, func(f field) error {
+		newChange := changeMessages[f.number]
+		if newChange == nil || f.kind != protowire.BytesType {
 			return nil
 		}
-		if asked == nil {
-			which = got.number
-			asked, targets = begin()
+		if read == nil {
+			first = f.number
+			read, targets = newChange()
 		}
-		if got.number != which {
+		if f.number != first {
 			return refusal{codes.InvalidArgument, "more than one change"}
 		}
-		return readInto(got.bytes, targets)
+		return readInto(f.bytes, targets)
 	})
 	if err != nil {
 		return nil, err
 	}
-	if asked == nil {
+	if read == nil {
 		return nil, refusal{codes.InvalidArgument, "no change that is known"}
 	}
-	return asked, nil
+	return read, nil
 }
 
-// Writing. Each field is written, also 0 and empty ones, in rising order.
+// Encoding. Each field is written in ascending order, even if it is 0 or empty.
 
 func appendNumber(message []byte, number protowire.Number, value uint64) []byte {
 	return protowire.AppendVarint(protowire.AppendTag(message, number, protowire.VarintType), value)

@@ -11,7 +11,7 @@ import (
 	"go.etcd.io/etcd/clientv3"
 )
 
-// counts is what rows have together, as csid says it of a file.
+// counts summarizes rows. Its text equals csid's summary of a file.
 type counts struct {
 	volumes, attachments int
 	meta                 meta
@@ -28,11 +28,14 @@ func (c *counts) add(row tableRow) {
 	}
 }
 
+// String is the summary in a line.
 func (c counts) String() string {
-	return fmt.Sprintf("volumes %d, attachments %d, next number %d, format %d", c.volumes, c.attachments, c.meta.next, c.meta.format)
+	return fmt.Sprintf("volumes %d, attachments %d, next number %d, format %d", c.volumes, c.attachments, c.meta.next,
+		c.meta.format)
 }
 
-// checkFormat refuses rows that another csid has made: neither changes of this program nor new tables are of their format.
+// checkFormat refuses rows in the format of another version of csid. This program makes changes,
+// and csid makes new tables, in the format of firstMeta only.
 func checkFormat(row meta) error {
 	if row.format != firstMeta.format {
 		return fmt.Errorf("meta: its format is %d, and that of rows in etcd %d", row.format, firstMeta.format)
@@ -40,65 +43,65 @@ func checkFormat(row meta) error {
 	return nil
 }
 
-// once makes the first row, brings rows from a file of csid into etcd or from there into one, or lists them. It neither has the lock nor a socket.
-func once(asked options, lines *log.Logger) int {
-	// What is printed is all that was asked for: nothing is said of certificates.
-	m := newMembers(asked, func(string, ...interface{}) {})
-	var how string
+// runOnce makes the first row, imports, exports or lists rows. It needs no lock and no socket.
+func runOnce(opts options, lines *log.Logger) int {
+	// The output is the result alone, without lines on certificates.
+	m := newMembers(opts, func(string, ...interface{}) {})
+	var option string
 	var err error
 	switch {
-	case asked.isNew:
-		how, err = "--new", makeNew(m, os.Stdout)
-	case asked.isExport:
-		how, err = "--export", export(m, os.Stdout, lines)
-	case asked.isList:
-		how, err = "--list", list(m, os.Stdout)
+	case opts.isNew:
+		option, err = "--new", makeNew(m, os.Stdout)
+	case opts.isExport:
+		option, err = "--export", export(m, os.Stdout, lines)
+	case opts.isList:
+		option, err = "--list", list(m, os.Stdout)
 	default:
-		how, err = "--import", importRows(m, os.Stdin, os.Stdout)
+		option, err = "--import", importRows(m, os.Stdin, os.Stdout)
 	}
 	if err != nil {
-		lines.Printf("%s: %v%s", how, err, m.where(err))
-		return failed
+		lines.Printf("%s: %v%s", option, err, m.membersOf(err))
+		return exitFailure
 	}
-	return done
+	return exitOK
 }
 
-var errNotEnded = errors.New("rows are there, and meta is not: an import was not ended")
+var errUnfinishedImport = errors.New("rows are there, and meta is not: an import was not ended")
 
-// makeNew makes the first row where there is none yet, and leaves rows that stand.
+// makeNew makes the first row unless rows exist.
 func makeNew(m *members, to io.Writer) error {
-	asked := m.asked
+	opts := m.opts
 	client, err := m.connect()
 	if err != nil {
 		return err
 	}
 	defer client.Close()
-	k := keys{asked.name}
+	k := keys{opts.name}
 	first := k.firstRow()
 	var answer *clientv3.TxnResponse
-	err = tries(context.Background(), client, asked.timeout, func(ctx context.Context) (err error) {
-		answer, err = client.Txn(ctx).If(first.supposes...).Then(first.does...).Else(clientv3.OpGet(k.meta())).Commit()
+	getMeta := clientv3.OpGet(k.meta())
+	err = retry(context.Background(), client, opts.timeout, func(ctx context.Context) (err error) {
+		answer, err = client.Txn(ctx).If(first.compares...).Then(first.success...).Else(getMeta).Commit()
 		return err
 	})
 	if err != nil {
 		return err
 	}
 	if answer.Succeeded {
-		return printed(to, fmt.Sprintf("made: %v", counts{meta: firstMeta}))
+		return printLine(to, fmt.Sprintf("made: %v", counts{meta: firstMeta}))
 	}
 	found := answer.Responses[0].GetResponseRange().Kvs
 	if len(found) == 0 {
-		return errNotEnded
+		return errUnfinishedImport
 	}
 	row, err := readMeta(found[0].Value)
 	if err != nil {
-		return broken(k, k.meta(), err)
+		return brokenRow(k, k.meta(), err)
 	}
-	return printed(to, fmt.Sprintf("exists: next number %d, format %d", row.next, row.format))
+	return printLine(to, fmt.Sprintf("exists: next number %d, format %d", row.next, row.format))
 }
 
-// printed writes one line.
-func printed(to io.Writer, line string) error {
+func printLine(to io.Writer, line string) error {
 	_, err := io.WriteString(to, line+"\n")
 	return err
 }

@@ -14,8 +14,8 @@ import (
 	"fomaheti/words"
 )
 
-const usage = `Keeps the rows of a csid in etcd, and makes its changes there while it holds a lock (csid-etcd(1), docs/ETCD.md).
-
+const usage = "Keeps the rows of a csid in etcd, and makes its changes there while it holds a lock " +
+	"(csid-etcd(1), docs/ETCD.md).\n" + `
 usage: csid-etcd --name NAME --listen PATH [--endpoints HOST:PORT,..] [--cacert PATH] [--cert PATH --key PATH]
                  [--user NAME[:PASSWORD]] [--password-file PATH] [--timeout TIME] [--lease SECONDS] [--id TEXT]
                  [--revision PATH] [--accept-older] [--existing]
@@ -30,16 +30,16 @@ usage: csid-etcd --name NAME --listen PATH [--endpoints HOST:PORT,..] [--cacert 
        csid-etcd --version
 `
 
-// The bounds of --lease, in seconds: etcd gives none below 2.
+// The range of --lease in seconds. etcd grants no lease below 2.
 const (
-	leastLease = 2
-	mostLease  = 600
+	minLease = 2
+	maxLease = 600
 )
 
-// The greatest length of --id.
+// maxID is the greatest length of --id in bytes.
 const maxID = 128
 
-// options is what the command line asks for.
+// options holds the parsed command line.
 type options struct {
 	name         string
 	listen       string
@@ -54,100 +54,122 @@ type options struct {
 	id           string
 	revision     string
 	acceptOlder  bool
-	isExisting   bool
+	requireRows  bool
 	isNew        bool
 	isExport     bool
 	isImport     bool
 	isList       bool
-	chosen       chosen
+	filter       volumeFilter
 	isJSON       bool
 	version      bool
 }
 
-func readOptions(given []string, shown io.Writer) (options, error) {
-	var asked options
+func readOptions(args []string, out io.Writer) (options, error) {
+	var opts options
 	var endpoints, user string
 	flags := flag.NewFlagSet("csid-etcd", flag.ContinueOnError)
 	flags.SetOutput(io.Discard)
-	flags.StringVar(&asked.name, "name", "", "the `NAME` of the plugin: all keys in etcd begin with it and a slash")
-	flags.StringVar(&asked.listen, "listen", "", "the `PATH` of the socket for csid")
-	flags.StringVar(&endpoints, "endpoints", "127.0.0.1:2379", "the members of etcd, as `HOST:PORT,..`, each also after https://")
-	flags.StringVar(&asked.cacert, "cacert", "", "the `PATH` of the certificates of who signs for etcd")
-	flags.StringVar(&asked.cert, "cert", "", "the `PATH` of this program's own certificate")
-	flags.StringVar(&asked.key, "key", "", "the `PATH` of the key of --cert")
+	flags.StringVar(&endpoints, "endpoints", "127.0.0.1:2379",
+		"the members of etcd, as `HOST:PORT,..`, each also after https://")
 	flags.StringVar(&user, "user", "", "the user of etcd, as `NAME[:PASSWORD]`")
-	flags.StringVar(&asked.passwordFile, "password-file", "", "the `PATH` of a file whose first line is the password of --user")
-	flags.DurationVar(&asked.timeout, "timeout", 3*time.Second, "how long one request to etcd may take: a `TIME`")
-	flags.Int64Var(&asked.lease, "lease", 10, "how many `SECONDS` the lock outlives this program, 2 to 600")
-	flags.StringVar(&asked.id, "id", "", "the `TEXT` by which others know who holds the lock; without it the name of the host and the number of the process")
-	flags.StringVar(&asked.revision, "revision", "", "the `PATH` of a file that remembers the revision of etcd over a stop")
-	flags.BoolVar(&asked.acceptOlder, "accept-older", false, "go on with an etcd that was restored from an older snapshot")
-	flags.BoolVar(&asked.isExisting, "existing", false, "make no first row: rows have to be there")
-	flags.BoolVar(&asked.isNew, "new", false, "make the first row in an etcd that has none, and end")
-	flags.BoolVar(&asked.isExport, "export", false, "print all rows as SQL for a file of csid, and end")
-	flags.BoolVar(&asked.isImport, "import", false, "put the rows of standard input into an etcd that has none, and end")
-	flags.BoolVar(&asked.isList, "list", false, "list the volumes, and what each pool and node has of them, and end")
-	flags.StringVar(&asked.chosen.volume, "volume", "", "list the volume with this `NAME` alone")
-	flags.StringVar(&asked.chosen.pool, "pool", "", "list the volumes of the pool with this `NAME` alone")
-	flags.StringVar(&asked.chosen.node, "node", "", "list the volumes that are published at the node with this `ID` alone")
-	flags.BoolVar(&asked.isJSON, "json", false, "list in JSON, with a volume a line")
-	flags.BoolVar(&asked.version, "version", false, "print the version, and end")
-	if err := words.Parse(flags, given, usage, shown); err != nil {
+	opts.addFlags(flags)
+	opts.addServingFlags(flags)
+	opts.addOneShotFlags(flags)
+	if err := words.Parse(flags, args, usage, out); err != nil {
 		return options{}, err
 	}
-	if asked.version {
-		return asked, nil
+	if opts.version {
+		return opts, nil
 	}
-	asked.endpoints = strings.Split(endpoints, ",")
-	asked.user, asked.password, _ = strings.Cut(user, ":")
-	if asked.id == "" {
-		asked.id = ownID()
+	opts.endpoints = strings.Split(endpoints, ",")
+	opts.user, opts.password, _ = strings.Cut(user, ":")
+	if opts.id == "" {
+		opts.id = defaultID()
 	}
-	if err := checkOnce(flags); err != nil {
+	if err := checkOneShot(flags); err != nil {
 		return options{}, err
 	}
-	return asked, check(asked)
+	return opts, check(opts)
 }
 
-// onceFlags are what is done once, and then the program ends; listFlags are the options of --list, and servingFlags those of a program that stays and
-// answers csid.
+// addFlags adds the flags that every form of the command line takes.
+func (opts *options) addFlags(flags *flag.FlagSet) {
+	flags.StringVar(&opts.name, "name", "", "the `NAME` of the plugin: all keys in etcd begin with it and a slash")
+	flags.StringVar(&opts.cacert, "cacert", "", "the `PATH` of the certificates of who signs for etcd")
+	flags.StringVar(&opts.cert, "cert", "", "the `PATH` of this program's own certificate")
+	flags.StringVar(&opts.key, "key", "", "the `PATH` of the key of --cert")
+	flags.StringVar(&opts.passwordFile, "password-file", "",
+		"the `PATH` of a file whose first line is the password of --user")
+	flags.DurationVar(&opts.timeout, "timeout", 3*time.Second, "how long one request to etcd may take: a `TIME`")
+	flags.BoolVar(&opts.version, "version", false, "print the version, and end")
+}
+
+func (opts *options) addServingFlags(flags *flag.FlagSet) {
+	flags.StringVar(&opts.listen, "listen", "", "the `PATH` of the socket for csid")
+	flags.Int64Var(&opts.lease, "lease", 10, "how many `SECONDS` the lock outlives this program, 2 to 600")
+	flags.StringVar(&opts.id, "id", "",
+		"the `TEXT` by which others know who holds the lock; without it the name of the host and the number of "+
+			"the process")
+	flags.StringVar(&opts.revision, "revision", "",
+		"the `PATH` of a file that remembers the revision of etcd over a stop")
+	flags.BoolVar(&opts.acceptOlder, "accept-older", false,
+		"go on with an etcd that was restored from an older snapshot")
+	flags.BoolVar(&opts.requireRows, "existing", false, "make no first row: rows have to be there")
+}
+
+func (opts *options) addOneShotFlags(flags *flag.FlagSet) {
+	flags.BoolVar(&opts.isNew, "new", false, "make the first row in an etcd that has none, and end")
+	flags.BoolVar(&opts.isExport, "export", false, "print all rows as SQL for a file of csid, and end")
+	flags.BoolVar(&opts.isImport, "import", false, "put the rows of standard input into an etcd that has none, and end")
+	flags.BoolVar(&opts.isList, "list", false, "list the volumes, and what each pool and node has of them, and end")
+	flags.StringVar(&opts.filter.volume, "volume", "", "list the volume with this `NAME` alone")
+	flags.StringVar(&opts.filter.pool, "pool", "", "list the volumes of the pool with this `NAME` alone")
+	flags.StringVar(&opts.filter.node, "node", "",
+		"list the volumes that are published at the node with this `ID` alone")
+	flags.BoolVar(&opts.isJSON, "json", false, "list in JSON, with a volume a line")
+}
+
+// oneShotFlags do one thing and end the program. listFlags go with --list. servingFlags go with a
+// program that keeps running and answers csid.
 var (
-	onceFlags    = map[string]bool{"new": true, "export": true, "import": true, "list": true}
+	oneShotFlags = map[string]bool{"new": true, "export": true, "import": true, "list": true}
 	listFlags    = map[string]bool{"volume": true, "pool": true, "node": true, "json": true}
-	servingFlags = map[string]bool{"listen": true, "lease": true, "id": true, "revision": true, "accept-older": true, "existing": true}
+	servingFlags = map[string]bool{"listen": true, "lease": true, "id": true, "revision": true, "accept-older": true,
+		"existing": true}
 )
 
-// isOnce reports whether something is done once.
-func (asked options) isOnce() bool {
-	return asked.isNew || asked.isExport || asked.isImport || asked.isList
+// isOneShot reports whether the program does one thing and ends.
+func (opts options) isOneShot() bool {
+	return opts.isNew || opts.isExport || opts.isImport || opts.isList
 }
 
-// checkOnce refuses what means nothing next to that which is done once.
-func checkOnce(flags *flag.FlagSet) (err error) {
+// checkOneShot refuses a second one-shot flag, a serving flag next to a one-shot flag, and a flag
+// of --list without --list.
+func checkOneShot(flags *flag.FlagSet) (err error) {
 	var once string
-	flags.Visit(func(given *flag.Flag) {
+	flags.Visit(func(f *flag.Flag) {
 		switch {
-		case !onceFlags[given.Name]:
+		case !oneShotFlags[f.Name]:
 		case once == "":
-			once = given.Name
+			once = f.Name
 		case err == nil:
-			err = fmt.Errorf("--%s: not with --%s", given.Name, once)
+			err = fmt.Errorf("--%s: not with --%s", f.Name, once)
 		}
 	})
-	flags.Visit(func(given *flag.Flag) {
+	flags.Visit(func(f *flag.Flag) {
 		switch {
 		case err != nil:
-		case once != "" && servingFlags[given.Name]:
-			err = fmt.Errorf("--%s: not with --%s", given.Name, once)
-		case once != "list" && listFlags[given.Name]:
-			err = fmt.Errorf("--%s: not without --list", given.Name)
+		case once != "" && servingFlags[f.Name]:
+			err = fmt.Errorf("--%s: not with --%s", f.Name, once)
+		case once != "list" && listFlags[f.Name]:
+			err = fmt.Errorf("--%s: not without --list", f.Name)
 		}
 	})
 	return err
 }
 
-// ownID is who holds the lock where no option says it.
-func ownID() string {
+// defaultID names this process as holder of the lock when --id is missing: HOST:PID.
+func defaultID() string {
 	host, err := os.Hostname()
 	if err != nil {
 		host = "unknown"
@@ -155,42 +177,43 @@ func ownID() string {
 	return frames.Text(fmt.Sprintf("%s:%d", host, os.Getpid()))
 }
 
-// A name is one that a plugin of CSI can have.
+// nameForm matches the plugin names that CSI allows.
 var nameForm = regexp.MustCompile(`^[A-Za-z0-9]([A-Za-z0-9.-]{0,61}[A-Za-z0-9])?$`)
 
-// check refuses what cannot be meant.
-func check(asked options) error {
+// check refuses missing options and values out of range.
+func check(opts options) error {
 	switch {
-	case asked.name == "":
+	case opts.name == "":
 		return errors.New("--name: the name of the plugin is missing")
-	case !nameForm.MatchString(asked.name):
-		return fmt.Errorf("--name: %q is not 1 to 63 letters, digits, dots and dashes with a letter or digit at both ends", asked.name)
-	case asked.listen == "" && !asked.isOnce():
+	case !nameForm.MatchString(opts.name):
+		return fmt.Errorf("--name: %q is not 1 to 63 letters, digits, dots and dashes with a letter or digit at "+
+			"both ends", opts.name)
+	case opts.listen == "" && !opts.isOneShot():
 		return errors.New("--listen: the path of a socket is missing")
-	case asked.timeout <= 0:
-		return fmt.Errorf("--timeout: %v is not above 0", asked.timeout)
-	case asked.lease < leastLease || asked.lease > mostLease:
-		return fmt.Errorf("--lease: %d is not %d to %d", asked.lease, leastLease, mostLease)
-	case len(asked.id) > maxID || frames.Text(asked.id) != asked.id:
-		return fmt.Errorf("--id: %q is not at most %d characters of ASCII that can be shown", asked.id, maxID)
-	case (asked.cert == "") != (asked.key == ""):
+	case opts.timeout <= 0:
+		return fmt.Errorf("--timeout: %v is not above 0", opts.timeout)
+	case opts.lease < minLease || opts.lease > maxLease:
+		return fmt.Errorf("--lease: %d is not %d to %d", opts.lease, minLease, maxLease)
+	case len(opts.id) > maxID || frames.Text(opts.id) != opts.id:
+		return fmt.Errorf("--id: %q is not at most %d characters of ASCII that can be shown", opts.id, maxID)
+	case (opts.cert == "") != (opts.key == ""):
 		return errors.New("--cert, --key: one of the two is missing")
 	}
-	for _, endpoint := range asked.endpoints {
+	for _, endpoint := range opts.endpoints {
 		if endpoint == "" {
 			return errors.New("--endpoints: one of them is empty")
 		}
 	}
-	return checkUser(asked)
+	return checkUser(opts)
 }
 
-func checkUser(asked options) error {
+func checkUser(opts options) error {
 	switch {
-	case asked.user == "" && (asked.password != "" || asked.passwordFile != ""):
+	case opts.user == "" && (opts.password != "" || opts.passwordFile != ""):
 		return errors.New("--user: the name is missing")
-	case asked.user != "" && asked.password == "" && asked.passwordFile == "":
+	case opts.user != "" && opts.password == "" && opts.passwordFile == "":
 		return errors.New("--password-file: the password of --user is missing")
-	case asked.password != "" && asked.passwordFile != "":
+	case opts.password != "" && opts.passwordFile != "":
 		return errors.New("--password-file: --user has a password too")
 	}
 	return nil

@@ -13,27 +13,33 @@ import (
 	"fomaheti/frames"
 )
 
-// refusal is an answer other than OK: what was asked was not made, and never will be.
+// refusal is an answer other than OK: the change was not made and never will be.
 type refusal struct {
 	code codes.Code
 	text string
 }
 
+// Error is the text of the reply.
 func (r refusal) Error() string { return r.text }
 
-// refuse is a refusal because the rows are not as was supposed, or because this program does not lead.
-func refuse(format string, parts ...interface{}) refusal {
-	return refusal{codes.FailedPrecondition, frames.Text(fmt.Sprintf(format, parts...))}
+// refuse returns a FAILED_PRECONDITION: a comparison failed, or this program does not lead.
+func refuse(format string, args ...interface{}) refusal {
+	return refusal{codes.FailedPrecondition, frames.Text(fmt.Sprintf(format, args...))}
 }
 
-// open is what is not known: it was made, or not, or still may be. Such a call gets no reply.
-type open struct{ err error }
+// unknownOutcome is an error after which a change may have been made, or may still be made. The
+// call gets no reply.
+type unknownOutcome struct{ err error }
 
-func (o open) Error() string { return "it is not known whether it was made: " + o.err.Error() }
+// Error implements error.
+func (o unknownOutcome) Error() string {
+	return "it is not known whether it was made: " + o.err.Error()
+}
 
-// certainRefusals are the errors of etcd that it returns only of a transaction that it has not made. They come before it proposes the transaction to
-// its members, or instead of making it. ErrNoSpace is not among them: a member returns it also of a transaction that it has made, where the room
-// was used up by others since it was proposed (quotaApplierV3 of etcd 3.4 and later).
+// certainRefusals are the errors with which etcd answers only transactions that it has not made.
+// etcd returns them before it proposes the transaction to its members, or instead of making it.
+// ErrNoSpace is missing: a member also returns it for a transaction that it made, if others used up
+// the space after the proposal (quotaApplierV3 of etcd 3.4 and later).
 var certainRefusals = map[error]codes.Code{
 	rpctypes.ErrRequestTooLarge:  codes.ResourceExhausted,
 	rpctypes.ErrTooManyRequests:  codes.Internal,
@@ -48,56 +54,62 @@ var certainRefusals = map[error]codes.Code{
 	rpctypes.ErrPermissionDenied: codes.Internal,
 }
 
-// What gRPC says of a message that is longer than this client sends, and than a server takes: either before the server looks at it.
+// gRPC's texts for a message that is too long for this client to send, or for the server to
+// receive. In both cases the server has not looked at it.
 const (
 	tooLongToSend = "trying to send message larger than max"
 	tooLongToTake = "grpc: received message larger than max"
 )
 
-// certain is the refusal that an error of a transaction is, where it is a certain one. Whatever is not known here is not certain: a deadline, a
-// connection that was lost, a leader that changed, and each error that etcd may get.
-func certain(err error) (refusal, bool) {
-	if code, is := certainRefusals[err]; is {
+// notMade returns the refusal for an error that proves that the transaction was not made. Any other
+// error proves nothing: a deadline, a lost connection, a new leader, or an error of a later etcd.
+func notMade(err error) (refusal, bool) {
+	if code, ok := certainRefusals[err]; ok {
 		return refusal{code, frames.Text(err.Error())}, true
 	}
-	said := status.Convert(err)
-	if said.Code() == codes.ResourceExhausted && (strings.Contains(said.Message(), tooLongToSend) || strings.Contains(said.Message(), tooLongToTake)) {
-		return refusal{codes.ResourceExhausted, frames.Text(said.Message())}, true
+	rpcStatus := status.Convert(err)
+	if rpcStatus.Code() == codes.ResourceExhausted &&
+		(strings.Contains(rpcStatus.Message(), tooLongToSend) || strings.Contains(rpcStatus.Message(), tooLongToTake)) {
+		return refusal{codes.ResourceExhausted, frames.Text(rpcStatus.Message())}, true
 	}
 	return refusal{}, false
 }
 
-// A transaction is sent once. etcd's client would send one again in two cases: where an error says "there is no connection available" (it was not
-// sent then), and, whatever its policy for that call is, where a server answers that the call's deadline is over, or that it was canceled, before
-// the client's own deadline is (retry_interceptor.go of clientv3 3.4: the branch of isContextError goes on without asking isSafeRetry). In the
-// second case the first one may have been made, and the answer of the second one would say that a comparison failed. What gRPC itself sends again
-// no server has seen: a call that never got a connection, and one that a server refused as unprocessed.
+// A transaction is sent once. etcd's client would send it again in two cases. In the first the
+// error says "there is no connection available"; then it was not sent. In the second a server
+// answers that the deadline of the call is over, or that the call was canceled, before the client's
+// own deadline. There the client sends again whatever its policy for the call is: in
+// retry_interceptor.go of clientv3 3.4 the branch of isContextError does not ask isSafeRetry. etcd
+// may have made the first one, and the answer to the second would be a failed comparison. gRPC
+// itself sends again only calls that no server has seen: calls without a connection, and calls that
+// a server refused as unprocessed.
 
-// attempt is how sending a transaction ended the last time, in the context of its call.
+// attempt is the result of the last attempt to send a transaction. It lives in the call's context.
 type attempt struct{ err error }
 
 type attemptKey struct{}
 
-func sentOnce(ctx context.Context) context.Context {
+func withSendOnce(ctx context.Context) context.Context {
 	return context.WithValue(ctx, attemptKey{}, &attempt{})
 }
 
-// sendOnce is between etcd's client, which sends again, and the connection. A call that is to be sent once goes on a second time only where
-// the first one was refused for its token, and etcd's client got a new one in the meantime.
-func sendOnce(ctx context.Context, method string, request, reply interface{}, connection *grpc.ClientConn, send grpc.UnaryInvoker, options ...grpc.CallOption) error {
+// sendOnce is an interceptor below the retries of etcd's client. It lets a transaction through a
+// second time only if etcd refused its token; etcd's client has a new token by then.
+func sendOnce(ctx context.Context, method string, request, reply interface{}, conn *grpc.ClientConn,
+	invoke grpc.UnaryInvoker, options ...grpc.CallOption) error {
 	last, isOnce := ctx.Value(attemptKey{}).(*attempt)
 	if !isOnce {
-		return send(ctx, method, request, reply, connection, options...)
+		return invoke(ctx, method, request, reply, conn, options...)
 	}
-	if last.err != nil && !isOfToken(last.err) {
+	if last.err != nil && !isTokenError(last.err) {
 		return status.Error(codes.Unknown, "it was not sent again: "+status.Convert(last.err).Message())
 	}
-	last.err = send(ctx, method, request, reply, connection, options...)
+	last.err = invoke(ctx, method, request, reply, conn, options...)
 	return last.err
 }
 
-// isOfToken reports whether etcd refused a call before it looked at more than its token.
-func isOfToken(err error) bool {
+// isTokenError reports whether etcd refused the token of a call, and so looked at nothing else.
+func isTokenError(err error) bool {
 	switch rpctypes.Error(err) {
 	case rpctypes.ErrUserEmpty, rpctypes.ErrInvalidAuthToken, rpctypes.ErrAuthOldRevision:
 		return true

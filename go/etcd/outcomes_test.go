@@ -3,6 +3,7 @@ package main
 import (
 	"context"
 	"errors"
+	"fmt"
 	"net"
 	"sync/atomic"
 	"testing"
@@ -17,57 +18,69 @@ import (
 	"google.golang.org/grpc/status"
 )
 
-// Of these errors alone a transaction was certainly not made.
-func TestCertain(t *testing.T) {
-	rows := []struct {
-		err  error
-		code codes.Code
-	}{
-		{rpctypes.ErrGRPCRequestTooLarge, codes.ResourceExhausted},
-		{status.Error(codes.ResourceExhausted, "trying to send message larger than max (5 vs. 4)"), codes.ResourceExhausted},
-		{status.Error(codes.ResourceExhausted, "grpc: received message larger than max (5 vs. 4)"), codes.ResourceExhausted},
-		{rpctypes.ErrGRPCRequestTooManyRequests, codes.Internal}, {rpctypes.ErrGRPCDuplicateKey, codes.Internal}, {rpctypes.ErrGRPCEmptyKey, codes.Internal},
-		{rpctypes.ErrGRPCTooManyOps, codes.Internal}, {rpctypes.ErrGRPCPermissionDenied, codes.Internal}, {rpctypes.ErrGRPCInvalidAuthToken, codes.Internal},
-		{rpctypes.ErrGRPCUserEmpty, codes.Internal}, {rpctypes.ErrGRPCAuthOldRevision, codes.Internal}, {rpctypes.ErrGRPCAuthFailed, codes.Internal},
-		{rpctypes.ErrGRPCNoLeader, codes.Internal},
-		{nil, codes.OK}, {errors.New("any"), codes.OK}, {context.DeadlineExceeded, codes.OK}, {context.Canceled, codes.OK},
-		{rpctypes.ErrGRPCNoSpace, codes.OK}, {rpctypes.ErrGRPCTimeout, codes.OK}, {rpctypes.ErrGRPCTimeoutDueToLeaderFail, codes.OK},
-		{rpctypes.ErrGRPCTimeoutDueToConnectionLost, codes.OK}, {rpctypes.ErrGRPCLeaderChanged, codes.OK}, {rpctypes.ErrGRPCStopped, codes.OK},
-		{rpctypes.ErrGRPCNotLeader, codes.OK}, {rpctypes.ErrGRPCUnhealthy, codes.OK}, {rpctypes.ErrGRPCCorrupt, codes.OK}, {rpctypes.ErrGRPCNotCapable, codes.OK},
-		{status.Error(codes.Unavailable, "transport is closing"), codes.OK}, {status.Error(codes.Unknown, "raft proposal dropped"), codes.OK},
-		{status.Error(codes.ResourceExhausted, "any"), codes.OK}, {status.Error(codes.Canceled, "any"), codes.OK}, {status.Error(codes.Internal, "any"), codes.OK},
+// Only these errors prove that a transaction was not made.
+func TestNotMade(t *testing.T) {
+	exhausted := func(text string) error { return status.Error(codes.ResourceExhausted, text) }
+	cases := map[codes.Code][]error{
+		codes.ResourceExhausted: {
+			rpctypes.ErrGRPCRequestTooLarge,
+			exhausted("trying to send message larger than max (5 vs. 4)"),
+			exhausted("grpc: received message larger than max (5 vs. 4)"),
+		},
+		codes.Internal: {
+			rpctypes.ErrGRPCRequestTooManyRequests, rpctypes.ErrGRPCDuplicateKey, rpctypes.ErrGRPCEmptyKey,
+			rpctypes.ErrGRPCTooManyOps, rpctypes.ErrGRPCPermissionDenied, rpctypes.ErrGRPCInvalidAuthToken,
+			rpctypes.ErrGRPCUserEmpty, rpctypes.ErrGRPCAuthOldRevision, rpctypes.ErrGRPCAuthFailed,
+			rpctypes.ErrGRPCNoLeader,
+		},
+		// These prove nothing.
+		codes.OK: {
+			nil, errors.New("any"), context.DeadlineExceeded, context.Canceled,
+			rpctypes.ErrGRPCNoSpace, rpctypes.ErrGRPCTimeout, rpctypes.ErrGRPCTimeoutDueToLeaderFail,
+			rpctypes.ErrGRPCTimeoutDueToConnectionLost, rpctypes.ErrGRPCLeaderChanged, rpctypes.ErrGRPCStopped,
+			rpctypes.ErrGRPCNotLeader, rpctypes.ErrGRPCUnhealthy, rpctypes.ErrGRPCCorrupt, rpctypes.ErrGRPCNotCapable,
+			status.Error(codes.Unavailable, "transport is closing"),
+			status.Error(codes.Unknown, "raft proposal dropped"),
+			exhausted("any"), status.Error(codes.Canceled, "any"), status.Error(codes.Internal, "any"),
+		},
 	}
-	for _, row := range rows {
-		why, is := certain(rpctypes.Error(row.err))
-		if is != (row.code != codes.OK) || why.code != row.code {
-			t.Errorf("%v: %v, %v", row.err, why.code, is)
+	for want, errs := range cases {
+		for _, err := range errs {
+			t.Run(fmt.Sprint(err), func(t *testing.T) {
+				got, ok := notMade(rpctypes.Error(err))
+				if ok != (want != codes.OK) || got.code != want {
+					t.Errorf("got %v, certain: %v, want %v", got.code, ok, want)
+				}
+			})
 		}
 	}
 }
 
-// moody is an etcd that answers transactions by errors, and counts them.
-type moody struct {
+// failingServer is an etcd that counts transactions and answers them with errors in turn, and then
+// with OK.
+type failingServer struct {
 	pb.KVServer
-	errors []error
-	came   int32
+	errors   []error
+	requests int32
 }
 
-func (m *moody) Txn(_ context.Context, asked *pb.TxnRequest) (*pb.TxnResponse, error) {
-	came := int(atomic.AddInt32(&m.came, 1))
-	if came <= len(m.errors) {
-		return nil, m.errors[came-1]
+func (s *failingServer) Txn(_ context.Context, request *pb.TxnRequest) (*pb.TxnResponse, error) {
+	requests := int(atomic.AddInt32(&s.requests, 1))
+	if requests <= len(s.errors) {
+		return nil, s.errors[requests-1]
 	}
-	return &pb.TxnResponse{Header: &pb.ResponseHeader{Revision: 200}, Succeeded: true, Responses: responses(asked.Success)}, nil
+	return &pb.TxnResponse{Header: &pb.ResponseHeader{Revision: 200}, Succeeded: true,
+		Responses: responses(request.Success)}, nil
 }
 
-// start starts the etcd, and makes a client of it.
-func (m *moody) start(t *testing.T, options ...grpc.DialOption) *clientv3.Client {
+// start starts the server and returns a client of it.
+func (s *failingServer) start(t *testing.T, options ...grpc.DialOption) *clientv3.Client {
 	t.Helper()
-	return startServer(t, m, 1, options...)
+	return startServer(t, s, 1, options...)
 }
 
-// listening starts an etcd, and says where it answers.
-func listening(t *testing.T, kv pb.KVServer) (address string) {
+// serveEtcd starts a server of etcd's services and returns its address.
+func serveEtcd(t *testing.T, kv pb.KVServer) (address string) {
 	t.Helper()
 	listener, err := net.Listen("tcp", "127.0.0.1:0")
 	if err != nil {
@@ -75,13 +88,13 @@ func listening(t *testing.T, kv pb.KVServer) (address string) {
 	}
 	server := grpc.NewServer()
 	pb.RegisterKVServer(server, kv)
-	if lender, is := kv.(pb.LeaseServer); is {
+	if lender, ok := kv.(pb.LeaseServer); ok {
 		pb.RegisterLeaseServer(server, lender)
 	}
-	if guard, is := kv.(pb.AuthServer); is {
+	if guard, ok := kv.(pb.AuthServer); ok {
 		pb.RegisterAuthServer(server, guard)
 	}
-	if teller, is := kv.(pb.WatchServer); is {
+	if teller, ok := kv.(pb.WatchServer); ok {
 		pb.RegisterWatchServer(server, teller)
 	}
 	go server.Serve(listener)
@@ -89,10 +102,11 @@ func listening(t *testing.T, kv pb.KVServer) (address string) {
 	return listener.Addr().String()
 }
 
-// startServer starts an etcd, and makes a client to which it is so many members.
+// startServer starts a server and returns a client with that many endpoints, all of them this
+// server.
 func startServer(t *testing.T, kv pb.KVServer, members int, options ...grpc.DialOption) *clientv3.Client {
 	t.Helper()
-	address := listening(t, kv)
+	address := serveEtcd(t, kv)
 	var endpoints []string
 	for i := 0; i < members; i++ {
 		endpoints = append(endpoints, address)
@@ -107,43 +121,48 @@ func startServer(t *testing.T, kv pb.KVServer, members int, options ...grpc.Dial
 	return client
 }
 
-// A transaction of the program's own client goes to etcd once, unless it was refused for its token. By itself etcd's client sends it again where the
-// server says that it was canceled, or that its deadline is over.
+// The program's own client sends a transaction to etcd once, unless etcd refused its token. On its
+// own, etcd's client sends it again if the server answers that it was canceled or that its deadline
+// is over.
 func TestSentOnce(t *testing.T) {
-	rows := []struct {
-		name   string
-		err    error
-		isOnce bool
-		came   int32
+	cases := []struct {
+		name     string
+		err      error
+		isOnce   bool
+		requests int32
 	}{
-		{"canceled", status.Error(codes.Canceled, "any"), false, 2},
-		{"late", status.Error(codes.DeadlineExceeded, "any"), false, 2},
+		{"canceled, etcd's client alone", status.Error(codes.Canceled, "any"), false, 2},
+		{"late, etcd's client alone", status.Error(codes.DeadlineExceeded, "any"), false, 2},
 		{"canceled", status.Error(codes.Canceled, "any"), true, 1},
 		{"late", status.Error(codes.DeadlineExceeded, "any"), true, 1},
 		{"unavailable", status.Error(codes.Unavailable, "etcdserver: leader changed"), true, 1},
-		{"of the token", rpctypes.ErrGRPCAuthOldRevision, true, 2},
-		{"of a token that etcd does not know", rpctypes.ErrGRPCInvalidAuthToken, true, 2},
+		{"old token", rpctypes.ErrGRPCAuthOldRevision, true, 2},
+		{"unknown token", rpctypes.ErrGRPCInvalidAuthToken, true, 2},
 	}
-	for _, row := range rows {
-		server := &moody{errors: []error{row.err}}
-		client, err := newMembers(options{endpoints: []string{listening(t, server)}, timeout: 5 * time.Second}, t.Logf).connect()
-		if err != nil {
-			t.Fatal(err)
-		}
-		t.Cleanup(func() { client.Close() })
-		ctx, cancel := context.WithTimeout(context.Background(), 5*time.Second)
-		if row.isOnce {
-			ctx = sentOnce(ctx)
-		}
-		_, err = client.Txn(ctx).Then(clientv3.OpPut("a", "b")).Commit()
-		cancel()
-		if came := atomic.LoadInt32(&server.came); came != row.came || (err == nil) != (row.came == 2) {
-			t.Errorf("%s, once %v: it came %d times, %v", row.name, row.isOnce, came, err)
-		}
-		if err != nil {
-			if why, is := certain(err); is {
-				t.Errorf("%s: certain, %v", row.name, why)
+	for _, c := range cases {
+		t.Run(c.name, func(t *testing.T) {
+			server := &failingServer{errors: []error{c.err}}
+			opts := options{endpoints: []string{serveEtcd(t, server)}, timeout: 5 * time.Second}
+			client, err := newMembers(opts, t.Logf).connect()
+			if err != nil {
+				t.Fatal(err)
 			}
-		}
+			t.Cleanup(func() { client.Close() })
+			ctx, cancel := context.WithTimeout(context.Background(), 5*time.Second)
+			defer cancel()
+			if c.isOnce {
+				ctx = withSendOnce(ctx)
+			}
+			_, err = client.Txn(ctx).Then(clientv3.OpPut("a", "b")).Commit()
+			if got := atomic.LoadInt32(&server.requests); got != c.requests || (err == nil) != (c.requests == 2) {
+				t.Errorf("got %d requests, error %v, want %d requests", got, err, c.requests)
+			}
+			if err == nil {
+				return
+			}
+			if reason, ok := notMade(err); ok {
+				t.Errorf("got the certain refusal %v, want an unknown outcome", reason)
+			}
+		})
 	}
 }

@@ -13,28 +13,29 @@ import (
 	"fomaheti/files"
 )
 
-// How often the file of the revision is written at most.
+// savePause is the shortest time between two regular writes of the file.
 const savePause = time.Second
 
-// revisions remembers the greatest revision of etcd that something was answered for. One that is lower comes of a snapshot that was restored, in
-// which volumes may be missing that were answered.
+// revisions holds the greatest revision of etcd in any answer to csid. If etcd is later at a lower
+// revision, it was restored from an older snapshot, and volumes in those answers may be missing.
 type revisions struct {
-	// The file where it is; there is none if the path is empty.
+	// The path of the file; empty without a file.
 	path     string
 	mutex    sync.Mutex
 	greatest int64
-	// The lower one that was seen, once there was one, and the refusal that it is.
+	// The lower revision, once etcd had one, and the refusal that reports it.
 	lower int64
 	older error
-	// What the file has.
+	// The text in the file.
 	saved string
-	// Closed once there is a lower one: that is written at once.
-	noticed chan struct{}
+	// Receives a value when a lower revision is seen, which must be written at once.
+	olderSeen chan struct{}
 }
 
-// openRevisions reads the file. Where an older etcd is accepted, what it has is forgotten, and written again.
+// openRevisions reads the file. With acceptOlder it ignores the contents, and the next save
+// replaces them.
 func openRevisions(path string, acceptOlder bool) (*revisions, error) {
-	r := &revisions{path: path, noticed: make(chan struct{}, 1)}
+	r := &revisions{path: path, olderSeen: make(chan struct{}, 1)}
 	if path == "" || acceptOlder {
 		return r, nil
 	}
@@ -53,8 +54,9 @@ func openRevisions(path string, acceptOlder bool) (*revisions, error) {
 	return r, nil
 }
 
-// The file is a line: the greatest revision, and after a space the lower one that was seen, where one was. So a refusal lasts over a stop, also where
-// etcd's revision was raised since, as the key of the lock does each time that it is put.
+// text is the line of the file: the greatest revision, and after a space the lower one, if etcd had
+// one. So the refusal survives a restart, even after etcd's revision has risen again, as it does
+// with each put of the key of the lock.
 func (r *revisions) text() string {
 	if r.older != nil {
 		return fmt.Sprintf("%d %d\n", r.greatest, r.lower)
@@ -62,14 +64,14 @@ func (r *revisions) text() string {
 	return fmt.Sprintf("%d\n", r.greatest)
 }
 
-// read takes what the file has, and reports whether it is such a line.
+// read parses the line of the file, and reports whether it is valid.
 func (r *revisions) read(text string) bool {
 	greatest, lower, isOlder := strings.Cut(strings.TrimSuffix(text, "\n"), " ")
-	is := true
-	if r.greatest, is = readRevision(greatest); !is || !isOlder {
-		return is
+	ok := true
+	if r.greatest, ok = readRevision(greatest); !ok || !isOlder {
+		return ok
 	}
-	if r.lower, is = readRevision(lower); !is || r.lower >= r.greatest {
+	if r.lower, ok = readRevision(lower); !ok || r.lower >= r.greatest {
 		return false
 	}
 	r.older = olderRefusal(r.greatest, r.lower)
@@ -81,21 +83,22 @@ func readRevision(digits string) (int64, bool) {
 	return n, err == nil && n >= 0 && strconv.FormatInt(n, 10) == digits
 }
 
-// least is the lowest revision that etcd can be at, for what is asked of it from now on.
+// least returns the lowest revision that etcd may have in answers to requests sent from now on.
 func (r *revisions) least() int64 {
 	r.mutex.Lock()
 	defer r.mutex.Unlock()
 	return r.greatest
 }
 
-// check refuses where etcd is at a lower revision than the least when it was asked, and from then on: others may raise it in the meantime.
+// check refuses if etcd was at a lower revision than least, the value when the request was sent.
+// From then on it always refuses, since other writers may raise the revision again.
 func (r *revisions) check(least, revision int64) error {
 	r.mutex.Lock()
 	defer r.mutex.Unlock()
 	if r.older == nil && revision < least {
 		r.lower, r.older = revision, olderRefusal(least, revision)
 		select {
-		case r.noticed <- struct{}{}:
+		case r.olderSeen <- struct{}{}:
 		default:
 		}
 	}
@@ -103,12 +106,12 @@ func (r *revisions) check(least, revision int64) error {
 }
 
 func olderRefusal(answered, revision int64) error {
-	return refuse("etcd is at revision %d, and %d was answered: it was restored from an older snapshot, and volumes may be missing; --accept-older goes on",
-		revision, answered)
+	return refuse("etcd is at revision %d, and %d was answered: it was restored from an older snapshot, and volumes "+
+		"may be missing; --accept-older goes on", revision, answered)
 }
 
-// answered notes the revision of what is answered.
-func (r *revisions) answered(revision int64) {
+// record notes the revision of an answer to csid.
+func (r *revisions) record(revision int64) {
 	r.mutex.Lock()
 	defer r.mutex.Unlock()
 	if revision > r.greatest {
@@ -116,25 +119,26 @@ func (r *revisions) answered(revision int64) {
 	}
 }
 
-// keep writes the file now and then, and at once where an older etcd was seen, until it is asked to end, and then a last time. A failure is reported once, until it is over.
-func (r *revisions) keep(end <-chan struct{}, say func(format string, parts ...interface{})) {
+// saveUntil writes the file every savePause, and at once after a lower revision, until end is
+// closed; then it writes a last time. It reports only the first of several failures in a row.
+func (r *revisions) saveUntil(end <-chan struct{}, logf func(format string, args ...interface{})) {
 	isFailing := false
 	for isEnding := false; !isEnding; {
 		select {
 		case <-end:
 			isEnding = true
-		case <-r.noticed:
+		case <-r.olderSeen:
 		case <-time.After(savePause):
 		}
 		err := r.save()
 		if err != nil && !isFailing {
-			say("--revision: %v", err)
+			logf("--revision: %v", err)
 		}
 		isFailing = err != nil
 	}
 }
 
-// save writes the file where it is out of date, so that a stop leaves the old one or the new one.
+// save writes the file if its text has changed. After a crash the file has the old text or the new.
 func (r *revisions) save() error {
 	r.mutex.Lock()
 	text := r.text()
@@ -142,15 +146,15 @@ func (r *revisions) save() error {
 	if r.path == "" || text == r.saved {
 		return nil
 	}
-	if err := replace(r.path, []byte(text)); err != nil {
+	if err := replaceFile(r.path, []byte(text)); err != nil {
 		return err
 	}
 	r.saved = text
 	return nil
 }
 
-// replace writes PATH.new, and gives it the name PATH.
-func replace(path string, text []byte) error {
+// replaceFile writes PATH.new and renames it to PATH.
+func replaceFile(path string, text []byte) error {
 	file, err := files.Create(path+".new", 0o600)
 	if err != nil {
 		return err
@@ -159,8 +163,8 @@ func replace(path string, text []byte) error {
 	if err == nil {
 		err = file.Sync()
 	}
-	if closing := file.Close(); err == nil {
-		err = closing
+	if closeErr := file.Close(); err == nil {
+		err = closeErr
 	}
 	if err == nil {
 		err = os.Rename(path+".new", path)

@@ -2,6 +2,7 @@ package main
 
 import (
 	"errors"
+	"fmt"
 	"os"
 	"os/signal"
 	"path/filepath"
@@ -12,83 +13,106 @@ import (
 	"golang.org/x/sys/unix"
 )
 
-// The greatest revision is in the file over a stop, and a lower one is refused from then on.
-func TestRevisions(t *testing.T) {
-	path := filepath.Join(t.TempDir(), "revision")
-	first, err := openRevisions(path, false)
-	if err != nil || first.check(first.least(), 1) != nil {
-		t.Fatal(err)
-	}
-	first.answered(110)
-	first.answered(105)
-	if err := first.save(); err != nil {
-		t.Fatal(err)
-	}
-	if text, err := os.ReadFile(path); err != nil || string(text) != "110\n" {
-		t.Errorf("the file has %q, %v", text, err)
-	}
-	second, err := openRevisions(path, false)
+// openOrFail opens the file of the revision.
+func openOrFail(t *testing.T, path string, acceptOlder bool) *revisions {
+	t.Helper()
+	r, err := openRevisions(path, acceptOlder)
 	if err != nil {
 		t.Fatal(err)
 	}
-	if err := second.check(second.least(), 110); err != nil {
-		t.Errorf("the same revision: %v", err)
-	}
-	// What was asked before another answer came may be older than that.
-	before := second.least()
-	second.answered(112)
-	if err := second.check(before, 111); err != nil {
-		t.Errorf("asked before: %v", err)
-	}
-	const want = "etcd is at revision 111, and 112 was answered: it was restored from an older snapshot, and volumes may be missing; --accept-older goes on"
-	for _, revision := range []int64{111, 200} {
-		if err := second.check(second.least(), revision); err == nil || err.Error() != want {
-			t.Errorf("%d: %v", revision, err)
-		}
-	}
-	// That lasts over a stop.
-	if err := second.save(); err != nil {
+	return r
+}
+
+func saveOrFail(t *testing.T, r *revisions) {
+	t.Helper()
+	if err := r.save(); err != nil {
 		t.Fatal(err)
-	}
-	if text, err := os.ReadFile(path); err != nil || string(text) != "112 111\n" {
-		t.Errorf("the file has %q, %v", text, err)
-	}
-	if again, err := openRevisions(path, false); err != nil || again.saved != "112 111\n" {
-		t.Errorf("the file of a refusal: %v", err)
-	} else if err := again.check(again.least(), 200); err == nil || err.Error() != want {
-		t.Errorf("after a stop: %v", err)
-	}
-	third, err := openRevisions(path, true)
-	if err != nil || third.check(third.least(), 50) != nil {
-		t.Fatal(err)
-	}
-	// It is accepted for good, also by a program that answers nothing.
-	if err := third.save(); err != nil {
-		t.Fatal(err)
-	}
-	if accepted, err := openRevisions(path, false); err != nil || accepted.check(accepted.least(), 1) != nil {
-		t.Errorf("after --accept-older, and nothing else: %v", err)
-	}
-	third.answered(50)
-	if err := third.save(); err != nil {
-		t.Fatal(err)
-	}
-	if fourth, err := openRevisions(path, false); err != nil || fourth.greatest != 50 || fourth.check(fourth.least(), 49) == nil {
-		t.Errorf("after --accept-older: %v", err)
 	}
 }
 
-// That an older etcd was seen is in the file before a stop can come in between: sooner than the file is written otherwise.
+// wantFile checks the text of a file.
+func wantFile(t *testing.T, path, want string) {
+	t.Helper()
+	if text, err := os.ReadFile(path); err != nil || string(text) != want {
+		t.Errorf("%s: got %q, error %v, want %q", path, text, err, want)
+	}
+}
+
+// The file keeps the greatest revision over a stop. A lower one is refused from then on.
+func TestRevisions(t *testing.T) {
+	path := filepath.Join(t.TempDir(), "revision")
+	first := openOrFail(t, path, false)
+	if err := first.check(first.least(), 1); err != nil {
+		t.Fatal(err)
+	}
+	first.record(110)
+	first.record(105)
+	saveOrFail(t, first)
+	wantFile(t, path, "110\n")
+	second := openOrFail(t, path, false)
+	if err := second.check(second.least(), 110); err != nil {
+		t.Errorf("the same revision: got error %v", err)
+	}
+	// A request sent before another answer may have an older answer.
+	before := second.least()
+	second.record(112)
+	if err := second.check(before, 111); err != nil {
+		t.Errorf("sent before: got error %v", err)
+	}
+	const want = "etcd is at revision 111, and 112 was answered: it was restored from an older snapshot, and volumes " +
+		"may be missing; --accept-older goes on"
+	for _, revision := range []int64{111, 200} {
+		if err := second.check(second.least(), revision); errorText(err) != want {
+			t.Errorf("revision %d: got error %v, want %s", revision, err, want)
+		}
+	}
+	// The refusal outlasts a stop.
+	saveOrFail(t, second)
+	wantFile(t, path, "112 111\n")
+	again := openOrFail(t, path, false)
+	if again.saved != "112 111\n" {
+		t.Errorf("after a stop: got the text %q", again.saved)
+	}
+	if err := again.check(again.least(), 200); errorText(err) != want {
+		t.Errorf("after a stop: got error %v, want %s", err, want)
+	}
+}
+
+// An older etcd is accepted for good, even by a program that answers nothing.
+func TestAcceptOlder(t *testing.T) {
+	path := filepath.Join(t.TempDir(), "revision")
+	if err := os.WriteFile(path, []byte("112 111\n"), 0o600); err != nil {
+		t.Fatal(err)
+	}
+	first := openOrFail(t, path, true)
+	if err := first.check(first.least(), 50); err != nil {
+		t.Fatal(err)
+	}
+	saveOrFail(t, first)
+	second := openOrFail(t, path, false)
+	if err := second.check(second.least(), 1); err != nil {
+		t.Errorf("after no answer: got error %v", err)
+	}
+	first.record(50)
+	saveOrFail(t, first)
+	third := openOrFail(t, path, false)
+	if third.greatest != 50 || third.check(third.least(), 49) == nil {
+		t.Errorf("after an answer at 50: got revision %d, and 49 is accepted", third.greatest)
+	}
+}
+
+// That an older etcd was seen is written at once, not at the next regular time: the program may be
+// stopped before.
 func TestOlderIsWrittenAtOnce(t *testing.T) {
 	path := filepath.Join(t.TempDir(), "revision")
 	r, err := openRevisions(path, false)
 	if err != nil {
 		t.Fatal(err)
 	}
-	r.answered(112)
+	r.record(112)
 	end := make(chan struct{})
 	defer close(end)
-	go r.keep(end, t.Logf)
+	go r.saveUntil(end, t.Logf)
 	if r.check(r.least(), 111) == nil {
 		t.Fatal("an older etcd is not refused")
 	}
@@ -98,60 +122,61 @@ func TestOlderIsWrittenAtOnce(t *testing.T) {
 			return
 		}
 		if time.Since(begin) > savePause/2 {
-			t.Fatalf("the file has %q", text)
+			t.Fatalf("got %q in the file", text)
 		}
 	}
 }
 
 func TestBadRevisionFile(t *testing.T) {
 	path := filepath.Join(t.TempDir(), "revision")
-	for _, text := range []string{"", "\n", "x", "-1\n", "01\n", "1\n\n", "1 \n", " 1\n", "1 1\n", "1 2\n", "2 01\n", "2 1 0\n", "9223372036854775808\n"} {
-		if err := os.WriteFile(path, []byte(text), 0o600); err != nil {
-			t.Fatal(err)
+	cases := []string{"", "\n", "x", "-1\n", "01\n", "1\n\n", "1 \n", " 1\n", "1 1\n", "1 2\n", "2 01\n", "2 1 0\n",
+		"9223372036854775808\n"}
+	for _, text := range cases {
+		t.Run(fmt.Sprintf("%q", text), func(t *testing.T) {
+			if err := os.WriteFile(path, []byte(text), 0o600); err != nil {
+				t.Fatal(err)
+			}
+			if r, err := openRevisions(path, false); err == nil {
+				t.Errorf("got revision %d, want an error", r.greatest)
+			}
+		})
+	}
+	t.Run("no file", func(t *testing.T) {
+		if r, err := openRevisions(path+".none", false); err != nil || r.greatest != 0 {
+			t.Errorf("got %v, error %v, want revision 0", r, err)
 		}
-		if r, err := openRevisions(path, false); err == nil {
-			t.Errorf("%q: %d", text, r.greatest)
+	})
+	t.Run("folder", func(t *testing.T) {
+		if _, err := openRevisions(filepath.Dir(path), false); err == nil {
+			t.Error("got no error")
 		}
-	}
-	if r, err := openRevisions(path+".none", false); err != nil || r.greatest != 0 {
-		t.Errorf("no file: %v", err)
-	}
-	if _, err := openRevisions(filepath.Dir(path), false); err == nil {
-		t.Error("a folder was taken")
-	}
+	})
 }
 
-// A file that could not be written is written later, also where nothing was answered in the meantime; and it is replaced as a whole, so that a stop leaves the
-// old one or the new one.
+// After a failure the file is written later, even without a new answer. It is replaced as a whole:
+// a crash leaves the old text or the new one.
 func TestSaveAgain(t *testing.T) {
 	folder := filepath.Join(t.TempDir(), "none")
 	r := &revisions{path: filepath.Join(folder, "revision")}
-	r.answered(7)
+	r.record(7)
 	if r.save() == nil {
 		t.Fatal("it was written without its folder")
 	}
 	if err := os.Mkdir(folder, 0o700); err != nil {
 		t.Fatal(err)
 	}
-	if err := r.save(); err != nil {
-		t.Fatal(err)
-	}
+	saveOrFail(t, r)
 	old := r.path + ".old"
 	if err := os.Link(r.path, old); err != nil {
 		t.Fatal(err)
 	}
-	r.answered(8)
-	if err := r.save(); err != nil {
-		t.Fatal(err)
-	}
-	for path, want := range map[string]string{old: "7\n", r.path: "8\n"} {
-		if text, err := os.ReadFile(path); err != nil || string(text) != want {
-			t.Errorf("%s has %q, %v", path, text, err)
-		}
-	}
+	r.record(8)
+	saveOrFail(t, r)
+	wantFile(t, old, "7\n")
+	wantFile(t, r.path, "8\n")
 }
 
-// A file that could not be written whole does not take the place of the old one.
+// A file that could not be written completely does not replace the old one.
 func TestNotWrittenWhole(t *testing.T) {
 	path := filepath.Join(t.TempDir(), "revision")
 	r := &revisions{path: path}
@@ -160,24 +185,22 @@ func TestNotWrittenWhole(t *testing.T) {
 		isFull   bool
 		want     string
 	}{{7, false, "7\n"}, {8, true, "7\n"}, {9, false, "9\n"}} {
-		r.answered(c.revision)
+		r.record(c.revision)
 		save := r.save
 		if c.isFull {
 			save = func() error { return withoutRoom(t, r.save) }
 		}
 		if err := save(); (err != nil) != c.isFull {
-			t.Errorf("%d: %v", c.revision, err)
+			t.Errorf("revision %d: got error %v, want one: %v", c.revision, err, c.isFull)
 		}
 		if at, err := os.Lstat(path); err != nil || !at.Mode().IsRegular() {
-			t.Fatalf("%d: another thing stands in its place, %v", c.revision, err)
+			t.Fatalf("revision %d: got no regular file, error %v", c.revision, err)
 		}
-		if text, err := os.ReadFile(path); err != nil || string(text) != c.want {
-			t.Errorf("%d: the file has %q, %v", c.revision, text, err)
-		}
+		wantFile(t, path, c.want)
 	}
 }
 
-// withoutRoom does something while no file can have a byte.
+// withoutRoom calls do while no file may grow.
 func withoutRoom(t *testing.T, do func() error) error {
 	t.Helper()
 	signal.Ignore(unix.SIGXFSZ)
@@ -193,7 +216,7 @@ func withoutRoom(t *testing.T, do func() error) error {
 	return do()
 }
 
-// A link at PATH.new is not followed: what it points to keeps its bytes, and the link is reported.
+// A link at PATH.new is not followed: its target keeps its bytes, and the link is reported.
 func TestLinkIsNotFollowed(t *testing.T) {
 	folder := t.TempDir()
 	path, other := filepath.Join(folder, "revision"), filepath.Join(folder, "other")
@@ -204,40 +227,34 @@ func TestLinkIsNotFollowed(t *testing.T) {
 		t.Fatal(err)
 	}
 	r := &revisions{path: path}
-	r.answered(7)
+	r.record(7)
 	if err := r.save(); !errors.Is(err, os.ErrExist) || !strings.Contains(err.Error(), path+".new") {
-		t.Errorf("a link: %v", err)
+		t.Errorf("got error %v, want one that names the link", err)
 	}
-	if text, err := os.ReadFile(other); err != nil || string(text) != "other" {
-		t.Errorf("behind the link is %q, %v", text, err)
-	}
+	wantFile(t, other, "other")
 	if _, err := os.Lstat(path); err == nil {
 		t.Error("the link became the file")
 	}
-	// Once it is gone, and also over what a kill left, the file is written.
+	// After the link is removed the file is written, even over a rest that a crash left.
 	if err := os.Remove(path + ".new"); err != nil {
 		t.Fatal(err)
 	}
 	if err := os.WriteFile(path+".new", []byte("12345"), 0o600); err != nil {
 		t.Fatal(err)
 	}
-	if err := r.save(); err != nil {
-		t.Fatal(err)
-	}
-	if text, err := os.ReadFile(path); err != nil || string(text) != "7\n" {
-		t.Errorf("after that the file has %q, %v", text, err)
-	}
+	saveOrFail(t, r)
+	wantFile(t, path, "7\n")
 }
 
-// Each time that the file cannot be written any more is reported, once.
-func TestFailuresAreTold(t *testing.T) {
+// Each failure after a success is reported once.
+func TestFailuresAreReported(t *testing.T) {
 	folder := filepath.Join(t.TempDir(), "none")
-	r := &revisions{path: filepath.Join(folder, "revision"), noticed: make(chan struct{})}
+	r := &revisions{path: filepath.Join(folder, "revision"), olderSeen: make(chan struct{})}
 	lines := 0
-	end, ended := make(chan struct{}), make(chan struct{})
+	end, done := make(chan struct{}), make(chan struct{})
 	go func() {
-		defer close(ended)
-		r.keep(end, func(string, ...interface{}) { lines++ })
+		defer close(done)
+		r.saveUntil(end, func(string, ...interface{}) { lines++ })
 	}()
 	for i, step := range []struct {
 		begin func() error
@@ -251,37 +268,38 @@ func TestFailuresAreTold(t *testing.T) {
 		if err := step.begin(); err != nil {
 			t.Fatal(err)
 		}
-		r.answered(int64(i) + 1)
-		// What is noticed is taken when nothing is written: the second one after the writing of the first.
-		r.noticed <- struct{}{}
-		r.noticed <- struct{}{}
+		r.record(int64(i) + 1)
+		// The second value is received after the write that the first one caused.
+		r.olderSeen <- struct{}{}
+		r.olderSeen <- struct{}{}
 		if lines != step.want {
-			t.Errorf("step %d: %d lines, wanted %d", i, lines, step.want)
+			t.Errorf("step %d: got %d lines, want %d", i, lines, step.want)
 		}
 	}
 	close(end)
-	<-ended
+	<-done
 }
 
-// The file is written at the end, and a failure is reported once.
+// The file is written at the end, and repeated failures are reported once.
 func TestKeepRevisions(t *testing.T) {
 	folder := filepath.Join(t.TempDir(), "none")
 	r := &revisions{path: filepath.Join(folder, "revision")}
 	lines := 0
-	end, ended := make(chan struct{}), make(chan struct{})
+	end, done := make(chan struct{}), make(chan struct{})
 	go func() {
-		defer close(ended)
-		r.keep(end, func(string, ...interface{}) { lines++ })
+		defer close(done)
+		r.saveUntil(end, func(string, ...interface{}) { lines++ })
 	}()
-	r.answered(7)
+	r.record(7)
 	time.Sleep(2*savePause + savePause/2)
 	if err := os.Mkdir(folder, 0o700); err != nil {
 		t.Fatal(err)
 	}
-	r.answered(8)
+	r.record(8)
 	close(end)
-	<-ended
-	if text, err := os.ReadFile(r.path); err != nil || string(text) != "8\n" || lines != 1 {
-		t.Errorf("%q, %v, %d lines", text, err, lines)
+	<-done
+	wantFile(t, r.path, "8\n")
+	if lines != 1 {
+		t.Errorf("got %d lines, want 1", lines)
 	}
 }

@@ -12,7 +12,8 @@ import (
 	"google.golang.org/protobuf/encoding/protowire"
 )
 
-// The rows of docs/TABLES.md. A value in etcd is a JSON object of the columns that its key does not have, in their order.
+// The rows of docs/TABLES.md. The value of a row in etcd is a JSON object. It has the columns that
+// are not in the key, in the order of the table.
 
 type meta struct{ format, next uint64 }
 
@@ -33,11 +34,12 @@ type attachment struct {
 
 // tableRow is a row of one of the tables.
 type tableRow interface {
-	// encoded is its value in etcd, message its message, and field the number of the fields of a page that have such messages.
+	// encoded is the value in etcd, message the message of the row, and field the number of the
+	// field of a page that has such a message.
 	encoded() []byte
 	message() []byte
 	field() protowire.Number
-	// statement is the SQL that brings it into tables.
+	// statement is the SQL statement that adds the row to a file.
 	statement() string
 }
 
@@ -50,9 +52,9 @@ func (m meta) encoded() []byte {
 }
 
 func (v volume) encoded() []byte {
-	value := appendText([]byte(`{"name":`), v.name)
+	value := appendJSONString([]byte(`{"name":`), v.name)
 	value = strconv.AppendUint(append(value, `,"bytes":`...), v.bytes, 10)
-	value = appendText(append(value, `,"pool":`...), v.pool)
+	value = appendJSONString(append(value, `,"pool":`...), v.pool)
 	return append(value, fmt.Sprintf(`,"caps":"%x","params":"%x"}`, v.caps, v.params)...)
 }
 
@@ -64,9 +66,9 @@ func (a attachment) encoded() []byte {
 	return []byte(fmt.Sprintf(`{"cap":"%x","readonly":%d}`, a.cap, readonly))
 }
 
-// appendText puts a text after other bytes as JSON has it: as it is but for the characters that must be escaped. encoding/json escapes
-// others too.
-func appendText(value []byte, text string) []byte {
+// appendJSONString appends text as a JSON string with the fewest escapes. encoding/json escapes
+// more characters.
+func appendJSONString(value []byte, text string) []byte {
 	value = append(value, '"')
 	for i := 0; i < len(text); i++ {
 		switch character := text[i]; {
@@ -87,18 +89,19 @@ func appendText(value []byte, text string) []byte {
 	return append(value, '"')
 }
 
-// Why a value is not one that a row can have.
+// Reasons for which a value is not the value of a row.
 var (
-	errNotText        = errors.New("its value is not UTF-8")
-	errRange          = errors.New("a number of its value is above 9223372036854775807")
-	errReadonly       = errors.New("its readonly is not 0 or 1")
-	errMetaForm       = errors.New(`its value is not of the form {"format_no":NUMBER,"next_number":NUMBER}`)
-	errVolumeForm     = errors.New(`its value is not of the form {"name":TEXT,"bytes":NUMBER,"pool":TEXT,"caps":HEX,"params":HEX}`)
+	errNotText    = errors.New("its value is not UTF-8")
+	errRange      = errors.New("a number of its value is above 9223372036854775807")
+	errReadonly   = errors.New("its readonly is not 0 or 1")
+	errMetaForm   = errors.New(`its value is not of the form {"format_no":NUMBER,"next_number":NUMBER}`)
+	errVolumeForm = errors.New(`its value is not of the form ` +
+		`{"name":TEXT,"bytes":NUMBER,"pool":TEXT,"caps":HEX,"params":HEX}`)
 	errAttachmentForm = errors.New(`its value is not of the form {"cap":HEX,"readonly":0 or 1}`)
 )
 
-// readObject reads the members of a value. What encoding/json accepts other than the one encoding of a row, as members twice, in other letters or in
-// another order, is found by encoding the row again.
+// readObject decodes a value. encoding/json also accepts duplicate members, other letter case and
+// any order of members. Callers find these by encoding the row again.
 func readObject(value []byte, into interface{}, form error) error {
 	if !utf8.Valid(value) {
 		return errNotText
@@ -110,14 +113,14 @@ func readObject(value []byte, into interface{}, form error) error {
 }
 
 func readMeta(value []byte) (meta, error) {
-	var said struct {
+	var columns struct {
 		Format uint64 `json:"format_no"`
 		Next   uint64 `json:"next_number"`
 	}
-	if err := readObject(value, &said, errMetaForm); err != nil {
+	if err := readObject(value, &columns, errMetaForm); err != nil {
 		return meta{}, err
 	}
-	row := meta{said.Format, said.Next}
+	row := meta{columns.Format, columns.Next}
 	if !bytes.Equal(row.encoded(), value) {
 		return meta{}, errMetaForm
 	}
@@ -128,19 +131,19 @@ func readMeta(value []byte) (meta, error) {
 }
 
 func readVolume(number uint64, value []byte) (volume, error) {
-	var said struct {
+	var columns struct {
 		Name   string `json:"name"`
 		Bytes  uint64 `json:"bytes"`
 		Pool   string `json:"pool"`
 		Caps   string `json:"caps"`
 		Params string `json:"params"`
 	}
-	if err := readObject(value, &said, errVolumeForm); err != nil {
+	if err := readObject(value, &columns, errVolumeForm); err != nil {
 		return volume{}, err
 	}
-	caps, capsErr := hex.DecodeString(said.Caps)
-	params, paramsErr := hex.DecodeString(said.Params)
-	row := volume{number, said.Name, said.Bytes, said.Pool, caps, params}
+	caps, capsErr := hex.DecodeString(columns.Caps)
+	params, paramsErr := hex.DecodeString(columns.Params)
+	row := volume{number, columns.Name, columns.Bytes, columns.Pool, caps, params}
 	if capsErr != nil || paramsErr != nil || !bytes.Equal(row.encoded(), value) {
 		return volume{}, errVolumeForm
 	}
@@ -151,35 +154,37 @@ func readVolume(number uint64, value []byte) (volume, error) {
 }
 
 func readAttachment(number uint64, node string, value []byte) (attachment, error) {
-	var said struct {
+	var columns struct {
 		Cap      string `json:"cap"`
 		Readonly uint64 `json:"readonly"`
 	}
-	if err := readObject(value, &said, errAttachmentForm); err != nil {
+	if err := readObject(value, &columns, errAttachmentForm); err != nil {
 		return attachment{}, err
 	}
-	if said.Readonly > 1 {
+	if columns.Readonly > 1 {
 		return attachment{}, errReadonly
 	}
-	cap, err := hex.DecodeString(said.Cap)
-	row := attachment{number, node, cap, said.Readonly == 1}
+	cap, err := hex.DecodeString(columns.Cap)
+	row := attachment{number, node, cap, columns.Readonly == 1}
 	if err != nil || !bytes.Equal(row.encoded(), value) {
 		return attachment{}, errAttachmentForm
 	}
 	return row, nil
 }
 
-// Tags of the fields that params has: parameters and mutable parameters (docs/PROTOCOL.md, "Messages").
+// Tags of the two fields of params: parameters and mutable parameters (docs/PROTOCOL.md,
+// "Messages").
 const (
 	parametersTag = 0x22
 	mutableTag    = 0x42
 )
 
-// splitParams is params in its two parts, where it is fields of parameters and then fields of mutable parameters.
-func splitParams(params []byte) (parameters, mutable []byte, is bool) {
+// splitParams splits params into its parameters and its mutable parameters. ok is false unless
+// params consists of the first kind of field followed by the second.
+func splitParams(params []byte) (parameters, mutable []byte, ok bool) {
 	rest := params
 	for len(rest) > 0 && rest[0] == parametersTag {
-		if rest, is = skipField(rest); !is {
+		if rest, ok = skipField(rest); !ok {
 			return nil, nil, false
 		}
 	}
@@ -188,15 +193,15 @@ func splitParams(params []byte) (parameters, mutable []byte, is bool) {
 		if rest[0] != mutableTag {
 			return nil, nil, false
 		}
-		if rest, is = skipField(rest); !is {
+		if rest, ok = skipField(rest); !ok {
 			return nil, nil, false
 		}
 	}
 	return parameters, mutable, true
 }
 
-// skipField is what is after a field whose tag is one byte, and whose wire type is that of lengths.
-func skipField(fields []byte) (rest []byte, is bool) {
+// skipField returns the rest after a field with a tag of one byte and a length.
+func skipField(fields []byte) (rest []byte, ok bool) {
 	size := protowire.ConsumeFieldValue(1, protowire.BytesType, fields[1:])
 	if size < 0 {
 		return nil, false
@@ -204,17 +209,17 @@ func skipField(fields []byte) (rest []byte, is bool) {
 	return fields[1+size:], true
 }
 
-// layMutable puts mutable parameters instead of those that a row has.
-func layMutable(params, mutable []byte) (laid []byte, is bool) {
-	parameters, _, is := splitParams(params)
-	if !is {
+// replaceMutable returns params with other mutable parameters.
+func replaceMutable(params, mutable []byte) (replaced []byte, ok bool) {
+	parameters, _, ok := splitParams(params)
+	if !ok {
 		return nil, false
 	}
 	return append(append([]byte{}, parameters...), mutable...), true
 }
 
-// isMutable reports whether bytes are fields of mutable parameters, or none.
+// isMutable reports whether params has only fields of mutable parameters. Empty params pass.
 func isMutable(params []byte) bool {
-	parameters, _, is := splitParams(params)
-	return is && len(parameters) == 0
+	parameters, _, ok := splitParams(params)
+	return ok && len(parameters) == 0
 }

@@ -13,51 +13,50 @@ import (
 	"fomaheti/frames"
 )
 
-// How long csid may take for taking a reply: a while, and a moment where another connection waits for the end of this one.
+// How long csid may take to read a reply: replyTime, or replacedTime once a newer connection waits.
 const (
 	replyTime    = 10 * time.Second
 	replacedTime = time.Second
 )
 
-// server answers the calls of csid: of the newest connection alone, in order.
+// server answers the calls of csid in order. It serves only the newest connection.
 type server struct {
 	state   *leadership
 	members *members
-	// Whether rows must be there: none is made first.
-	isExisting bool
-	say        func(format string, parts ...interface{})
-	mutex      sync.Mutex
-	// The newest connection.
-	served *connection
+	// If set, Make is refused: --existing wants rows that exist already.
+	requireRows bool
+	logf        func(format string, args ...interface{})
+	mutex       sync.Mutex
+	newest      *connection
 }
 
-// connection is one connection of csid.
+// connection is a connection from csid.
 type connection struct {
 	net.Conn
-	// Closed when a newer one came, and when its last call has ended.
+	// replaced is closed when a newer connection arrives, done after the last call has ended.
 	replaced chan struct{}
-	ended    chan struct{}
+	done     chan struct{}
 	once     sync.Once
 	walk     *walk
 }
 
-// take serves a connection instead of the one before.
+// take makes conn the newest connection. The connection before it ends after its running call.
 func (s *server) take(conn net.Conn) {
-	c := &connection{Conn: conn, replaced: make(chan struct{}), ended: make(chan struct{})}
+	c := &connection{Conn: conn, replaced: make(chan struct{}), done: make(chan struct{})}
 	s.mutex.Lock()
-	before := s.served
-	s.served = c
+	before := s.newest
+	s.newest = c
 	s.mutex.Unlock()
 	before.replace()
 	go func() {
-		defer close(c.ended)
+		defer close(c.done)
 		s.serve(c, before)
 		c.Close()
-		c.walk.settle()
+		c.walk.waitAhead()
 	}()
 }
 
-// replace ends a connection once the call that is under way has ended.
+// replace ends a connection after its running call.
 func (c *connection) replace() {
 	if c == nil {
 		return
@@ -78,14 +77,15 @@ func (c *connection) isReplaced() bool {
 	}
 }
 
-// wait waits until the last call of a connection has ended.
+// wait returns after the last call of the connection.
 func (c *connection) wait() {
 	if c != nil {
-		<-c.ended
+		<-c.done
 	}
 }
 
-// serve answers calls until the connection ends, the first one not before the last call of the connection before has ended.
+// serve answers calls until the connection ends. It starts after the last call of the connection
+// before.
 func (s *server) serve(c, before *connection) {
 	requests := frames.NewRequests(c)
 	for {
@@ -101,58 +101,58 @@ func (s *server) serve(c, before *connection) {
 		if err != nil {
 			return
 		}
-		answer, err := s.answer(c, request)
+		reply, err := s.handle(c, request)
 		if err != nil {
-			s.say("%s: %s", request.Path, frames.Text(err.Error()+s.members.where(err)))
+			s.logf("%s: %s", request.Path, frames.Text(err.Error()+s.members.membersOf(err)))
 			return
 		}
-		if err := c.reply(answer); err != nil {
+		if err := c.reply(reply); err != nil {
 			return
 		}
 	}
 }
 
-func (c *connection) reply(answer frames.Reply) error {
+func (c *connection) reply(r frames.Reply) error {
 	c.SetWriteDeadline(time.Now().Add(replyTime))
 	if c.isReplaced() {
 		c.SetWriteDeadline(time.Now().Add(replacedTime))
 	}
-	_, err := c.Write(answer.Append(nil))
+	_, err := c.Write(r.Append(nil))
 	return err
 }
 
-// answer does what a call asks for. Where there is an error, it gets no reply.
-func (s *server) answer(c *connection, request frames.Request) (frames.Reply, error) {
+// handle answers a call. After an error the connection is closed without a reply.
+func (s *server) handle(c *connection, request frames.Request) (frames.Reply, error) {
 	if !isPath(request.Path) {
-		return refused(refusal{codes.Unimplemented, "unknown method"}), nil
+		return refusalReply(refusal{codes.Unimplemented, "unknown method"}), nil
 	}
 	term, why := s.state.current()
 	if term == nil {
-		return refused(why), nil
+		return refusalReply(why), nil
 	}
-	// The calls of a term come in order, and so does what is read ahead.
-	c.walk.settle()
-	body, err := s.do(c, term, request)
+	// A page that is read ahead belongs to the order of the calls too.
+	c.walk.waitAhead()
+	body, err := s.dispatch(c, term, request)
 	if term.isOver() {
 		return frames.Reply{}, errOver
 	}
 	if errors.As(err, &why) {
-		s.say("%s %d %q%s", request.Path, why.code, why.text, frames.Text(s.members.where(why)))
-		return refused(why), nil
+		s.logf("%s %d %q%s", request.Path, why.code, why.text, frames.Text(s.members.membersOf(why)))
+		return refusalReply(why), nil
 	}
 	return frames.Reply{Body: body}, err
 }
 
-var errNotMade = refuse("there are no rows, and none are made")
+var errNoRows = refuse("there are no rows, and none are made")
 
-func refused(why refusal) frames.Reply { return frames.Reply{Code: why.code, Text: why.text} }
+func refusalReply(why refusal) frames.Reply { return frames.Reply{Code: why.code, Text: why.text} }
 
 func isPath(path string) bool {
 	return path == readPath || path == makePath || path == commitPath || path == leadPath
 }
 
-// do does what a call asks for in a term, and gives the body of its reply.
-func (s *server) do(c *connection, t *term, request frames.Request) ([]byte, error) {
+// dispatch runs a call in a term and returns the body of its reply.
+func (s *server) dispatch(c *connection, t *term, request frames.Request) ([]byte, error) {
 	switch request.Path {
 	case readPath:
 		return c.read(t.ctx, t, request.Message)
@@ -160,13 +160,13 @@ func (s *server) do(c *connection, t *term, request frames.Request) ([]byte, err
 		if err := readInto(request.Message, nil); err != nil {
 			return nil, err
 		}
-		return nil, t.leads(t.ctx)
+		return nil, t.confirmLead(t.ctx)
 	case makePath:
 		if err := readInto(request.Message, nil); err != nil {
 			return nil, err
 		}
-		if s.isExisting {
-			return nil, errNotMade
+		if s.requireRows {
+			return nil, errNoRows
 		}
 		return nil, t.commit(t.ctx, makeMeta{})
 	default:
@@ -178,7 +178,8 @@ func (s *server) do(c *connection, t *term, request frames.Request) ([]byte, err
 	}
 }
 
-// read gives a page of the rows: the first of a walk that it begins, or the next one of the walk of this connection.
+// read returns a page of rows. Without a token it starts a new walk; with one it continues the walk
+// of this connection.
 func (c *connection) read(ctx context.Context, t *term, message []byte) (page []byte, err error) {
 	token, err := readToken(message)
 	if err != nil {
@@ -197,7 +198,7 @@ func (c *connection) read(ctx context.Context, t *term, message []byte) (page []
 	if err != nil {
 		return nil, err
 	}
-	t.revisions.answered(c.walk.revision)
+	t.revisions.record(c.walk.revision)
 	return page, nil
 }
 
@@ -205,21 +206,21 @@ func (c *connection) read(ctx context.Context, t *term, message []byte) (page []
 func (s *server) drop() {
 	s.mutex.Lock()
 	defer s.mutex.Unlock()
-	if s.served != nil {
-		s.served.Close()
+	if s.newest != nil {
+		s.newest.Close()
 	}
 }
 
-// end ends the newest connection once the call that is under way has ended.
+// end closes the newest connection after its running call.
 func (s *server) end() {
 	s.mutex.Lock()
-	last := s.served
+	last := s.newest
 	s.mutex.Unlock()
 	last.replace()
 	last.wait()
 }
 
-// accept takes connections until the listener is closed, or fails.
+// accept serves connections until the listener is closed, or returns its error.
 func (s *server) accept(listener net.Listener) error {
 	for {
 		conn, err := listener.Accept()

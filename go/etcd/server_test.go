@@ -15,11 +15,11 @@ import (
 	"fomaheti/frames"
 )
 
-// A csid that does not take its reply holds up the next one no longer than a moment.
+// A csid that does not read its reply delays the next connection only for a moment.
 func TestReplyNotTaken(t *testing.T) {
 	state := &leadership{}
 	state.set(nil, refuse("waiting"))
-	s := &server{state: state, say: t.Logf}
+	s := &server{state: state, logf: t.Logf}
 	call := frames.AppendRequestHead(nil, leadPath, 0)
 	connect := func() net.Conn {
 		own, other := net.Pipe()
@@ -31,24 +31,24 @@ func TestReplyNotTaken(t *testing.T) {
 		return own
 	}
 	first := connect()
-	// Of the reply one byte is taken: what is left of it is under way.
+	// One byte of the reply is read. The rest keeps the server writing.
 	if _, err := first.Read(make([]byte, 1)); err != nil {
 		t.Fatal(err)
 	}
-	begin := time.Now()
+	start := time.Now()
 	second := connect()
-	second.SetReadDeadline(begin.Add(replyTime))
+	second.SetReadDeadline(start.Add(replyTime))
 	reply, err := frames.NewReplies(second).Next()
-	if took := time.Since(begin); err != nil || reply.Text != "waiting" || took > replyTime/2 {
-		t.Errorf("%v, %v, after %v", reply, err, took)
+	if took := time.Since(start); err != nil || reply.Text != "waiting" || took > replyTime/2 {
+		t.Errorf("got %v, error %v after %v, want waiting within %v", reply, err, took, replyTime/2)
 	}
 }
 
-// Of connections that wait for the end of a call the newest alone is answered.
+// If several connections wait for the end of a call, only the newest is answered.
 func TestReplacedWhileItWaits(t *testing.T) {
 	state := &leadership{}
 	state.set(nil, refuse("waiting"))
-	s := &server{state: state, say: t.Logf}
+	s := &server{state: state, logf: t.Logf}
 	var all [3]net.Conn
 	for i := range all {
 		own, other := net.Pipe()
@@ -60,7 +60,8 @@ func TestReplacedWhileItWaits(t *testing.T) {
 			t.Fatal(err)
 		}
 		if i == 0 {
-			// Of the reply one byte is taken: what is left of it is under way, while the others come.
+			// One byte of the reply is read. The rest keeps the server writing while the others
+			// arrive.
 			if _, err := own.Read(make([]byte, 1)); err != nil {
 				t.Fatal(err)
 			}
@@ -68,153 +69,172 @@ func TestReplacedWhileItWaits(t *testing.T) {
 	}
 	go io.Copy(io.Discard, all[0])
 	if reply, err := frames.NewReplies(all[1]).Next(); err != io.EOF {
-		t.Errorf("the one before the newest: %v, %v", reply, err)
+		t.Errorf("the one before the newest: got %v, error %v, want %v", reply, err, io.EOF)
 	}
 	if reply, err := frames.NewReplies(all[2]).Next(); err != nil || reply.Text != "waiting" {
-		t.Errorf("the newest: %v, %v", reply, err)
+		t.Errorf("the newest: got %v, error %v, want waiting", reply, err)
 	}
 }
 
-// A reply that is begun only when another connection waits for its end holds that up no longer than a moment either.
-func TestReplyBehindReplacement(t *testing.T) {
+// A reply that starts after a newer connection has arrived delays that one only for a moment.
+func TestReplyAfterReplacement(t *testing.T) {
 	own, other := net.Pipe()
 	defer own.Close()
 	c := &connection{Conn: other, replaced: make(chan struct{})}
 	c.replace()
-	begin := time.Now()
-	if err, took := c.reply(frames.Reply{Text: "a"}), time.Since(begin); err == nil || took > replyTime/2 {
-		t.Errorf("%v, after %v", err, took)
+	start := time.Now()
+	if err, took := c.reply(frames.Reply{Text: "a"}), time.Since(start); err == nil || took > replyTime/2 {
+		t.Errorf("got error %v after %v, want one within %v", err, took, replyTime/2)
 	}
 }
 
-// A term that is over by the clock, or was ended, answers nothing, also where nobody has noticed yet; and one that is there answers.
+// A term that has ended, or whose lease has expired unnoticed, answers nothing. Before that it
+// answers.
 func TestTermOver(t *testing.T) {
 	ctx, cancel := context.WithCancel(context.Background())
-	held := &term{client: startServer(t, &keyed{looks: []look{{0, 5, nil}}}, 1), revisions: &revisions{}, timeout: 5 * time.Second, key: "k", created: 5, lease: &lease{until: sinceBoot() + time.Hour}, ctx: ctx, end: cancel}
+	term := &term{client: startServer(t, &lockServer{looks: []look{{0, 5, nil}}}, 1), revisions: &revisions{},
+		timeout: 5 * time.Second, key: "k", created: 5, lease: &lease{expiry: sinceBoot() + time.Hour}, ctx: ctx,
+		end: cancel}
 	state := &leadership{}
-	state.set(held, refusal{})
-	s := &server{state: state, say: t.Logf}
-	asks := func() (frames.Reply, error) { return s.answer(&connection{}, frames.Request{Path: leadPath}) }
-	if reply, err := asks(); err != nil || reply.Code != codes.OK {
-		t.Errorf("it leads: %v, %v", reply, err)
+	state.set(term, refusal{})
+	s := &server{state: state, logf: t.Logf}
+	ask := func() (frames.Reply, error) { return s.handle(&connection{}, frames.Request{Path: leadPath}) }
+	if reply, err := ask(); err != nil || reply.Code != codes.OK {
+		t.Errorf("it leads: got %v, error %v, want OK", reply, err)
 	}
-	held.lease.until = sinceBoot()
-	if reply, err := asks(); err != errOver {
-		t.Errorf("its lease is over: %v, %v", reply, err)
+	term.lease.expiry = sinceBoot()
+	if reply, err := ask(); err != errOver {
+		t.Errorf("its lease is over: got %v, error %v, want %v", reply, err, errOver)
 	}
-	held.lease.until = sinceBoot() + time.Hour
-	held.end()
-	if reply, err := asks(); err != errOver {
-		t.Errorf("it was ended: %v, %v", reply, err)
+	term.lease.expiry = sinceBoot() + time.Hour
+	term.end()
+	if reply, err := ask(); err != errOver {
+		t.Errorf("it was ended: got %v, error %v, want %v", reply, err, errOver)
 	}
 }
 
-// unready is a listener that fails so often.
-type unready struct {
+// failingListener fails with each of its failures in turn.
+type failingListener struct {
 	net.Listener
 	failures []error
 }
 
-func (l *unready) Accept() (net.Conn, error) {
+func (l *failingListener) Accept() (net.Conn, error) {
 	failure := l.failures[0]
 	l.failures = l.failures[1:]
 	return nil, failure
 }
 
-// Where there are no files left for a connection the next one is taken once there are; any other failure is reported.
+// If the process has no file left for a connection, the connection is accepted later. Any other
+// failure is returned.
 func TestAccept(t *testing.T) {
 	full := &net.OpError{Op: "accept", Err: syscall.EMFILE}
-	rows := []struct {
+	cases := []struct {
+		name     string
 		failures []error
 		want     string
 	}{
-		{[]error{full, full, net.ErrClosed}, ""},
-		{[]error{&net.OpError{Op: "accept", Err: net.ErrClosed}}, ""},
-		{[]error{full, errors.New("any")}, "taking connections: any"},
+		{"no files, then closed", []error{full, full, net.ErrClosed}, ""},
+		{"closed", []error{&net.OpError{Op: "accept", Err: net.ErrClosed}}, ""},
+		{"no files, then another failure", []error{full, errors.New("any")}, "taking connections: any"},
 	}
-	for _, row := range rows {
-		listener := &unready{failures: row.failures}
-		err := (&server{}).accept(listener)
-		if (err == nil) != (row.want == "") || (err != nil && err.Error() != row.want) || len(listener.failures) > 0 {
-			t.Errorf("%v: %v", row.failures, err)
-		}
+	for _, c := range cases {
+		t.Run(c.name, func(t *testing.T) {
+			listener := &failingListener{failures: c.failures}
+			if err := (&server{}).accept(listener); errorText(err) != c.want || len(listener.failures) > 0 {
+				t.Errorf("got error %v, %d failures left, want %q and none", err, len(listener.failures), c.want)
+			}
+		})
 	}
 }
 
-// busy is an etcd whose second reading waits until it is let go. It reports that one, and of each change.
-type busy struct {
-	written
-	letGo chan struct{}
-	came  chan string
+// blockingServer is an etcd whose second read waits for release. It sends this read and each change
+// to events.
+type blockingServer struct {
+	rowServer
+	release chan struct{}
+	events  chan string
 }
 
-func (b *busy) Range(ctx context.Context, asked *pb.RangeRequest) (*pb.RangeResponse, error) {
-	read, err := b.written.Range(ctx, asked)
-	if len(b.asked) == 2 {
-		b.came <- "a reading"
-		<-b.letGo
+func (s *blockingServer) Range(ctx context.Context, request *pb.RangeRequest) (*pb.RangeResponse, error) {
+	read, err := s.rowServer.Range(ctx, request)
+	if len(s.revisions) == 2 {
+		s.events <- "a reading"
+		<-s.release
 	}
 	return read, err
 }
 
-func (b *busy) Txn(ctx context.Context, asked *pb.TxnRequest) (*pb.TxnResponse, error) {
-	if asked.Success[0].GetRequestDeleteRange() != nil {
-		b.came <- "a change"
+func (s *blockingServer) Txn(ctx context.Context, request *pb.TxnRequest) (*pb.TxnResponse, error) {
+	if request.Success[0].GetRequestDeleteRange() != nil {
+		s.events <- "a change"
 	}
-	return b.written.Txn(ctx, asked)
+	return s.rowServer.Txn(ctx, request)
 }
 
-// A change waits until no rows are read ahead, also those that another connection has asked for: the calls of a term come in order.
+// connect connects to the server and returns csid's end of the connection.
+func connect(t *testing.T, s *server) net.Conn {
+	t.Helper()
+	own, other := net.Pipe()
+	t.Cleanup(func() { own.Close() })
+	s.take(other)
+	return own
+}
+
+func call(conn net.Conn, path string, message []byte) (frames.Reply, error) {
+	conn.SetDeadline(time.Now().Add(20 * time.Second))
+	if _, err := conn.Write(append(frames.AppendRequestHead(nil, path, len(message)), message...)); err != nil {
+		return frames.Reply{}, err
+	}
+	return frames.NewReplies(conn).Next()
+}
+
+// A change waits for rows that are read ahead, even for another connection: the calls of a term are
+// served in order.
 func TestReadAhead(t *testing.T) {
-	for _, isAnother := range []bool{false, true} {
-		etcd := &busy{written: written{rows: map[string]string{}}, letGo: make(chan struct{}), came: make(chan string, 9)}
-		for n := uint64(1); n <= 4; n++ {
-			etcd.rows[sampleKeys.volume(n)] = string(sized(t, n, 1<<20).encoded())
-		}
-		ctx, cancel := context.WithCancel(context.Background())
-		t.Cleanup(cancel)
-		held := &term{client: startServer(t, etcd, 1), keys: sampleKeys, lease: &lease{until: sinceBoot() + time.Hour}, revisions: &revisions{}, timeout: time.Minute,
-			ctx: ctx, end: cancel, key: "k"}
-		s := &server{state: &leadership{term: held}, say: t.Logf}
-		connect := func() net.Conn {
-			own, other := net.Pipe()
-			t.Cleanup(func() { own.Close() })
-			s.take(other)
-			return own
-		}
-		call := func(conn net.Conn, path string, message []byte) (frames.Reply, error) {
-			conn.SetDeadline(time.Now().Add(20 * time.Second))
-			if _, err := conn.Write(append(frames.AppendRequestHead(nil, path, len(message)), message...)); err != nil {
-				return frames.Reply{}, err
+	for _, c := range []struct {
+		name      string
+		isAnother bool
+	}{{"same connection", false}, {"another connection", true}} {
+		t.Run(c.name, func(t *testing.T) {
+			etcd := &blockingServer{rowServer: rowServer{rows: map[string]string{}}, release: make(chan struct{}),
+				events: make(chan string, 9)}
+			for n := uint64(1); n <= 4; n++ {
+				etcd.rows[sampleKeys.volume(n)] = string(sized(t, n, 1<<20).encoded())
 			}
-			return frames.NewReplies(conn).Next()
-		}
-		conn := connect()
-		if reply, err := call(conn, readPath, nil); err != nil || reply.Code != codes.OK {
-			t.Fatalf("%v, %v", reply, err)
-		}
-		if came := <-etcd.came; came != "a reading" {
-			t.Fatalf("%s came", came)
-		}
-		if isAnother {
-			conn = connect()
-		}
-		ended := make(chan error, 1)
-		go func() {
-			reply, err := call(conn, commitPath, fromHex(t, "2205 0807 12016e"))
-			if err == nil && reply.Code != codes.OK {
-				err = errors.New(reply.Text)
+			ctx, cancel := context.WithCancel(context.Background())
+			t.Cleanup(cancel)
+			term := &term{client: startServer(t, etcd, 1), keys: sampleKeys,
+				lease:     &lease{expiry: sinceBoot() + time.Hour},
+				revisions: &revisions{}, timeout: time.Minute, ctx: ctx, end: cancel, key: "k"}
+			s := &server{state: &leadership{term: term}, logf: t.Logf}
+			conn := connect(t, s)
+			if reply, err := call(conn, readPath, nil); err != nil || reply.Code != codes.OK {
+				t.Fatalf("got %v, error %v, want OK", reply, err)
 			}
-			ended <- err
-		}()
-		select {
-		case came := <-etcd.came:
-			t.Errorf("another connection %v: %s came while rows were read", isAnother, came)
-		case <-time.After(50 * time.Millisecond):
-		}
-		close(etcd.letGo)
-		if err := <-ended; err != nil {
-			t.Errorf("another connection %v: %v", isAnother, err)
-		}
+			if event := <-etcd.events; event != "a reading" {
+				t.Fatalf("got %s, want a reading", event)
+			}
+			if c.isAnother {
+				conn = connect(t, s)
+			}
+			done := make(chan error, 1)
+			go func() {
+				reply, err := call(conn, commitPath, fromHex(t, "2205 0807 12016e"))
+				if err == nil && reply.Code != codes.OK {
+					err = errors.New(reply.Text)
+				}
+				done <- err
+			}()
+			select {
+			case event := <-etcd.events:
+				t.Errorf("got %s while rows were read", event)
+			case <-time.After(50 * time.Millisecond):
+			}
+			close(etcd.release)
+			if err := <-done; err != nil {
+				t.Errorf("got error %v", err)
+			}
+		})
 	}
 }

@@ -13,57 +13,59 @@ import (
 	"google.golang.org/grpc/codes"
 )
 
-// term is a time in which this program leads. Its calls come in order.
+// term is a period in which this program leads. Its calls are served in order.
 type term struct {
 	client    *clientv3.Client
 	keys      keys
 	lease     *lease
 	revisions *revisions
 	timeout   time.Duration
-	// Ends with the term.
+	// ctx ends with the term.
 	ctx context.Context
 	end context.CancelFunc
-	// The key of the lock, what is there, and the revision of its making.
+	// The key of the lock, its value, and its create revision.
 	key     string
 	id      string
 	created int64
-	// The revision at which the key was put the last time. Each transaction supposes it.
+	// The revision at which the key was last put. Each transaction compares it.
 	put int64
-	// Whether a transaction may still be made whose outcome was not known.
-	isOpen bool
-	// The greatest revision that was seen.
+	// Set after a transaction with an unknown outcome: etcd may still make it.
+	needsFence bool
+	// The greatest revision in an answer so far.
 	seen int64
-	// Holds a value once the key of the lock was found to be gone. It has room for one.
+	// Receives a value when the key of the lock turns out to be gone. Its capacity is one.
 	gone chan struct{}
 }
 
 // isOver reports whether this program may have lost the lock, by its own clock.
 func (t *term) isOver() bool { return t.ctx.Err() != nil || !t.lease.isAlive() }
 
-// errOver is the end of a term in the middle of a call.
+// errOver ends a call in whose course the term ended.
 var errOver = errors.New("the lock was lost")
 
-// request is the context of one request to etcd. A member without a leader refuses it at once, so that another one can be asked.
+// request returns the context of one request to etcd. A member without a leader refuses it at once,
+// so that another member can be asked.
 func (t *term) request(ctx context.Context) (context.Context, context.CancelFunc) {
 	return context.WithTimeout(clientv3.WithRequireLeader(ctx), t.timeout)
 }
 
-// againPause is between two questions whether this program leads, where etcd did not answer the first one.
-const againPause = 50 * time.Millisecond
+// leadRetryPause is the pause before confirmLead asks again if etcd did not answer.
+const leadRetryPause = 50 * time.Millisecond
 
-// mostTries is how often a request is made at most that may be made again.
-const mostTries = 3
+// maxTries limits the attempts of a request that may be repeated.
+const maxTries = 3
 
-// tries makes a request that may be made twice, and again where a member does not answer it: each time has its share of all, since calls go to the
-// members in turn.
-func (t *term) tries(ctx context.Context, request func(context.Context) error) error {
-	return tries(ctx, t.client, t.timeout, request)
+// retry makes a request that may be repeated, and repeats it if a member does not answer. The
+// attempts share the timeout, since calls go to the members in turn.
+func (t *term) retry(ctx context.Context, request func(context.Context) error) error {
+	return retry(ctx, t.client, t.timeout, request)
 }
 
-func tries(ctx context.Context, client *clientv3.Client, timeout time.Duration, request func(context.Context) error) (err error) {
+func retry(ctx context.Context, client *clientv3.Client, timeout time.Duration,
+	request func(context.Context) error) (err error) {
 	count := 1
 	if len(client.Endpoints()) > 1 {
-		count = mostTries
+		count = maxTries
 	}
 	for i := 0; i < count; i++ {
 		attempt, cancel := context.WithTimeout(clientv3.WithRequireLeader(ctx), timeout/time.Duration(count))
@@ -76,35 +78,38 @@ func tries(ctx context.Context, client *clientv3.Client, timeout time.Duration, 
 	return err
 }
 
-// get reads, at the newest revision where no option says another.
-func (t *term) get(ctx context.Context, key string, more ...clientv3.OpOption) (read *clientv3.GetResponse, err error) {
+// get reads a key or a range: at the newest revision unless an option names another.
+func (t *term) get(ctx context.Context, key string, opts ...clientv3.OpOption) (read *clientv3.GetResponse, err error) {
 	least := t.revisions.least()
-	err = t.tries(ctx, func(ctx context.Context) error {
-		read, err = t.client.Get(ctx, key, more...)
+	err = t.retry(ctx, func(ctx context.Context) error {
+		read, err = t.client.Get(ctx, key, opts...)
 		return err
 	})
 	if err != nil {
 		return nil, readError(err)
 	}
-	if err := t.sees(least, read.Header.Revision); err != nil {
+	if err := t.observe(least, read.Header.Revision); err != nil {
 		return nil, err
 	}
 	return read, nil
 }
 
-// readError is what an error of reading is answered with. A reading changes nothing, but of an error that is not known nothing is reported either.
+// readError turns an error of a read into the answer of the call. A read changes nothing, but after
+// an error that is not known to be a refusal the call gets no reply.
 func readError(err error) error {
 	if err == rpctypes.ErrCompacted {
 		return refuse("etcd compacted the revision of this walk over the rows: start again")
 	}
-	if why, is := certain(err); is {
+	if why, ok := notMade(err); ok {
 		return why
 	}
-	return open{err}
+	return unknownOutcome{err}
 }
 
-// sees notes the revision of an answer. One that is lower than the least when it was asked for is of an older snapshot.
-func (t *term) sees(least, revision int64) error {
+// observe notes the revision of an answer. It ends the term if etcd is at a lower revision than
+// least, the lowest possible one when the request was sent: then it was restored from an older
+// snapshot.
+func (t *term) observe(least, revision int64) error {
 	if err := t.revisions.check(least, revision); err != nil {
 		t.end()
 		return err
@@ -115,12 +120,12 @@ func (t *term) sees(least, revision int64) error {
 	return nil
 }
 
-// commit makes one change, whole or not at all.
-func (t *term) commit(ctx context.Context, asked change) error {
+// commit makes one change, as a whole or not at all.
+func (t *term) commit(ctx context.Context, c change) error {
 	if err := t.fence(ctx); err != nil {
 		return err
 	}
-	planned, err := asked.plan(ctx, t)
+	planned, err := c.plan(ctx, t)
 	if err != nil {
 		return err
 	}
@@ -128,35 +133,37 @@ func (t *term) commit(ctx context.Context, asked change) error {
 	return err
 }
 
-// fence sees to it that no earlier transaction is made any more, where the outcome of one is open: it may still be on its way within etcd, and be
-// made after what csid reads next. The key of the lock is put again, which makes what that transaction supposes wrong.
+// fence stops an earlier transaction with an unknown outcome, if there is one. Without the fence,
+// etcd might still make that transaction after csid's next read. The fence puts the key of the lock
+// again, and so makes the comparison of that transaction fail.
 func (t *term) fence(ctx context.Context) error {
-	if !t.isOpen {
+	if !t.needsFence {
 		return nil
 	}
 	isOurs := clientv3.Compare(clientv3.CreateRevision(t.key), "=", t.created)
 	again := clientv3.OpPut(t.key, t.id, clientv3.WithLease(t.lease.id))
 	least := t.revisions.least()
 	var done *clientv3.TxnResponse
-	err := t.tries(ctx, func(ctx context.Context) (err error) {
-		done, err = t.client.Txn(sentOnce(ctx)).If(isOurs).Then(again).Commit()
+	err := t.retry(ctx, func(ctx context.Context) (err error) {
+		done, err = t.client.Txn(withSendOnce(ctx)).If(isOurs).Then(again).Commit()
 		return err
 	})
 	if err == rpctypes.ErrNoSpace {
 		return refusal{codes.ResourceExhausted, err.Error()}
 	}
 	if err != nil {
-		return open{err}
+		return unknownOutcome{err}
 	}
 	if !done.Succeeded {
-		return t.loses()
+		return t.endTerm()
 	}
-	t.put, t.isOpen = done.Header.Revision, false
-	return t.sees(least, done.Header.Revision)
+	t.put, t.needsFence = done.Header.Revision, false
+	return t.observe(least, done.Header.Revision)
 }
 
-// loses ends the term because the key of the lock is not there any more, or is another one.
-func (t *term) loses() error {
+// endTerm ends the term because the key of the lock is gone or was replaced. It returns the refusal
+// of the running call.
+func (t *term) endTerm() error {
 	select {
 	case t.gone <- struct{}{}:
 	default:
@@ -165,8 +172,8 @@ func (t *term) loses() error {
 	return refuse("this program does not lead any more: its key of the lock is gone")
 }
 
-// why is why the term has ended.
-func (t *term) why() error {
+// endReason returns the reason for which the term ended.
+func (t *term) endReason() error {
 	select {
 	case <-t.gone:
 		return errKeyGone
@@ -175,10 +182,12 @@ func (t *term) why() error {
 	}
 }
 
-// leads asks etcd whether this program leads. It is an error where the program does not lead, and where etcd does not answer within the time of a request.
-// The answer is true at a moment after the question came. The program's own clock and a watch cannot give such an answer: where the key is deleted by
-// hand, or its lease is revoked, another program may lead before a watch reports it.
-func (t *term) leads(ctx context.Context) error {
+// confirmLead asks etcd whether this program leads. It returns an error if the program does not
+// lead, or if etcd does not answer within the timeout of a request. A nil error holds for some
+// moment after the question arrived. Neither the program's own clock nor a watch can confirm that:
+// if somebody deletes the key or revokes the lease by hand, another program may lead before a watch
+// reports it.
+func (t *term) confirmLead(ctx context.Context) error {
 	ctx, cancel := context.WithTimeout(ctx, t.timeout)
 	defer cancel()
 	var why error
@@ -188,37 +197,36 @@ func (t *term) leads(ctx context.Context) error {
 			return nil
 		}
 		if err == nil {
-			return t.loses()
+			return t.endTerm()
 		}
-		if unknown, is := err.(open); is {
+		if unknown, ok := err.(unknownOutcome); ok {
 			err = unknown.err
 		}
-		// That the time is over says less than an error before it.
+		// An error before the deadline tells more than the deadline itself.
 		if why == nil || ctx.Err() == nil {
 			why = err
 		}
-		pause(ctx, againPause)
+		sleep(ctx, leadRetryPause)
 		if ctx.Err() != nil {
 			return refuse("etcd does not say whether this program leads: %v", why)
 		}
 	}
 }
 
-// watch ends the term as soon as etcd reports that the key of the lock is gone, was made again, or
-// does not go with the lease any more. It begins after a revision at which the key was seen. Where
-// etcd ends the watch it begins again, and leaves out what was compacted: hold looks too, though
-// less often.
+// watch ends the term as soon as etcd reports that the key of the lock is gone, was created again,
+// or lost its lease. It starts after the revision seen, at which the key existed. If etcd ends the
+// watch, it starts again and skips compacted revisions: holdLock also reads the key, though less
+// often.
 func (t *term) watch(seen int64) {
 	for t.ctx.Err() == nil {
-		seen = t.watchOver(seen)
-		pause(t.ctx, waitingPause)
+		seen = t.watchStream(seen)
+		sleep(t.ctx, waitingPause)
 	}
 }
 
-// watchOver watches over one stream until that ends, and returns the last revision that was seen.
-// It does without the watcher of etcd's client, which panics where etcd creates or cancels a watch
-// twice.
-func (t *term) watchOver(seen int64) int64 {
+// watchStream watches over one stream until it ends, and returns the last revision that it saw. It
+// avoids the watcher of etcd's client, which panics if etcd creates or cancels a watch twice.
+func (t *term) watchStream(seen int64) int64 {
 	ctx, cancel := context.WithCancel(clientv3.WithRequireLeader(t.ctx))
 	defer cancel()
 	stream, err := pb.NewWatchClient(t.client.ActiveConnection()).Watch(ctx, grpc.WaitForReady(true))
@@ -226,7 +234,8 @@ func (t *term) watchOver(seen int64) int64 {
 		return seen
 	}
 	create := &pb.WatchCreateRequest{Key: []byte(t.key), StartRevision: seen + 1}
-	if err := stream.Send(&pb.WatchRequest{RequestUnion: &pb.WatchRequest_CreateRequest{CreateRequest: create}}); err != nil {
+	request := &pb.WatchRequest{RequestUnion: &pb.WatchRequest_CreateRequest{CreateRequest: create}}
+	if err := stream.Send(request); err != nil {
 		return seen
 	}
 	for {
@@ -235,8 +244,9 @@ func (t *term) watchOver(seen int64) int64 {
 			return seen
 		}
 		for _, event := range report.Events {
-			if event.Type == mvccpb.DELETE || event.Kv.CreateRevision != t.created || event.Kv.Lease != int64(t.lease.id) {
-				t.loses()
+			if event.Type == mvccpb.DELETE || event.Kv.CreateRevision != t.created ||
+				event.Kv.Lease != int64(t.lease.id) {
+				t.endTerm()
 			}
 			seen = event.Kv.ModRevision
 		}
@@ -249,41 +259,45 @@ func (t *term) watchOver(seen int64) int64 {
 	}
 }
 
-// holds supposes that this program leads, and that no fence came after the transaction.
-func (t *term) holds() clientv3.Cmp { return clientv3.Compare(clientv3.ModRevision(t.key), "=", t.put) }
+// lockHeld compares that the key of the lock is as last put: this program leads, and etcd has made
+// no later fence.
+func (t *term) lockHeld() clientv3.Cmp {
+	return clientv3.Compare(clientv3.ModRevision(t.key), "=", t.put)
+}
 
-// transact makes a transaction while this program holds the lock, and gives what it read.
-func (t *term) transact(ctx context.Context, asked plan) (*clientv3.TxnResponse, error) {
+// transact makes a transaction while this program holds the lock. It returns etcd's responses.
+func (t *term) transact(ctx context.Context, planned plan) (*clientv3.TxnResponse, error) {
 	least := t.revisions.least()
-	done, err := t.send(ctx, asked)
+	done, err := t.send(ctx, planned)
 	if err == rpctypes.ErrNoSpace {
-		return nil, t.withoutSpace(ctx, asked)
+		return nil, t.noSpaceOutcome(ctx, planned)
 	}
-	if why, is := certain(err); is {
+	if why, ok := notMade(err); ok {
 		return nil, why
 	}
 	if err != nil {
-		t.isOpen = true
-		return nil, open{err}
+		t.needsFence = true
+		return nil, unknownOutcome{err}
 	}
-	if err := t.sees(least, done.Header.Revision); err != nil {
-		return nil, open{err}
+	if err := t.observe(least, done.Header.Revision); err != nil {
+		return nil, unknownOutcome{err}
 	}
 	if !done.Succeeded {
-		return nil, t.supposedWrongly(done, asked)
+		return nil, t.compareFailure(done, planned)
 	}
-	t.revisions.answered(done.Header.Revision)
+	t.revisions.record(done.Header.Revision)
 	return done, nil
 }
 
-// send sends a transaction once. Where a member has no leader it was not made, and the next member is asked.
-func (t *term) send(ctx context.Context, asked plan) (done *clientv3.TxnResponse, err error) {
+// send sends a transaction once. A member without a leader has not made it, so the next member is
+// asked.
+func (t *term) send(ctx context.Context, planned plan) (done *clientv3.TxnResponse, err error) {
 	ctx, cancel := t.request(ctx)
 	defer cancel()
-	supposes := append([]clientv3.Cmp{t.holds()}, asked.supposes...)
-	reads := append([]clientv3.Op{clientv3.OpGet(t.key)}, asked.reads...)
+	compares := append([]clientv3.Cmp{t.lockHeld()}, planned.compares...)
+	failure := append([]clientv3.Op{clientv3.OpGet(t.key)}, planned.failure...)
 	for range t.client.Endpoints() {
-		done, err = t.client.Txn(sentOnce(ctx)).If(supposes...).Then(asked.does...).Else(reads...).Commit()
+		done, err = t.client.Txn(withSendOnce(ctx)).If(compares...).Then(planned.success...).Else(failure...).Commit()
 		if err != rpctypes.ErrNoLeader {
 			break
 		}
@@ -291,60 +305,61 @@ func (t *term) send(ctx context.Context, asked plan) (done *clientv3.TxnResponse
 	return done, err
 }
 
-// look reads several things at one revision, the newest, while this program holds the lock.
-func (t *term) look(ctx context.Context, reads ...clientv3.Op) (done *clientv3.TxnResponse, err error) {
+// lockedRead makes several reads at one revision, the newest, while this program holds the lock.
+func (t *term) lockedRead(ctx context.Context, reads ...clientv3.Op) (done *clientv3.TxnResponse, err error) {
 	least := t.revisions.least()
-	err = t.tries(ctx, func(ctx context.Context) error {
-		done, err = t.client.Txn(ctx).If(t.holds()).Then(reads...).Else(clientv3.OpGet(t.key)).Commit()
+	err = t.retry(ctx, func(ctx context.Context) error {
+		done, err = t.client.Txn(ctx).If(t.lockHeld()).Then(reads...).Else(clientv3.OpGet(t.key)).Commit()
 		return err
 	})
 	if err != nil {
 		return nil, readError(err)
 	}
-	if err := t.sees(least, done.Header.Revision); err != nil {
+	if err := t.observe(least, done.Header.Revision); err != nil {
 		return nil, err
 	}
 	if !done.Succeeded {
-		return nil, t.supposedWrongly(done, plan{})
+		return nil, t.compareFailure(done, plan{})
 	}
 	return done, nil
 }
 
-// supposedWrongly says what a transaction that was not made has supposed wrongly.
-func (t *term) supposedWrongly(done *clientv3.TxnResponse, asked plan) error {
+// compareFailure returns the refusal that names the failed comparison of a transaction.
+func (t *term) compareFailure(done *clientv3.TxnResponse, planned plan) error {
 	read := make([]*pb.RangeResponse, len(done.Responses))
 	for i, part := range done.Responses {
 		read[i] = part.GetResponseRange()
 	}
 	if len(read[0].Kvs) == 0 || read[0].Kvs[0].CreateRevision != t.created {
-		return t.loses()
+		return t.endTerm()
 	}
 	if read[0].Kvs[0].ModRevision != t.put {
-		t.isOpen = true
+		t.needsFence = true
 		return refuse("the key of the lock was put again")
 	}
-	if asked.why != nil {
-		if why := asked.why(read[1:]); why != "" {
+	if planned.explain != nil {
+		if why := planned.explain(read[1:]); why != "" {
 			return refuse("%s", why)
 		}
 	}
 	return refuse("a comparison failed")
 }
 
-// withoutSpace finds out whether a transaction was made of which etcd says that it has no space for it. Its outcome was decided when etcd said so,
-// so what it puts shows: where that is not newer than what was seen before, it was not made.
-func (t *term) withoutSpace(ctx context.Context, asked plan) error {
+// noSpaceOutcome finds out whether etcd made a transaction although it answered that it has no
+// space. The outcome was decided before that answer. So a key that the transaction puts shows it:
+// if its revision is not newer than all revisions seen before, the transaction was not made.
+func (t *term) noSpaceOutcome(ctx context.Context, planned plan) error {
 	before := t.seen
-	for _, op := range asked.does {
+	for _, op := range planned.success {
 		if !op.IsPut() {
-			return open{rpctypes.ErrNoSpace}
+			return unknownOutcome{rpctypes.ErrNoSpace}
 		}
 		read, err := t.get(ctx, string(op.KeyBytes()), clientv3.WithKeysOnly())
 		if err != nil {
-			return open{err}
+			return unknownOutcome{err}
 		}
 		if len(read.Kvs) > 0 && read.Kvs[0].ModRevision > before {
-			return open{rpctypes.ErrNoSpace}
+			return unknownOutcome{rpctypes.ErrNoSpace}
 		}
 	}
 	return refusal{codes.ResourceExhausted, rpctypes.ErrNoSpace.Error()}

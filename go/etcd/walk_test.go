@@ -3,6 +3,7 @@ package main
 import (
 	"bytes"
 	"context"
+	"fmt"
 	"sort"
 	"strings"
 	"sync"
@@ -16,99 +17,104 @@ import (
 	"fomaheti/frames"
 )
 
-// firstRevision is that of the first answer of an etcd that is written to all the time.
+// firstRevision is the revision in the first answer of rowServer.
 const firstRevision = 100
 
-// written is an etcd that answers readings of its rows, and is at another revision each time.
-type written struct {
+// rowServer is an etcd that answers reads of its rows. Its revision rises with each answer.
+type rowServer struct {
 	pb.KVServer
 	rows map[string]string
-	// Whether what it had at a revision that is asked for was compacted.
+	// Set if the revision of a walk was compacted.
 	isCompacted bool
 	mutex       sync.Mutex
-	// The revisions that were asked for, 0 for the newest.
-	asked []int64
+	// The requested revisions, 0 for the newest.
+	revisions []int64
 }
 
-func (w *written) Range(_ context.Context, asked *pb.RangeRequest) (*pb.RangeResponse, error) {
-	if w.isCompacted && asked.Revision != 0 {
+func (s *rowServer) Range(_ context.Context, request *pb.RangeRequest) (*pb.RangeResponse, error) {
+	if s.isCompacted && request.Revision != 0 {
 		return nil, rpctypes.ErrGRPCCompacted
 	}
-	w.mutex.Lock()
-	w.asked = append(w.asked, asked.Revision)
-	header := &pb.ResponseHeader{Revision: firstRevision - 1 + int64(len(w.asked))}
-	w.mutex.Unlock()
-	return w.read(asked, header), nil
+	s.mutex.Lock()
+	s.revisions = append(s.revisions, request.Revision)
+	header := &pb.ResponseHeader{Revision: firstRevision - 1 + int64(len(s.revisions))}
+	s.mutex.Unlock()
+	return s.read(request, header), nil
 }
 
-// Txn makes the readings of a transaction, whatever it supposes.
-func (w *written) Txn(_ context.Context, asked *pb.TxnRequest) (*pb.TxnResponse, error) {
+// Txn makes the reads of a transaction, whatever its comparisons are.
+func (s *rowServer) Txn(_ context.Context, request *pb.TxnRequest) (*pb.TxnResponse, error) {
 	done := &pb.TxnResponse{Header: &pb.ResponseHeader{Revision: firstRevision}, Succeeded: true}
-	for _, part := range asked.Success {
+	for _, part := range request.Success {
 		reading := part.GetRequestRange()
 		if reading == nil {
 			continue
 		}
-		read := w.read(reading, done.Header)
-		done.Responses = append(done.Responses, &pb.ResponseOp{Response: &pb.ResponseOp_ResponseRange{ResponseRange: read}})
+		read := s.read(reading, done.Header)
+		done.Responses = append(done.Responses,
+			&pb.ResponseOp{Response: &pb.ResponseOp_ResponseRange{ResponseRange: read}})
 	}
 	return done, nil
 }
 
-func (w *written) read(asked *pb.RangeRequest, header *pb.ResponseHeader) *pb.RangeResponse {
+func (s *rowServer) read(request *pb.RangeRequest, header *pb.ResponseHeader) *pb.RangeResponse {
 	var keys []string
-	for key := range w.rows {
-		if key == string(asked.Key) || (key > string(asked.Key) && key < string(asked.RangeEnd)) {
+	for key := range s.rows {
+		if key == string(request.Key) || (key > string(request.Key) && key < string(request.RangeEnd)) {
 			keys = append(keys, key)
 		}
 	}
 	sort.Strings(keys)
 	read := &pb.RangeResponse{Header: header}
-	if asked.Limit > 0 && int64(len(keys)) > asked.Limit {
-		keys, read.More = keys[:asked.Limit], true
+	if request.Limit > 0 && int64(len(keys)) > request.Limit {
+		keys, read.More = keys[:request.Limit], true
 	}
 	for _, key := range keys {
-		read.Kvs = append(read.Kvs, &mvccpb.KeyValue{Key: []byte(key), Value: []byte(w.rows[key])})
+		read.Kvs = append(read.Kvs, &mvccpb.KeyValue{Key: []byte(key), Value: []byte(s.rows[key])})
 	}
 	return read
 }
 
-// wantsOneRevision wants that the first reading was one of the newest, and each one after it of the revision of its answer.
-func (w *written) wantsOneRevision(t *testing.T) {
+// checkRevisions checks that the first read was at the newest revision, and each later one at the
+// revision of its answer.
+func (s *rowServer) checkRevisions(t *testing.T) {
 	t.Helper()
-	for i, revision := range w.asked {
+	for i, revision := range s.revisions {
 		if (i == 0 && revision != 0 && revision != firstRevision) || (i > 0 && revision != firstRevision) {
-			t.Errorf("reading %d was of revision %d", i, revision)
+			t.Errorf("reading %d: got revision %d, want %d", i, revision, firstRevision)
 		}
 	}
-	if len(w.asked) < 3 {
-		t.Errorf("%d readings", len(w.asked))
+	if len(s.revisions) < 3 {
+		t.Errorf("got %d readings, want at least 3", len(s.revisions))
 	}
 }
 
-// sized is a volume whose field in a page has so many bytes.
+// sized returns a volume whose field in a page has size bytes.
 func sized(t *testing.T, number uint64, size int) volume {
 	t.Helper()
 	row := volume{number: number, name: "a", pool: "p"}
 	row.caps = make([]byte, size-64)
 	row.caps = append(row.caps, make([]byte, size-len(appendBytes(nil, row.field(), row.message())))...)
 	if got := len(appendBytes(nil, row.field(), row.message())); got != size {
-		t.Fatalf("a row of %d bytes has %d", size, got)
+		t.Fatalf("got a row of %d bytes, want %d", got, size)
 	}
 	return row
 }
 
-// A row that fills a page to its last byte, 3 MiB, is one; one of a byte more is none.
+// A row may fill a page of 3 MiB. A row with one more byte is refused.
 func TestLongestRow(t *testing.T) {
-	for size, want := range map[int]error{3 << 20: nil, 3<<20 + 1: errLong} {
-		row := sized(t, 7, size)
-		if _, field, err := sampleKeys.rowInPage(sampleKeys.volume(7), row.encoded()); err != want || (err == nil && len(field) != size) {
-			t.Errorf("%d bytes: a field of %d, %v", size, len(field), err)
-		}
+	for size, want := range map[int]error{3 << 20: nil, 3<<20 + 1: errRowTooLong} {
+		t.Run(fmt.Sprintf("%d bytes", size), func(t *testing.T) {
+			row := sized(t, 7, size)
+			_, field, err := sampleKeys.pageRow(sampleKeys.volume(7), row.encoded())
+			if err != want || (err == nil && len(field) != size) {
+				t.Errorf("got a field of %d bytes, error %v, want error %v", len(field), err, want)
+			}
+		})
 	}
 }
 
-// closest is attachments whose keys have none between them: wherever a reading ends, the next key has a row.
+// closest returns attachments with adjacent keys: wherever a read ends, the next key has a row.
 func closest() (rows []attachment) {
 	for count := 0; count < 100; count++ {
 		rows = append(rows, attachment{1, "n" + strings.Repeat("\x00", count), nil, false})
@@ -116,96 +122,110 @@ func closest() (rows []attachment) {
 	return rows
 }
 
-// Pages of long rows have all of them once, in order and at one revision, and none is longer than a frame can be, also where rows would fill one to its
-// last byte. What was read counts as answered.
+// Pages of long rows have all rows once, in order and at one revision. No page is longer than a
+// frame, even if rows fill it to the last byte. The revision of the rows counts as answered.
 func TestPages(t *testing.T) {
 	for size, count := range map[int]uint64{1 << 19: 10, 1 << 20: 8} {
-		server := &written{rows: map[string]string{sampleKeys.meta(): string(firstMeta.encoded())}}
-		var want []byte
-		want = appendBytes(want, 1, firstMeta.message())
-		for n := uint64(1); n <= count; n++ {
-			row := sized(t, n, size)
-			server.rows[sampleKeys.volume(n)] = string(row.encoded())
-			want = appendBytes(want, row.field(), row.message())
-		}
-		for _, row := range closest() {
-			server.rows[sampleKeys.attachment(row.number, row.node)] = string(row.encoded())
-			want = appendBytes(want, row.field(), row.message())
-		}
-		ctx := context.Background()
-		held := &term{client: startServer(t, server, 1), keys: sampleKeys, lease: &lease{}, revisions: &revisions{}, timeout: 10 * time.Second, ctx: ctx, key: "k"}
-		c := &connection{}
-		var got, token []byte
-		for isFirst := true; isFirst || len(token) > 0; isFirst = false {
-			page, err := c.read(ctx, held, appendBytes(nil, 1, token))
-			if err != nil || len(page) > frames.MaxBodyBytes {
-				t.Fatalf("rows of %d bytes: a page of %d, %v", size, len(page), err)
+		t.Run(fmt.Sprintf("%d rows of %d bytes", count, size), func(t *testing.T) {
+			server := &rowServer{rows: map[string]string{sampleKeys.meta(): string(firstMeta.encoded())}}
+			want := appendBytes(nil, 1, firstMeta.message())
+			for n := uint64(1); n <= count; n++ {
+				row := sized(t, n, size)
+				server.rows[sampleKeys.volume(n)] = string(row.encoded())
+				want = appendBytes(want, row.field(), row.message())
 			}
-			if held.revisions.least() != firstRevision {
-				t.Errorf("rows of %d bytes: answered %d", size, held.revisions.least())
+			for _, row := range closest() {
+				server.rows[sampleKeys.attachment(row.number, row.node)] = string(row.encoded())
+				want = appendBytes(want, row.field(), row.message())
 			}
-			// What must be said for the next page is after the rows.
-			token = c.walk.token
-			last := appendBytes(nil, 4, token)
-			if !bytes.HasSuffix(page, last) {
-				t.Fatalf("rows of %d bytes: a page without its token", size)
+			leading := newWalkTerm(t, server)
+			if got := readPages(t, leading); !bytes.Equal(got, want) {
+				t.Errorf("got %d bytes in all pages, want %d", len(got), len(want))
 			}
-			got = append(got, bytes.TrimSuffix(page, last)...)
-		}
-		if !bytes.Equal(got, want) {
-			t.Errorf("rows of %d bytes: all pages have %d, wanted %d", size, len(got), len(want))
-		}
-		server.wantsOneRevision(t)
+			server.checkRevisions(t)
+		})
 	}
 }
 
-// A token is that of the page before, over the same connection and in the same term. Behind a page that could not be read there is none, and none is
-// waited for.
+// newWalkTerm returns a term whose rows the server has.
+func newWalkTerm(t *testing.T, server *rowServer) *term {
+	t.Helper()
+	return &term{client: startServer(t, server, 1), keys: sampleKeys, lease: &lease{}, revisions: &revisions{},
+		timeout: 10 * time.Second, ctx: context.Background(), key: "k"}
+}
+
+// readPages reads all pages of a new walk, checks each, and returns their rows.
+func readPages(t *testing.T, leading *term) (rows []byte) {
+	t.Helper()
+	c := &connection{}
+	var token []byte
+	for isFirst := true; isFirst || len(token) > 0; isFirst = false {
+		page, err := c.read(leading.ctx, leading, appendBytes(nil, 1, token))
+		if err != nil || len(page) > frames.MaxBodyBytes {
+			t.Fatalf("got a page of %d bytes, error %v, want at most %d bytes", len(page), err, frames.MaxBodyBytes)
+		}
+		if got := leading.revisions.least(); got != firstRevision {
+			t.Errorf("got the answered revision %d, want %d", got, firstRevision)
+		}
+		// The token of the next page comes after the rows.
+		token = c.walk.token
+		last := appendBytes(nil, 4, token)
+		if !bytes.HasSuffix(page, last) {
+			t.Fatal("got a page without its token")
+		}
+		rows = append(rows, bytes.TrimSuffix(page, last)...)
+	}
+	return rows
+}
+
+// Only the token of the last page is accepted, over the same connection and in the same term. After
+// a page that could not be read no token is, and no read waits for a page.
 func TestTokens(t *testing.T) {
-	server := &written{rows: map[string]string{}}
+	server := &rowServer{rows: map[string]string{}}
 	for n := uint64(1); n <= 8; n++ {
 		server.rows[sampleKeys.volume(n)] = string(sized(t, n, 1<<20).encoded())
 	}
-	held := &term{client: startServer(t, server, 1), keys: sampleKeys, lease: &lease{}, revisions: &revisions{}, timeout: 10 * time.Second, ctx: context.Background(), key: "k"}
-	later := *held
+	leading := newWalkTerm(t, server)
+	later := *leading
 	c := &connection{}
-	reads := func(in *term, token []byte) error {
-		ended := make(chan error, 1)
+	read := func(in *term, token []byte) error {
+		done := make(chan error, 1)
 		go func() {
 			_, err := c.read(context.Background(), in, appendBytes(nil, 1, token))
-			c.walk.settle()
-			ended <- err
+			c.walk.waitAhead()
+			done <- err
 		}()
 		select {
-		case err := <-ended:
+		case err := <-done:
 			return err
 		case <-time.After(20 * time.Second):
-			t.Fatal("it is waited for a page")
+			t.Fatal("the read waits for a page")
 			return nil
 		}
 	}
-	if err := reads(held, nil); err != nil {
+	if err := read(leading, nil); err != nil {
 		t.Fatal(err)
 	}
 	first := c.walk.token
-	if err := reads(&later, first); err != errToken {
-		t.Errorf("in a later term: %v", err)
+	if err := read(&later, first); err != errToken {
+		t.Errorf("in a later term: got error %v, want %v", err, errToken)
 	}
-	// The second page was read before, and the third one is not there any more.
+	// The second page was read ahead. The third one is compacted.
 	server.isCompacted = true
-	if err := reads(held, first); err != nil {
-		t.Errorf("the second page: %v", err)
+	if err := read(leading, first); err != nil {
+		t.Errorf("the second page: got error %v", err)
 	}
 	second := c.walk.token
-	if err := reads(held, first); err != errToken {
-		t.Errorf("the token of a page that was given: %v", err)
+	if err := read(leading, first); err != errToken {
+		t.Errorf("a used token: got error %v, want %v", err, errToken)
 	}
-	if err := reads(held, second); err == nil || err == errToken {
-		t.Errorf("the third page: %v", err)
+	if err := read(leading, second); err == nil || err == errToken {
+		t.Errorf("the third page: got error %v, want that of its reading", err)
 	}
 	for _, token := range [][]byte{second, first} {
-		if err := reads(held, token); err != errToken {
-			t.Errorf("after a page that could not be read, with the token %s: %v", token, err)
+		if err := read(leading, token); err != errToken {
+			t.Errorf("after a page that could not be read, with the token %s: got error %v, want %v", token, err,
+				errToken)
 		}
 	}
 }

@@ -10,52 +10,53 @@ import (
 	"strings"
 )
 
-// exchange is the service of a method, and makes its request and its response.
-type exchange struct {
+// rpcMethod is a method of CSI: its service, and functions that make an empty request and response.
+type rpcMethod struct {
 	service  string
 	request  func() interface{}
 	response func() interface{}
 }
 
-func exchangeOf[Q, R any](service string) exchange {
-	return exchange{service, func() interface{} { return new(Q) }, func() interface{} { return new(R) }}
+func newRPCMethod[Q, R any](service string) rpcMethod {
+	return rpcMethod{service, func() interface{} { return new(Q) }, func() interface{} { return new(R) }}
 }
 
-// exchanges is the methods that `call` knows.
-var exchanges = map[string]exchange{
-	"GetPluginInfo":             exchangeOf[empty, pluginInfo](identityName),
-	"GetPluginCapabilities":     exchangeOf[empty, pluginCapabilities](identityName),
-	"Probe":                     exchangeOf[empty, probe](identityName),
-	"CreateVolume":              exchangeOf[createRequest, createResponse](controllerName),
-	"DeleteVolume":              exchangeOf[deleteRequest, empty](controllerName),
-	"ControllerPublishVolume":   exchangeOf[attachRequest, attachResponse](controllerName),
-	"ControllerUnpublishVolume": exchangeOf[detachRequest, empty](controllerName),
-	"ListVolumes":               exchangeOf[listRequest, listResponse](controllerName),
-	"NodeGetInfo":               exchangeOf[empty, nodeInfo](nodeName),
-	"NodeGetCapabilities":       exchangeOf[empty, nodeCapabilities](nodeName),
-	"NodeStageVolume":           exchangeOf[stageRequest, empty](nodeName),
-	"NodeUnstageVolume":         exchangeOf[unstageRequest, empty](nodeName),
-	"NodePublishVolume":         exchangeOf[publishRequest, empty](nodeName),
-	"NodeUnpublishVolume":       exchangeOf[unpublishRequest, empty](nodeName),
-	"NodeGetVolumeStats":        exchangeOf[statsRequest, stats](nodeName),
+// rpcMethods are the methods that `call` can call.
+var rpcMethods = map[string]rpcMethod{
+	"GetPluginInfo":             newRPCMethod[empty, pluginInfo](identityName),
+	"GetPluginCapabilities":     newRPCMethod[empty, pluginCapabilities](identityName),
+	"Probe":                     newRPCMethod[empty, probe](identityName),
+	"CreateVolume":              newRPCMethod[createRequest, createResponse](controllerName),
+	"DeleteVolume":              newRPCMethod[deleteRequest, empty](controllerName),
+	"ControllerPublishVolume":   newRPCMethod[attachRequest, attachResponse](controllerName),
+	"ControllerUnpublishVolume": newRPCMethod[detachRequest, empty](controllerName),
+	"ListVolumes":               newRPCMethod[listRequest, listResponse](controllerName),
+	"NodeGetInfo":               newRPCMethod[empty, nodeInfo](nodeName),
+	"NodeGetCapabilities":       newRPCMethod[empty, nodeCapabilities](nodeName),
+	"NodeStageVolume":           newRPCMethod[stageRequest, empty](nodeName),
+	"NodeUnstageVolume":         newRPCMethod[unstageRequest, empty](nodeName),
+	"NodePublishVolume":         newRPCMethod[publishRequest, empty](nodeName),
+	"NodeUnpublishVolume":       newRPCMethod[unpublishRequest, empty](nodeName),
+	"NodeGetVolumeStats":        newRPCMethod[statsRequest, stats](nodeName),
 }
 
-// call makes one call with a message in JSON, in the names that CSI has for the fields, and shows the response likewise.
-func call(words []string, shown io.Writer) error {
+// call makes one call. It reads the request as JSON with CSI's names of fields, and prints the
+// response in the same form.
+func call(args []string, out io.Writer) error {
 	flags := flag.NewFlagSet("call", flag.ContinueOnError)
 	socket := flags.String("socket", "", "the `PATH` of the socket of the node plugin, or of the front")
-	if err := parse(flags, words, 2, shown); err != nil {
+	if err := parseFlags(flags, args, 2, out); err != nil {
 		return err
 	}
-	if err := present(option{"--socket", *socket}, option{"METHOD", flags.Arg(0)}); err != nil {
+	if err := requireOptions(option{"--socket", *socket}, option{"METHOD", flags.Arg(0)}); err != nil {
 		return err
 	}
-	known, is := exchanges[flags.Arg(0)]
-	if !is {
+	method, ok := rpcMethods[flags.Arg(0)]
+	if !ok {
 		return refuse("METHOD: %q is none of %s", flags.Arg(0), methodNames())
 	}
-	request, response := known.request(), known.response()
-	if err := readMessage(flags.Arg(1), request); err != nil {
+	request, response := method.request(), method.response()
+	if err := decodeJSON(flags.Arg(1), request); err != nil {
 		return refuse("JSON: %w", err)
 	}
 	server, err := dial(*socket)
@@ -63,17 +64,17 @@ func call(words []string, shown io.Writer) error {
 		return err
 	}
 	defer server.Close()
-	if err := server.Invoke(context.Background(), "/"+known.service+"/"+flags.Arg(0), request, response); err != nil {
+	if err := server.Invoke(context.Background(), "/"+method.service+"/"+flags.Arg(0), request, response); err != nil {
 		return err
 	}
 	line, err := json.Marshal(response)
 	if err == nil {
-		_, err = fmt.Fprintf(shown, "%s\n", line)
+		_, err = fmt.Fprintf(out, "%s\n", line)
 	}
 	return err
 }
 
-func readMessage(text string, request interface{}) error {
+func decodeJSON(text string, request interface{}) error {
 	if text == "" {
 		return nil
 	}
@@ -84,7 +85,7 @@ func readMessage(text string, request interface{}) error {
 
 func methodNames() string {
 	var names []string
-	for name := range exchanges {
+	for name := range rpcMethods {
 		names = append(names, name)
 	}
 	sort.Strings(names)

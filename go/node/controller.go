@@ -14,15 +14,17 @@ import (
 )
 
 const (
-	// How long the controller may take for an answer.
+	// The time limit for an answer of the controller.
 	controllerTime = 10 * time.Second
-	// How long a call waits for a controller that is not there, since it may just start.
+	// How long a call waits for a missing controller, which may be starting.
 	startTime = 2 * time.Second
 )
 
-// A controller that was not there is dialled again at least once a second.
+// redial limits the pause between attempts to connect to a second.
 var redial = grpc.ConnectParams{
-	Backoff:           backoff.Config{BaseDelay: 100 * time.Millisecond, Multiplier: 1.6, Jitter: 0.2, MaxDelay: time.Second},
+	Backoff: backoff.Config{
+		BaseDelay: 100 * time.Millisecond, Multiplier: 1.6, Jitter: 0.2, MaxDelay: time.Second,
+	},
 	MinConnectTimeout: controllerTime,
 }
 
@@ -31,19 +33,22 @@ var (
 	errNoVolume = status.Error(codes.NotFound, "volume not found")
 )
 
-// controller is the front, which is asked what the calls of the Node service do not say.
+// controller is a connection to the front. The plugin asks it for facts that are not in its
+// requests.
 type controller struct{ *grpc.ClientConn }
 
 func dial(socket string) (controller, error) {
 	toSocket := func(ctx context.Context, _ string) (net.Conn, error) {
 		return (&net.Dialer{}).DialContext(ctx, "unix", socket)
 	}
-	conn, err := grpc.Dial("passthrough:///csi", grpc.WithInsecure(), grpc.WithContextDialer(toSocket), grpc.WithConnectParams(redial))
+	conn, err := grpc.Dial("passthrough:///csi", grpc.WithInsecure(), grpc.WithContextDialer(toSocket),
+		grpc.WithConnectParams(redial))
 	return controller{conn}, err
 }
 
-// size is the bytes of a volume, as the controller has them. A page of ListVolumes that begins after the number before its own begins with
-// the volume, where it exists (docs/MACHINE.md, "A walk over pages").
+// size returns the bytes of a volume. It requests a page of ListVolumes that starts after the
+// number before the volume's: if the volume exists, it comes first (docs/MACHINE.md, "A walk over
+// pages").
 func (c controller) size(ctx context.Context, id string) (int64, error) {
 	parts := volumeID.FindStringSubmatch(id)
 	if parts == nil {
@@ -70,7 +75,7 @@ func (c controller) size(ctx context.Context, id string) (int64, error) {
 	return page.Entries[0].Volume.CapacityBytes, nil
 }
 
-// volumes is the ids of all volumes.
+// volumes returns the ids of all volumes.
 func (c controller) volumes(ctx context.Context) (map[string]bool, error) {
 	ids := map[string]bool{}
 	for token := ""; ; {
@@ -95,8 +100,10 @@ func (c controller) page(ctx context.Context, entries int32, token string) (*lis
 	if status.Code(err) == codes.Unavailable {
 		starting, cancel := context.WithTimeout(ctx, startTime)
 		defer cancel()
-		if later, again := c.list(starting, &listRequest{MaxEntries: entries, StartingToken: token}, grpc.WaitForReady(true)); status.Code(again) != codes.DeadlineExceeded {
-			page, err = later, again
+		retried, retryErr := c.list(starting, &listRequest{MaxEntries: entries, StartingToken: token},
+			grpc.WaitForReady(true))
+		if status.Code(retryErr) != codes.DeadlineExceeded {
+			page, err = retried, retryErr
 		}
 	}
 	if err != nil {

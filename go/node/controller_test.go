@@ -2,6 +2,7 @@ package main
 
 import (
 	"context"
+	"fmt"
 	"net"
 	"os"
 	"path/filepath"
@@ -15,26 +16,27 @@ import (
 	"google.golang.org/grpc/status"
 )
 
-// listing is a controller that has given the numbers up to last, and lists the volumes that stand in pages of at most so many.
-type listing struct {
+// pageServer is a controller whose greatest number so far is last. It lists the volumes with these
+// numbers, with at most page volumes on a page.
+type pageServer struct {
 	numbers []int
 	last    int
 	page    int
 }
 
-// volumeBytes is what the volume of a number has.
+// volumeBytes returns the size of a volume of pageServer.
 func volumeBytes(number int) int64 { return int64(number) << 20 }
 
-func (l listing) list(asked *listRequest) (*listResponse, error) {
+func (l pageServer) list(request *listRequest) (*listResponse, error) {
 	begin, most := 0, l.page
-	if asked.StartingToken != "" {
-		begin, _ = strconv.Atoi(asked.StartingToken)
+	if request.StartingToken != "" {
+		begin, _ = strconv.Atoi(request.StartingToken)
 		if begin < 1 || begin > l.last {
 			return nil, status.Error(codes.Aborted, "bad starting token")
 		}
 	}
-	if asked.MaxEntries > 0 {
-		most = int(asked.MaxEntries)
+	if request.MaxEntries > 0 {
+		most = int(request.MaxEntries)
 	}
 	page := new(listResponse)
 	for _, number := range l.numbers {
@@ -43,24 +45,27 @@ func (l listing) list(asked *listRequest) (*listResponse, error) {
 			break
 		}
 		if number > begin {
-			page.Entries = append(page.Entries, &listEntry{Volume: &volume{VolumeID: "vol-" + strconv.Itoa(number), CapacityBytes: volumeBytes(number)}})
+			page.Entries = append(page.Entries, &listEntry{Volume: &volume{VolumeID: "vol-" +
+				strconv.Itoa(number), CapacityBytes: volumeBytes(number)}})
 			begin = number
 		}
 	}
 	return page, nil
 }
 
-// startController serves ListVolumes, and gives the socket.
+// startController serves ListVolumes and returns the path of its socket.
 func startController(t *testing.T, list func(*listRequest) (*listResponse, error)) string {
 	t.Helper()
-	handle := func(_ interface{}, _ context.Context, decode func(interface{}) error, _ grpc.UnaryServerInterceptor) (interface{}, error) {
-		asked := new(listRequest)
-		if err := decode(asked); err != nil {
+	handle := func(_ interface{}, _ context.Context, decode func(interface{}) error,
+		_ grpc.UnaryServerInterceptor) (interface{}, error) {
+		request := new(listRequest)
+		if err := decode(request); err != nil {
 			return nil, err
 		}
-		return list(asked)
+		return list(request)
 	}
-	service := grpc.ServiceDesc{ServiceName: controllerName, HandlerType: (*interface{})(nil), Methods: []grpc.MethodDesc{{MethodName: "ListVolumes", Handler: handle}}}
+	service := grpc.ServiceDesc{ServiceName: controllerName, HandlerType: (*interface{})(nil),
+		Methods: []grpc.MethodDesc{{MethodName: "ListVolumes", Handler: handle}}}
 	socket := filepath.Join(folder(t), "csi.sock")
 	listener, err := net.Listen("unix", socket)
 	if err != nil {
@@ -83,7 +88,7 @@ func newController(t *testing.T, socket string) controller {
 	return c
 }
 
-// folder is a folder of the test's own. Its path is short, since that of a socket must be.
+// folder returns a new folder. Its path is short, as the path of a socket must be.
 func folder(t *testing.T) string {
 	t.Helper()
 	path, err := os.MkdirTemp("", "node")
@@ -94,9 +99,9 @@ func folder(t *testing.T) string {
 	return path
 }
 
-func TestSizes(t *testing.T) {
-	c := newController(t, startController(t, listing{[]int{1, 7, 9}, 9, 100}.list))
-	rows := []struct {
+func TestSize(t *testing.T) {
+	c := newController(t, startController(t, pageServer{[]int{1, 7, 9}, 9, 100}.list))
+	cases := []struct {
 		id   string
 		size int64
 		code codes.Code
@@ -114,63 +119,77 @@ func TestSizes(t *testing.T) {
 		{"vol-", 0, codes.NotFound},
 		{"", 0, codes.NotFound},
 	}
-	for _, row := range rows {
-		if size, err := c.size(context.Background(), row.id); size != row.size || status.Code(err) != row.code {
-			t.Errorf("%s: %d, %v", row.id, size, err)
-		}
+	for _, each := range cases {
+		t.Run(fmt.Sprintf("id %q", each.id), func(t *testing.T) {
+			size, err := c.size(context.Background(), each.id)
+			if size != each.size || status.Code(err) != each.code {
+				t.Errorf("got %d, error %v, want %d, %v", size, err, each.size, each.code)
+			}
+		})
 	}
 }
 
-func TestAllVolumes(t *testing.T) {
-	rows := []struct {
+func TestVolumes(t *testing.T) {
+	cases := []struct {
+		name    string
 		numbers []int
 		want    map[string]bool
 	}{
-		{nil, map[string]bool{}},
-		{[]int{1, 2}, map[string]bool{"vol-1": true, "vol-2": true}},
-		{[]int{1, 2, 5, 8, 9}, map[string]bool{"vol-1": true, "vol-2": true, "vol-5": true, "vol-8": true, "vol-9": true}},
+		{"no volumes", nil, map[string]bool{}},
+		{"one page", []int{1, 2}, map[string]bool{"vol-1": true, "vol-2": true}},
+		{"three pages", []int{1, 2, 5, 8, 9},
+			map[string]bool{"vol-1": true, "vol-2": true, "vol-5": true, "vol-8": true, "vol-9": true}},
 	}
-	for _, row := range rows {
-		c := newController(t, startController(t, listing{row.numbers, 9, 2}.list))
-		if got, err := c.volumes(context.Background()); err != nil || !reflect.DeepEqual(got, row.want) {
-			t.Errorf("%v: %v, %v", row.numbers, got, err)
-		}
+	for _, each := range cases {
+		t.Run(each.name, func(t *testing.T) {
+			c := newController(t, startController(t, pageServer{each.numbers, 9, 2}.list))
+			if got, err := c.volumes(context.Background()); err != nil || !reflect.DeepEqual(got, each.want) {
+				t.Errorf("got %v, error %v, want %v", got, err, each.want)
+			}
+		})
 	}
 }
 
 // A call waits for a controller that is about to start, also after one that found none.
 func TestControllerThatStartsLater(t *testing.T) {
-	started := startController(t, listing{[]int{1}, 1, 100}.list)
+	started := startController(t, pageServer{[]int{1}, 1, 100}.list)
 	socket := filepath.Join(filepath.Dir(started), "later.sock")
 	c := newController(t, socket)
 	if _, err := c.size(context.Background(), "vol-1"); status.Code(err) != codes.Unavailable {
-		t.Errorf("no controller: %v", err)
+		t.Errorf("no controller: got error %v, want %v", err, codes.Unavailable)
 	}
 	go func() {
 		time.Sleep(300 * time.Millisecond)
 		os.Symlink(started, socket)
 	}()
 	if size, err := c.size(context.Background(), "vol-1"); size != volumeBytes(1) || err != nil {
-		t.Errorf("a controller that starts: %d, %v", size, err)
+		t.Errorf("a controller that starts: got %d, error %v, want %d", size, err, volumeBytes(1))
 	}
 }
 
-// A controller that refuses, or lists what is no volume, is reported as it is.
-func TestControllersThatFail(t *testing.T) {
-	rows := []struct {
+// The error of a controller is returned unchanged. An entry without a volume is an error.
+func TestControllerErrors(t *testing.T) {
+	cases := []struct {
+		name string
 		list func(*listRequest) (*listResponse, error)
 		want codes.Code
 	}{
-		{func(*listRequest) (*listResponse, error) { return nil, status.Error(codes.Unavailable, "away") }, codes.Unavailable},
-		{func(*listRequest) (*listResponse, error) { return &listResponse{Entries: []*listEntry{{}}}, nil }, codes.Internal},
+		{"unavailable", func(*listRequest) (*listResponse, error) {
+			return nil, status.Error(codes.Unavailable, "away")
+		}, codes.Unavailable},
+		{"entry without a volume", func(*listRequest) (*listResponse, error) {
+			return &listResponse{Entries: []*listEntry{{}}}, nil
+		}, codes.Internal},
 	}
-	for _, row := range rows {
-		c := newController(t, startController(t, row.list))
-		if _, err := c.size(context.Background(), "vol-1"); status.Code(err) != row.want {
-			t.Errorf("a size: %v, wanted %v", err, row.want)
-		}
-		if _, err := c.volumes(context.Background()); status.Code(err) != row.want {
-			t.Errorf("all volumes: %v, wanted %v", err, row.want)
-		}
+	for _, each := range cases {
+		t.Run(each.name, func(t *testing.T) {
+			c := newController(t, startController(t, each.list))
+			if _, err := c.size(context.Background(), "vol-1"); status.Code(err) != each.want {
+				t.Errorf("size: got error %v, want %v", err, each.want)
+			}
+			if _, err := c.volumes(context.Background()); status.Code(err) != each.want {
+				t.Errorf("volumes: got error %v, want %v", err, each.want)
+			}
+		})
 	}
 }

@@ -16,25 +16,27 @@ import (
 	"fomaheti/files"
 )
 
-// How long a loop device may be held open by others when it is detached.
+// detachTime limits the wait for other programs that hold a detached loop device open.
 const detachTime = 2 * time.Second
 
-// The status of blkid where it finds neither a file system nor anything else that it knows.
-const nothingFound = 2
+// blkidNotFound is the exit status of blkid if it recognizes no contents.
+const blkidNotFound = 2
 
-// devices keeps each volume as a sparse file, attaches it as a loop device, and mounts that. It needs root.
+// devices keeps each volume as a sparse file, attaches the file to a loop device and mounts it. It
+// needs root.
 type devices struct{}
 
 func (devices) suffix() string { return ".img" }
 
 func (devices) supports(use *capability, _ bool) error {
 	if use.Mount != nil && use.Mount.FsType != "" && use.Mount.FsType != "ext4" {
-		return status.Errorf(codes.InvalidArgument, "volume_capability: the file system %q is not ext4", use.Mount.FsType)
+		return status.Errorf(codes.InvalidArgument, "volume_capability: the file system %q is not ext4",
+			use.Mount.FsType)
 	}
 	return nil
 }
 
-// create makes the file under another name first, so that one with the volume's name has the volume's size.
+// create makes the file under another name first: a file with the volume's name has its full size.
 func (devices) create(data string, bytes int64) error {
 	unfinished := data + ".new"
 	file, err := files.Create(unfinished, 0o666)
@@ -51,13 +53,14 @@ func (devices) create(data string, bytes int64) error {
 	return os.Rename(unfinished, data)
 }
 
-// stage attaches the volume, and mounts it unless it is to be a block device. A blank one gets a file system first.
+// stage attaches the volume, and mounts it unless it is used as a block device. It first makes a
+// file system on an empty volume.
 func (devices) stage(data, staging string, use *capability, readOnly bool) error {
 	device, err := attach(data, readOnly)
 	if err != nil || use.Block != nil {
 		return err
 	}
-	if is, err := isMounted(device, staging); is || err != nil {
+	if ok, err := isMounted(device, staging); ok || err != nil {
 		return err
 	}
 	if err := format(device); err != nil {
@@ -75,9 +78,9 @@ func (devices) unstage(data, staging string) error {
 	if err != nil || device == "" {
 		return err
 	}
-	if is, err := isMounted(device, staging); err != nil {
+	if ok, err := isMounted(device, staging); err != nil {
 		return err
-	} else if is {
+	} else if ok {
 		if err := command("umount", staging); err != nil {
 			return err
 		}
@@ -96,18 +99,18 @@ func (devices) publish(data, staging, target string, use *capability, readOnly b
 	if use.Block != nil {
 		return publishBlock(device, target, readOnly)
 	}
-	if is, err := isMounted(device, staging); err != nil {
+	if ok, err := isMounted(device, staging); err != nil {
 		return err
-	} else if !is {
+	} else if !ok {
 		return errNotStaged
 	}
 	return publishMount(device, staging, target, readOnly)
 }
 
 func publishMount(device, staging, target string, readOnly bool) error {
-	if is, err := isMounted(device, target); err != nil {
+	if ok, err := isMounted(device, target); err != nil {
 		return err
-	} else if is {
+	} else if ok {
 		return checkSame(staging, target, readOnly)
 	}
 	if err := os.Mkdir(target, 0o755); err != nil && !errors.Is(err, os.ErrExist) {
@@ -120,35 +123,36 @@ func publishMount(device, staging, target string, readOnly bool) error {
 	return command("mount", "-o", flags, staging, target)
 }
 
-// checkSame refuses to publish a volume read-only where it is published to be written already, and the other way round.
+// checkSame refuses a second publication at the same path with another read-only flag.
 func checkSame(staging, target string, readOnly bool) error {
-	all, err := isReadOnly(staging)
+	isStagingReadOnly, err := isReadOnly(staging)
 	if err != nil {
 		return err
 	}
-	is, err := isReadOnly(target)
+	isTargetReadOnly, err := isReadOnly(target)
 	if err != nil {
 		return err
 	}
-	if is != (all || readOnly) {
+	if isTargetReadOnly != (isStagingReadOnly || readOnly) {
 		return status.Errorf(codes.AlreadyExists, "the volume is published otherwise at %s", target)
 	}
 	return nil
 }
 
-// publishBlock puts the device at a path. A bind mount that is read-only does not keep anybody from writing to a device, so the device
-// itself must be.
+// publishBlock binds the device to a path. Programs can write to a device over a read-only bind
+// mount, so a read-only volume needs a read-only device.
 func publishBlock(device, target string, readOnly bool) error {
 	if readOnly {
-		said, err := os.ReadFile(filepath.Join("/sys/block", filepath.Base(device), "ro"))
+		text, err := os.ReadFile(filepath.Join("/sys/block", filepath.Base(device), "ro"))
 		if err != nil {
 			return err
 		}
-		if strings.TrimSpace(string(said)) != "1" {
-			return status.Error(codes.FailedPrecondition, "a block volume is read-only only where the controller attached it so")
+		if strings.TrimSpace(string(text)) != "1" {
+			return status.Error(codes.FailedPrecondition,
+				"a block volume is read-only only where the controller attached it so")
 		}
 	}
-	if is, err := isDevice(device, target); is || err != nil {
+	if ok, err := isDevice(device, target); ok || err != nil {
 		return err
 	}
 	file, err := os.OpenFile(target, os.O_CREATE|os.O_WRONLY, 0o600)
@@ -162,7 +166,7 @@ func publishBlock(device, target string, readOnly bool) error {
 }
 
 func (devices) unpublish(data, target string) error {
-	if at, err := place(data, target); err != nil {
+	if at, err := findPresence(data, target); err != nil {
 		return err
 	} else if at != nowhere {
 		if err := command("umount", target); err != nil {
@@ -175,9 +179,9 @@ func (devices) unpublish(data, target string) error {
 	return nil
 }
 
-// usage is what a mounted volume's file system has; of a block device only its size is known.
+// usage returns the usage of a mounted file system, or only the size of a block device.
 func (devices) usage(data, path string) (*usage, error) {
-	at, err := place(data, path)
+	at, err := findPresence(data, path)
 	if err != nil || at == nowhere {
 		return nil, err
 	}
@@ -191,7 +195,7 @@ func (devices) usage(data, path string) (*usage, error) {
 	return &usage{Total: file.Size(), Unit: unitBytes}, nil
 }
 
-// How a volume is at a path.
+// presence is the state of a volume at a path.
 type presence int
 
 const (
@@ -200,46 +204,47 @@ const (
 	asDevice
 )
 
-func place(data, path string) (presence, error) {
+func findPresence(data, path string) (presence, error) {
 	device, err := attached(data)
 	if err != nil || device == "" {
 		return nowhere, err
 	}
-	if is, err := isMounted(device, path); is || err != nil {
+	if ok, err := isMounted(device, path); ok || err != nil {
 		return mounted, err
 	}
-	if is, err := isDevice(device, path); is || err != nil {
+	if ok, err := isDevice(device, path); ok || err != nil {
 		return asDevice, err
 	}
 	return nowhere, nil
 }
 
-// attach is the loop device of a file, which is made where there is none.
+// attach returns the loop device of a file. If there is none, it makes one.
 func attach(data string, readOnly bool) (string, error) {
 	device, err := attached(data)
 	if device != "" || err != nil {
 		return device, err
 	}
-	words := []string{"--find", "--show", data}
+	args := []string{"--find", "--show", data}
 	if readOnly {
-		words = append(words, "--read-only")
+		args = append(args, "--read-only")
 	}
-	return output("losetup", words...)
+	return output("losetup", args...)
 }
 
-// attached is the loop device of a file, or empty where there is none.
+// attached returns the loop device of a file, or "" if there is none.
 func attached(data string) (string, error) {
 	return output("losetup", "--noheadings", "--output", "NAME", "--associated", data)
 }
 
-// detach takes a file off its loop device. While somebody else has the device open, as a blkid or losetup that looks at all of them, the kernel
-// takes it off only at the end of that, so the end is waited for; and where it did so before, losetup says that no file is there.
+// detach detaches a file from its loop device. If another program has the device open, such as a
+// blkid that probes all devices, the kernel detaches it only when that program closes it, so detach
+// waits. If the file was detached earlier in this way, losetup reports that there is no file.
 func detach(data, device string) error {
 	err := command("losetup", "--detach", device)
 	for end := time.Now().Add(detachTime); ; time.Sleep(detachTime / 100) {
-		is, asking := attached(data)
-		if asking != nil || is != device {
-			return asking
+		found, lookupErr := attached(data)
+		if lookupErr != nil || found != device {
+			return lookupErr
 		}
 		if err != nil {
 			return err
@@ -250,57 +255,58 @@ func detach(data, device string) error {
 	}
 }
 
-// format makes a file system on a device on which there is nothing that is known.
+// format makes a file system on a device without recognizable contents.
 func format(device string) error {
 	_, err := output("blkid", "--probe", device)
-	var ended *exec.ExitError
-	if errors.As(err, &ended) && ended.ExitCode() == nothingFound {
+	var exitErr *exec.ExitError
+	if errors.As(err, &exitErr) && exitErr.ExitCode() == blkidNotFound {
 		return command("mkfs.ext4", "-q", device)
 	}
 	return err
 }
 
-// isMounted reports whether a path is in the file system of a device, isDevice whether it is the device.
+// isMounted reports whether the path is in the file system of the device, isDevice whether the path
+// is the device.
 func isMounted(device, path string) (bool, error) {
-	of, at, err := numbers(device, path)
-	return at.Dev == of.Rdev && err == nil, err
+	deviceStat, pathStat, err := statBoth(device, path)
+	return pathStat.Dev == deviceStat.Rdev && err == nil, err
 }
 
 func isDevice(device, path string) (bool, error) {
-	of, at, err := numbers(device, path)
-	return at.Mode&syscall.S_IFMT == syscall.S_IFBLK && at.Rdev == of.Rdev && err == nil, err
+	deviceStat, pathStat, err := statBoth(device, path)
+	return pathStat.Mode&syscall.S_IFMT == syscall.S_IFBLK && pathStat.Rdev == deviceStat.Rdev && err == nil, err
 }
 
-// numbers is what the system says of a device and of a path; of a path where nothing is it says nothing.
-func numbers(device, path string) (of, at syscall.Stat_t, err error) {
-	if err := syscall.Stat(device, &of); err != nil {
-		return of, at, fmt.Errorf("%s: %w", device, err)
+// statBoth returns the status of a device and of a path. It is zero for a path that does not exist.
+func statBoth(device, path string) (deviceStat, pathStat syscall.Stat_t, err error) {
+	if err := syscall.Stat(device, &deviceStat); err != nil {
+		return deviceStat, pathStat, fmt.Errorf("%s: %w", device, err)
 	}
-	if err := syscall.Stat(path, &at); err != nil && err != syscall.ENOENT && err != syscall.ENOTDIR {
-		return of, at, fmt.Errorf("%s: %w", path, err)
+	if err := syscall.Stat(path, &pathStat); err != nil && err != syscall.ENOENT && err != syscall.ENOTDIR {
+		return deviceStat, pathStat, fmt.Errorf("%s: %w", path, err)
 	}
-	return of, at, nil
+	return deviceStat, pathStat, nil
 }
 
 func isReadOnly(path string) (bool, error) {
-	var of syscall.Statfs_t
-	if err := syscall.Statfs(path, &of); err != nil {
+	var stat syscall.Statfs_t
+	if err := syscall.Statfs(path, &stat); err != nil {
 		return false, fmt.Errorf("%s: %w", path, err)
 	}
-	return of.Flags&syscall.MS_RDONLY != 0, nil
+	return stat.Flags&syscall.MS_RDONLY != 0, nil
 }
 
-func command(name string, words ...string) error {
-	_, err := output(name, words...)
+func command(name string, args ...string) error {
+	_, err := output(name, args...)
 	return err
 }
 
-// output runs a command, and gives what it wrote to standard output; its error says what it wrote to the other one.
-func output(name string, words ...string) (string, error) {
-	written, err := exec.Command(name, words...).Output()
-	var ended *exec.ExitError
-	if errors.As(err, &ended) {
-		err = fmt.Errorf("%s: %w: %s", name, err, strings.TrimSpace(string(ended.Stderr)))
+// output runs a command and returns its standard output. The error contains its standard error.
+func output(name string, args ...string) (string, error) {
+	written, err := exec.Command(name, args...).Output()
+	var exitErr *exec.ExitError
+	if errors.As(err, &exitErr) {
+		err = fmt.Errorf("%s: %w: %s", name, err, strings.TrimSpace(string(exitErr.Stderr)))
 	}
 	return strings.TrimSpace(string(written)), err
 }

@@ -12,13 +12,13 @@ import (
 	"testing"
 )
 
-// What statfs says of ext4, and of a mount with noatime.
+// Values of statfs for ext4 and for a mount with noatime.
 const (
 	ext4Magic = 0xef53
 	noATime   = 1024
 )
 
-// newDeviceSession is a session that mounts, where that can be.
+// newDeviceSession returns a session with devices, or skips the test if they are not available.
 func newDeviceSession(t *testing.T) *session {
 	t.Helper()
 	needsDevices(t)
@@ -27,7 +27,7 @@ func newDeviceSession(t *testing.T) *session {
 	return s
 }
 
-// needsDevices leaves a test out where no file can be attached, or a command is missing.
+// needsDevices skips the test if no file can be attached, or if a command is missing.
 func needsDevices(t *testing.T) {
 	t.Helper()
 	for _, name := range []string{"losetup", "blkid", "mkfs.ext4", "mkswap", "mount", "umount", "findmnt"} {
@@ -49,7 +49,7 @@ func needsDevices(t *testing.T) {
 	}
 }
 
-// release takes away what a test left mounted or attached in a folder, and says so.
+// release unmounts and detaches what a test left in a folder, and reports it.
 func release(t *testing.T, folder string) {
 	t.Helper()
 	for _, each := range []struct{ list, words, undo string }{
@@ -91,53 +91,61 @@ func TestStagingFolderOfDevices(t *testing.T) {
 	testStagingFolder(t, newDeviceSession(t))
 }
 
-// A mounted volume has the size that the controller says, ext4 and the flags of its mount.
+// A mounted volume has ext4, the size of the controller, and the flags of its mount.
 func TestMountedVolume(t *testing.T) {
 	t.Parallel()
 	s := newDeviceSession(t)
 	s.run(t, attachedRows(asMount)...)
 	s.run(t, stageRow(ofMount), publishRow(ofMount, ""))
 	if file, err := os.Stat(s.at("p1/vol-1.img")); err != nil || file.Size() != 4194304 {
-		t.Errorf("%v, %v", file, err)
+		t.Errorf("got %v, error %v, want 4 MiB", file, err)
 	}
 	of := statistics(t, s.at("targets/a"))
 	total := int64(of.Blocks) * of.Frsize
 	if of.Type != ext4Magic || of.Flags&noATime == 0 || total < 2<<20 || total > 4<<20 {
-		t.Errorf("%+v", of)
+		t.Errorf("got %+v, want ext4 with noatime and 2 to 4 MiB", of)
 	}
 	used, err := devices{}.usage(s.at("p1/vol-1.img"), s.at("targets/a"))
-	if err != nil || used == nil || used.Total != total || used.Available != int64(of.Bavail)*of.Frsize || used.Used != int64(of.Blocks-of.Bfree)*of.Frsize {
-		t.Errorf("%v, %v", used, err)
+	if err != nil || used == nil || used.Total != total || used.Available != int64(of.Bavail)*of.Frsize ||
+		used.Used != int64(of.Blocks-of.Bfree)*of.Frsize {
+		t.Errorf("got %v, error %v, want those of statfs %+v", used, err, of)
 	}
 	s.run(t, unpublishRow, unstageRow,
-		row{nodeSocket, "NodeGetVolumeStats", `{` + vol1 + `,"volume_path":"AT/targets/a"}`, "node-plugin: NotFound: the volume is not at AT/targets/a"},
-		stageRow(strings.Replace(ofMount, "ext4", "xfs", 1)).answers(`node-plugin: InvalidArgument: volume_capability: the file system "xfs" is not ext4`))
+		row{nodeSocket, "NodeGetVolumeStats", `{` + vol1 + `,"volume_path":"AT/targets/a"}`,
+			"node-plugin: NotFound: the volume is not at AT/targets/a"},
+		stageRow(strings.Replace(ofMount, "ext4", "xfs", 1)).
+			answers(`node-plugin: InvalidArgument: volume_capability: the file system "xfs" is not ext4`))
 }
 
-// A volume is published read-only next to being written, and is that way again only if it is asked so again.
+// A volume can be published read-only and writable at two paths. A repeat with another flag is
+// refused.
 func TestReadOnlyMount(t *testing.T) {
 	t.Parallel()
 	s := newDeviceSession(t)
-	const readOnly = `,"readonly":true`
+	const (
+		readOnly  = `,"readonly":true`
+		otherwise = "node-plugin: AlreadyExists: the volume is published otherwise at AT/targets/"
+	)
 	at := func(name string, r row) row {
 		r.message = strings.Replace(r.message, "targets/a", "targets/"+name, 1)
 		return r
 	}
 	s.run(t, attachedRows(asMount)...)
-	s.run(t, stageRow(ofMount), publishRow(ofMount, ""), at("b", publishRow(ofMount, readOnly)), at("b", publishRow(ofMount, readOnly)))
+	s.run(t, stageRow(ofMount), publishRow(ofMount, ""), at("b", publishRow(ofMount, readOnly)),
+		at("b", publishRow(ofMount, readOnly)))
 	s.writes(t, "targets/a/file")
 	s.finds(t, "targets/b/file")
 	if err := os.WriteFile(s.at("targets/b/file"), nil, 0o600); !errors.Is(err, syscall.EROFS) {
-		t.Errorf("a write: %v", err)
+		t.Errorf("a write: got error %v", err)
 	}
 	s.run(t,
-		publishRow(ofMount, readOnly).answers("node-plugin: AlreadyExists: the volume is published otherwise at AT/targets/a"),
-		at("b", publishRow(ofMount, "")).answers("node-plugin: AlreadyExists: the volume is published otherwise at AT/targets/b"),
+		publishRow(ofMount, readOnly).answers(otherwise+"a"),
+		at("b", publishRow(ofMount, "")).answers(otherwise+"b"),
 		at("b", unpublishRow), unpublishRow, unstageRow)
 	s.isEmpty(t)
 }
 
-// What the controller attached read-only cannot be written, however it is published.
+// A volume that the controller attached read-only is not writable, however it is published.
 func TestReadOnlyAttachment(t *testing.T) {
 	t.Parallel()
 	s := newDeviceSession(t)
@@ -147,22 +155,24 @@ func TestReadOnlyAttachment(t *testing.T) {
 	for _, more := range []string{"", `,"readonly":true`} {
 		s.run(t, publishRow(ofMount, more), publishRow(ofMount, more))
 		if err := os.WriteFile(s.at("targets/a/file"), nil, 0o600); !errors.Is(err, syscall.EROFS) {
-			t.Errorf("a write: %v", err)
+			t.Errorf("a write: got error %v", err)
 		}
 		s.run(t, unpublishRow)
 	}
 	s.run(t, unstageRow)
 }
 
-// A block volume is a device of its size, and keeps what was written.
+// A block volume is a device of its size, and keeps its data.
 func TestBlockVolume(t *testing.T) {
 	t.Parallel()
 	s := newDeviceSession(t)
 	s.run(t, attachedRows(asBlock)...)
 	s.run(t, publishRow(ofBlock, "").answers(notStaged))
 	s.run(t, stageRow(ofBlock), stageRow(ofBlock), publishRow(ofBlock, ""), publishRow(ofBlock, ""),
-		publishRow(ofBlock, `,"readonly":true`).answers("node-plugin: FailedPrecondition: a block volume is read-only only where the controller attached it so"),
-		row{nodeSocket, "NodeGetVolumeStats", `{` + vol1 + `,"volume_path":"AT/targets/a"}`, `{"usage":[{"total":4194304,"unit":1}]}`})
+		publishRow(ofBlock, `,"readonly":true`).answers("node-plugin: FailedPrecondition: a block volume is "+
+			"read-only only where the controller attached it so"),
+		row{nodeSocket, "NodeGetVolumeStats", `{` + vol1 +
+			`,"volume_path":"AT/targets/a"}`, `{"usage":[{"total":4194304,"unit":1}]}`})
 	writeDevice(t, s.at("targets/a"))
 	s.run(t, unpublishRow, unpublishRow, unstageRow, unstageRow)
 	s.isEmpty(t)
@@ -171,12 +181,12 @@ func TestBlockVolume(t *testing.T) {
 	}
 	s.run(t, stageRow(ofBlock+`,"publish_context":{"readonly":"true"}`), publishRow(ofBlock, `,"readonly":true`))
 	if err := os.WriteFile(s.at("targets/a"), []byte("lost"), 0o600); !errors.Is(err, syscall.EPERM) {
-		t.Errorf("a write: %v", err)
+		t.Errorf("a write: got error %v", err)
 	}
 	s.run(t, unpublishRow, unstageRow)
 }
 
-// writeDevice writes to the beginning of a device of 4 MiB.
+// writeDevice writes to the start of a device of 4 MiB.
 func writeDevice(t *testing.T, path string) {
 	t.Helper()
 	file, err := os.OpenFile(path, os.O_RDWR|os.O_SYNC, 0)
@@ -192,7 +202,7 @@ func writeDevice(t *testing.T, path string) {
 	}
 }
 
-// A file with other contents than a file system gets none, and stays as it is.
+// A file with other contents gets no file system, and stays unchanged.
 func TestOtherContents(t *testing.T) {
 	t.Parallel()
 	s := newDeviceSession(t)
@@ -209,7 +219,8 @@ func TestOtherContents(t *testing.T) {
 		t.Fatal(err)
 	}
 	stage := stageRow(ofMount)
-	if got := s.call(stage.socket, stage.method, stage.message); !strings.HasPrefix(got, "node-plugin: Internal: mount: exit status ") {
+	if got := s.call(stage.socket, stage.method, stage.message); !strings.HasPrefix(got,
+		"node-plugin: Internal: mount: exit status ") {
 		t.Error(got)
 	}
 	s.run(t, publishRow(ofMount, "").answers(notStaged), unstageRow)
@@ -218,7 +229,7 @@ func TestOtherContents(t *testing.T) {
 	}
 }
 
-// Files that stand at a target where nothing is mounted are not removed.
+// Files in a target without a mount are not removed.
 func TestFilesInTarget(t *testing.T) {
 	t.Parallel()
 	s := newDeviceSession(t)

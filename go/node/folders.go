@@ -10,8 +10,8 @@ import (
 	"google.golang.org/grpc/status"
 )
 
-// folders keeps each volume as a folder, and puts a symbolic link where it would be mounted. It needs neither root nor a loop device, and
-// bounds no size.
+// folders keeps each volume as a folder, and makes a symbolic link instead of a mount. It needs no
+// root and no loop device, and does not limit sizes.
 type folders struct{}
 
 func (folders) suffix() string { return ".d" }
@@ -28,21 +28,22 @@ func (folders) supports(use *capability, readOnly bool) error {
 
 func (folders) create(data string, _ int64) error { return os.Mkdir(data, 0o755) }
 
-// linkIn is the link in a staging path, which must stay a folder.
-func linkIn(staging string) string { return filepath.Join(staging, "volume") }
+// stagingLink returns the path of the link in a staging folder. CSI wants a folder at the staging
+// path.
+func stagingLink(staging string) string { return filepath.Join(staging, "volume") }
 
 func (folders) stage(data, staging string, _ *capability, _ bool) error {
-	return link(data, linkIn(staging))
+	return link(data, stagingLink(staging))
 }
 
 func (folders) unstage(data, staging string) error {
-	return unlink(data, linkIn(staging))
+	return unlink(data, stagingLink(staging))
 }
 
 func (folders) publish(data, staging, target string, _ *capability, _ bool) error {
-	if is, err := leadsTo(linkIn(staging), data); err != nil {
+	if ok, err := isLinkTo(stagingLink(staging), data); err != nil {
 		return err
-	} else if !is {
+	} else if !ok {
 		return errNotStaged
 	}
 	return link(data, target)
@@ -52,12 +53,12 @@ func (folders) unpublish(data, target string) error {
 	return unlink(data, target)
 }
 
-// usage is that of the file system that the folder is in: a volume has no bound of its own.
+// usage returns the usage of the file system with the folder: a volume has no limit of its own.
 func (folders) usage(data, path string) (*usage, error) {
-	for _, at := range []string{path, linkIn(path)} {
-		if is, err := leadsTo(at, data); err != nil {
+	for _, candidate := range []string{path, stagingLink(path)} {
+		if ok, err := isLinkTo(candidate, data); err != nil {
 			return nil, err
-		} else if is {
+		} else if ok {
 			return fileSystemUsage(data)
 		}
 	}
@@ -65,8 +66,8 @@ func (folders) usage(data, path string) (*usage, error) {
 }
 
 func link(data, path string) error {
-	is, err := leadsTo(path, data)
-	if is || err != nil {
+	ok, err := isLinkTo(path, data)
+	if ok || err != nil {
 		return err
 	}
 	err = os.Symlink(data, path)
@@ -76,17 +77,17 @@ func link(data, path string) error {
 	return err
 }
 
-// unlink removes the link to a volume's data; anything else stays.
+// unlink removes the link to a volume's data, and nothing else.
 func unlink(data, path string) error {
-	is, err := leadsTo(path, data)
-	if !is || err != nil {
+	ok, err := isLinkTo(path, data)
+	if !ok || err != nil {
 		return err
 	}
 	return os.Remove(path)
 }
 
-// leadsTo reports whether a path is a link to a volume's data.
-func leadsTo(path, data string) (bool, error) {
+// isLinkTo reports whether path is a link to a volume's data.
+func isLinkTo(path, data string) (bool, error) {
 	file, err := os.Lstat(path)
 	if errors.Is(err, os.ErrNotExist) || errors.Is(err, syscall.ENOTDIR) {
 		return false, nil

@@ -1,5 +1,5 @@
-// node-plugin is an example of a node plugin, for one machine: it puts the volumes that csid keeps count of at paths, as loop devices with ext4 over
-// files. It is no part of what is proved.
+// node-plugin is an example of a node plugin for one machine. It mounts csid's volumes as loop
+// devices with ext4 over files. It is not part of the proved code.
 package main
 
 import (
@@ -17,14 +17,14 @@ import (
 	"google.golang.org/grpc/status"
 )
 
-// Exit statuses: a call that is refused failed.
+// Exit statuses. A refused call is a failure.
 const (
-	done     = 0
-	failed   = 1
-	badWords = 2
+	exitOK      = 0
+	exitFailure = 1
+	exitUsage   = 2
 )
 
-// version is the repository's: go/node/build takes it from the file VERSION.
+// version is set by go/node/build from the file VERSION.
 var version = "unknown"
 
 const usageText = `Puts volumes of csid at paths of one machine: an example of a node plugin (go/node/README.md).
@@ -40,62 +40,63 @@ func main() {
 	os.Exit(run(os.Args[1:], os.Stdout, os.Stderr))
 }
 
-func run(words []string, shown, log io.Writer) int {
+func run(args []string, out, log io.Writer) int {
 	commands := map[string]func([]string, io.Writer) error{"serve": serve, "call": call, "sweep": sweep}
 	command := ""
-	if len(words) > 0 {
-		command = words[0]
+	if len(args) > 0 {
+		command = args[0]
 	}
 	if command == "--version" {
-		fmt.Fprintln(shown, "node-plugin", version)
-		return done
+		fmt.Fprintln(out, "node-plugin", version)
+		return exitOK
 	}
 	if command == "--help" {
-		fmt.Fprint(shown, usageText)
-		return done
+		fmt.Fprint(out, usageText)
+		return exitOK
 	}
 	if commands[command] == nil {
 		fmt.Fprint(log, usageText)
-		return badWords
+		return exitUsage
 	}
-	return ended(commands[command](words[1:], shown), log)
+	return exitStatus(commands[command](args[1:], out), log)
 }
 
-// ended is the exit status of a command.
-func ended(err error, log io.Writer) int {
+// exitStatus returns the exit status of a command and logs its error.
+func exitStatus(err error, log io.Writer) int {
 	if err == nil || errors.Is(err, flag.ErrHelp) {
-		return done
+		return exitOK
 	}
-	if why, isRefusal := status.FromError(err); isRefusal {
-		fmt.Fprintf(log, "node-plugin: %v: %s\n", why.Code(), why.Message())
-		return failed
+	if reason, ok := status.FromError(err); ok {
+		fmt.Fprintf(log, "node-plugin: %v: %s\n", reason.Code(), reason.Message())
+		return exitFailure
 	}
 	fmt.Fprintf(log, "node-plugin: %v\n", err)
-	if errors.As(err, new(wordsError)) {
-		return badWords
+	if errors.As(err, new(usageError)) {
+		return exitUsage
 	}
-	return failed
+	return exitFailure
 }
 
-// serve answers calls until SIGTERM or SIGINT; a second signal ends it at once.
-func serve(words []string, shown io.Writer) error {
-	asked, err := readServe(words, shown)
+// serve answers calls until SIGTERM or SIGINT. A second signal ends it at once.
+func serve(args []string, out io.Writer) error {
+	opts, err := readServeOptions(args, out)
 	if err != nil {
 		return err
 	}
-	controller, err := dial(asked.controller)
+	controller, err := dial(opts.controller)
 	if err != nil {
 		return err
 	}
 	defer controller.Close()
-	// Who finds the socket may end the plugin.
+	// Handled before the socket exists: a program that finds the socket may already send a signal.
 	ctx, cancel := signal.NotifyContext(context.Background(), syscall.SIGTERM, syscall.SIGINT)
 	defer cancel()
-	listener, err := listen(asked.listen)
+	listener, err := listen(opts.listen)
 	if err != nil {
 		return err
 	}
-	server := newServer(&plugin{name: asked.name, info: asked.info, pools: asked.pools, storage: asked.storage, controller: controller})
+	server := newServer(&plugin{name: opts.name, info: opts.info, pools: opts.pools, storage: opts.storage,
+		controller: controller})
 	go func() {
 		<-ctx.Done()
 		cancel()
@@ -107,7 +108,7 @@ func serve(words []string, shown io.Writer) error {
 	return nil
 }
 
-// listen makes a socket. One that nobody answers on is what an earlier process left, and gives way.
+// listen makes a socket. It replaces the socket of an earlier process, on which nobody answers.
 func listen(path string) (net.Listener, error) {
 	if file, err := os.Lstat(path); err == nil && file.Mode()&os.ModeSocket != 0 {
 		conn, err := net.Dial("unix", path)

@@ -6,31 +6,40 @@ import (
 	"google.golang.org/protobuf/runtime/protoimpl"
 )
 
-// message makes a struct a message of Protocol Buffers, of which the tags of its fields say how each is written. Each message is read once,
-// into a new value, so there is nothing to reset, and none is shown, since it may have secrets.
+// message makes a struct a Protocol Buffers message, described by the tags of its fields. A message
+// is decoded once into a new value, so Reset does nothing. It may contain secrets, so String is
+// empty.
 type message struct{}
 
-func (message) Reset()         {}
-func (message) String() string { return "" }
-func (message) ProtoMessage()  {}
+// Reset implements proto.Message.
+func (message) Reset() {}
 
-// codec writes and reads these messages. It replaces gRPC's own, which wants messages that a generator made.
+// String implements proto.Message.
+func (message) String() string { return "" }
+
+// ProtoMessage implements proto.Message.
+func (message) ProtoMessage() {}
+
+// codec encodes and decodes these messages. It replaces gRPC's codec, which accepts only generated
+// ones.
 type codec struct{}
 
+// Marshal implements encoding.Codec.
 func (codec) Marshal(v interface{}) ([]byte, error) {
 	return proto.Marshal(protoimpl.X.ProtoMessageV2Of(v))
 }
 
+// Unmarshal implements encoding.Codec.
 func (codec) Unmarshal(data []byte, v interface{}) error {
 	return proto.Unmarshal(data, protoimpl.X.ProtoMessageV2Of(v))
 }
 
+// Name implements encoding.Codec, with the name of the codec that this one replaces.
 func (codec) Name() string { return "proto" }
 
 func init() { encoding.RegisterCodec(codec{}) }
 
-// The messages of CSI 1.x that this program reads and writes, in the fields that it knows; others are skipped. What has no field of
-// interest is empty.
+// The messages of CSI 1.x with the fields that this program uses. Other fields are skipped.
 
 type empty struct{ message }
 
@@ -82,7 +91,7 @@ type nodeCapability struct {
 	RPC *capabilityType `protobuf:"bytes,1,opt,name=rpc,proto3" json:"rpc,omitempty"`
 }
 
-// capability is what a volume is used as: exactly one of Block and Mount is there.
+// capability is a use of a volume. Exactly one of Block and Mount is set.
 type capability struct {
 	Block      *blockAccess `protobuf:"bytes,1,opt,name=block,proto3" json:"block,omitempty"`
 	Mount      *mountAccess `protobuf:"bytes,2,opt,name=mount,proto3" json:"mount,omitempty"`
@@ -148,7 +157,7 @@ type usage struct {
 	Unit      int32 `protobuf:"varint,4,opt,name=unit,proto3" json:"unit,omitempty"`
 }
 
-// The messages of the controller, which `call` sends.
+// The messages of the Controller service, for `call`.
 
 type createRequest struct {
 	message

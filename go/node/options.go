@@ -8,14 +8,14 @@ import (
 	"strings"
 )
 
-// wordsError is of words of the command line that are not understood.
-type wordsError struct{ error }
+// usageError is an error in the command line.
+type usageError struct{ error }
 
-func refuse(format string, parts ...interface{}) error {
-	return wordsError{fmt.Errorf(format, parts...)}
+func refuse(format string, args ...interface{}) error {
+	return usageError{fmt.Errorf(format, args...)}
 }
 
-// serveOptions is what `serve` is asked for.
+// serveOptions are the options of `serve`.
 type serveOptions struct {
 	listen     string
 	controller string
@@ -25,75 +25,79 @@ type serveOptions struct {
 	storage    storage
 }
 
-func readServe(words []string, shown io.Writer) (serveOptions, error) {
-	asked := serveOptions{pools: pools{}, storage: devices{}}
+func readServeOptions(args []string, out io.Writer) (serveOptions, error) {
+	opts := serveOptions{pools: pools{}, storage: devices{}}
 	withoutDevices := false
 	flags := flag.NewFlagSet("serve", flag.ContinueOnError)
-	flags.StringVar(&asked.listen, "listen", "", "the `PATH` of the socket for the orchestrator")
-	flags.StringVar(&asked.controller, "controller", "", "the `PATH` of the front's socket, which is asked for the sizes of volumes")
-	flags.StringVar(&asked.info.NodeID, "node", "", "the `ID` of this node, as the configuration of csid has it")
-	flags.StringVar(&asked.name, "name", "pools.example.org", "the plugin's `NAME`, as the configuration of csid has it")
-	flags.Int64Var(&asked.info.MaxVolumes, "max-volumes", 0, "the greatest `NUMBER` of volumes at this node; 0 leaves it to the orchestrator")
-	flags.Func("topology", "where this node is, as `KEY=VALUE,..`", asked.addTopology)
-	flags.Func("pool", "the folder of a pool, as `NAME=FOLDER`; given again for further pools", asked.pools.add)
-	flags.BoolVar(&withoutDevices, "without-devices", false, "keep volumes as folders, and link them: this needs no root, and bounds no size")
-	if err := parse(flags, words, 0, shown); err != nil {
+	flags.StringVar(&opts.listen, "listen", "", "the `PATH` of the socket for the orchestrator")
+	flags.StringVar(&opts.controller, "controller", "",
+		"the `PATH` of the front's socket, which is asked for the sizes of volumes")
+	flags.StringVar(&opts.info.NodeID, "node", "", "the `ID` of this node, as the configuration of csid has it")
+	flags.StringVar(&opts.name, "name", "pools.example.org", "the plugin's `NAME`, as the configuration of csid has it")
+	flags.Int64Var(&opts.info.MaxVolumes, "max-volumes", 0,
+		"the greatest `NUMBER` of volumes at this node; 0 leaves it to the orchestrator")
+	flags.Func("topology", "where this node is, as `KEY=VALUE,..`", opts.addTopology)
+	flags.Func("pool", "the folder of a pool, as `NAME=FOLDER`; given again for further pools", opts.pools.add)
+	flags.BoolVar(&withoutDevices, "without-devices", false,
+		"keep volumes as folders, and link them: this needs no root, and bounds no size")
+	if err := parseFlags(flags, args, 0, out); err != nil {
 		return serveOptions{}, err
 	}
 	if withoutDevices {
-		asked.storage = folders{}
+		opts.storage = folders{}
 	}
-	if asked.info.MaxVolumes < 0 {
-		return serveOptions{}, refuse("--max-volumes: %d is below 0", asked.info.MaxVolumes)
+	if opts.info.MaxVolumes < 0 {
+		return serveOptions{}, refuse("--max-volumes: %d is below 0", opts.info.MaxVolumes)
 	}
-	return asked, present(option{"--listen", asked.listen}, option{"--controller", asked.controller}, option{"--node", asked.info.NodeID},
-		option{"--name", asked.name}, option{"--pool", asked.pools.String()})
+	return opts, requireOptions(option{"--listen", opts.listen}, option{"--controller", opts.controller},
+		option{"--node", opts.info.NodeID},
+		option{"--name", opts.name}, option{"--pool", opts.pools.String()})
 }
 
-// addTopology takes the segments of the node.
-func (asked *serveOptions) addTopology(pairs string) error {
+// addTopology parses the segments of the node, as KEY=VALUE,...
+func (opts *serveOptions) addTopology(pairs string) error {
 	segments := map[string]string{}
 	for _, pair := range strings.Split(pairs, ",") {
-		key, value, isPair := strings.Cut(pair, "=")
-		if !isPair || key == "" {
+		key, value, ok := strings.Cut(pair, "=")
+		if !ok || key == "" {
 			return fmt.Errorf("%q is not KEY=VALUE", pair)
 		}
-		if _, known := segments[key]; known {
+		if _, ok := segments[key]; ok {
 			return fmt.Errorf("the key %q is there twice", key)
 		}
 		segments[key] = value
 	}
-	asked.info.AccessibleTopology = &topology{Segments: segments}
+	opts.info.AccessibleTopology = &topology{Segments: segments}
 	return nil
 }
 
-// parse reads options, and wants at most so many words after them.
-func parse(flags *flag.FlagSet, words []string, most int, shown io.Writer) error {
+// parseFlags parses flags and at most maxArgs further arguments.
+func parseFlags(flags *flag.FlagSet, args []string, maxArgs int, out io.Writer) error {
 	flags.SetOutput(io.Discard)
 	flags.Usage = func() {}
-	err := flags.Parse(words)
+	err := flags.Parse(args)
 	if errors.Is(err, flag.ErrHelp) {
-		fmt.Fprint(shown, usageText)
-		flags.SetOutput(shown)
+		fmt.Fprint(out, usageText)
+		flags.SetOutput(out)
 		flags.PrintDefaults()
 		return err
 	}
 	if err != nil {
-		return wordsError{err}
+		return usageError{err}
 	}
-	if flags.NArg() > most {
-		return refuse("a word that is not known: %q", flags.Arg(most))
+	if flags.NArg() > maxArgs {
+		return refuse("a word that is not known: %q", flags.Arg(maxArgs))
 	}
 	return nil
 }
 
-// option is an option that must be there, by its name and value.
+// option is a required option: its name and its value.
 type option struct{ name, value string }
 
-func present(options ...option) error {
-	for _, each := range options {
-		if each.value == "" {
-			return refuse("%s is missing", each.name)
+func requireOptions(options ...option) error {
+	for _, o := range options {
+		if o.value == "" {
+			return refuse("%s is missing", o.name)
 		}
 	}
 	return nil

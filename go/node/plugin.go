@@ -20,7 +20,7 @@ const (
 	nodeName       = "csi.v1.Node"
 )
 
-// Numbers of CSI's enumerations.
+// Values of CSI's enumerations.
 const (
 	accessibilityConstraints = 2
 	stageUnstageVolume       = 1
@@ -32,38 +32,40 @@ const (
 // of the plugin and its group.
 const stagingMode = 0o750
 
-// storage keeps the data of volumes, and puts them at paths. What is done already is done again without a change.
+// storage keeps the data of volumes and makes them available at paths. A repeated call changes
+// nothing.
 type storage interface {
-	// suffix is what the name of a volume's data has after the volume's id.
+	// suffix is the part of the data's file name after the volume's id.
 	suffix() string
-	// supports refuses a use of a volume that there cannot be.
+	// supports refuses a use of a volume that the storage does not offer.
 	supports(use *capability, readOnly bool) error
 	create(data string, bytes int64) error
 	stage(data, staging string, use *capability, readOnly bool) error
 	unstage(data, staging string) error
 	publish(data, staging, target string, use *capability, readOnly bool) error
 	unpublish(data, target string) error
-	// usage is how much of a volume is used that is at a path; there is none where it is not there.
+	// usage returns the usage of a volume that is at path, or nil if it is not there.
 	usage(data, path string) (*usage, error)
 }
 
-// plugin answers the Identity and the Node service.
+// plugin serves the Identity and the Node service.
 type plugin struct {
 	name       string
 	info       nodeInfo
 	pools      pools
 	storage    storage
 	controller controller
-	// Calls about volumes are made one at a time.
+	// Held during a call: calls are served one at a time.
 	mutex sync.Mutex
 }
 
 var (
-	identityService = grpc.ServiceDesc{ServiceName: identityName, HandlerType: (*interface{})(nil), Methods: []grpc.MethodDesc{
-		method("GetPluginInfo", (*plugin).getPluginInfo),
-		method("GetPluginCapabilities", (*plugin).getPluginCapabilities),
-		method("Probe", (*plugin).probe),
-	}}
+	identityService = grpc.ServiceDesc{ServiceName: identityName, HandlerType: (*interface{})(nil),
+		Methods: []grpc.MethodDesc{
+			method("GetPluginInfo", (*plugin).getPluginInfo),
+			method("GetPluginCapabilities", (*plugin).getPluginCapabilities),
+			method("Probe", (*plugin).probe),
+		}}
 	nodeService = grpc.ServiceDesc{ServiceName: nodeName, HandlerType: (*interface{})(nil), Methods: []grpc.MethodDesc{
 		method("NodeGetInfo", (*plugin).getInfo),
 		method("NodeGetCapabilities", (*plugin).getCapabilities),
@@ -75,9 +77,10 @@ var (
 	}}
 )
 
-// method is a method of a service, by the function that answers it. An error without a code of its own is INTERNAL.
+// method returns a gRPC method. An error of answer without a code becomes INTERNAL.
 func method[Q, R any](name string, answer func(*plugin, context.Context, *Q) (*R, error)) grpc.MethodDesc {
-	handle := func(server interface{}, ctx context.Context, decode func(interface{}) error, _ grpc.UnaryServerInterceptor) (interface{}, error) {
+	handle := func(server interface{}, ctx context.Context, decode func(interface{}) error,
+		_ grpc.UnaryServerInterceptor) (interface{}, error) {
 		request := new(Q)
 		if err := decode(request); err != nil {
 			return nil, err
@@ -113,7 +116,8 @@ func (p *plugin) getPluginInfo(context.Context, *empty) (*pluginInfo, error) {
 }
 
 func (p *plugin) getPluginCapabilities(context.Context, *empty) (*pluginCapabilities, error) {
-	return &pluginCapabilities{Capabilities: []*pluginCapability{{Service: &capabilityType{Type: accessibilityConstraints}}}}, nil
+	constraints := &pluginCapability{Service: &capabilityType{Type: accessibilityConstraints}}
+	return &pluginCapabilities{Capabilities: []*pluginCapability{constraints}}, nil
 }
 
 func (p *plugin) probe(context.Context, *empty) (*probe, error) {
@@ -130,26 +134,26 @@ func (p *plugin) getCapabilities(context.Context, *empty) (*nodeCapabilities, er
 	}}, nil
 }
 
-// stage makes the data of a volume where there are none yet, of the size that the controller has for it, and stages them, in a folder that is made
-// where it is missing.
-func (p *plugin) stage(ctx context.Context, asked *stageRequest) (*empty, error) {
-	if err := checkPlace(asked.VolumeID, "staging_target_path", asked.StagingPath); err != nil {
+// stage makes the data of a volume if it has none, in the size that the controller has, and stages
+// it, in a folder that is made where it is missing.
+func (p *plugin) stage(ctx context.Context, request *stageRequest) (*empty, error) {
+	if err := checkPlace(request.VolumeID, "staging_target_path", request.StagingPath); err != nil {
 		return nil, err
 	}
-	readOnly := asked.PublishContext["readonly"] == "true"
-	if err := p.checkCapability(asked.Capability, readOnly); err != nil {
+	readOnly := request.PublishContext["readonly"] == "true"
+	if err := p.checkCapability(request.Capability, readOnly); err != nil {
 		return nil, err
 	}
-	data, err := p.dataOf(asked)
+	data, err := p.dataOf(request)
 	if err != nil {
 		return nil, err
 	}
-	there, err := exists(data)
+	hasData, err := exists(data)
 	if err != nil {
 		return nil, err
 	}
-	if !there {
-		bytes, err := p.controller.size(ctx, asked.VolumeID)
+	if !hasData {
+		bytes, err := p.controller.size(ctx, request.VolumeID)
 		if err != nil {
 			return nil, err
 		}
@@ -158,15 +162,15 @@ func (p *plugin) stage(ctx context.Context, asked *stageRequest) (*empty, error)
 		}
 	}
 	// The orchestrator should have made it (CSI, "NodeStageVolume"), but Docker Swarm does not.
-	if err := os.MkdirAll(asked.StagingPath, stagingMode); err != nil {
+	if err := os.MkdirAll(request.StagingPath, stagingMode); err != nil {
 		return nil, err
 	}
-	return new(empty), p.storage.stage(data, asked.StagingPath, asked.Capability, readOnly)
+	return new(empty), p.storage.stage(data, request.StagingPath, request.Capability, readOnly)
 }
 
-// dataOf is where the data of a volume belong: its context names its pool.
-func (p *plugin) dataOf(asked *stageRequest) (string, error) {
-	pool := asked.VolumeContext["pool"]
+// dataOf returns the path of a volume's data. Its context names the pool.
+func (p *plugin) dataOf(request *stageRequest) (string, error) {
+	pool := request.VolumeContext["pool"]
 	if pool == "" {
 		return "", status.Error(codes.InvalidArgument, "volume_context: the key pool is missing")
 	}
@@ -174,84 +178,85 @@ func (p *plugin) dataOf(asked *stageRequest) (string, error) {
 	if folder == "" {
 		return "", status.Errorf(codes.FailedPrecondition, "the node has no folder for the pool %q", pool)
 	}
-	return filepath.Join(folder, p.file(asked.VolumeID)), nil
+	return filepath.Join(folder, p.file(request.VolumeID)), nil
 }
 
-// find is where the data of a volume are, in whichever pool; nothing where there are none.
+// find returns the path of a volume's data in any of the pools, or "" if there are none.
 func (p *plugin) find(id string) (string, error) {
 	return p.pools.find(p.file(id))
 }
 
-// file is the name of a volume's data in the folder of its pool.
+// file returns the file name of a volume's data.
 func (p *plugin) file(id string) string {
 	return id + p.storage.suffix()
 }
 
-func (p *plugin) unstage(_ context.Context, asked *unstageRequest) (*empty, error) {
-	if err := checkPlace(asked.VolumeID, "staging_target_path", asked.StagingPath); err != nil {
+func (p *plugin) unstage(_ context.Context, request *unstageRequest) (*empty, error) {
+	if err := checkPlace(request.VolumeID, "staging_target_path", request.StagingPath); err != nil {
 		return nil, err
 	}
-	data, err := p.find(asked.VolumeID)
+	data, err := p.find(request.VolumeID)
 	if err != nil || data == "" {
 		return new(empty), err
 	}
-	return new(empty), p.storage.unstage(data, asked.StagingPath)
+	return new(empty), p.storage.unstage(data, request.StagingPath)
 }
 
-func (p *plugin) publish(ctx context.Context, asked *publishRequest) (*empty, error) {
-	if err := checkPlace(asked.VolumeID, "target_path", asked.TargetPath); err != nil {
+func (p *plugin) publish(ctx context.Context, request *publishRequest) (*empty, error) {
+	if err := checkPlace(request.VolumeID, "target_path", request.TargetPath); err != nil {
 		return nil, err
 	}
-	if err := p.checkCapability(asked.Capability, asked.ReadOnly); err != nil {
+	if err := p.checkCapability(request.Capability, request.ReadOnly); err != nil {
 		return nil, err
 	}
-	if asked.StagingPath == "" {
+	if request.StagingPath == "" {
 		return nil, status.Error(codes.FailedPrecondition, "staging_target_path is missing")
 	}
-	if err := checkPath("staging_target_path", asked.StagingPath); err != nil {
+	if err := checkPath("staging_target_path", request.StagingPath); err != nil {
 		return nil, err
 	}
-	data, err := p.find(asked.VolumeID)
+	data, err := p.find(request.VolumeID)
 	if err != nil {
 		return nil, err
 	}
 	if data == "" {
-		if _, err := p.controller.size(ctx, asked.VolumeID); err != nil {
+		if _, err := p.controller.size(ctx, request.VolumeID); err != nil {
 			return nil, err
 		}
 		return nil, errNotStaged
 	}
-	return new(empty), p.storage.publish(data, asked.StagingPath, asked.TargetPath, asked.Capability, asked.ReadOnly)
+	return new(empty), p.storage.publish(data, request.StagingPath, request.TargetPath, request.Capability,
+		request.ReadOnly)
 }
 
-func (p *plugin) unpublish(_ context.Context, asked *unpublishRequest) (*empty, error) {
-	if err := checkPlace(asked.VolumeID, "target_path", asked.TargetPath); err != nil {
+func (p *plugin) unpublish(_ context.Context, request *unpublishRequest) (*empty, error) {
+	if err := checkPlace(request.VolumeID, "target_path", request.TargetPath); err != nil {
 		return nil, err
 	}
-	data, err := p.find(asked.VolumeID)
+	data, err := p.find(request.VolumeID)
 	if err != nil || data == "" {
 		return new(empty), err
 	}
-	return new(empty), p.storage.unpublish(data, asked.TargetPath)
+	return new(empty), p.storage.unpublish(data, request.TargetPath)
 }
 
-func (p *plugin) getStats(_ context.Context, asked *statsRequest) (*stats, error) {
-	if err := checkPlace(asked.VolumeID, "volume_path", asked.VolumePath); err != nil {
+func (p *plugin) getStats(_ context.Context, request *statsRequest) (*stats, error) {
+	if err := checkPlace(request.VolumeID, "volume_path", request.VolumePath); err != nil {
 		return nil, err
 	}
-	data, err := p.find(asked.VolumeID)
+	data, err := p.find(request.VolumeID)
 	if err != nil {
 		return nil, err
 	}
 	if data == "" {
 		return nil, errNoVolume
 	}
-	used, err := p.storage.usage(data, asked.VolumePath)
+	used, err := p.storage.usage(data, request.VolumePath)
 	if err != nil {
 		return nil, err
 	}
 	if used == nil {
-		return nil, status.Errorf(codes.NotFound, "the volume is not at %s", asked.VolumePath)
+		return nil, status.Errorf(codes.NotFound, "the volume is not at %s", request.VolumePath)
 	}
 	return &stats{Usage: []*usage{used}}, nil
 }
@@ -271,7 +276,7 @@ func fileSystemUsage(path string) (*usage, error) {
 
 var errNotStaged = status.Error(codes.FailedPrecondition, "the volume is not staged")
 
-// checkPlace checks what each call has that is about a volume at a path; field is the path's name.
+// checkPlace checks the id and the path of a call. field is the path's name in the request.
 func checkPlace(id, field, path string) error {
 	if err := checkVolume(id); err != nil {
 		return err
@@ -279,7 +284,8 @@ func checkPlace(id, field, path string) error {
 	return checkPath(field, path)
 }
 
-// checkVolume lets only the ids pass that the controller gives, so that none leads out of the folder of a pool.
+// checkVolume accepts only ids in the controller's form, so that no id leads out of a pool's
+// folder.
 func checkVolume(id string) error {
 	if id == "" {
 		return status.Error(codes.InvalidArgument, "volume_id is missing")

@@ -9,10 +9,10 @@ import (
 	"strings"
 )
 
-// pools is the folder of each pool, by the name that the controller has for it.
+// pools maps the name of each pool, as the controller has it, to its folder.
 type pools map[string]string
 
-// add takes one NAME=FOLDER of the command line.
+// add parses a NAME=FOLDER of the command line. It refuses a second folder for a name.
 func (p pools) add(pair string) error {
 	name, folder, isPair := strings.Cut(pair, "=")
 	if !isPair || name == "" || folder == "" {
@@ -29,7 +29,7 @@ func (p pools) add(pair string) error {
 	return nil
 }
 
-// String is the pools' names.
+// String returns the names in order, as flag.Value wants.
 func (p pools) String() string {
 	var names []string
 	for name := range p {
@@ -39,7 +39,7 @@ func (p pools) String() string {
 	return strings.Join(names, " ")
 }
 
-// find is where the data of a volume are, in whichever pool, or nothing where none has them.
+// find returns the path of a volume's data in any of the pools, or "" if there are none.
 func (p pools) find(file string) (string, error) {
 	for _, folder := range p {
 		data := filepath.Join(folder, file)

@@ -9,10 +9,10 @@ import (
 	"testing"
 )
 
-// step is a command of a page, and what is shown after it.
+// step is a command of the page and its output.
 type step struct{ command, shown string }
 
-// sessionOf is the commands of a page, in their order.
+// sessionOf returns the commands of a page in order.
 func sessionOf(t *testing.T, page string) (steps []step) {
 	t.Helper()
 	text, err := os.ReadFile(page)
@@ -35,14 +35,14 @@ func sessionOf(t *testing.T, page string) (steps []step) {
 	return steps
 }
 
-// pattern is what is shown as an expression, in which two points match anything.
+// pattern returns an expression for an output in which two dots match any text.
 func pattern(shown string) *regexp.Regexp {
 	return regexp.MustCompile(`(?s)^` + strings.ReplaceAll(regexp.QuoteMeta(shown), `\.\.`, `.*`) + `$`)
 }
 
 const readme = "README.md"
 
-// The session of the page runs as it is written.
+// The commands of the page have the output that the page shows.
 func TestReadme(t *testing.T) {
 	t.Parallel()
 	needsDevices(t)
@@ -51,7 +51,7 @@ func TestReadme(t *testing.T) {
 	runSession(t, run, sessionOf(t, readme))
 }
 
-// It runs likewise without devices, but for what is of the device.
+// They have it without devices too, except those about the device.
 func TestReadmeWithoutDevices(t *testing.T) {
 	t.Parallel()
 	var steps []step
@@ -68,7 +68,7 @@ func TestReadmeWithoutDevices(t *testing.T) {
 	runSession(t, folder(t), steps)
 }
 
-// runSession runs commands, with a folder for temporary files, and compares what they show.
+// runSession runs commands, with a folder for temporary files, and compares their output.
 func runSession(t *testing.T, temporary string, steps []step) {
 	t.Helper()
 	const mark = "-- next --\n"
@@ -101,7 +101,7 @@ func runSession(t *testing.T, temporary string, steps []step) {
 	}
 }
 
-// programFolders is where the programs are that the environment names; the page itself names where they are built.
+// programFolders returns the folders of the programs that the environment names.
 func programFolders() string {
 	var folders []string
 	for _, variable := range []string{"CSID", "FRONT", "NODE_PLUGIN"} {
@@ -110,7 +110,7 @@ func programFolders() string {
 	return strings.Join(folders, ":")
 }
 
-// The page has the commands with their options as the program shows them.
+// The page has the usage of the program.
 func TestReadmeUsage(t *testing.T) {
 	t.Parallel()
 	page, err := os.ReadFile(readme)

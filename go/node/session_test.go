@@ -14,16 +14,17 @@ import (
 	"time"
 )
 
-// How long anything may take before a test gives it up.
+// patience limits each wait of a test.
 const patience = time.Minute
 
-// process is a program that runs; it is killed at the end of the test.
+// process is a running program. It is killed at the end of the test.
 type process struct {
 	*exec.Cmd
 	ended chan struct{}
 }
 
-// start runs a program, which an environment variable names, until it answers on a socket.
+// start runs a program and waits until it answers on a socket. An environment variable may name the
+// program.
 func start(t *testing.T, variable, otherwise, socket string, words ...string) *process {
 	t.Helper()
 	program := os.Getenv(variable)
@@ -61,7 +62,8 @@ func (p *process) kill() {
 	<-p.ended
 }
 
-// session is a node plugin, csid under the sample configuration (docs/OPERATING.md), and a front that hands calls to both.
+// session is a node plugin, csid under the sample configuration (docs/OPERATING.md), and a front that
+// hands calls to both.
 type session struct {
 	folder string
 	words  []string
@@ -77,16 +79,18 @@ func newSession(t *testing.T, words ...string) *session {
 			t.Fatal(err)
 		}
 	}
-	start(t, "CSID", "../../crates/csid/out/csid", s.at("csid.sock"), "serve", "--socket", s.at("csid.sock"), "--tables", s.at("volumes.db"))
-	s.front = start(t, "FRONT", "../front/out/front", s.at("csi.sock"), "--csid", s.at("csid.sock"), "--listen", s.at("csi.sock"),
-		"--node", s.at("node.sock"))
+	start(t, "CSID", "../../crates/csid/out/csid", s.at("csid.sock"), "serve", "--socket", s.at("csid.sock"),
+		"--tables", s.at("volumes.db"))
+	s.front = start(t, "FRONT", "../front/out/front", s.at("csi.sock"), "--csid", s.at("csid.sock"),
+		"--listen", s.at("csi.sock"), "--node", s.at("node.sock"))
 	s.words = append([]string{"serve", "--listen", s.at("node.sock"), "--controller", s.at("csi.sock"), "--node", "n1",
-		"--topology", "zone=a", "--max-volumes", "2", "--pool", "p1=" + s.at("p1"), "--pool", "p2=" + s.at("p2")}, words...)
+		"--topology", "zone=a", "--max-volumes", "2", "--pool", "p1=" + s.at("p1"), "--pool", "p2=" + s.at("p2")},
+		words...)
 	s.startNode(t)
 	return s
 }
 
-// startNode starts the node plugin, which takes over the socket of one that was killed.
+// startNode starts the node plugin. It replaces the socket of one that was killed.
 func (s *session) startNode(t *testing.T) {
 	t.Helper()
 	s.node = start(t, "NODE_PLUGIN", "out/node-plugin", s.at("node.sock"), s.words...)
@@ -94,21 +98,22 @@ func (s *session) startNode(t *testing.T) {
 
 func (s *session) at(name string) string { return filepath.Join(s.folder, name) }
 
-// call makes a call, in whose message AT/ means the folder, and gives what is shown.
+// call makes a call and returns its output. AT/ stands for the folder in both.
 func (s *session) call(socket, method, message string) string {
-	var shown, log strings.Builder
-	run([]string{"call", "--socket", s.at(socket), method, strings.ReplaceAll(message, "AT/", s.folder+"/")}, &shown, &log)
-	return strings.ReplaceAll(strings.TrimSuffix(shown.String()+log.String(), "\n"), s.folder+"/", "AT/")
+	var out, log strings.Builder
+	message = strings.ReplaceAll(message, "AT/", s.folder+"/")
+	run([]string{"call", "--socket", s.at(socket), method, message}, &out, &log)
+	return strings.ReplaceAll(strings.TrimSuffix(out.String()+log.String(), "\n"), s.folder+"/", "AT/")
 }
 
-// row is a call to the front or to the node plugin, and what is shown of its answer.
+// row is a call to the front or to the node plugin, and its expected output.
 type row struct{ socket, method, message, want string }
 
 func (s *session) run(t *testing.T, rows ...row) {
 	t.Helper()
 	for _, row := range rows {
 		if got := s.call(row.socket, row.method, row.message); got != row.want {
-			t.Errorf("%s %s: %s, wanted %s", row.method, row.message, got, row.want)
+			t.Errorf("%s %s: got %s, want %s", row.method, row.message, got, row.want)
 		}
 	}
 }
@@ -129,12 +134,16 @@ const (
 	noVolume         = "node-plugin: NotFound: volume not found"
 )
 
-// attached is how an orchestrator gets a volume of 4 MiB at this node.
+// attachedRows are the calls by which an orchestrator gets a volume of 4 MiB for this node.
 func attachedRows(as string) []row {
 	return []row{
-		{controllerSocket, "CreateVolume", `{"name":"a","capacity_range":{"required_bytes":4194304},"volume_capabilities":[` + as + `]}`,
-			`{"volume":{"capacity_bytes":4194304,"volume_id":"vol-1","volume_context":{"pool":"p1"},"accessible_topology":[{"segments":{"zone":"a"}}]}}`},
-		{controllerSocket, "ControllerPublishVolume", `{` + vol1 + `,"node_id":"n1","volume_capability":` + as + `}`, `{"publish_context":{"readonly":"false"}}`},
+		{controllerSocket, "CreateVolume",
+			`{"name":"a","capacity_range":{"required_bytes":4194304},"volume_capabilities":[` + as + `]}`,
+			`{"volume":{"capacity_bytes":4194304,"volume_id":"vol-1","volume_context":{"pool":"p1"},` +
+				`"accessible_topology":[{"segments":{"zone":"a"}}]}}`},
+		{controllerSocket, "ControllerPublishVolume",
+			`{` + vol1 + `,"node_id":"n1","volume_capability":` + as + `}`,
+			`{"publish_context":{"readonly":"false"}}`},
 	}
 }
 
@@ -151,7 +160,7 @@ var (
 	unstageRow   = row{nodeSocket, "NodeUnstageVolume", `{` + vol1 + staging + `}`, "{}"}
 )
 
-// answers changes what is wanted of a row.
+// answers returns the row with another expected output.
 func (r row) answers(want string) row {
 	r.want = want
 	return r
@@ -171,17 +180,18 @@ func (s *session) finds(t *testing.T, name string) {
 	}
 }
 
-// isEmpty wants that nothing is staged nor published.
+// isEmpty checks that nothing is staged or published.
 func (s *session) isEmpty(t *testing.T) {
 	t.Helper()
 	for _, name := range []string{"staging", "targets"} {
 		if left := names(t, s.at(name)); left != nil {
-			t.Errorf("%s: %v are left", name, left)
+			t.Errorf("%s: got %v left, want nothing", name, left)
 		}
 	}
 }
 
-// A volume with a file goes through the life that an orchestrator leads it through, each call made twice.
+// testLife calls what an orchestrator calls for a volume from its creation to its deletion, most
+// calls twice. A file in the volume outlasts a restart of the plugin.
 func testLife(t *testing.T, s *session) {
 	s.run(t, attachedRows(asMount)...)
 	s.run(t, publishRow(ofMount, "").answers(notStaged))
@@ -293,19 +303,25 @@ func TestWhatThePluginIs(t *testing.T) {
 		t.Fatal(err)
 	}
 	newSession(t, "--without-devices").run(t,
-		row{nodeSocket, "GetPluginInfo", "", `{"name":"pools.example.org","vendor_version":"` + strings.TrimSpace(string(version)) + `"}`},
+		row{nodeSocket, "GetPluginInfo", "", `{"name":"pools.example.org","vendor_version":"` +
+			strings.TrimSpace(string(version)) + `"}`},
 		row{nodeSocket, "GetPluginCapabilities", "", `{"capabilities":[{"service":{"type":2}}]}`},
 		row{nodeSocket, "Probe", "", `{"ready":{"value":true}}`},
-		row{nodeSocket, "NodeGetInfo", "", `{"node_id":"n1","max_volumes_per_node":2,"accessible_topology":{"segments":{"zone":"a"}}}`},
+		row{nodeSocket, "NodeGetInfo", "",
+			`{"node_id":"n1","max_volumes_per_node":2,"accessible_topology":{"segments":{"zone":"a"}}}`},
 		row{nodeSocket, "NodeGetCapabilities", "", `{"capabilities":[{"rpc":{"type":1}},{"rpc":{"type":2}}]}`},
 		row{nodeSocket, "CreateVolume", "", "node-plugin: Unimplemented: unknown service csi.v1.Controller"})
 }
 
-func TestRefusals(t *testing.T) {
-	t.Parallel()
-	const stage, unstage, publish, unpublish, stats = "NodeStageVolume", "NodeUnstageVolume", "NodePublishVolume", "NodeUnpublishVolume", "NodeGetVolumeStats"
+// refusals are calls of the node plugin, without the braces of their messages, and their output.
+func refusals() []struct{ method, message, want string } {
+	const (
+		stage, unstage     = "NodeStageVolume", "NodeUnstageVolume"
+		publish, unpublish = "NodePublishVolume", "NodeUnpublishVolume"
+		stats              = "NodeGetVolumeStats"
+	)
 	invalid := func(text string) string { return "node-plugin: InvalidArgument: " + text }
-	rows := []struct{ method, message, want string }{
+	return []struct{ method, message, want string }{
 		{stage, ``, invalid("volume_id is missing")},
 		{stage, `"volume_id":"../vol-1"` + staging + ofMount + inPool1, noVolume},
 		{stage, `"volume_id":"vol-1/.."` + staging + ofMount + inPool1, noVolume},
@@ -313,24 +329,31 @@ func TestRefusals(t *testing.T) {
 		{stage, `"volume_id":"vol-01"` + staging + ofMount + inPool1, noVolume},
 		{stage, `"volume_id":"vol-2"` + staging + ofMount + inPool1, noVolume},
 		{stage, vol1 + ofMount + inPool1, invalid("staging_target_path is missing")},
-		{stage, vol1 + `,"staging_target_path":"staging"` + ofMount + inPool1, invalid("staging_target_path is not absolute")},
+		{stage, vol1 + `,"staging_target_path":"staging"` + ofMount + inPool1,
+			invalid("staging_target_path is not absolute")},
 		{stage, vol1 + staging + inPool1, invalid("volume_capability is missing")},
-		{stage, vol1 + staging + inPool1 + `,"volume_capability":{"access_mode":{"mode":1}}`, invalid("volume_capability is not one of block and mount")},
-		{stage, vol1 + staging + inPool1 + `,"volume_capability":{"block":{},"mount":{}}`, invalid("volume_capability is not one of block and mount")},
+		{stage, vol1 + staging + inPool1 + `,"volume_capability":{"access_mode":{"mode":1}}`,
+			invalid("volume_capability is not one of block and mount")},
+		{stage, vol1 + staging + inPool1 + `,"volume_capability":{"block":{},"mount":{}}`,
+			invalid("volume_capability is not one of block and mount")},
 		{stage, vol1 + staging + inPool1 + ofBlock, invalid("there are no block devices with --without-devices")},
-		{stage, vol1 + staging + inPool1 + ofMount + `,"publish_context":{"readonly":"true"}`, invalid("nothing is read-only with --without-devices")},
+		{stage, vol1 + staging + inPool1 + ofMount + `,"publish_context":{"readonly":"true"}`,
+			invalid("nothing is read-only with --without-devices")},
 		{stage, vol1 + staging + ofMount, invalid("volume_context: the key pool is missing")},
-		{stage, vol1 + staging + ofMount + `,"volume_context":{"pool":"p9"}`, `node-plugin: FailedPrecondition: the node has no folder for the pool "p9"`},
+		{stage, vol1 + staging + ofMount + `,"volume_context":{"pool":"p9"}`,
+			`node-plugin: FailedPrecondition: the node has no folder for the pool "p9"`},
 		{publish, ``, invalid("volume_id is missing")},
 		{publish, `"volume_id":"../vol-1"` + staging + target + ofMount, noVolume},
 		{publish, `"volume_id":"vol-2"` + staging + target + ofMount, noVolume},
 		{publish, vol1 + staging + ofMount, invalid("target_path is missing")},
 		{publish, vol1 + staging + ofMount + `,"target_path":"a"`, invalid("target_path is not absolute")},
 		{publish, vol1 + target + ofMount, "node-plugin: FailedPrecondition: staging_target_path is missing"},
-		{publish, vol1 + target + ofMount + `,"staging_target_path":"a"`, invalid("staging_target_path is not absolute")},
+		{publish, vol1 + target + ofMount + `,"staging_target_path":"a"`,
+			invalid("staging_target_path is not absolute")},
 		{publish, vol1 + staging + target, invalid("volume_capability is missing")},
 		{publish, vol1 + staging + target + ofBlock, invalid("there are no block devices with --without-devices")},
-		{publish, vol1 + staging + target + ofMount + `,"readonly":true`, invalid("nothing is read-only with --without-devices")},
+		{publish, vol1 + staging + target + ofMount + `,"readonly":true`,
+			invalid("nothing is read-only with --without-devices")},
 		{publish, vol1 + staging + target + ofMount, notStaged},
 		{unstage, ``, invalid("volume_id is missing")},
 		{unstage, `"volume_id":"../vol-1"` + staging, noVolume},
@@ -349,17 +372,23 @@ func TestRefusals(t *testing.T) {
 		{stats, vol1 + `,"volume_path":"a"`, invalid("volume_path is not absolute")},
 		{stats, vol1 + `,"volume_path":"AT/staging"`, noVolume},
 	}
+}
+
+func TestRefusals(t *testing.T) {
+	t.Parallel()
 	s := newSession(t, "--without-devices")
 	s.run(t, attachedRows(asMount)...)
-	for _, each := range rows {
-		s.run(t, row{nodeSocket, each.method, "{" + each.message + "}", each.want})
+	for _, c := range refusals() {
+		t.Run(c.method+" {"+c.message+"}", func(t *testing.T) {
+			s.run(t, row{nodeSocket, c.method, "{" + c.message + "}", c.want})
+		})
 	}
 	if made := names(t, s.at("p1"), s.at("p2"), s.at("staging"), s.at("targets")); made != nil {
-		t.Errorf("%v were made", made)
+		t.Errorf("got the new files %v, want none", made)
 	}
 }
 
-// What is at a path already is left as it is.
+// Other files at a path stay unchanged.
 func TestOtherFilesAtPaths(t *testing.T) {
 	t.Parallel()
 	s := newSession(t, "--without-devices")
@@ -369,11 +398,13 @@ func TestOtherFilesAtPaths(t *testing.T) {
 	s.run(t,
 		publishRow(ofMount, "").answers("node-plugin: AlreadyExists: something else is at AT/targets/a"),
 		unpublishRow,
-		row{nodeSocket, "NodeGetVolumeStats", `{` + vol1 + `,"volume_path":"AT/targets/a"}`, "node-plugin: NotFound: the volume is not at AT/targets/a"})
+		row{nodeSocket, "NodeGetVolumeStats", `{` + vol1 + `,"volume_path":"AT/targets/a"}`,
+			"node-plugin: NotFound: the volume is not at AT/targets/a"})
 	s.finds(t, "targets/a")
 }
 
-// A volume whose data are there needs no controller; for another one it is asked again later.
+// Without the controller, a volume with data can be staged. For another volume the call can be
+// repeated.
 func TestControllerThatIsAway(t *testing.T) {
 	t.Parallel()
 	s := newSession(t, "--without-devices")
@@ -387,31 +418,35 @@ func TestControllerThatIsAway(t *testing.T) {
 	}
 }
 
-// The plugin ends by SIGTERM, and takes its socket with it; it takes none from anybody, nor the place of another file.
+// SIGTERM ends the plugin and removes its socket. The plugin replaces neither a socket in use nor
+// another file.
 func TestSocket(t *testing.T) {
 	t.Parallel()
 	s := newSession(t, "--without-devices")
-	var shown, log strings.Builder
-	if status := run(s.words, &shown, &log); status != failed || log.String() != "node-plugin: "+s.at("node.sock")+": somebody answers on it already\n" {
-		t.Errorf("%d, %q", status, log.String())
+	var out, log strings.Builder
+	if status := run(s.words, &out, &log); status != exitFailure ||
+		log.String() != "node-plugin: "+s.at("node.sock")+": somebody answers on it already\n" {
+		t.Errorf("got %d, %q, want a socket in use", status, log.String())
 	}
 	if err := s.node.Process.Signal(syscall.SIGTERM); err != nil {
 		t.Fatal(err)
 	}
 	<-s.node.ended
-	if _, err := os.Lstat(s.at("node.sock")); s.node.ProcessState.ExitCode() != done || !errors.Is(err, os.ErrNotExist) {
-		t.Errorf("%v, %v", s.node.ProcessState, err)
+	if _, err := os.Lstat(s.at("node.sock")); s.node.ProcessState.ExitCode() != exitOK ||
+		!errors.Is(err, os.ErrNotExist) {
+		t.Errorf("got %v, socket error %v, want status 0 and no socket", s.node.ProcessState, err)
 	}
-	s.endsAtOnce(t)
+	s.wantEndAtOnce(t)
 	s.writes(t, "node.sock")
 	if listener, err := listen(s.at("node.sock")); !errors.Is(err, syscall.EADDRINUSE) {
-		t.Errorf("%v, %v", listener, err)
+		t.Errorf("got %v, error %v, want %v", listener, err, syscall.EADDRINUSE)
 	}
 	s.finds(t, "node.sock")
 }
 
-// endsAtOnce wants a plugin to end as ever where it is asked to in the moment in which its socket comes.
-func (s *session) endsAtOnce(t *testing.T) {
+// wantEndAtOnce checks that the plugin ends normally if the signal arrives as soon as its socket
+// exists.
+func (s *session) wantEndAtOnce(t *testing.T) {
 	t.Helper()
 	for i := 0; i < 20; i++ {
 		node := exec.Command(s.node.Path, s.words...)
@@ -447,10 +482,10 @@ func TestStatsOfFolders(t *testing.T) {
 	for _, path := range []string{s.at("staging"), s.at("targets/a")} {
 		used, err := folders{}.usage(s.at("p1/vol-1.d"), path)
 		if err != nil || used == nil || used.Total != int64(of.Blocks)*of.Frsize || used.Unit != 1 {
-			t.Errorf("%s: %v, %v", path, used, err)
+			t.Errorf("%s: got %v, error %v, want the file system of %+v", path, used, err, of)
 		}
 	}
 	if listed := names(t, s.at("p1")); !reflect.DeepEqual(listed, []string{"vol-1.d"}) {
-		t.Errorf("%v", listed)
+		t.Errorf("got the files %v, want vol-1.d", listed)
 	}
 }

@@ -12,25 +12,26 @@ import (
 
 var dataName = regexp.MustCompile(`^(vol-[1-9][0-9]*)\.(img|img\.new|d)$`)
 
-// sweep shows the data in the folders of pools whose volumes the controller does not list any more, and removes them where it is asked to.
-func sweep(words []string, shown io.Writer) error {
+// sweep prints the data of volumes that the controller no longer lists. With --remove it removes
+// them.
+func sweep(args []string, out io.Writer) error {
 	found := pools{}
 	flags := flag.NewFlagSet("sweep", flag.ContinueOnError)
 	socket := flags.String("controller", "", "the `PATH` of the front's socket")
 	remove := flags.Bool("remove", false, "remove them; without it they are only shown")
 	flags.Func("pool", "the folder of a pool, as `NAME=FOLDER`; given again for further pools", found.add)
-	if err := parse(flags, words, 0, shown); err != nil {
+	if err := parseFlags(flags, args, 0, out); err != nil {
 		return err
 	}
-	if err := present(option{"--controller", *socket}, option{"--pool", found.String()}); err != nil {
+	if err := requireOptions(option{"--controller", *socket}, option{"--pool", found.String()}); err != nil {
 		return err
 	}
-	server, err := dial(*socket)
+	front, err := dial(*socket)
 	if err != nil {
 		return err
 	}
-	defer server.Close()
-	unlisted, err := unlistedData(server, found)
+	defer front.Close()
+	unlisted, err := unlistedData(front, found)
 	if err != nil {
 		return err
 	}
@@ -40,14 +41,14 @@ func sweep(words []string, shown io.Writer) error {
 				return err
 			}
 		}
-		fmt.Fprintln(shown, data)
+		fmt.Fprintln(out, data)
 	}
 	return nil
 }
 
-// unlistedData is the data whose volumes are not listed. The folders are read first: what is made later is of volumes that the listing may
-// not have yet.
-func unlistedData(server controller, in pools) ([]string, error) {
+// unlistedData returns the paths of data of unlisted volumes. It reads the folders before it lists
+// the volumes: data made in between belong to volumes that the list may lack.
+func unlistedData(front controller, in pools) ([]string, error) {
 	var all []string
 	for _, folder := range in {
 		entries, err := os.ReadDir(folder)
@@ -58,7 +59,7 @@ func unlistedData(server controller, in pools) ([]string, error) {
 			all = append(all, filepath.Join(folder, entry.Name()))
 		}
 	}
-	listed, err := server.volumes(context.Background())
+	listed, err := front.volumes(context.Background())
 	if err != nil {
 		return nil, err
 	}

@@ -9,11 +9,14 @@ import (
 	"testing"
 )
 
-// What is shown, and what is left, of two folders with data, with and without --remove.
+// The output and the remaining data of two folders, with and without --remove.
 func TestSweep(t *testing.T) {
-	socket := startController(t, listing{[]int{1, 3}, 9, 1}.list)
+	socket := startController(t, pageServer{[]int{1, 3}, 9, 1}.list)
 	first, second := folder(t), folder(t)
-	for _, path := range []string{first + "/vol-1.img", first + "/vol-2.img", first + "/vol-02.img", first + "/notes", first + "/vol-4.img.new", second + "/vol-3.img"} {
+	for _, path := range []string{
+		first + "/vol-1.img", first + "/vol-2.img", first + "/vol-02.img", first + "/notes", first + "/vol-4.img.new",
+		second + "/vol-3.img",
+	} {
 		if err := os.WriteFile(path, []byte("data"), 0o600); err != nil {
 			t.Fatal(err)
 		}
@@ -27,30 +30,32 @@ func TestSweep(t *testing.T) {
 	sort.Strings(unlisted)
 	all := []string{"notes", "vol-02.img", "vol-1.d", "vol-1.img", "vol-2.img", "vol-3.img", "vol-4.img.new", "vol-9.d"}
 	kept := []string{"notes", "vol-02.img", "vol-1.d", "vol-1.img", "vol-3.img"}
-	rows := []struct {
-		words       string
-		shown, left []string
+	cases := []struct {
+		name, option string
+		out, left    []string
 	}{
-		{"", unlisted, all},
-		{"--remove", unlisted, kept},
-		{"--remove", nil, kept},
+		{"show", "", unlisted, all},
+		{"remove", "--remove", unlisted, kept},
+		{"remove again", "--remove", nil, kept},
 	}
-	for _, row := range rows {
-		var shown, log strings.Builder
-		words := append([]string{"sweep", "--controller", socket, "--pool", "p1=" + first, "--pool", "p2=" + second}, strings.Fields(row.words)...)
-		status := run(words, &shown, &log)
-		got := strings.Fields(shown.String())
-		sort.Strings(got)
-		if status != done || log.String() != "" || strings.Join(got, " ") != strings.Join(row.shown, " ") {
-			t.Errorf("%s: %d, %q, %q", row.words, status, shown.String(), log.String())
-		}
-		if left := names(t, first, second); !reflect.DeepEqual(left, row.left) {
-			t.Errorf("%s: %v are left", row.words, left)
-		}
+	for _, c := range cases {
+		t.Run(c.name, func(t *testing.T) {
+			var out, log strings.Builder
+			args := []string{"sweep", "--controller", socket, "--pool", "p1=" + first, "--pool", "p2=" + second}
+			status := run(append(args, strings.Fields(c.option)...), &out, &log)
+			got := strings.Fields(out.String())
+			sort.Strings(got)
+			if status != exitOK || log.String() != "" || strings.Join(got, " ") != strings.Join(c.out, " ") {
+				t.Errorf("got %d, %q, errors %q, want %q", status, out.String(), log.String(), c.out)
+			}
+			if left := names(t, first, second); !reflect.DeepEqual(left, c.left) {
+				t.Errorf("got %v left, want %v", left, c.left)
+			}
+		})
 	}
 }
 
-// names is the names of what is in folders.
+// names returns the sorted names in some folders.
 func names(t *testing.T, folders ...string) (all []string) {
 	t.Helper()
 	for _, each := range folders {
@@ -66,18 +71,18 @@ func names(t *testing.T, folders ...string) (all []string) {
 	return all
 }
 
-// Where the controller is away nothing is removed.
+// Without the controller nothing is removed.
 func TestSweepWithoutController(t *testing.T) {
 	pool := folder(t)
 	if err := os.WriteFile(pool+"/vol-1.img", nil, 0o600); err != nil {
 		t.Fatal(err)
 	}
-	var shown, log strings.Builder
-	status := run([]string{"sweep", "--controller", pool + "/csi.sock", "--pool", "p1=" + pool, "--remove"}, &shown, &log)
-	if status != failed || !strings.HasPrefix(log.String(), "node-plugin: Unavailable: ") || shown.String() != "" {
-		t.Errorf("%d, %q, %q", status, shown.String(), log.String())
+	var out, log strings.Builder
+	status := run([]string{"sweep", "--controller", pool + "/csi.sock", "--pool", "p1=" + pool, "--remove"}, &out, &log)
+	if status != exitFailure || !strings.HasPrefix(log.String(), "node-plugin: Unavailable: ") || out.String() != "" {
+		t.Errorf("got %d, %q, errors %q, want 1 and Unavailable", status, out.String(), log.String())
 	}
 	if left := names(t, pool); !reflect.DeepEqual(left, []string{"vol-1.img"}) {
-		t.Errorf("%v are left", left)
+		t.Errorf("got %v left, want vol-1.img", left)
 	}
 }

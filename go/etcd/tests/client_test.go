@@ -1,4 +1,5 @@
-// Package tests runs the built csid-etcd as a process before etcd, with clients of its protocol instead of csid, and with csid and the front.
+// Package tests runs the built csid-etcd over etcd: with clients of its protocol, and with csid and
+// the front.
 package tests
 
 import (
@@ -29,42 +30,43 @@ const (
 	leadPath   = "/fomaheti.log.v1.Log/Lead"
 )
 
-// program is a csid-etcd that runs.
+// program is a running csid-etcd.
 type program struct{ *processes.Process }
 
-// start starts a csid-etcd before a cluster, with further words, and waits until it answers.
-func start(t *testing.T, endpoints string, words ...string) program {
+// start starts a csid-etcd with further arguments, and waits until it answers.
+func start(t *testing.T, endpoints string, args ...string) program {
 	t.Helper()
 	socket := filepath.Join(processes.Folder(t), "log.sock")
-	return startAt(t, socket, endpoints, words...)
+	return startAt(t, socket, endpoints, args...)
 }
 
-func startAt(t *testing.T, socket, endpoints string, words ...string) program {
+func startAt(t *testing.T, socket, endpoints string, args ...string) program {
 	t.Helper()
-	words = append([]string{"--name", name, "--listen", socket, "--endpoints", endpoints}, words...)
-	return program{processes.Start(t, socket, exec.Command(processes.EtcdProgram(t), words...)).Answers(t)}
+	args = append([]string{"--name", name, "--listen", socket, "--endpoints", endpoints}, args...)
+	return program{processes.Start(t, socket, exec.Command(processes.EtcdProgram(t), args...)).Answers(t)}
 }
 
-// leads waits until the program leads.
-func (p program) leads(t *testing.T) program {
+// waitLeading waits until the program leads.
+func (p program) waitLeading(t *testing.T) program {
 	t.Helper()
-	p.says(t, "csid-etcd: leads, from revision")
+	p.waitLog(t, "csid-etcd: leads, from revision")
 	return p
 }
 
-// says waits for a text on standard error.
-func (p program) says(t *testing.T, text string) {
+// waitLog waits for a text on standard error.
+func (p program) waitLog(t *testing.T, text string) {
 	t.Helper()
-	processes.Eventually(t, fmt.Sprintf("%q in the log, which has %q", text, p.Log), func() bool { return strings.Contains(p.Log.String(), text) })
+	processes.Eventually(t, fmt.Sprintf("%q in the log, which has %q", text, p.Log),
+		func() bool { return strings.Contains(p.Log.String(), text) })
 }
 
-// link is a connection to a csid-etcd.
-type link struct {
+// storeConn is a connection to csid-etcd.
+type storeConn struct {
 	net.Conn
 	in *frames.Replies
 }
 
-func (p program) dial(t *testing.T) *link {
+func (p program) dial(t *testing.T) *storeConn {
 	t.Helper()
 	l, err := dial(p.Socket)
 	if err != nil {
@@ -74,16 +76,16 @@ func (p program) dial(t *testing.T) *link {
 	return l
 }
 
-func dial(socket string) (*link, error) {
+func dial(socket string) (*storeConn, error) {
 	conn, err := net.Dial("unix", socket)
 	if err != nil {
 		return nil, err
 	}
-	return &link{conn, frames.NewReplies(conn)}, nil
+	return &storeConn{conn, frames.NewReplies(conn)}, nil
 }
 
-// call makes a call; an error is an end without a reply.
-func (l *link) call(path string, message []byte) (frames.Reply, error) {
+// call makes a call. Its error means that the connection ended without a reply.
+func (l *storeConn) call(path string, message []byte) (frames.Reply, error) {
 	l.SetDeadline(time.Now().Add(processes.Patience))
 	if _, err := l.Write(append(frames.AppendRequestHead(nil, path, len(message)), message...)); err != nil {
 		return frames.Reply{}, err
@@ -91,8 +93,9 @@ func (l *link) call(path string, message []byte) (frames.Reply, error) {
 	return l.in.Next()
 }
 
-// wants makes a call with a message in hexadecimal, and compares its reply: OK and a body, or a status and a text.
-func (l *link) wants(t *testing.T, path, message string, code codes.Code, want string) {
+// wantReply makes a call with a message in hexadecimal and checks the reply: OK and a body in
+// hexadecimal, or a status and a text.
+func (l *storeConn) wantReply(t *testing.T, path, message string, code codes.Code, want string) {
 	t.Helper()
 	got, err := l.call(path, fromHex(t, message))
 	said := got.Text
@@ -100,13 +103,13 @@ func (l *link) wants(t *testing.T, path, message string, code codes.Code, want s
 		said, want = hex.EncodeToString(got.Body), strings.ReplaceAll(want, " ", "")
 	}
 	if err != nil || got.Code != code || said != want {
-		t.Errorf("%s %.200s: %d %.1000q, %v, wanted %d %.1000q", path, message, got.Code, said, err, code, want)
+		t.Errorf("%s %.200s: got %d %.1000q, error %v, want %d %.1000q", path, message, got.Code, said, err, code, want)
 	}
 }
 
 var fromHex = fixtures.FromHex
 
-// rows is what a walk has read: the row of meta, and each other one by its key, all as text.
+// rows holds all rows as text: meta, and each other row by its key.
 type rows map[string]string
 
 func (r rows) String() string {
@@ -118,8 +121,8 @@ func (r rows) String() string {
 	return strings.Join(all, "\n")
 }
 
-// walk reads all rows, and counts the pages.
-func (l *link) walk() (read rows, pages int, err error) {
+// readAll reads all rows and counts the pages.
+func (l *storeConn) readAll() (read rows, pages int, err error) {
 	read = rows{}
 	var token []byte
 	last := ""
@@ -151,7 +154,8 @@ func (l *link) walk() (read rows, pages int, err error) {
 				continue
 			case 2:
 				key = fmt.Sprintf("1 %020d", values[1].varint)
-				read[key] = fmt.Sprintf("%s %d %s %x %x", values[2].bytes, values[3].varint, values[4].bytes, values[5].bytes, values[6].bytes)
+				read[key] = fmt.Sprintf("%s %d %s %x %x", values[2].bytes, values[3].varint, values[4].bytes,
+					values[5].bytes, values[6].bytes)
 			case 3:
 				key = fmt.Sprintf("2 %020d %s", values[1].varint, values[2].bytes)
 				read[key] = fmt.Sprintf("%x %d", values[3].bytes, values[4].varint)
@@ -176,7 +180,7 @@ type field struct {
 	bytes  []byte
 }
 
-// fields is the fields of a message of varints and bytes.
+// fields returns the fields of a message of varints and bytes.
 func fields(message []byte) (all []field) {
 	for len(message) > 0 {
 		number, kind, size := protowire.ConsumeTag(message)
@@ -193,7 +197,7 @@ func fields(message []byte) (all []field) {
 	return all
 }
 
-// Messages of changes, as csid writes them: each field, in rising order.
+// Messages of changes as csid writes them: with each field, in ascending order.
 
 func varint(message []byte, number protowire.Number, value uint64) []byte {
 	return protowire.AppendVarint(protowire.AppendTag(message, number, protowire.VarintType), value)
@@ -205,13 +209,13 @@ func text(message []byte, number protowire.Number, value string) []byte {
 
 const block = "\x1a\x06\x0a\x00\x1a\x02\x08\x01"
 
-func addVolume(number uint64, called string) []byte {
-	return addVolumeWith(number, called, 1<<20, "ssd", block, "")
+func addVolume(number uint64, volumeName string) []byte {
+	return addVolumeWith(number, volumeName, 1<<20, "ssd", block, "")
 }
 
-func addVolumeWith(number uint64, called string, bytes uint64, pool, caps, params string) []byte {
-	message := varint(text(nil, 2, called)[:0], 1, number)
-	message = text(varint(text(message, 2, called), 3, bytes), 4, pool)
+func addVolumeWith(number uint64, volumeName string, bytes uint64, pool, caps, params string) []byte {
+	message := varint(text(nil, 2, volumeName)[:0], 1, number)
+	message = text(varint(text(message, 2, volumeName), 3, bytes), 4, pool)
 	return text(nil, 1, string(text(text(message, 5, caps), 6, params)))
 }
 
@@ -232,30 +236,31 @@ func setMutable(number uint64, params string) []byte {
 	return text(nil, 6, string(text(varint(nil, 1, number), 2, params)))
 }
 
-// commits makes a change that must be OK.
-func (l *link) commits(t *testing.T, message []byte) {
+// mustCommit makes a change that must be OK.
+func (l *storeConn) mustCommit(t *testing.T, message []byte) {
 	t.Helper()
-	l.wants(t, commitPath, hex.EncodeToString(message), codes.OK, "")
+	l.wantReply(t, commitPath, hex.EncodeToString(message), codes.OK, "")
 }
 
-// refuses makes a change that must be refused.
-func (l *link) refuses(t *testing.T, message []byte, code codes.Code, want string) {
+// wantRefused makes a change that must be refused.
+func (l *storeConn) wantRefused(t *testing.T, message []byte, code codes.Code, want string) {
 	t.Helper()
-	l.wants(t, commitPath, hex.EncodeToString(message), code, want)
+	l.wantReply(t, commitPath, hex.EncodeToString(message), code, want)
 }
 
-// begun is a csid-etcd that leads before a new etcd of one member, with the row of meta, and a connection to it.
-func begun(t *testing.T) (*clusters.Cluster, program, *link) {
+// startLeading starts an etcd of one member and a csid-etcd that leads, makes the row of meta, and
+// connects.
+func startLeading(t *testing.T) (*clusters.Cluster, program, *storeConn) {
 	t.Helper()
 	cluster := clusters.Start(t, 1)
-	p := start(t, cluster.Endpoints()).leads(t)
+	p := start(t, cluster.Endpoints()).waitLeading(t)
 	l := p.dial(t)
-	l.wants(t, makePath, "", codes.OK, "")
+	l.wantReply(t, makePath, "", codes.OK, "")
 	return cluster, p, l
 }
 
-// has wants that etcd has exactly these keys and values next to the lock, a line each.
-func has(t *testing.T, cluster *clusters.Cluster, want ...string) {
+// wantKeys checks that the plugin has exactly these keys and values next to the lock.
+func wantKeys(t *testing.T, cluster *clusters.Cluster, want ...string) {
 	t.Helper()
 	got := ""
 	for _, part := range []string{"/attachments/", "/meta", "/volumes/"} {
@@ -266,6 +271,6 @@ func has(t *testing.T, cluster *clusters.Cluster, want ...string) {
 		all += line + "\n"
 	}
 	if got != all {
-		t.Errorf("etcd has\n%swanted\n%s", got, all)
+		t.Errorf("got the rows\n%swant\n%s", got, all)
 	}
 }

@@ -11,25 +11,26 @@ import (
 	"google.golang.org/grpc/codes"
 )
 
-// driver represents csid: it reads all rows over a connection, and makes changes over it until one is not answered by OK. It keeps what it was answered
-// as a model, and wants that each reading is the model, or the model with the one change whose outcome was not known.
+// driver acts as csid: it reads all rows over a connection and makes changes until one gets no OK.
+// It keeps the rows that the replies promise. Each reading must be these rows, or these rows with
+// the one change whose outcome is unknown.
 type driver struct {
 	t       *testing.T
 	sockets []string
 	random  *rand.Rand
-	// What was reported, and what it would be with the open change.
-	known, open rows
-	next        uint64
-	// How each ended that was not OK: refusals by their texts, and ends without a reply.
+	// The promised rows, and these rows with the change of unknown outcome.
+	known, pending rows
+	next           uint64
+	// The number of refusals by text, and of connections that ended without a reply.
 	refused map[string]int
-	oks     int
-	opens   int
-	// Of these the change was found to be made.
+	ok      int
+	unknown int
+	// The number of changes without a reply that were made.
 	made int
-	// The longest time without an OK, and the last OK.
+	// The longest time between two OK, and the time of the last OK.
 	gap  time.Duration
 	last time.Time
-	// Where the last OK came from.
+	// The socket of the last OK.
 	from string
 }
 
@@ -41,7 +42,7 @@ func newDriver(t *testing.T, programs ...program) *driver {
 	return d
 }
 
-// run drives until the context ends.
+// run makes changes until the context ends.
 func (d *driver) run(ctx context.Context) {
 	for i := 0; ctx.Err() == nil; i++ {
 		if err := d.session(ctx, d.sockets[i%len(d.sockets)]); err != nil {
@@ -52,28 +53,28 @@ func (d *driver) run(ctx context.Context) {
 	}
 }
 
-// begin drives in the background, and gives what ends that.
+// begin starts run in the background and returns a function that ends it.
 func (d *driver) begin() (end func()) {
 	ctx, cancel := context.WithCancel(context.Background())
-	ended := make(chan struct{})
+	done := make(chan struct{})
 	go func() {
-		defer close(ended)
+		defer close(done)
 		d.run(ctx)
 	}()
 	return func() {
 		cancel()
-		<-ended
+		<-done
 	}
 }
 
-// session is what csid does over one connection.
+// session does what csid does over one connection.
 func (d *driver) session(ctx context.Context, socket string) error {
 	l, err := dial(socket)
 	if err != nil {
 		return nil
 	}
 	defer l.Close()
-	read, _, err := l.walk()
+	read, _, err := l.readAll()
 	if err != nil {
 		return d.notRead(err)
 	}
@@ -94,24 +95,25 @@ func (d *driver) session(ctx context.Context, socket string) error {
 		if !isOK {
 			return nil
 		}
-		d.ok(socket)
+		d.recordOK(socket)
 	}
 	return nil
 }
 
-func (d *driver) ok(socket string) {
+func (d *driver) recordOK(socket string) {
 	now := time.Now()
 	if gap := now.Sub(d.last); gap > d.gap {
 		d.gap = gap
 	}
 	d.last, d.from = now, socket
-	d.oks++
+	d.ok++
 }
 
-// notRead takes an end without a reply, and a refusal because the program does not lead.
+// notRead accepts an end without a reply, and a refusal because the program does not lead.
 func (d *driver) notRead(err error) error {
 	if text := err.Error(); strings.HasPrefix(text, "9 ") {
-		if !strings.HasPrefix(text, "9 waiting for the lock") && !strings.HasPrefix(text, "9 this program does not lead any more") {
+		if !strings.HasPrefix(text, "9 waiting for the lock") &&
+			!strings.HasPrefix(text, "9 this program does not lead any more") {
 			return fmt.Errorf("Read: %s", text)
 		}
 		d.refused["waiting"]++
@@ -119,22 +121,23 @@ func (d *driver) notRead(err error) error {
 	return nil
 }
 
-// compare compares what was read with what was answered.
+// compare compares the rows that were read with the promised ones.
 func (d *driver) compare(read rows) error {
 	if d.known != nil {
 		switch got := read.String(); {
-		case d.open != nil && got == d.open.String():
+		case d.pending != nil && got == d.pending.String():
 			d.made++
 		case got != d.known.String():
-			return fmt.Errorf("read\n%s\ntold\n%s\nor\n%s", difference(read, d.known), difference(d.known, read), difference(d.open, read))
+			return fmt.Errorf("read\n%s\ntold\n%s\nor\n%s", difference(read, d.known), difference(d.known, read),
+				difference(d.pending, read))
 		}
 	}
-	d.known, d.open = read, nil
+	d.known, d.pending = read, nil
 	fmt.Sscanf(read["meta"], "2 %d", &d.next)
 	return nil
 }
 
-// difference is the rows that others do not have.
+// difference returns the rows of one that other does not have.
 func difference(one, other rows) rows {
 	found := rows{}
 	for key, value := range one {
@@ -145,13 +148,13 @@ func difference(one, other rows) rows {
 	return found
 }
 
-// change makes one change, and reports whether it was OK.
-func (d *driver) change(l *link) (isOK bool, err error) {
+// change makes one change and reports whether it was OK.
+func (d *driver) change(l *storeConn) (isOK bool, err error) {
 	message, after := d.choose()
 	reply, err := l.call(commitPath, message)
 	if err != nil {
-		d.opens++
-		d.open = after
+		d.unknown++
+		d.pending = after
 		return false, nil
 	}
 	if reply.Code == codes.OK {
@@ -160,8 +163,10 @@ func (d *driver) change(l *link) (isOK bool, err error) {
 		return true, nil
 	}
 	d.refused[fmt.Sprintf("%d %s", reply.Code, reply.Text)]++
-	if !strings.HasPrefix(reply.Text, "waiting for the lock") && !strings.HasPrefix(reply.Text, "this program does not lead any more") &&
-		reply.Text != "the key of the lock was put again" && reply.Text != "etcdserver: no leader" && reply.Text != "etcdserver: too many requests" {
+	if !strings.HasPrefix(reply.Text, "waiting for the lock") &&
+		!strings.HasPrefix(reply.Text, "this program does not lead any more") &&
+		reply.Text != "the key of the lock was put again" && reply.Text != "etcdserver: no leader" &&
+		reply.Text != "etcdserver: too many requests" {
 		return false, fmt.Errorf("a change was refused: %d %s", reply.Code, reply.Text)
 	}
 	return false, nil
@@ -180,7 +185,7 @@ func (r rows) with(key, value string) rows {
 	return all
 }
 
-// choose chooses a change that can be made, and gives the rows with it.
+// choose returns the message of a possible change, and the rows after it.
 func (d *driver) choose() (message []byte, after rows) {
 	var volumes []uint64
 	nodes := map[uint64][]string{}
@@ -204,7 +209,8 @@ func (d *driver) choose() (message []byte, after rows) {
 	case what == 0:
 		params := []string{"", "\x42\x00", "\x42\x03\x0a\x01k"}[d.random.Intn(3)]
 		value := strings.Fields(d.known[key])
-		return setMutable(number, params), d.known.with(key, strings.Join(value[:3], " ")+fmt.Sprintf(" %x %x", block, params))
+		return setMutable(number, params), d.known.with(key,
+			strings.Join(value[:3], " ")+fmt.Sprintf(" %x %x", block, params))
 	case len(nodes[number]) == 0 && what == 1:
 		return removeVolume(number), d.known.with(key, "")
 	case len(nodes[number]) > 0 && what < 4:
@@ -229,13 +235,15 @@ func (d *driver) choose() (message []byte, after rows) {
 }
 
 func (d *driver) add() (message []byte, after rows) {
-	called := fmt.Sprintf("pvc-%d-%d", d.next, d.random.Intn(1000))
+	volumeName := fmt.Sprintf("pvc-%d-%d", d.next, d.random.Intn(1000))
 	key := fmt.Sprintf("1 %020d", d.next)
-	after = d.known.with(key, fmt.Sprintf("%s %d ssd %x ", called, 1<<20, block)).with("meta", fmt.Sprintf("2 %d", d.next+1))
-	return addVolume(d.next, called), after
+	after = d.known.with(key, fmt.Sprintf("%s %d ssd %x ", volumeName, 1<<20, block)).with("meta",
+		fmt.Sprintf("2 %d", d.next+1))
+	return addVolume(d.next, volumeName), after
 }
 
-// String is what came of it.
+// String summarizes the outcomes.
 func (d *driver) String() string {
-	return fmt.Sprintf("%d OK, %d ends without a reply of which %d were made, refusals %v, at most %v between two OK", d.oks, d.opens, d.made, d.refused, d.gap.Round(time.Millisecond))
+	return fmt.Sprintf("%d OK, %d ends without a reply of which %d were made, refusals %v, at most %v between two OK",
+		d.ok, d.unknown, d.made, d.refused, d.gap.Round(time.Millisecond))
 }

@@ -18,22 +18,24 @@ import (
 	"./clusters"
 )
 
-// A program that etcd is cut off from ends each call without a reply, does not lead any more after its lease, and leads again once etcd is back.
+// A program that loses its connection to etcd gives no reply, stops leading when its lease ends,
+// and leads again once etcd answers.
 func TestCutOff(t *testing.T) {
 	t.Parallel()
 	cluster := clusters.Start(t, 1)
-	between := newProxy(t, cluster.Members[0].Address)
-	p := start(t, between.address(), "--lease", "3", "--timeout", "1s").leads(t)
+	relay := newProxy(t, cluster.Members[0].Address)
+	p := start(t, relay.address(), "--lease", "3", "--timeout", "1s").waitLeading(t)
 	d := newDriver(t, p)
 	end := d.begin()
 	time.Sleep(500 * time.Millisecond)
 	for i := 0; i < 3; i++ {
 		before := len(p.Log.String())
-		between.hold()
+		relay.pause()
 		begin := time.Now()
-		processes.Eventually(t, "that it leads no more", func() bool { return strings.Contains(p.Log.String()[before:], "leads no more: its lease is over") })
+		processes.Eventually(t, "that it leads no more",
+			func() bool { return strings.Contains(p.Log.String()[before:], "leads no more: its lease is over") })
 		if took := time.Since(begin); took > 3500*time.Millisecond {
-			t.Errorf("it led for %v", took)
+			t.Errorf("the program led for %v, want 3.5 s or less", took)
 		}
 		l, err := dial(p.Socket)
 		if err != nil {
@@ -41,78 +43,82 @@ func TestCutOff(t *testing.T) {
 		}
 		begin = time.Now()
 		reply, err := l.call(readPath, nil)
-		if took := time.Since(begin); err == nil && (reply.Code != codes.FailedPrecondition || !strings.HasPrefix(reply.Text, "waiting for the lock") || took > 500*time.Millisecond) {
-			t.Errorf("%d %q after %v", reply.Code, reply.Text, took)
+		if took := time.Since(begin); err == nil &&
+			(reply.Code != codes.FailedPrecondition || !strings.HasPrefix(reply.Text, "waiting for the lock") ||
+				took > 500*time.Millisecond) {
+			t.Errorf("got %d %q after %v, want a refusal at once", reply.Code, reply.Text, took)
 		}
 		l.Close()
 		if i == 1 {
-			between.cut()
+			relay.cut()
 		}
-		between.letGo()
-		p.leadsSince(t, before)
+		relay.resume()
+		p.waitLeadingSince(t, before)
 		time.Sleep(500 * time.Millisecond)
 	}
 	end()
 	t.Log(d)
-	wantsTold(t, d, p)
+	wantRows(t, d, p)
 }
 
-// A change whose outcome is not known is never made after what is read next, also where etcd gets it only then: one of two ways to etcd is slow.
+// A change of unknown outcome is never made after the next reading, even if etcd receives it only
+// then: one of two connections to etcd is slow.
 func TestLateChange(t *testing.T) {
 	t.Parallel()
 	for i := 0; i < 2; i++ {
 		cluster := clusters.Start(t, 1)
 		slow, fast := newProxy(t, cluster.Members[0].Address), newProxy(t, cluster.Members[0].Address)
-		p := start(t, slow.address()+","+fast.address(), "--lease", "10", "--timeout", "1500ms").leads(t)
+		p := start(t, slow.address()+","+fast.address(), "--lease", "10", "--timeout", "1500ms").waitLeading(t)
 		l := p.dial(t)
-		l.wants(t, makePath, "", codes.OK, "")
-		l.commits(t, addVolume(1, "a"))
+		l.wantReply(t, makePath, "", codes.OK, "")
+		l.mustCommit(t, addVolume(1, "a"))
 		lateChange(t, cluster, p, l, slow)
 	}
 }
 
-// lateChange makes a change reach etcd after the reading of all rows that follows it.
-func lateChange(t *testing.T, cluster *clusters.Cluster, p program, l *link, slow *proxy) {
+// lateChange lets a change reach etcd after the reading of all rows that follows it.
+func lateChange(t *testing.T, cluster *clusters.Cluster, p program, l *storeConn, slow *proxy) {
 	t.Helper()
-	// Calls go one way and the other. The one that goes the slow way waits there, and what comes after it is not heard: so etcd does not know that it
-	// was given up.
-	slow.hold()
+	// Calls use both connections in turn. A call over the slow one waits there, and the proxy drops
+	// what follows it: so etcd does not learn that the call was canceled.
+	slow.pause()
 	for n, isOpen := 0, false; !isOpen; n++ {
-		deaf := time.AfterFunc(500*time.Millisecond, func() { slow.set(func() { slow.isDeaf = true }) })
+		deaf := time.AfterFunc(500*time.Millisecond, func() { slow.set(func() { slow.dropsClient = true }) })
 		reply, err := l.call(commitPath, attach(1, fmt.Sprintf("n%d", n), false))
 		isOpen = err != nil
 		if !isOpen && !deaf.Stop() {
-			t.Fatalf("%v came late", reply)
+			t.Fatalf("got the late reply %v", reply)
 		}
 	}
 	begin := time.Now()
-	read := p.walks(t)
+	read := p.readRows(t)
 	took := time.Since(begin)
 	before := transactions(t, cluster)
-	slow.set(func() { slow.isHeld = false })
+	slow.set(func() { slow.isPaused = false })
 	processes.Eventually(t, "the late change", func() bool { return transactions(t, cluster) > before })
 	time.Sleep(50 * time.Millisecond)
-	again := p.walks(t)
+	again := p.readRows(t)
 	if again.String() != read.String() {
-		t.Errorf("read\n%s\nbefore\n%s", difference(again, read), difference(read, again))
+		t.Errorf("got the new rows\n%s\nwant\n%s", difference(again, read), difference(read, again))
 	}
-	t.Logf("the rows were read within %v, and the change came to etcd after that: it was not made", took.Round(time.Millisecond))
+	t.Logf("the rows were read within %v, and the change came to etcd after that: it was not made",
+		took.Round(time.Millisecond))
 }
 
-// walks reads all rows, as often as it takes.
-func (p program) walks(t *testing.T) (read rows) {
+// readRows reads all rows, and tries again until it succeeds.
+func (p program) readRows(t *testing.T) (read rows) {
 	t.Helper()
 	processes.Eventually(t, "all rows", func() bool {
 		l := p.dial(t)
 		defer l.Close()
 		var err error
-		read, _, err = l.walk()
+		read, _, err = l.readAll()
 		return err == nil
 	})
 	return read
 }
 
-// transactions is how many transactions a member has answered.
+// transactions returns the number of transactions that a member has answered.
 func transactions(t *testing.T, cluster *clusters.Cluster) (count int) {
 	t.Helper()
 	answer, err := http.Get("http://" + cluster.Members[0].Address + "/metrics")
@@ -134,7 +140,7 @@ func transactions(t *testing.T, cluster *clusters.Cluster) (count int) {
 	return count
 }
 
-// revision is that of etcd.
+// revision returns the revision of etcd.
 func revision(t *testing.T, client *clientv3.Client) int64 {
 	t.Helper()
 	read, err := client.Get(context.Background(), name)
@@ -144,105 +150,135 @@ func revision(t *testing.T, client *clientv3.Client) int64 {
 	return read.Header.Revision
 }
 
-// An etcd that is full refuses changes that need room, and others are made; after compaction, defragmentation and the end of the alarm all go on.
+// noSpace is the reply to a change for which etcd has no space.
+const noSpace = "etcdserver: mvcc: database space exceeded"
+
+// filling adds volumes to an etcd with a small quota.
+type filling struct {
+	p    program
+	l    *storeConn
+	next uint64
+	// The rows that must be there after the replies so far.
+	known rows
+	// The number of changes that etcd made although it answered that it has no space.
+	made int
+}
+
+// add adds a volume, and reports whether it was refused for want of space.
+func (f *filling) add(t *testing.T) (isFull bool) {
+	t.Helper()
+	params := "\x22\x84\x08" + strings.Repeat("x", 1028)
+	reply, err := f.l.call(commitPath, addVolumeWith(f.next, fmt.Sprintf("a%d", f.next), 1<<20, "p", "", params))
+	if err != nil {
+		// etcd answered that it has no space, and had made the change. Then there is no reply.
+		f.l = f.p.dial(t)
+		read, _, err := f.l.readAll()
+		if err != nil || read["meta"] != fmt.Sprintf("2 %d", f.next+1) {
+			t.Fatalf("volume %d: got meta %q, error %v: %s", f.next, read["meta"], err, f.p.Log)
+		}
+		reply.Code = codes.OK
+		f.made++
+	}
+	if reply.Code == codes.ResourceExhausted && reply.Text == noSpace {
+		return true
+	}
+	if reply.Code != codes.OK {
+		t.Fatalf("volume %d: got %d %q, want OK or %q", f.next, reply.Code, reply.Text, noSpace)
+	}
+	f.known[fmt.Sprintf("1 %020d", f.next)] = fmt.Sprintf("a%d %d p  %x", f.next, 1<<20, params)
+	f.next++
+	f.known["meta"] = fmt.Sprintf("2 %d", f.next)
+	return false
+}
+
+// wantKnown checks that the rows are the known ones.
+func (f *filling) wantKnown(t *testing.T) {
+	t.Helper()
+	if read, _, err := f.l.readAll(); err != nil || read.String() != f.known.String() {
+		t.Errorf("got error %v, the unknown rows %s, want %s", err, difference(read, f.known),
+			difference(f.known, read))
+	}
+}
+
+// removeEven removes the volumes with even numbers.
+func (f *filling) removeEven(t *testing.T) {
+	t.Helper()
+	for number := uint64(2); number < f.next; number += 2 {
+		key := fmt.Sprintf("1 %020d", number)
+		if _, ok := f.known[key]; ok {
+			f.l.mustCommit(t, detachAll(number))
+			f.l.mustCommit(t, removeVolume(number))
+			delete(f.known, key)
+		}
+	}
+}
+
+// A full etcd refuses the changes that need space, and makes others. After compaction,
+// defragmentation and the end of the alarm it makes all.
 func TestFull(t *testing.T) {
 	t.Parallel()
 	cluster := clusters.Start(t, 3, "--quota-backend-bytes", "1000000")
-	p := start(t, cluster.Endpoints(), append(shortLease, "--id", "first")...).leads(t)
+	p := start(t, cluster.Endpoints(), append(shortLease, "--id", "first")...).waitLeading(t)
 	second := start(t, cluster.Endpoints(), shortLease...)
-	second.says(t, "waits for the lock, which first holds")
+	second.waitLog(t, "waits for the lock, which first holds")
 	client := cluster.Client(t)
-	l := p.dial(t)
-	l.wants(t, makePath, "", codes.OK, "")
-	params := "\x22\x84\x08" + strings.Repeat("x", 1028)
-	next := uint64(1)
-	known := rows{"meta": "2 1"}
-	made := 0
+	f := &filling{p: p, l: p.dial(t), next: 1, known: rows{"meta": "2 1"}}
+	f.l.wantReply(t, makePath, "", codes.OK, "")
 	for round := 0; round < 2; round++ {
-		isFull := false
-		for ; !isFull; next++ {
-			message := addVolumeWith(next, fmt.Sprintf("a%d", next), 1<<20, "p", "", params)
-			reply, err := l.call(commitPath, message)
-			if err != nil {
-				// etcd said that it had no space, and had made the change: then there is no reply.
-				l = p.dial(t)
-				read, _, err := l.walk()
-				if err != nil || read["meta"] != fmt.Sprintf("2 %d", next+1) {
-					t.Fatalf("%d: %v: %s", next, err, p.Log)
-				}
-				reply.Code, made = codes.OK, made+1
-			}
-			switch {
-			case reply.Code == codes.ResourceExhausted && reply.Text == "etcdserver: mvcc: database space exceeded":
-				isFull = true
-				next--
-			case reply.Code == codes.OK:
-				known[fmt.Sprintf("1 %020d", next)] = fmt.Sprintf("a%d %d p  %x", next, 1<<20, params)
-				known["meta"] = fmt.Sprintf("2 %d", next+1)
-			default:
-				t.Fatalf("%d: %d %q", next, reply.Code, reply.Text)
-			}
+		for !f.add(t) {
 		}
-		t.Logf("full after %d volumes; %d changes were made of which etcd said that it had no space", next-1, made)
-		l.refuses(t, attach(1, "n", false), codes.ResourceExhausted, "etcdserver: mvcc: database space exceeded")
+		t.Logf("full after %d volumes; etcd made %d changes after the answer that it has no space", f.next-1, f.made)
+		f.l.wantRefused(t, attach(1, "n", false), codes.ResourceExhausted, noSpace)
 		if round == 0 {
-			// One that waits already leads instead of this one, and no other can.
+			// A program that already waits can take over, but a new one cannot.
 			third := start(t, cluster.Endpoints(), shortLease...)
-			third.says(t, "no lock: etcdserver: mvcc: database space exceeded")
-			p.Kill()
-			p = second.leads(t)
-			l = p.dial(t)
+			third.waitLog(t, "no lock: "+noSpace)
+			f.p.Kill()
+			f.p = second.waitLeading(t)
+			f.l = f.p.dial(t)
 		}
-		if read, _, err := l.walk(); err != nil || read.String() != known.String() {
-			t.Errorf("%v: read %s, told %s", err, difference(read, known), difference(known, read))
-		}
-		for number := uint64(1); number < next; number++ {
-			key := fmt.Sprintf("1 %020d", number)
-			if _, is := known[key]; is && number%2 == 0 {
-				l.commits(t, detachAll(number))
-				l.commits(t, removeVolume(number))
-				delete(known, key)
-			}
-		}
+		f.wantKnown(t)
+		f.removeEven(t)
 		cluster.Ctl(t, "compact", fmt.Sprint(revision(t, client)))
 		cluster.Ctl(t, "defrag")
 		cluster.Ctl(t, "alarm", "disarm")
 	}
-	l.commits(t, attach(1, "n", false))
-	known["2 00000000000000000001 n"] = fmt.Sprintf("%x 0", block)
-	if read, _, err := l.walk(); err != nil || read.String() != known.String() {
-		t.Errorf("%v: read %s, told %s", err, difference(read, known), difference(known, read))
-	}
+	f.l.mustCommit(t, attach(1, "n", false))
+	f.known["2 00000000000000000001 n"] = fmt.Sprintf("%x 0", block)
+	f.wantKnown(t)
 }
 
-// A walk whose revision was compacted in its middle is refused as that, and another one begins again. A page is read ahead, so the next one may have been read before.
+// A walk whose revision is compacted is refused for that reason, and the next walk succeeds. The
+// page after the first may have been read ahead.
 func TestCompacted(t *testing.T) {
 	t.Parallel()
 	cluster := clusters.Start(t, 1)
 	client := cluster.Client(t)
 	fill(t, client, 70000)
-	p := start(t, cluster.Endpoints()).leads(t)
+	p := start(t, cluster.Endpoints()).waitLeading(t)
 	l := p.dial(t)
 	reply, err := l.call(readPath, nil)
 	if err != nil || reply.Code != codes.OK {
 		t.Fatalf("%v, %v", reply.Code, err)
 	}
 	message := tokenOf(t, reply.Body)
-	cluster.Ctl(t, "put", name+"/volumes/00000000000000070000", `{"name":"late","bytes":1,"pool":"p","caps":"","params":""}`)
+	cluster.Ctl(t, "put", name+"/volumes/00000000000000070000",
+		`{"name":"late","bytes":1,"pool":"p","caps":"","params":""}`)
 	cluster.Ctl(t, "compact", fmt.Sprint(revision(t, client)))
 	if reply, err = l.call(readPath, fromHex(t, message)); err == nil && reply.Code == codes.OK {
 		reply, err = l.call(readPath, fromHex(t, tokenOf(t, reply.Body)))
 	}
-	if err != nil || reply.Code != codes.FailedPrecondition || reply.Text != "etcd compacted the revision of this walk over the rows: start again" {
-		t.Errorf("%v %q, %v", reply.Code, reply.Text, err)
+	if err != nil || reply.Code != codes.FailedPrecondition ||
+		reply.Text != "etcd compacted the revision of this walk over the rows: start again" {
+		t.Errorf("got %v %q, error %v, want a compacted revision", reply.Code, reply.Text, err)
 	}
-	read, pages, err := l.walk()
+	read, pages, err := l.readAll()
 	if err != nil || len(read) != 105001 || !strings.HasPrefix(read["1 00000000000000070000"], "late ") {
-		t.Errorf("%d rows in %d pages, %v", len(read), pages, err)
+		t.Errorf("got %d rows in %d pages, error %v, want 105001", len(read), pages, err)
 	}
 }
 
-// tokenOf is what asks for the page after this one.
+// tokenOf returns the message that requests the page after this one.
 func tokenOf(t *testing.T, page []byte) string {
 	t.Helper()
 	parts := fields(page)
@@ -253,91 +289,133 @@ func tokenOf(t *testing.T, page []byte) string {
 	return fmt.Sprintf("0a%02x%x", len(token), token)
 }
 
-// An etcd that was restored from a snapshot that is older than what was answered is refused: by the program that ran in the meantime, and by one that has
-// the revision of a file, until --accept-older is there.
-func TestOlderSnapshot(t *testing.T) {
-	t.Parallel()
-	cluster := clusters.Start(t, 1)
-	member := cluster.Members[0]
-	folder := processes.Folder(t)
-	file, snapshot := filepath.Join(folder, "revision"), filepath.Join(folder, "snapshot")
-	p := start(t, cluster.Endpoints(), "--lease", "3", "--timeout", "1s", "--revision", file).leads(t)
-	l := p.dial(t)
-	l.wants(t, makePath, "", codes.OK, "")
-	l.commits(t, addVolume(1, "a"))
-	cluster.Ctl(t, "snapshot", "save", snapshot)
-	l.commits(t, addVolume(2, "b"))
-	for i := 0; i < 20; i++ {
-		l.commits(t, attach(2, fmt.Sprintf("n%d", i), false))
-	}
-	answered := revision(t, cluster.Client(t))
-	time.Sleep(1200 * time.Millisecond)
-	wantsFile := func(want int64) {
-		t.Helper()
-		processes.Eventually(t, "the file of the revision", func() bool {
-			text, err := os.ReadFile(file)
-			return err == nil && string(text) == fmt.Sprintf("%d\n", want)
-		})
-	}
-	wantsFile(answered)
+// restored is an etcd that is restored from a snapshot older than some answers.
+type restored struct {
+	cluster *clusters.Cluster
+	client  *clientv3.Client
+	// The file of --revision, and the snapshot.
+	file, snapshot string
+	// The revision of the last answer before the restoration.
+	answered int64
+}
+
+// start starts a csid-etcd with the file of the revision.
+func (r *restored) start(t *testing.T, args ...string) program {
+	t.Helper()
+	args = append([]string{"--lease", "3", "--timeout", "1s", "--revision", r.file}, args...)
+	return start(t, r.cluster.Endpoints(), args...)
+}
+
+func (r *restored) restore(t *testing.T) {
+	t.Helper()
+	member := r.cluster.Members[0]
 	member.Kill()
-	member.Restore(t, snapshot)
+	member.Restore(t, r.snapshot)
 	member.Start(t)
-	refused := func(p program) {
-		t.Helper()
-		const refusal = "was answered: it was restored from an older snapshot, and volumes may be missing; --accept-older goes on"
-		want := fmt.Sprintf("%d %s", answered, refusal)
-		p.says(t, want)
-		processes.Eventually(t, "the refusal", func() bool {
-			l := p.dial(t)
-			defer l.Close()
-			reply, err := l.call(readPath, nil)
-			return err == nil && reply.Code == codes.FailedPrecondition && strings.HasPrefix(reply.Text, "etcd is at revision ") && strings.HasSuffix(reply.Text, want)
-		})
+}
+
+// raise raises the revision of etcd above that of the answers.
+func (r *restored) raise(t *testing.T) {
+	t.Helper()
+	for revision(t, r.client) < r.answered+10 {
+		r.cluster.Ctl(t, "put", "other", "x")
 	}
-	refused(p)
-	// It stays so when others have raised the revision.
-	client := cluster.Client(t)
-	for revision(t, client) < answered+10 {
-		cluster.Ctl(t, "put", "other", "x")
-	}
-	refused(p)
+}
+
+// wantFile waits until the file has a revision.
+func (r *restored) wantFile(t *testing.T, want int64) {
+	t.Helper()
+	processes.Eventually(t, "the file of the revision", func() bool {
+		text, err := os.ReadFile(r.file)
+		return err == nil && string(text) == fmt.Sprintf("%d\n", want)
+	})
+}
+
+// wantRefusal waits until the program reports the older snapshot, and refuses calls for it.
+func (r *restored) wantRefusal(t *testing.T, p program) {
+	t.Helper()
+	want := fmt.Sprintf("%d was answered: it was restored from an older snapshot, and volumes may be missing; "+
+		"--accept-older goes on", r.answered)
+	p.waitLog(t, want)
+	processes.Eventually(t, "the refusal", func() bool {
+		l := p.dial(t)
+		defer l.Close()
+		reply, err := l.call(readPath, nil)
+		return err == nil && reply.Code == codes.FailedPrecondition &&
+			strings.HasPrefix(reply.Text, "etcd is at revision ") && strings.HasSuffix(reply.Text, want)
+	})
+}
+
+// wantEnd ends a program, and checks its status.
+func wantEnd(t *testing.T, p program) {
+	t.Helper()
 	p.Terminate(t)
 	if status := p.Status(t); status != 0 {
-		t.Errorf("it ended with %d", status)
+		t.Errorf("got status %d, want 0", status)
 	}
-	// And over a stop.
-	again := start(t, cluster.Endpoints(), "--lease", "3", "--timeout", "1s", "--revision", file)
-	refused(again)
-	again.Terminate(t)
-	if status := again.Status(t); status != 0 {
-		t.Errorf("it ended with %d", status)
+}
+
+// An etcd that was restored from a snapshot older than an answer is refused: by the program that
+// gave the answer, and by one that has its revision from the file, until --accept-older is set.
+func TestOlderSnapshot(t *testing.T) {
+	t.Parallel()
+	cluster, folder := clusters.Start(t, 1), processes.Folder(t)
+	r := &restored{cluster: cluster, file: filepath.Join(folder, "revision"),
+		snapshot: filepath.Join(folder, "snapshot")}
+	p := r.start(t).waitLeading(t)
+	l := p.dial(t)
+	l.wantReply(t, makePath, "", codes.OK, "")
+	l.mustCommit(t, addVolume(1, "a"))
+	cluster.Ctl(t, "snapshot", "save", r.snapshot)
+	l.mustCommit(t, addVolume(2, "b"))
+	for i := 0; i < 20; i++ {
+		l.mustCommit(t, attach(2, fmt.Sprintf("n%d", i), false))
 	}
-	if err := os.WriteFile(file, []byte(fmt.Sprintf("%d\n", answered)), 0o600); err != nil {
+	r.answered = revision(t, cluster.Client(t))
+	time.Sleep(1200 * time.Millisecond)
+	r.wantFile(t, r.answered)
+	r.restore(t)
+	r.wantRefusal(t, p)
+	// The refusal stays after others have raised the revision, and over a stop.
+	r.client = cluster.Client(t)
+	r.raise(t)
+	r.wantRefusal(t, p)
+	wantEnd(t, p)
+	again := r.start(t)
+	r.wantRefusal(t, again)
+	wantEnd(t, again)
+	r.refusedWhileWaiting(t)
+	r.accepted(t)
+}
+
+// refusedWhileWaiting checks the refusal if the program only waits when it first asks etcd, and the
+// revision was raised when its turn comes.
+func (r *restored) refusedWhileWaiting(t *testing.T) {
+	t.Helper()
+	if err := os.WriteFile(r.file, []byte(fmt.Sprintf("%d\n", r.answered)), 0o600); err != nil {
 		t.Fatal(err)
 	}
-	member.Kill()
-	member.Restore(t, snapshot)
-	member.Start(t)
-	cluster.Answers(t)
-	// Also where another one has the lock when it asks, and has raised the revision when it gives the lock back.
-	cluster.Ctl(t, "put", name+"/lock/other", "other")
-	second := start(t, cluster.Endpoints(), "--lease", "3", "--timeout", "1s", "--revision", file)
-	second.says(t, "waits for the lock, which other holds")
-	for revision(t, client) < answered+10 {
-		cluster.Ctl(t, "put", "other", "x")
-	}
-	cluster.Ctl(t, "del", name+"/lock/other")
-	refused(second)
+	r.restore(t)
+	r.cluster.WaitReady(t)
+	r.cluster.Ctl(t, "put", name+"/lock/other", "other")
+	second := r.start(t)
+	second.waitLog(t, "waits for the lock, which other holds")
+	r.raise(t)
+	r.cluster.Ctl(t, "del", name+"/lock/other")
+	r.wantRefusal(t, second)
 	second.Kill()
-	third := start(t, cluster.Endpoints(), "--lease", "3", "--timeout", "1s", "--revision", file, "--accept-older")
-	third.leads(t)
-	l = third.dial(t)
-	l.wants(t, readPath, "", codes.OK, "0a04 0802 1002 121a 0801 1201 61 18808040 2203 737364 2a08 1a060a001a020801 3200 2200")
-	l.commits(t, addVolume(2, "c"))
-	wantsFile(revision(t, cluster.Client(t)))
+}
+
+// accepted checks that a program with --accept-older leads, and later ones without it.
+func (r *restored) accepted(t *testing.T) {
+	t.Helper()
+	third := r.start(t, "--accept-older").waitLeading(t)
+	l := third.dial(t)
+	l.wantReply(t, readPath, "", codes.OK,
+		"0a04 0802 1002 121a 0801 1201 61 18808040 2203 737364 2a08 1a060a001a020801 3200 2200")
+	l.mustCommit(t, addVolume(2, "c"))
+	r.wantFile(t, revision(t, r.cluster.Client(t)))
 	third.Terminate(t)
 	third.Status(t)
-	fourth := start(t, cluster.Endpoints(), "--lease", "3", "--timeout", "1s", "--revision", file)
-	fourth.leads(t)
+	r.start(t).waitLeading(t)
 }

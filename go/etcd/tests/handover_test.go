@@ -15,14 +15,14 @@ import (
 	"./clusters"
 )
 
-// takeLock takes the lock away by hand from who has it: its key, or its lease.
+// takeLock takes the lock from its holder by hand: it deletes the key or revokes the lease.
 func takeLock(t *testing.T, client *clientv3.Client, isByLease bool) {
 	t.Helper()
 	ctx, cancel := context.WithTimeout(context.Background(), processes.Patience)
 	defer cancel()
 	read, err := client.Get(ctx, name+"/lock/", clientv3.WithFirstCreate()...)
 	if err != nil || len(read.Kvs) == 0 {
-		t.Fatalf("the lock: %v, %v", read, err)
+		t.Fatalf("got the lock %v, error %v", read, err)
 	}
 	if isByLease {
 		_, err = client.Revoke(ctx, clientv3.LeaseID(read.Kvs[0].Lease))
@@ -34,8 +34,9 @@ func takeLock(t *testing.T, client *clientv3.Client, isByLease bool) {
 	}
 }
 
-// lastLead asks a program whether it leads until it does not say so any more, and gives when the last question was sent to which it did.
-func (p program) lastLead(t *testing.T, asking chan<- struct{}) (last time.Time) {
+// lastConfirmedLead asks a program whether it leads until it no longer confirms it. It returns the
+// time at which the last confirmed question was sent.
+func (p program) lastConfirmedLead(t *testing.T, asking chan<- struct{}) (last time.Time) {
 	l, err := dial(p.Socket)
 	if err != nil {
 		t.Error(err)
@@ -56,8 +57,8 @@ func (p program) lastLead(t *testing.T, asking chan<- struct{}) (last time.Time)
 	}
 }
 
-// firstChange makes a change by a program as soon as it leads, and gives when that was answered by OK.
-func (p program) firstChange(t *testing.T) time.Time {
+// firstChangeTime makes a change as soon as the program leads, and returns the time of its OK.
+func (p program) firstChangeTime(t *testing.T) time.Time {
 	t.Helper()
 	processes.Eventually(t, "a change that is answered by OK", func() bool {
 		l, err := dial(p.Socket)
@@ -65,7 +66,7 @@ func (p program) firstChange(t *testing.T) time.Time {
 			return false
 		}
 		defer l.Close()
-		read, _, err := l.walk()
+		read, _, err := l.readAll()
 		if err != nil {
 			return false
 		}
@@ -77,58 +78,62 @@ func (p program) firstChange(t *testing.T) time.Time {
 	return time.Now()
 }
 
-// Where the lock is taken away by hand while nothing is stopped, a program says that it leads to no question that was sent after another one's OK.
+// If the lock is taken by hand, the old program confirms its lead for no question that was sent
+// after the new one's first OK.
 func TestLockTakenByHand(t *testing.T) {
 	t.Parallel()
 	cluster := clusters.Start(t, 3)
 	client := cluster.Client(t)
-	first, second := pair(t, cluster)
-	first.dial(t).wants(t, makePath, "", codes.OK, "")
+	first, second := startPair(t, cluster)
+	first.dial(t).wantReply(t, makePath, "", codes.OK, "")
 	for round := 0; round < 8; round++ {
 		asking, lasts := make(chan struct{}), make(chan time.Time, 1)
-		go func() { lasts <- first.lastLead(t, asking) }()
+		go func() { lasts <- first.lastConfirmedLead(t, asking) }()
 		<-asking
 		before := len(first.Log.String())
 		takeLock(t, client, round%2 == 1)
-		changed := second.firstChange(t)
+		changed := second.firstChangeTime(t)
 		last := <-lasts
 		if last.IsZero() || last.After(changed) {
-			t.Errorf("round %d: it said that it leads to a question that was sent %v after the other one's OK", round, last.Sub(changed))
+			t.Errorf("round %d: it said that it leads to a question that was sent %v after the other one's OK", round,
+				last.Sub(changed))
 		}
 		processes.Eventually(t, "why it leads no more", func() bool {
 			return strings.Contains(first.Log.String()[before:], "leads no more: its key is gone\n") ||
 				round%2 == 1 && strings.Contains(first.Log.String()[before:], "leads no more: its lease is over\n")
 		})
-		processes.Eventually(t, "that it waits", func() bool { return strings.Contains(first.Log.String()[before:], "waits for the lock, which ") })
+		processes.Eventually(t, "that it waits",
+			func() bool { return strings.Contains(first.Log.String()[before:], "waits for the lock, which ") })
 		first, second = second, first
 	}
 }
 
-// A program that is cut off from etcd when its key is deleted hears nothing of that, and its lease goes on by its own clock. It does not say that it leads
-// after another one's OK either.
+// A program without a connection to etcd does not learn that its key was deleted, and its lease has
+// time left. Even so it does not confirm its lead after another program's OK.
 func TestLockTakenWhileCutOff(t *testing.T) {
 	t.Parallel()
 	cluster := clusters.Start(t, 1)
-	between := newProxy(t, cluster.Members[0].Address)
-	first := start(t, between.address(), "--lease", "20", "--timeout", "1s", "--id", "first").leads(t)
+	relay := newProxy(t, cluster.Members[0].Address)
+	first := start(t, relay.address(), "--lease", "20", "--timeout", "1s", "--id", "first").waitLeading(t)
 	second := start(t, cluster.Endpoints(), "--id", "second")
-	second.says(t, "waits for the lock, which first holds\n")
+	second.waitLog(t, "waits for the lock, which first holds\n")
 	l := first.dial(t)
-	l.wants(t, makePath, "", codes.OK, "")
-	l.wants(t, leadPath, "", codes.OK, "")
-	between.hold()
+	l.wantReply(t, makePath, "", codes.OK, "")
+	l.wantReply(t, leadPath, "", codes.OK, "")
+	relay.pause()
 	takeLock(t, cluster.Client(t), false)
-	second.firstChange(t)
+	second.firstChangeTime(t)
 	const want = "etcd does not say whether this program leads: "
 	reply, err := l.call(leadPath, nil)
 	if err != nil || reply.Code != codes.FailedPrecondition || !strings.HasPrefix(reply.Text, want) {
-		t.Errorf("%d %q, %v", reply.Code, reply.Text, err)
+		t.Errorf("got %d %q, error %v, want %s", reply.Code, reply.Text, err, want)
 	}
-	between.letGo()
-	first.says(t, "leads no more: its key is gone\n")
+	relay.resume()
+	first.waitLog(t, "leads no more: its key is gone\n")
 }
 
-// Of two stacks whose lock is taken away by hand none answers a list without a volume that the other one answered by OK before the list was asked for.
+// Two stacks whose lock is taken by hand: no list lacks a volume that the other stack had created
+// before the list was requested.
 func TestListsWhileLockIsTaken(t *testing.T) {
 	t.Parallel()
 	help, err := exec.Command(processes.CsidProgram(t), "serve", "--help").Output()
@@ -139,28 +144,29 @@ func TestListsWhileLockIsTaken(t *testing.T) {
 	client := cluster.Client(t)
 	first, second := newStack(t, "a", cluster.Endpoints()), newStack(t, "b", cluster.Endpoints())
 	for _, s := range []*stack{first, second} {
-		s.startLog(t)
+		s.startStore(t)
 		s.startCsid(t)
 		s.csid.Answers(t)
 	}
-	if holder, _ := holder(t, client); holder == "b" {
+	if holder, _ := lockHolder(t, client); holder == "b" {
 		first, second = second, first
 	}
 	for round := 0; round < 6; round++ {
 		first.create(t, fmt.Sprintf("of-first-%d", round))
 		over := make(chan struct{})
-		lists := make(chan []list, 1)
-		go func() { lists <- first.lists(over) }()
+		listings := make(chan []listing, 1)
+		go func() { listings <- first.listUntil(over) }()
 		time.Sleep(100 * time.Millisecond)
 		takeLock(t, client, round%2 == 1)
 		id := second.create(t, fmt.Sprintf("of-second-%d", round))
 		created := time.Now()
 		time.Sleep(time.Second)
 		close(over)
-		all := <-lists
+		all := <-listings
 		for _, listed := range all {
 			if listed.sent.After(created) && !strings.Contains(listed.body, id) {
-				t.Errorf("round %d: a list that was asked for %v after %s was created is without it", round, listed.sent.Sub(created), id)
+				t.Errorf("round %d: a list that was asked for %v after %s was created is without it", round,
+					listed.sent.Sub(created), id)
 			}
 		}
 		if len(all) == 0 || all[0].sent.After(created) {
@@ -170,21 +176,21 @@ func TestListsWhileLockIsTaken(t *testing.T) {
 	}
 }
 
-// list is a list that was answered, and when it was asked for.
-type list struct {
+// listing is the reply to a ListVolumes, and the time of its request.
+type listing struct {
 	sent time.Time
 	body string
 }
 
-// lists asks a csid for all volumes again and again until it is over.
-func (s *stack) lists(over <-chan struct{}) (all []list) {
+// listUntil requests all volumes again and again until over is closed.
+func (s *stack) listUntil(over <-chan struct{}) (all []listing) {
 	for {
 		l, err := dial(s.path("csid.sock"))
 		for err == nil {
 			sent := time.Now()
 			reply, callErr := l.call("/csi.v1.Controller/ListVolumes", nil)
 			if err = callErr; err == nil && reply.Code == codes.OK {
-				all = append(all, list{sent, string(reply.Body)})
+				all = append(all, listing{sent, string(reply.Body)})
 			}
 			select {
 			case <-over:
@@ -205,16 +211,16 @@ func (s *stack) lists(over <-chan struct{}) (all []list) {
 	}
 }
 
-// create creates a volume by a csid as soon as that serves, and gives its id.
-func (s *stack) create(t *testing.T, called string) (id string) {
+// create creates a volume as soon as csid serves, and returns its id.
+func (s *stack) create(t *testing.T, volumeName string) (id string) {
 	t.Helper()
-	processes.Eventually(t, called+" by "+s.name, func() bool {
+	processes.Eventually(t, volumeName+" by "+s.name, func() bool {
 		l, err := dial(s.path("csid.sock"))
 		if err != nil {
 			return false
 		}
 		defer l.Close()
-		reply, err := l.call("/csi.v1.Controller/CreateVolume", text(text(nil, 1, called), 3, block[2:]))
+		reply, err := l.call("/csi.v1.Controller/CreateVolume", text(text(nil, 1, volumeName), 3, block[2:]))
 		id = volumeID.FindString(string(reply.Body))
 		return err == nil && reply.Code == codes.OK && id != ""
 	})

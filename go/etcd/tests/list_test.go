@@ -24,33 +24,44 @@ NODE  VOLUMES  SIZE
 n     1        1 MiB
 `
 
-const listedNone = "ID  NAME  POOL  SIZE  CAPABILITIES  PARAMETERS  MUTABLE  NODES\n\nPOOL  VOLUMES  SIZE\n\nNODE  VOLUMES  SIZE\n"
+const listedNone = "ID  NAME  POOL  SIZE  CAPABILITIES  PARAMETERS  MUTABLE  NODES\n\nPOOL  VOLUMES  SIZE\n\nNODE  " +
+	"VOLUMES  SIZE\n"
 
-// Rows in etcd are listed, by name, pool and node too, and what is none is refused.
+// Rows in etcd are listed: all of them, or those of a name, a pool or a node. Broken rows are
+// refused.
 func TestList(t *testing.T) {
 	t.Parallel()
 	cluster := clusters.Start(t, 1)
 	client := cluster.Client(t)
-	const noMeta = "csid-etcd: --list: meta is not there: nothing was made there yet, or an import was not ended\n"
-	moves(t, "", "--list", cluster.Endpoints()).wants(t, "no rows", 1, "", noMeta)
-	moves(t, threeRows, "--import", cluster.Endpoints()).wants(t, "an import", 0, threeSaid, "")
-	for _, row := range []struct{ words, want string }{
-		{"", listedThree}, {"--volume a", listedThree}, {"--volume b", listedNone}, {"--pool ssd", listedThree}, {"--pool s", listedNone}, {"--node n", listedThree},
+	runOnce(t, "", "--list", cluster.Endpoints()).check(t, "no rows", 1, "", "csid-etcd: --list: "+errNoMeta)
+	runOnce(t, threeRows, "--import", cluster.Endpoints()).check(t, "an import", 0, threeSaid, "")
+	for _, c := range []struct{ args, want string }{
+		{"", listedThree},
+		{"--volume a", listedThree},
+		{"--volume b", listedNone},
+		{"--pool ssd", listedThree},
+		{"--pool s", listedNone},
+		{"--node n", listedThree},
 		{"--node n --pool hdd", listedNone},
 	} {
-		moves(t, "", "--list", cluster.Endpoints(), strings.Fields(row.words)...).wants(t, row.words, 0, row.want, "")
+		t.Run(strings.TrimSpace("--list "+c.args), func(t *testing.T) {
+			got := runOnce(t, "", "--list", cluster.Endpoints(), strings.Fields(c.args)...)
+			got.check(t, c.args, 0, c.want, "")
+		})
 	}
 	put(t, client, name+"/volumes/00000000000000000001", strings.Replace(blockRow, "1a060a001a020801", "1a", 1))
-	moves(t, "", "--list", cluster.Endpoints()).wants(t, "capabilities that are none", 1, "",
+	runOnce(t, "", "--list", cluster.Endpoints()).check(t, "capabilities that are none", 1, "",
 		"csid-etcd: --list: volumes/00000000000000000001: its caps or params are not those of a volume\n")
 	put(t, client, name+"/volumes/00000000000000000001", "{}")
-	got := moves(t, "", "--list", cluster.Endpoints())
-	if got.status != 1 || got.said != "" || !strings.HasPrefix(got.fail, "csid-etcd: --list: volumes/00000000000000000001: its value is not of the form ") {
-		t.Errorf("a broken row: %v", got)
+	got := runOnce(t, "", "--list", cluster.Endpoints())
+	if got.status != 1 || got.stdout != "" ||
+		!strings.HasPrefix(got.stderr,
+			"csid-etcd: --list: volumes/00000000000000000001: its value is not of the form ") {
+		t.Errorf("a broken row: got %v, want its key and form", got)
 	}
 }
 
-// document reads what --list --json prints.
+// document decodes the output of --list --json.
 func document(t *testing.T, text string) (read map[string]interface{}) {
 	t.Helper()
 	if err := json.Unmarshal([]byte(text), &read); err != nil {
@@ -59,16 +70,18 @@ func document(t *testing.T, text string) (read map[string]interface{}) {
 	return read
 }
 
-// What is listed is what csid lists of a file with the same rows.
+// The list equals csid's list of a file with the same rows.
 func TestListAsOfFile(t *testing.T) {
 	t.Parallel()
 	csid := processes.CsidProgram(t)
 	cluster := clusters.Start(t, 1)
-	rows := "volumes/00000000000000000002\t{\"name\":\"a b\",\"bytes\":1610612736,\"pool\":\"ssd\",\"caps\":\"1a0612001a0208011a0c12060a04657874341a020805\"," +
+	rows := "volumes/00000000000000000002\t{\"name\":\"a " +
+		"b\",\"bytes\":1610612736,\"pool\":\"ssd\",\"caps\":\"1a0612001a0208011a0c12060a04657874341a020805\"," +
 		"\"params\":\"22060a016b12017622080a016c120361206242050a016d1200\"}\n" +
 		"attachments/00000000000000000002/m\t{\"cap\":\"1a0612001a020801\",\"readonly\":0}\n" +
-		"attachments/00000000000000000002/n,1\t{\"cap\":\"1a0612001a020801\",\"readonly\":0}\n" + strings.Replace(threeRows, `"next_number":2`, `"next_number":3`, 1)
-	if got := moves(t, rows, "--import", cluster.Endpoints()); got.status != 0 {
+		"attachments/00000000000000000002/n,1\t{\"cap\":\"1a0612001a020801\",\"readonly\":0}\n" +
+		strings.Replace(threeRows, `"next_number":2`, `"next_number":3`, 1)
+	if got := runOnce(t, rows, "--import", cluster.Endpoints()); got.status != 0 {
 		t.Fatal(got)
 	}
 	path := filepath.Join(t.TempDir(), "volumes.db")
@@ -76,35 +89,38 @@ func TestListAsOfFile(t *testing.T) {
 		t.Fatalf("%v: %s", err, out)
 	}
 	into := exec.Command("sqlite3", "-bail", path)
-	into.Stdin = strings.NewReader(moves(t, "", "--export", cluster.Endpoints()).said)
+	into.Stdin = strings.NewReader(runOnce(t, "", "--export", cluster.Endpoints()).stdout)
 	if out, err := into.CombinedOutput(); err != nil {
 		t.Skipf("no sqlite3: %v: %s", err, out)
 	}
-	listed := func(words ...string) string {
-		out, err := exec.Command(csid, append([]string{"--list-tables", path}, words...)...).Output()
+	listed := func(args ...string) string {
+		out, err := exec.Command(csid, append([]string{"--list-tables", path}, args...)...).Output()
 		if err != nil {
 			t.Fatal(err)
 		}
 		return string(out)
 	}
-	if got := moves(t, "", "--list", cluster.Endpoints()); got.said != listed() || !strings.Contains(got.said, "vol-2  a%20b") {
-		t.Errorf("%v\n%s", got, listed())
+	if got := runOnce(t, "", "--list", cluster.Endpoints()); got.stdout != listed() ||
+		!strings.Contains(got.stdout, "vol-2  a%20b") {
+		t.Errorf("got %v\nwant\n%s", got, listed())
 	}
-	if got := moves(t, "", "--list", cluster.Endpoints(), "--json"); !reflect.DeepEqual(document(t, got.said), document(t, listed("--json"))) {
-		t.Errorf("%v\n%s", got, listed("--json"))
+	if got := runOnce(t, "", "--list", cluster.Endpoints(), "--json"); !reflect.DeepEqual(document(t, got.stdout),
+		document(t, listed("--json"))) {
+		t.Errorf("got %v\nwant\n%s", got, listed("--json"))
 	}
 }
 
-// While a program leads and makes changes, what is listed is of one revision, over several pages too: each new volume is at its node but the last one.
+// While a program makes changes, a list of several pages is of one revision: each new volume but
+// the last is at its node.
 func TestListOfOneRevision(t *testing.T) {
 	t.Parallel()
 	const before = 20000
 	cluster := clusters.Start(t, 1)
 	lines, _ := manyLines(before)
-	if got := moves(t, lines, "--import", cluster.Endpoints()); got.status != 0 {
+	if got := runOnce(t, lines, "--import", cluster.Endpoints()); got.status != 0 {
 		t.Fatal(got)
 	}
-	csid := start(t, cluster.Endpoints(), "--existing").leads(t).dial(t)
+	csid := start(t, cluster.Endpoints(), "--existing").waitLeading(t).dial(t)
 	stop, stopped := make(chan struct{}), make(chan struct{})
 	defer func() {
 		close(stop)
@@ -118,26 +134,27 @@ func TestListOfOneRevision(t *testing.T) {
 				return
 			default:
 			}
-			csid.commits(t, addVolume(uint64(n), fmt.Sprintf("v%d", n)))
-			csid.commits(t, attach(uint64(n), "n1", false))
+			csid.mustCommit(t, addVolume(uint64(n), fmt.Sprintf("v%d", n)))
+			csid.mustCommit(t, attach(uint64(n), "n1", false))
 		}
 	}()
 	seen := map[int]bool{}
 	for deadline := time.Now().Add(time.Minute); len(seen) < 4 && time.Now().Before(deadline); {
-		got := moves(t, "", "--list", cluster.Endpoints(), "--json")
+		got := runOnce(t, "", "--list", cluster.Endpoints(), "--json")
 		if got.status != 0 {
 			t.Fatal(got)
 		}
-		volumes := document(t, got.said)["volumes"].([]interface{})
+		volumes := document(t, got.stdout)["volumes"].([]interface{})
 		for i, one := range volumes[before:] {
 			v := one.(map[string]interface{})
-			if nodes := v["nodes"].([]interface{}); v["name"] != fmt.Sprintf("v%d", before+i+1) || len(nodes) == 0 && before+i < len(volumes)-1 {
-				t.Fatalf("volume %d of %d: %v", before+i+1, len(volumes), v)
+			if nodes := v["nodes"].([]interface{}); v["name"] != fmt.Sprintf("v%d", before+i+1) || len(nodes) == 0 &&
+				before+i < len(volumes)-1 {
+				t.Fatalf("volume %d of %d: got %v, want v%d at a node", before+i+1, len(volumes), v, before+i+1)
 			}
 		}
 		seen[len(volumes)] = true
 	}
 	if len(seen) < 4 {
-		t.Errorf("%d states were seen", len(seen))
+		t.Errorf("got %d states, want 4", len(seen))
 	}
 }

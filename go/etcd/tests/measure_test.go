@@ -18,8 +18,8 @@ import (
 	"./clusters"
 )
 
-// measured is how many changes go/etcd/bench measures.
-func measured(t *testing.T) int {
+// measureCount returns the number of changes that go/etcd/bench measures.
+func measureCount(t *testing.T) int {
 	t.Helper()
 	count, err := strconv.Atoi(os.Getenv("MEASURE"))
 	if err != nil {
@@ -28,10 +28,10 @@ func measured(t *testing.T) int {
 	return count
 }
 
-// times is how long calls took.
+// times holds the durations of calls.
 type times []time.Duration
 
-func (all *times) take(call func()) {
+func (all *times) measure(call func()) {
 	begin := time.Now()
 	call()
 	*all = append(*all, time.Since(begin))
@@ -52,11 +52,14 @@ func (all times) at(part float64) time.Duration {
 }
 
 func (all times) String() string {
-	return fmt.Sprintf("%v in the middle, %v in the mean, %v for 99 of 100", all.at(0.5).Round(time.Microsecond), all.mean().Round(time.Microsecond), all.at(0.99).Round(time.Microsecond))
+	return fmt.Sprintf("%v in the middle, %v in the mean, %v for 99 of 100", all.at(0.5).Round(time.Microsecond),
+		all.mean().Round(time.Microsecond), all.at(0.99).Round(time.Microsecond))
 }
 
-// besides measures calls that add volumes, and next to each the bare transaction of a volume. They take turns, so that both meet the same disk.
-func besides(t *testing.T, count int, client *clientv3.Client, add func(number uint64, called string)) (adds, bare times) {
+// measurePairs measures calls that add volumes, and the bare transaction of each. Both take turns,
+// so that they meet the same disk.
+func measurePairs(t *testing.T, count int, client *clientv3.Client, add func(number uint64, volumeName string)) (adds,
+	bare times) {
 	t.Helper()
 	const prefix = "example.measured"
 	put(t, client, prefix+"/lock/1", "x")
@@ -67,53 +70,56 @@ func besides(t *testing.T, count int, client *clientv3.Client, add func(number u
 	}
 	lock := read.Kvs[0].ModRevision
 	for n := uint64(1); n <= uint64(count)+50; n++ {
-		called := fmt.Sprintf("pvc-%d", n)
-		with := func() { add(n, called) }
-		alone := func() { bareAdd(t, client, prefix, lock, n, called) }
+		volumeName := fmt.Sprintf("pvc-%d", n)
+		with := func() { add(n, volumeName) }
+		alone := func() { bareAdd(t, client, prefix, lock, n, volumeName) }
 		if n <= 50 {
 			with()
 			alone()
 		} else if n%2 == 0 {
-			adds.take(with)
-			bare.take(alone)
+			adds.measure(with)
+			bare.measure(alone)
 		} else {
-			bare.take(alone)
-			adds.take(with)
+			bare.measure(alone)
+			adds.measure(with)
 		}
 	}
 	return adds, bare
 }
 
-// ratios is how many times as long some calls took as others.
+// ratios compares the durations of two kinds of calls.
 func ratios(these, others times) string {
-	return fmt.Sprintf("%.3f times in the middle, %.3f in the mean", float64(these.at(0.5))/float64(others.at(0.5)), float64(these.mean())/float64(others.mean()))
+	return fmt.Sprintf("%.3f times in the middle, %.3f in the mean", float64(these.at(0.5))/float64(others.at(0.5)),
+		float64(these.mean())/float64(others.mean()))
 }
 
-// A change through csid-etcd, next to the same transaction without it.
+// A change through csid-etcd, compared with its bare transaction.
 func TestMeasureChanges(t *testing.T) {
-	count := measured(t)
+	count := measureCount(t)
 	for _, members := range []int{1, 3} {
 		cluster := clusters.Start(t, members)
-		p := start(t, cluster.Endpoints()).leads(t)
+		p := start(t, cluster.Endpoints()).waitLeading(t)
 		l := p.dial(t)
-		l.wants(t, makePath, "", codes.OK, "")
-		through, without := besides(t, count, cluster.Client(t), func(number uint64, called string) { l.commits(t, addVolume(number, called)) })
+		l.wantReply(t, makePath, "", codes.OK, "")
+		through, without := measurePairs(t, count, cluster.Client(t),
+			func(number uint64, volumeName string) { l.mustCommit(t, addVolume(number, volumeName)) })
 		t.Logf("%d members, %d changes through csid-etcd: %v", members, count, through)
 		t.Logf("%d members, %d bare transactions: %v", members, count, without)
 		t.Logf("%d members: %s", members, ratios(through, without))
 		before := size(t, cluster)
 		for n := uint64(count) + 51; n <= uint64(count)+1050; n++ {
-			l.commits(t, addVolume(n, fmt.Sprintf("pvc-%d", n)))
+			l.mustCommit(t, addVolume(n, fmt.Sprintf("pvc-%d", n)))
 		}
 		t.Logf("%d members: a change takes %d bytes of the file", members, (size(t, cluster)-before)/1000)
 	}
 }
 
-// startCsid starts a csid whose log is a csid-etcd, with a pool and nodes that have room for all that is measured.
+// startCsid starts a csid over the program. Its pool and nodes have room for all measurements.
 func (p program) startCsid(t *testing.T) *processes.Process {
 	t.Helper()
 	folder := processes.Folder(t)
-	config := "name = \"example.fomaheti\"\nvendor_version = \"1.0.0\"\ndefault_bytes = 1048576\ngreatest_bytes = 1048576\n\n[[pool]]\nname = \"ssd\"\nbytes = 1125899906842624\n"
+	config := "name = \"example.fomaheti\"\nvendor_version = \"1.0.0\"\ndefault_bytes = 1048576\ngreatest_bytes = " +
+		"1048576\n\n[[pool]]\nname = \"ssd\"\nbytes = 1125899906842624\n"
 	for i := 0; i < 7; i++ {
 		config += fmt.Sprintf("\n[[node]]\nid = \"node-%d\"\nmax_volumes = 100000\n", i)
 	}
@@ -121,29 +127,30 @@ func (p program) startCsid(t *testing.T) *processes.Process {
 		t.Fatal(err)
 	}
 	socket := folder + "/csid.sock"
-	return processes.Start(t, socket, exec.Command(processes.CsidProgram(t), "serve", "--socket", socket, "--log", p.Socket, "--config", folder+"/config.toml"))
+	return processes.Start(t, socket, exec.Command(processes.CsidProgram(t), "serve", "--socket", socket, "--log",
+		p.Socket, "--config", folder+"/config.toml"))
 }
 
-// probed is a connection to a csid, over which a first call was answered: all rows are read before that.
-func probed(t *testing.T, csid *processes.Process) *link {
+// dialProbed connects to a csid and makes a first call. csid reads all rows before it answers.
+func dialProbed(t *testing.T, csid *processes.Process) *storeConn {
 	t.Helper()
 	l, err := dial(csid.Answers(t).Socket)
 	if err != nil {
 		t.Fatal(err)
 	}
 	t.Cleanup(func() { l.Close() })
-	l.wants(t, "/csi.v1.Identity/Probe", "", codes.OK, "0a020801")
+	l.wantReply(t, "/csi.v1.Identity/Probe", "", codes.OK, "0a020801")
 	return l
 }
 
-// A CreateVolume of csid over csid-etcd, next to the transaction of it alone.
+// A CreateVolume of csid over csid-etcd, compared with its bare transaction.
 func TestMeasureCreates(t *testing.T) {
-	count := measured(t)
+	count := measureCount(t)
 	for _, members := range []int{1, 3} {
 		cluster := clusters.Start(t, members)
-		l := probed(t, start(t, cluster.Endpoints()).leads(t).startCsid(t))
-		created, without := besides(t, count, cluster.Client(t), func(_ uint64, called string) {
-			message := append(text(nil, 1, called), fromHex(t, "1a060a001a020801")...)
+		l := dialProbed(t, start(t, cluster.Endpoints()).waitLeading(t).startCsid(t))
+		created, without := measurePairs(t, count, cluster.Client(t), func(_ uint64, volumeName string) {
+			message := append(text(nil, 1, volumeName), fromHex(t, "1a060a001a020801")...)
 			if reply, err := l.call("/csi.v1.Controller/CreateVolume", message); err != nil || reply.Code != codes.OK {
 				t.Fatalf("%v, %v", reply.Text, err)
 			}
@@ -154,25 +161,26 @@ func TestMeasureCreates(t *testing.T) {
 	}
 }
 
-// How long a csid takes until it answers a first call over 100,000 volumes and 50,000 attachments.
+// The time until csid answers its first call over 100,000 volumes and 50,000 attachments.
 func TestMeasureTakeOvers(t *testing.T) {
-	measured(t)
+	measureCount(t)
 	cluster := clusters.Start(t, 1)
 	fill(t, cluster.Client(t), 100000)
-	p := start(t, cluster.Endpoints()).leads(t)
+	p := start(t, cluster.Endpoints()).waitLeading(t)
 	var all times
 	memory := 0
 	for i := 0; i < 5; i++ {
-		all.take(func() {
+		all.measure(func() {
 			csid := p.startCsid(t)
-			probed(t, csid)
+			dialProbed(t, csid)
 			memory = csid.ResidentBytes(t)
 		})
 	}
-	t.Logf("csid over 100000 volumes and 50000 attachments: the first answer after %v in the middle of 5, %d MiB in memory", all.at(0.5).Round(time.Millisecond), memory>>20)
+	t.Logf("csid over 100000 volumes and 50000 attachments: the first answer after %v in the middle of 5, %d MiB "+
+		"in memory", all.at(0.5).Round(time.Millisecond), memory>>20)
 }
 
-// size is how many bytes of its file a member uses.
+// size returns the bytes that a member uses of its file.
 func size(t *testing.T, cluster *clusters.Cluster) int64 {
 	t.Helper()
 	status, err := cluster.Client(t).Status(context.Background(), cluster.Members[0].Address)
@@ -189,12 +197,13 @@ func put(t *testing.T, client *clientv3.Client, key, value string) {
 	}
 }
 
-// bareAdd is the transaction of a volume that is added, without csid-etcd.
-func bareAdd(t *testing.T, client *clientv3.Client, prefix string, lock int64, number uint64, called string) {
+// bareAdd adds a volume by its transaction, without csid-etcd.
+func bareAdd(t *testing.T, client *clientv3.Client, prefix string, lock int64, number uint64, volumeName string) {
 	t.Helper()
 	key := fmt.Sprintf("%s/volumes/%020d", prefix, number)
-	before, after := fmt.Sprintf(`{"format_no":2,"next_number":%d}`, number), fmt.Sprintf(`{"format_no":2,"next_number":%d}`, number+1)
-	value := fmt.Sprintf(`{"name":"%s","bytes":1048576,"pool":"ssd","caps":"1a060a001a020801","params":""}`, called)
+	before, after := fmt.Sprintf(`{"format_no":2,"next_number":%d}`, number),
+		fmt.Sprintf(`{"format_no":2,"next_number":%d}`, number+1)
+	value := fmt.Sprintf(`{"name":"%s","bytes":1048576,"pool":"ssd","caps":"1a060a001a020801","params":""}`, volumeName)
 	done, err := client.Txn(context.Background()).If(
 		clientv3.Compare(clientv3.ModRevision(prefix+"/lock/1"), "=", lock),
 		clientv3.Compare(clientv3.CreateRevision(key), "=", 0),
@@ -205,8 +214,8 @@ func bareAdd(t *testing.T, client *clientv3.Client, prefix string, lock int64, n
 	}
 }
 
-// drain reads all pages, and looks at nothing but their tokens.
-func (l *link) drain(t *testing.T) (pages int) {
+// drain reads all pages and decodes only their tokens.
+func (l *storeConn) drain(t *testing.T) (pages int) {
 	t.Helper()
 	for token := []byte(nil); ; {
 		reply, err := l.call(readPath, text(nil, 1, string(token)))
@@ -221,59 +230,64 @@ func (l *link) drain(t *testing.T) (pages int) {
 	}
 }
 
-// How long a reading of all rows takes.
+// The time of reading all rows.
 func TestMeasureReadings(t *testing.T) {
-	measured(t)
+	measureCount(t)
 	for _, volumes := range []int{1000, 10000, 100000} {
 		cluster := clusters.Start(t, 1)
 		fill(t, cluster.Client(t), volumes)
-		l := start(t, cluster.Endpoints()).leads(t).dial(t)
+		l := start(t, cluster.Endpoints()).waitLeading(t).dial(t)
 		var all times
 		pages := 0
 		for i := 0; i < 5; i++ {
-			all.take(func() {
+			all.measure(func() {
 				pages = l.drain(t)
 			})
 		}
-		t.Logf("%d volumes and %d attachments in %d pages: %v in the middle of 5", volumes, volumes/2, pages, all.at(0.5).Round(time.Millisecond))
+		t.Logf("%d volumes and %d attachments in %d pages: %v in the middle of 5", volumes, volumes/2, pages,
+			all.at(0.5).Round(time.Millisecond))
 		cluster.Ctl(t, "compact", fmt.Sprint(revision(t, cluster.Client(t))))
 		cluster.Ctl(t, "defrag")
 		status, err := cluster.Client(t).Status(context.Background(), cluster.Members[0].Address)
 		if err != nil {
 			t.Fatal(err)
 		}
-		t.Logf("%d volumes: etcd has %d KiB in its file after a defragmentation, and %d MiB in memory", volumes, status.DbSize>>10, cluster.Members[0].Current.ResidentBytes(t)>>20)
+		t.Logf("%d volumes: etcd has %d KiB in its file after a defragmentation, and %d MiB in memory", volumes,
+			status.DbSize>>10, cluster.Members[0].Current.ResidentBytes(t)>>20)
 	}
 }
 
-// How long moves of 100,000 volumes take.
+// The time of importing and exporting 100,000 volumes.
 func TestMeasureMoves(t *testing.T) {
-	measured(t)
+	measureCount(t)
 	lines, count := manyLines(100000)
 	cluster := clusters.Start(t, 1)
 	begin := time.Now()
-	moves(t, lines, "--import", cluster.Endpoints()).wants(t, "an import", 0, "volumes 100000, attachments 50000, next number 100001, format 2\n", "")
+	runOnce(t, lines, "--import", cluster.Endpoints()).check(t, "an import", 0,
+		"volumes 100000, attachments 50000, next number 100001, format 2\n", "")
 	imported := time.Since(begin)
 	begin = time.Now()
-	got := moves(t, "", "--export", cluster.Endpoints())
+	got := runOnce(t, "", "--export", cluster.Endpoints())
 	exported := time.Since(begin)
-	if got.status != 0 || strings.Count(got.said, "\nINSERT") != count-1 {
-		t.Errorf("%d %s", got.status, got.fail)
+	if got.status != 0 || strings.Count(got.stdout, "\nINSERT") != count-1 {
+		t.Errorf("%d %s", got.status, got.stderr)
 	}
-	t.Logf("100000 volumes and 50000 attachments: an import takes %v, an export %v", imported.Round(10*time.Millisecond), exported.Round(10*time.Millisecond))
+	t.Logf("100000 volumes and 50000 attachments: an import takes %v, an export %v",
+		imported.Round(10*time.Millisecond), exported.Round(10*time.Millisecond))
 }
 
-// A question whether csid-etcd leads, which csid asks before it answers a call that only reads, next to the reading of a key.
+// The question whether csid-etcd leads, which csid asks before it answers a call that only reads.
+// It is compared with the read of a key.
 func TestMeasureQuestions(t *testing.T) {
-	count := measured(t)
+	count := measureCount(t)
 	for _, members := range []int{1, 3} {
 		cluster := clusters.Start(t, members)
 		client := cluster.Client(t)
-		l := start(t, cluster.Endpoints()).leads(t).dial(t)
+		l := start(t, cluster.Endpoints()).waitLeading(t).dial(t)
 		var through, without times
 		for n := 0; n < count; n++ {
-			through.take(func() { l.wants(t, leadPath, "", codes.OK, "") })
-			without.take(func() { revision(t, client) })
+			through.measure(func() { l.wantReply(t, leadPath, "", codes.OK, "") })
+			without.measure(func() { revision(t, client) })
 		}
 		t.Logf("%d members, %d questions whether csid-etcd leads: %v", members, count, through)
 		t.Logf("%d members, %d bare readings of a key: %v", members, count, without)

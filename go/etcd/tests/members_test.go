@@ -9,12 +9,12 @@ import (
 	"./clusters"
 )
 
-// Of three members one is killed again and again, the leader each second time, while changes are made. Each answer is OK, a refusal because the
-// program does not lead, or an end without a reply; and what was answered OK is there.
+// One of three members is killed again and again, every second time the leader. Each change gets
+// OK, a refusal because the program does not lead, or no reply. All changes with an OK are there.
 func TestKilledMembers(t *testing.T) {
 	t.Parallel()
 	cluster := clusters.Start(t, 3)
-	p := start(t, cluster.Endpoints(), "--timeout", "2s", "--lease", "5").leads(t)
+	p := start(t, cluster.Endpoints(), "--timeout", "2s", "--lease", "5").waitLeading(t)
 	d := newDriver(t, p)
 	end := d.begin()
 	for i := 0; i < 8; i++ {
@@ -31,18 +31,18 @@ func TestKilledMembers(t *testing.T) {
 	time.Sleep(time.Second)
 	end()
 	t.Logf("8 kills: %v", d)
-	if d.oks < 100 {
-		t.Errorf("%d changes", d.oks)
+	if d.ok < 100 {
+		t.Errorf("got %d changes, want 100 or more", d.ok)
 	}
-	wantsTold(t, d, p)
+	wantRows(t, d, p)
 }
 
-// Where etcd had no leader for longer than the lease, the program leads again as soon as there is one: etcd keeps the old lease for its whole length then, so the
-// program ends it.
+// After etcd had no leader for longer than the lease, the program leads as soon as etcd has one:
+// the new leader would keep the old lease for its whole length, so the program revokes it.
 func TestWithoutLeader(t *testing.T) {
 	t.Parallel()
 	cluster := clusters.Start(t, 3)
-	p := start(t, cluster.Endpoints(), "--timeout", "1s", "--lease", "12").leads(t)
+	p := start(t, cluster.Endpoints(), "--timeout", "1s", "--lease", "12").waitLeading(t)
 	leader := cluster.Leader(t)
 	signal := func(what syscall.Signal) {
 		for _, member := range cluster.Members {
@@ -56,24 +56,24 @@ func TestWithoutLeader(t *testing.T) {
 	}
 	before := len(p.Log.String())
 	signal(syscall.SIGSTOP)
-	p.says(t, "leads no more: its lease is over")
-	// What of it waits for etcd is given up.
+	p.waitLog(t, "leads no more: its lease is over")
+	// By now its requests to etcd have timed out.
 	time.Sleep(2 * time.Second)
 	signal(syscall.SIGCONT)
-	if took := p.leadsSince(t, before); took > 9*time.Second {
-		t.Errorf("it led after %v", took)
+	if took := p.waitLeadingSince(t, before); took > 9*time.Second {
+		t.Errorf("the program led after %v, want 9 s or less", took)
 	}
 }
 
-// wantsTold wants that the rows are those that were reported.
-func wantsTold(t *testing.T, d *driver, p program) {
+// wantRows checks that the rows are those that the replies promised.
+func wantRows(t *testing.T, d *driver, p program) {
 	t.Helper()
 	var err error
 	processes.Eventually(t, "all rows", func() bool {
 		l := p.dial(t)
 		defer l.Close()
 		var read rows
-		if read, _, err = l.walk(); err != nil {
+		if read, _, err = l.readAll(); err != nil {
 			return false
 		}
 		err = d.compare(read)

@@ -16,26 +16,28 @@ import (
 	"./clusters"
 )
 
-// ended is what a program that has ended said.
-type ended struct {
-	status     int
-	said, fail string
+// result is the status and the output of a program.
+type result struct {
+	status         int
+	stdout, stderr string
 }
 
-// moves runs csid-etcd with --import or --export, with a text on its standard input.
-func moves(t *testing.T, typed, how, endpoints string, words ...string) ended {
+// runOnce runs csid-etcd with a one-shot flag, such as --import, and a text on its standard input.
+func runOnce(t *testing.T, stdin, mode, endpoints string, args ...string) result {
 	t.Helper()
-	var said, fail strings.Builder
-	command := exec.Command(processes.EtcdProgram(t), append([]string{how, "--name", name, "--endpoints", endpoints}, words...)...)
-	command.Stdin, command.Stdout, command.Stderr = strings.NewReader(typed), &said, &fail
+	var stdout, stderr strings.Builder
+	command := exec.Command(processes.EtcdProgram(t),
+		append([]string{mode, "--name", name, "--endpoints", endpoints}, args...)...)
+	command.Stdin, command.Stdout, command.Stderr = strings.NewReader(stdin), &stdout, &stderr
 	command.Run()
-	return ended{command.ProcessState.ExitCode(), said.String(), fail.String()}
+	return result{command.ProcessState.ExitCode(), stdout.String(), stderr.String()}
 }
 
-func (got ended) wants(t *testing.T, what string, status int, said, fail string) {
+func (got result) check(t *testing.T, what string, status int, stdout, stderr string) {
 	t.Helper()
-	if got != (ended{status, said, fail}) {
-		t.Errorf("%s: %d %.1000q %.1000q, wanted %d %.1000q %.1000q", what, got.status, got.said, got.fail, status, said, fail)
+	if got != (result{status, stdout, stderr}) {
+		t.Errorf("%s: got %d %.1000q %.1000q, want %d %.1000q %.1000q", what, got.status, got.stdout, got.stderr,
+			status, stdout, stderr)
 	}
 }
 
@@ -46,15 +48,17 @@ const (
 	metaRow   = "meta\t{\"format_no\":2,\"next_number\":2}\n"
 	threeRows = firstRow + nodeRow + metaRow
 	threeSaid = "volumes 1, attachments 1, next number 2, format 2\n"
-	threeSQL  = "BEGIN;\nUPDATE meta SET next_number = 2;\nINSERT INTO attachments VALUES (1,'n',X'1a060a001a020801',0);\n" +
+	threeSQL  = "BEGIN;\nUPDATE meta SET next_number = 2;\nINSERT INTO attachments VALUES " +
+		"(1,'n',X'1a060a001a020801',0);\n" +
 		"INSERT INTO volumes VALUES (1,'a',1048576,'ssd',X'1a060a001a020801',X'');\nCOMMIT;\n"
 )
 
-// manyLines is so many volumes, half as many attachments and meta, and how many lines they are.
+// manyLines returns that many volumes, half as many attachments and meta, and the number of lines.
 func manyLines(volumes int) (lines string, count int) {
 	var all strings.Builder
 	for n := 1; n <= volumes; n++ {
-		fmt.Fprintf(&all, "volumes/%020d\t{\"name\":\"pvc-%d\",\"bytes\":1048576,\"pool\":\"ssd\",\"caps\":\"1a060a001a020801\",\"params\":\"\"}\n", n, n)
+		fmt.Fprintf(&all, "volumes/%020d\t"+
+			`{"name":"pvc-%d","bytes":1048576,"pool":"ssd","caps":"1a060a001a020801","params":""}`+"\n", n, n)
 		if n%2 == 0 {
 			fmt.Fprintf(&all, "attachments/%020d/node-%d\t{\"cap\":\"1a060a001a020801\",\"readonly\":0}\n", n, n%7)
 		}
@@ -63,81 +67,109 @@ func manyLines(volumes int) (lines string, count int) {
 	return all.String(), volumes + volumes/2 + 1
 }
 
-// The first row is made once; rows that exist are left, and those that an import has left are reported.
+// The first row is made once. Existing rows stay, and the rows of an unfinished import are
+// reported.
 func TestNew(t *testing.T) {
 	t.Parallel()
 	cluster := clusters.Start(t, 1)
 	client := cluster.Client(t)
 	put(t, client, name+".other/meta", "x")
-	moves(t, "", "--new", cluster.Endpoints()).wants(t, "no rows", 0, "made: volumes 0, attachments 0, next number 1, format 2\n", "")
-	has(t, cluster, name+"/meta", `{"format_no":2,"next_number":1}`)
-	moves(t, "", "--new", cluster.Endpoints()).wants(t, "once more", 0, "exists: next number 1, format 2\n", "")
-	p := start(t, cluster.Endpoints(), "--existing").leads(t)
-	p.dial(t).commits(t, addVolume(1, "a"))
-	moves(t, "", "--new", cluster.Endpoints()).wants(t, "beside one that leads", 0, "exists: next number 2, format 2\n", "")
+	runOnce(t, "", "--new", cluster.Endpoints()).check(t, "no rows", 0,
+		"made: volumes 0, attachments 0, next number 1, format 2\n", "")
+	wantKeys(t, cluster, name+"/meta", `{"format_no":2,"next_number":1}`)
+	runOnce(t, "", "--new", cluster.Endpoints()).check(t, "once more", 0, "exists: next number 1, format 2\n", "")
+	p := start(t, cluster.Endpoints(), "--existing").waitLeading(t)
+	p.dial(t).mustCommit(t, addVolume(1, "a"))
+	runOnce(t, "", "--new", cluster.Endpoints()).check(t, "while a program leads", 0,
+		"exists: next number 2, format 2\n", "")
 	cluster.Ctl(t, "del", name+"/meta")
-	moves(t, "", "--new", cluster.Endpoints()).wants(t, "a volume without meta", 1, "", "csid-etcd: --new: rows are there, and meta is not: an import was not ended\n")
+	runOnce(t, "", "--new", cluster.Endpoints()).check(t, "a volume without meta", 1, "",
+		"csid-etcd: --new: rows are there, and meta is not: an import was not ended\n")
 	put(t, client, name+"/meta", "{}")
-	moves(t, "", "--new", cluster.Endpoints()).wants(t, "a broken meta", 1, "", `csid-etcd: --new: meta: its value is not of the form {"format_no":NUMBER,"next_number":NUMBER}`+"\n")
+	runOnce(t, "", "--new", cluster.Endpoints()).check(t, "a broken meta", 1, "",
+		`csid-etcd: --new: meta: its value is not of the form {"format_no":NUMBER,"next_number":NUMBER}`+"\n")
 	cluster.Ctl(t, "del", name+"/meta")
 	cluster.Ctl(t, "del", name+"/volumes/00000000000000000001")
-	p.dial(t).wants(t, makePath, "", codes.FailedPrecondition, "there are no rows, and none are made")
-	has(t, cluster)
+	p.dial(t).wantReply(t, makePath, "", codes.FailedPrecondition, "there are no rows, and none are made")
+	wantKeys(t, cluster)
 }
 
-// Rows that are imported stand in etcd as they came, and are exported as SQL; and what is refused writes nothing.
+const errNoMeta = "meta is not there: nothing was made there yet, or an import was not ended\n"
+
+// Imported rows are in etcd as they were on standard input, and are exported as SQL. A refused
+// import writes nothing.
 func TestMoves(t *testing.T) {
 	t.Parallel()
 	cluster := clusters.Start(t, 1)
 	client := cluster.Client(t)
-	// A plugin whose name begins with that of this one is another one.
+	// A plugin whose name starts with this one's is another plugin.
 	put(t, client, name+".other/meta", "x")
 	put(t, client, name, "x")
-	moves(t, "", "--export", cluster.Endpoints()).wants(t, "no rows", 1, "",
-		"csid-etcd: --export: meta is not there: nothing was made there yet, or an import was not ended\n")
-	moves(t, firstRow, "--import", cluster.Endpoints()).wants(t, "no meta", 1, "",
-		"csid-etcd: --import: the last line is not meta: it is missing, or what comes in was cut off; nothing was written\n")
-	moves(t, firstRow+"volumes/7\t"+blockRow+"\n"+metaRow, "--import", cluster.Endpoints()).wants(t, "a broken row", 1, "",
+	runOnce(t, "", "--export", cluster.Endpoints()).check(t, "no rows", 1, "", "csid-etcd: --export: "+errNoMeta)
+	runOnce(t, firstRow, "--import", cluster.Endpoints()).check(t, "no meta", 1, "",
+		"csid-etcd: --import: the last line is not meta: it is missing, or what comes in was cut off; nothing was "+
+			"written\n")
+	brokenRow := firstRow + "volumes/7\t" + blockRow + "\n" + metaRow
+	runOnce(t, brokenRow, "--import", cluster.Endpoints()).check(t, "a broken row", 1, "",
 		"csid-etcd: --import: line 2: volumes/7: its key has no number of 20 digits; nothing was written\n")
-	has(t, cluster)
-
-	p := start(t, cluster.Endpoints(), "--id", "me").leads(t)
-	waits := start(t, cluster.Endpoints(), "--id", "you")
-	waits.says(t, "csid-etcd: waits for the lock, which me holds")
-	for _, holder := range []struct {
-		program
-		id string
-	}{{p, "me"}, {waits, "you"}} {
-		got := moves(t, threeRows, "--import", cluster.Endpoints())
-		if got.status != 1 || got.said != "" || !strings.HasPrefix(got.fail, "csid-etcd: --import: lock/") ||
-			!strings.HasSuffix(got.fail, " has the lock or waits for it, and must be stopped first; nothing was written\n") {
-			t.Errorf("beside a program that leads: %v", got)
-		}
-		holder.Terminate(t)
-		holder.Status(t)
-	}
-	has(t, cluster)
-
-	moves(t, threeRows, "--import", cluster.Endpoints()).wants(t, "an import", 0, threeSaid, "")
-	has(t, cluster,
+	wantKeys(t, cluster)
+	importWhileLeading(t, cluster)
+	runOnce(t, threeRows, "--import", cluster.Endpoints()).check(t, "an import", 0, threeSaid, "")
+	wantKeys(t, cluster,
 		name+"/attachments/00000000000000000001/n", `{"cap":"1a060a001a020801","readonly":0}`,
 		name+"/meta", `{"format_no":2,"next_number":2}`,
 		name+"/volumes/00000000000000000001", blockRow)
 	at := fmt.Sprintf("csid-etcd: at revision %d: %s", revision(t, client), threeSaid)
-	moves(t, "", "--export", cluster.Endpoints()).wants(t, "an export", 0, threeSQL, at)
-	for _, row := range []struct{ key, there string }{{"attachments/00000000000000000001/n", "a row"}, {"meta", "meta"}, {"volumes/00000000000000000001", "a volume"}, {"x", "another key"}} {
-		if row.key == "x" {
+	runOnce(t, "", "--export", cluster.Endpoints()).check(t, "an export", 0, threeSQL, at)
+	cases := []struct{ key, there string }{
+		{"attachments/00000000000000000001/n", "a row"},
+		{"meta", "meta"},
+		{"volumes/00000000000000000001", "a volume"},
+		{"x", "another key"},
+	}
+	for _, c := range cases {
+		if c.key == "x" {
 			put(t, client, name+"/x", "")
 		}
-		moves(t, threeRows, "--import", cluster.Endpoints()).wants(t, row.there, 1, "", "csid-etcd: --import: "+row.key+": it is there already; nothing was written\n")
-		cluster.Ctl(t, "del", name+"/"+row.key)
+		runOnce(t, threeRows, "--import", cluster.Endpoints()).check(t, c.there, 1, "",
+			"csid-etcd: --import: "+c.key+": it is there already; nothing was written\n")
+		cluster.Ctl(t, "del", name+"/"+c.key)
 	}
-	has(t, cluster)
+	wantKeys(t, cluster)
+}
 
-	// Of a broken row nothing is committed.
-	moves(t, threeRows, "--import", cluster.Endpoints()).wants(t, "an import again", 0, threeSaid, "")
-	for key, why := range map[string]string{
-		"volumes/00000000000000000002":       `its value is not of the form {"name":TEXT,"bytes":NUMBER,"pool":TEXT,"caps":HEX,"params":HEX}`,
+// importWhileLeading checks that an import is refused while a program holds the lock or waits for
+// it.
+func importWhileLeading(t *testing.T, cluster *clusters.Cluster) {
+	t.Helper()
+	p := start(t, cluster.Endpoints(), "--id", "me").waitLeading(t)
+	waiting := start(t, cluster.Endpoints(), "--id", "you")
+	waiting.waitLog(t, "csid-etcd: waits for the lock, which me holds")
+	for _, holder := range []struct {
+		program
+		id string
+	}{{p, "me"}, {waiting, "you"}} {
+		got := runOnce(t, threeRows, "--import", cluster.Endpoints())
+		if got.status != 1 || got.stdout != "" || !strings.HasPrefix(got.stderr, "csid-etcd: --import: lock/") ||
+			!strings.HasSuffix(got.stderr,
+				" has the lock or waits for it, and must be stopped first; nothing was written\n") {
+			t.Errorf("while %s has the lock: got %v, want a refusal", holder.id, got)
+		}
+		holder.Terminate(t)
+		holder.Status(t)
+	}
+	wantKeys(t, cluster)
+}
+
+// An export commits nothing if a row is broken. It needs no lock.
+func TestExport(t *testing.T) {
+	t.Parallel()
+	cluster := clusters.Start(t, 1)
+	client := cluster.Client(t)
+	runOnce(t, threeRows, "--import", cluster.Endpoints()).check(t, "an import again", 0, threeSaid, "")
+	for key, reason := range map[string]string{
+		"volumes/00000000000000000002": `its value is not of the form ` +
+			`{"name":TEXT,"bytes":NUMBER,"pool":TEXT,"caps":HEX,"params":HEX}`,
 		"attachments/00000000000000000001/o": `its value is not of the form {"cap":HEX,"readonly":0 or 1}`,
 		"volumes/2":                          "its key has no number of 20 digits",
 		"lock":                               "no row has such a key",
@@ -145,38 +177,45 @@ func TestMoves(t *testing.T) {
 		"more":                               "no row has such a key",
 		"volumes0":                           "no row has such a key",
 	} {
-		put(t, client, name+"/"+key, " {}")
-		got := moves(t, "", "--export", cluster.Endpoints())
-		if got.status != 1 || strings.Contains(got.said, "COMMIT") || got.fail != "csid-etcd: --export: "+key+": "+why+"\n" {
-			t.Errorf("%s: %v", key, got)
-		}
-		cluster.Ctl(t, "del", name+"/"+key)
+		t.Run(key, func(t *testing.T) {
+			put(t, client, name+"/"+key, " {}")
+			got := runOnce(t, "", "--export", cluster.Endpoints())
+			want := "csid-etcd: --export: " + key + ": " + reason + "\n"
+			if got.status != 1 || strings.Contains(got.stdout, "COMMIT") || got.stderr != want {
+				t.Errorf("got %v, want status 1, no COMMIT, %s", got, want)
+			}
+			cluster.Ctl(t, "del", name+"/"+key)
+		})
 	}
-	for value, why := range map[string]string{
+	for value, reason := range map[string]string{
 		"{}":                              `its value is not of the form {"format_no":NUMBER,"next_number":NUMBER}`,
 		`{"format_no":3,"next_number":2}`: "its format is 3, and that of rows in etcd 2",
 	} {
-		put(t, client, name+"/meta", value)
-		moves(t, "", "--export", cluster.Endpoints()).wants(t, value, 1, "", "csid-etcd: --export: meta: "+why+"\n")
+		t.Run("meta "+value, func(t *testing.T) {
+			put(t, client, name+"/meta", value)
+			runOnce(t, "", "--export", cluster.Endpoints()).check(t, value, 1, "",
+				"csid-etcd: --export: meta: "+reason+"\n")
+		})
 	}
-	// While a program leads an export is made too.
 	put(t, client, name+"/meta", `{"format_no":2,"next_number":2}`)
-	start(t, cluster.Endpoints()).leads(t)
-	at = fmt.Sprintf("csid-etcd: at revision %d: %s", revision(t, client), threeSaid)
-	moves(t, "", "--export", cluster.Endpoints()).wants(t, "an export beside a program that leads", 0, threeSQL, at)
+	start(t, cluster.Endpoints()).waitLeading(t)
+	at := fmt.Sprintf("csid-etcd: at revision %d: %s", revision(t, client), threeSaid)
+	runOnce(t, "", "--export", cluster.Endpoints()).check(t, "an export while a program leads", 0, threeSQL, at)
 }
 
-// Where etcd does not answer, or the output cannot be written, a line says so.
+// If etcd does not answer, or the output cannot be written, a line reports it.
 func TestMovesWithoutEtcd(t *testing.T) {
 	t.Parallel()
-	nobody := clusters.FreePorts(t, 1)[0]
-	for _, how := range []string{"--import", "--export"} {
-		got := moves(t, threeRows, how, nobody, "--timeout", "500ms")
-		if got.status != 1 || got.said != "" || !strings.HasPrefix(got.fail, "csid-etcd: "+how+": context deadline exceeded") {
-			t.Errorf("%s without etcd: %v", how, got)
+	unused := clusters.FreePorts(t, 1)[0]
+	for _, mode := range []string{"--import", "--export"} {
+		got := runOnce(t, threeRows, mode, unused, "--timeout", "500ms")
+		if got.status != 1 || got.stdout != "" ||
+			!strings.HasPrefix(got.stderr, "csid-etcd: "+mode+": context deadline exceeded") {
+			t.Errorf("%s without etcd: got %v, want status 1 and a deadline", mode, got)
 		}
-		moves(t, threeRows, how, nobody, "--cacert", "/none").wants(t, how+" without a file", 1, "",
-			"csid-etcd: "+how+": --cacert: open /none: no such file or directory"+map[string]string{"--import": "; nothing was written"}[how]+"\n")
+		runOnce(t, threeRows, mode, unused, "--cacert", "/none").check(t, mode+" without a file", 1, "",
+			"csid-etcd: "+mode+": --cacert: open /none: no such file or "+
+				"directory"+map[string]string{"--import": "; nothing was written"}[mode]+"\n")
 	}
 	cluster := clusters.Start(t, 1)
 	full, err := os.OpenFile("/dev/full", os.O_WRONLY, 0)
@@ -184,150 +223,166 @@ func TestMovesWithoutEtcd(t *testing.T) {
 		t.Skipf("left out: a full disk: %v", err)
 	}
 	defer full.Close()
-	// The second --new finds the row that exists, and the export the rows of the import.
-	for _, how := range []string{"--new", "--new", "--import", "--export"} {
-		if how == "--import" {
+	// The second --new finds the existing row, and the export finds the rows of the import.
+	for _, mode := range []string{"--new", "--new", "--import", "--export"} {
+		if mode == "--import" {
 			cluster.Ctl(t, "del", name+"/meta")
 		}
-		command := exec.Command(processes.EtcdProgram(t), how, "--name", name, "--endpoints", cluster.Endpoints())
-		var fail strings.Builder
-		command.Stdin, command.Stdout, command.Stderr = strings.NewReader(threeRows), full, &fail
+		command := exec.Command(processes.EtcdProgram(t), mode, "--name", name, "--endpoints", cluster.Endpoints())
+		var stderr strings.Builder
+		command.Stdin, command.Stdout, command.Stderr = strings.NewReader(threeRows), full, &stderr
 		command.Run()
-		if fail.String() != "csid-etcd: "+how+": write /dev/stdout: no space left on device\n" || command.ProcessState.ExitCode() != 1 {
-			t.Errorf("%s: %d %q", how, command.ProcessState.ExitCode(), fail.String())
+		want := "csid-etcd: " + mode + ": write /dev/stdout: no space left on device\n"
+		if stderr.String() != want || command.ProcessState.ExitCode() != 1 {
+			t.Errorf("%s: got %d %q, want status 1 and %s", mode, command.ProcessState.ExitCode(), stderr.String(),
+				want)
 		}
 	}
 }
 
-// begunImport is an import of many rows by way of a proxy that holds in the middle of it.
-func begunImport(t *testing.T, cluster *clusters.Cluster, lines string, words ...string) (*proxy, *processes.Process) {
+// startImport starts an import through a proxy, and pauses the proxy in the middle of it.
+func startImport(t *testing.T, cluster *clusters.Cluster, lines string, args ...string) (*proxy, *processes.Process) {
 	t.Helper()
-	between := newProxy(t, cluster.Members[0].Address)
+	relay := newProxy(t, cluster.Members[0].Address)
 	client := cluster.Client(t)
-	command := exec.Command(processes.EtcdProgram(t), append([]string{"--import", "--name", name, "--endpoints", between.address()}, words...)...)
+	command := exec.Command(processes.EtcdProgram(t),
+		append([]string{"--import", "--name", name, "--endpoints", relay.address()}, args...)...)
 	command.Stdin = strings.NewReader(lines)
 	p := processes.Start(t, "", command)
 	processes.Eventually(t, "some rows", func() bool {
 		read, err := client.Get(context.Background(), name+"/", clientv3.WithPrefix(), clientv3.WithCountOnly())
 		return err == nil && read.Count > 500
 	})
-	between.hold()
-	return between, p
+	relay.pause()
+	return relay, p
 }
 
-// wantsRest wants that an import ended with a line, and that some of its rows were written, and not all.
-func wantsRest(t *testing.T, cluster *clusters.Cluster, p *processes.Process, line string, count int) {
+// wantPartialImport checks that an import ended with a line, after it had written some of its rows.
+func wantPartialImport(t *testing.T, cluster *clusters.Cluster, p *processes.Process, line string, count int) {
 	t.Helper()
 	if status := p.Status(t); status != 1 || !strings.Contains(p.Log.String(), line) {
-		t.Errorf("%d %q, wanted %q", status, p.Log, line)
+		t.Errorf("got %d %q, want 1 and %q", status, p.Log, line)
 	}
 	var written, all int
 	if _, rest, isThere := strings.Cut(p.Log.String(), "; "); isThere {
 		fmt.Sscanf(rest, "%d of %d rows were written", &written, &all)
 	}
 	if written < 64 || written >= count || all != count {
-		t.Errorf("%d of %d were written, by %q", written, all, p.Log)
+		t.Errorf("got %d of %d rows written, want 64 or more of %d: %q", written, all, count, p.Log)
 	}
 }
 
-// A program that comes in the middle of an import, and an end of etcd there: what was written is no rows for a csid, until it is taken away.
+// A candidate in the middle of an import ends it, as does an end of etcd. csid refuses the rows
+// that were written until somebody removes them.
 func TestImportStopped(t *testing.T) {
 	t.Parallel()
 	lines, count := manyLines(30000)
 	cluster := clusters.Start(t, 1)
 	client := cluster.Client(t)
 
-	between, p := begunImport(t, cluster, lines)
+	relay, p := startImport(t, cluster, lines)
 	put(t, client, name+"/lock/1", "me")
-	between.letGo()
-	wantsRest(t, cluster, p, "csid-etcd: --import: lock/1: me has the lock or waits for it, and must be stopped first; ", count)
+	relay.resume()
+	wantPartialImport(t, cluster, p,
+		"csid-etcd: --import: lock/1: me has the lock or waits for it, and must be stopped first; ", count)
 	cluster.Ctl(t, "del", name+"/lock/1")
-	moves(t, lines, "--import", cluster.Endpoints()).wants(t, "a further import", 1, "", "csid-etcd: --import: attachments/00000000000000000002/node-2: it is there already; nothing was written\n")
-	log := start(t, cluster.Endpoints()).leads(t)
-	l := log.dial(t)
-	if read, _, err := l.walk(); err != nil || read["meta"] != "" || len(read) < 500 {
-		t.Errorf("%d rows, meta %q, %v", len(read), read["meta"], err)
+	runOnce(t, lines, "--import", cluster.Endpoints()).check(t, "a further import", 1, "",
+		"csid-etcd: --import: attachments/00000000000000000002/node-2: it is there already; nothing was written\n")
+	store := start(t, cluster.Endpoints()).waitLeading(t)
+	l := store.dial(t)
+	if read, _, err := l.readAll(); err != nil || read["meta"] != "" || len(read) < 500 {
+		t.Errorf("got %d rows, meta %q, error %v, want 500 rows or more without meta", len(read), read["meta"], err)
 	}
-	l.wants(t, makePath, "", codes.FailedPrecondition, "attachments/00000000000000000002/node-2 is there already")
+	l.wantReply(t, makePath, "", codes.FailedPrecondition, "attachments/00000000000000000002/node-2 is there already")
 	folder := processes.Folder(t)
-	csid := processes.Start(t, filepath.Join(folder, "csid.sock"), exec.Command(processes.CsidProgram(t), "serve", "--socket", filepath.Join(folder, "csid.sock"), "--log", log.Socket))
+	csid := processes.Start(t, filepath.Join(folder, "csid.sock"),
+		exec.Command(processes.CsidProgram(t), "serve", "--socket", filepath.Join(folder, "csid.sock"), "--log",
+			store.Socket))
 	processes.Eventually(t, "that csid refuses the rows", func() bool {
-		return csid.Log.String() == "csid: "+log.Socket+": meta has no row with the number of a format\n"
+		return csid.Log.String() == "csid: "+store.Socket+": meta has no row with the number of a format\n"
 	})
-	log.Terminate(t)
-	log.Status(t)
+	store.Terminate(t)
+	store.Status(t)
 	cluster.Ctl(t, "del", "--prefix", name+"/")
 
-	// What is taken away in the middle is not written on.
-	between, p = begunImport(t, cluster, lines)
+	// After its rows are removed, an import writes no more of them.
+	relay, p = startImport(t, cluster, lines)
 	cluster.Ctl(t, "del", "--prefix", name+"/")
-	between.letGo()
-	wantsRest(t, cluster, p, "csid-etcd: --import: volumes/00000000000000000001: it was removed in the meantime; ", count)
+	relay.resume()
+	wantPartialImport(t, cluster, p,
+		"csid-etcd: --import: volumes/00000000000000000001: it was removed in the meantime; ", count)
 	cluster.Ctl(t, "del", "--prefix", name+"/")
 
-	// A row that is put by hand in the middle is not written over.
-	between, p = begunImport(t, cluster, lines)
+	// A row that somebody puts in the meantime is not overwritten.
+	relay, p = startImport(t, cluster, lines)
 	put(t, client, name+"/volumes/00000000000000030000", "x")
-	between.letGo()
-	wantsRest(t, cluster, p, "csid-etcd: --import: volumes/00000000000000030000: it is there already; ", count)
+	relay.resume()
+	wantPartialImport(t, cluster, p, "csid-etcd: --import: volumes/00000000000000030000: it is there already; ", count)
 	cluster.Ctl(t, "del", "--prefix", name+"/")
 
-	// etcd ends, and comes again.
-	between, p = begunImport(t, cluster, lines, "--timeout", "2s")
+	// etcd is killed and started again.
+	relay, p = startImport(t, cluster, lines, "--timeout", "2s")
 	cluster.Members[0].Kill()
-	between.letGo()
-	wantsRest(t, cluster, p, "csid-etcd: --import: it is not known whether it was made: ", count)
+	relay.resume()
+	wantPartialImport(t, cluster, p, "csid-etcd: --import: it is not known whether it was made: ", count)
 	cluster.Members[0].Start(t)
-	cluster.Answers(t)
-	moves(t, "", "--export", cluster.Endpoints()).wants(t, "an export of the rest", 1, "",
-		"csid-etcd: --export: meta is not there: nothing was made there yet, or an import was not ended\n")
+	cluster.WaitReady(t)
+	runOnce(t, "", "--export", cluster.Endpoints()).check(t, "an export of the rest", 1, "",
+		"csid-etcd: --export: "+errNoMeta)
 	cluster.Ctl(t, "del", "--prefix", name+"/")
-	moves(t, lines, "--import", cluster.Endpoints()).wants(t, "an import anew", 0, "volumes 30000, attachments 15000, next number 30001, format 2\n", "")
+	runOnce(t, lines, "--import", cluster.Endpoints()).check(t, "an import from the start", 0,
+		"volumes 30000, attachments 15000, next number 30001, format 2\n", "")
 }
 
-// Of several imports at once, of other rows each, one is made, and the others write nothing.
+// Of several imports at once, each of other rows, one succeeds, and the others write nothing.
 func TestImportsAtOnce(t *testing.T) {
 	t.Parallel()
 	cluster := clusters.Start(t, 1)
 	lines, _ := manyLines(2000)
 	for i := 0; i < 12; i++ {
 		cluster.Ctl(t, "del", "--prefix", name+"/")
-		var all [6]ended
+		var all [6]result
 		processes.Together(len(all), func(caller int) {
 			others := strings.NewReplacer("/0000", fmt.Sprintf("/000%d", caller)).Replace(lines)
-			all[caller] = moves(t, others, "--import", cluster.Endpoints())
+			all[caller] = runOnce(t, others, "--import", cluster.Endpoints())
 		})
 		made := 0
 		for _, one := range all {
 			if one.status == 0 {
 				made++
-			} else if !strings.HasSuffix(one.fail, "it is there already; nothing was written\n") {
-				t.Errorf("%v", one)
+			} else if !strings.HasSuffix(one.stderr, "it is there already; nothing was written\n") {
+				t.Errorf("got %v, want a refusal", one)
 			}
 		}
-		read, err := cluster.Client(t).Get(context.Background(), name+"/", clientv3.WithPrefix(), clientv3.WithCountOnly())
+		read, err := cluster.Client(t).Get(context.Background(), name+"/", clientv3.WithPrefix(),
+			clientv3.WithCountOnly())
 		if made != 1 || err != nil || read.Count != 3001 {
-			t.Errorf("%d were made, %v", made, err)
+			t.Errorf("got %d imports, error %v, want one with 3001 rows", made, err)
 		}
 	}
 }
 
-// Long rows go in transactions of their own; one that is too long for etcd is named.
+// Long rows have transactions of their own. A row that is too long for etcd is named.
 func TestImportLongRows(t *testing.T) {
 	t.Parallel()
 	long := func(number, pairs int) string {
-		return fmt.Sprintf("volumes/%020d\t{\"name\":\"a%d\",\"bytes\":1048576,\"pool\":\"p\",\"caps\":\"%s\",\"params\":\"\"}\n", number, number, strings.Repeat("1a00", pairs))
+		return fmt.Sprintf("volumes/%020d\t"+
+			`{"name":"a%d","bytes":1048576,"pool":"p","caps":"%s","params":""}`+"\n",
+			number, number, strings.Repeat("1a00", pairs))
 	}
 	lines := ""
 	for n := 1; n <= 100; n++ {
 		lines += long(n, 1000*n)
 	}
 	cluster := clusters.Start(t, 1)
-	moves(t, lines+"meta\t{\"format_no\":2,\"next_number\":101}\n", "--import", cluster.Endpoints()).wants(t, "long rows", 0, "volumes 100, attachments 0, next number 101, format 2\n", "")
-	if got := moves(t, "", "--export", cluster.Endpoints()); got.status != 0 || len(got.said) < 100*101*1000*2 {
-		t.Errorf("%d, %d bytes, %s", got.status, len(got.said), got.fail)
+	runOnce(t, lines+"meta\t{\"format_no\":2,\"next_number\":101}\n", "--import", cluster.Endpoints()).check(t,
+		"long rows", 0, "volumes 100, attachments 0, next number 101, format 2\n", "")
+	if got := runOnce(t, "", "--export", cluster.Endpoints()); got.status != 0 || len(got.stdout) < 100*101*1000*2 {
+		t.Errorf("got status %d, %d bytes, %s, want all rows", got.status, len(got.stdout), got.stderr)
 	}
 	cluster.Ctl(t, "del", "--prefix", name+"/")
-	moves(t, firstRow+long(2, 400000)+metaRow, "--import", cluster.Endpoints()).wants(t, "a row that is too long", 1, "",
-		"csid-etcd: --import: volumes/00000000000000000002: etcdserver: request is too large; 1 of 3 rows were written: remove them, and start again ("+cluster.Endpoints()+")\n")
+	runOnce(t, firstRow+long(2, 400000)+metaRow, "--import", cluster.Endpoints()).check(t, "a row that is too long", 1,
+		"",
+		"csid-etcd: --import: volumes/00000000000000000002: etcdserver: request is too large; 1 of 3 rows were "+
+			"written: remove them, and start again ("+cluster.Endpoints()+")\n")
 }

@@ -6,17 +6,18 @@ import (
 	"testing"
 )
 
-// proxy is between a csid-etcd and a member of etcd, and hands bytes on, unless it is asked otherwise.
+// proxy forwards bytes between csid-etcd and a member of etcd. It can pause, or drop clients'
+// bytes.
 type proxy struct {
 	listener net.Listener
 	member   string
 	mutex    sync.Mutex
 	changed  *sync.Cond
-	// Whether nothing is handed on.
-	isHeld bool
-	// Whether what comes of clients is dropped.
-	isDeaf bool
-	conns  []net.Conn
+	// If set, no bytes are forwarded.
+	isPaused bool
+	// If set, bytes from clients are dropped.
+	dropsClient bool
+	conns       []net.Conn
 }
 
 func newProxy(t *testing.T, member string) *proxy {
@@ -29,7 +30,7 @@ func newProxy(t *testing.T, member string) *proxy {
 	p.changed = sync.NewCond(&p.mutex)
 	t.Cleanup(func() {
 		listener.Close()
-		p.set(func() { p.isHeld = false })
+		p.set(func() { p.isPaused = false })
 		p.cut()
 	})
 	go p.run()
@@ -55,7 +56,8 @@ func (p *proxy) run() {
 	}
 }
 
-// hand hands bytes on in one direction. What comes while the proxy holds waits, and what comes of a client while it is deaf is dropped.
+// hand forwards bytes in one direction. They wait while the proxy is paused, and are dropped if
+// dropsClient is set and they come from a client.
 func (p *proxy) hand(from, to net.Conn, isOfClient bool) {
 	var waiting [][]byte
 	isOver := false
@@ -63,7 +65,7 @@ func (p *proxy) hand(from, to net.Conn, isOfClient bool) {
 		defer to.Close()
 		for {
 			p.mutex.Lock()
-			for !isOver && (p.isHeld || len(waiting) == 0) {
+			for !isOver && (p.isPaused || len(waiting) == 0) {
 				p.changed.Wait()
 			}
 			parts := waiting
@@ -83,7 +85,7 @@ func (p *proxy) hand(from, to net.Conn, isOfClient bool) {
 		p.set(func() {
 			if err != nil {
 				isOver = true
-			} else if !p.isDeaf || !isOfClient {
+			} else if !p.dropsClient || !isOfClient {
 				waiting = append(waiting, part[:size])
 			}
 		})
@@ -101,10 +103,10 @@ func (p *proxy) set(change func()) {
 	p.changed.Broadcast()
 }
 
-func (p *proxy) hold()  { p.set(func() { p.isHeld = true }) }
-func (p *proxy) letGo() { p.set(func() { p.isHeld, p.isDeaf = false, false }) }
+func (p *proxy) pause()  { p.set(func() { p.isPaused = true }) }
+func (p *proxy) resume() { p.set(func() { p.isPaused, p.dropsClient = false, false }) }
 
-// cut ends all connections.
+// cut closes all connections.
 func (p *proxy) cut() {
 	p.mutex.Lock()
 	defer p.mutex.Unlock()

@@ -15,87 +15,109 @@ import (
 	"./clusters"
 )
 
-// volumeRow and attachmentRow are rows as they are in etcd: a key without the name of the plugin, and a value.
-func volumeRow(number int, called string, mebibytes int, pool, caps, params string) [2]string {
-	return [2]string{fmt.Sprintf("volumes/%020d", number), fmt.Sprintf(`{"name":"%s","bytes":%d,"pool":"%s","caps":"%s","params":"%s"}`, called, mebibytes<<20, pool, caps, params)}
+// volumeRow and attachmentRow return a row of etcd: a key without the plugin's name, and a value.
+func volumeRow(number int, volumeName string, mebibytes int, pool, caps, params string) [2]string {
+	return [2]string{fmt.Sprintf("volumes/%020d", number),
+		fmt.Sprintf(`{"name":"%s","bytes":%d,"pool":"%s","caps":"%s","params":"%s"}`, volumeName, mebibytes<<20, pool,
+			caps, params)}
 }
 
 func attachmentRow(number int, node, cap string) [2]string {
 	return [2]string{fmt.Sprintf("attachments/%020d/%s", number, node), fmt.Sprintf(`{"cap":"%s","readonly":0}`, cap)}
 }
 
-// Rows in etcd that break a rule of docs/TABLES.md are refused by csid as those of a file are, with the row named, and nobody is answered; once they
-// are mended csid serves, without a start.
-func TestRowsThatBreakRules(t *testing.T) {
-	t.Parallel()
+// ruleCase is a meta row with the next number, further rows, and csid's reason to refuse them.
+type ruleCase struct {
+	next int
+	rows [][2]string
+	want string
+}
+
+// store replaces the rows in etcd by those of the case.
+func (c ruleCase) store(t *testing.T, client *clientv3.Client) {
+	t.Helper()
+	ops := []clientv3.Op{clientv3.OpPut(name+"/meta", fmt.Sprintf(`{"format_no":2,"next_number":%d}`, c.next))}
+	for _, row := range c.rows {
+		ops = append(ops, clientv3.OpPut(name+"/"+row[0], row[1]))
+	}
+	clean(t, client)
+	if _, err := client.Txn(context.Background()).Then(ops...).Commit(); err != nil {
+		t.Fatal(err)
+	}
+}
+
+func ruleCases() []ruleCase {
 	const (
 		single = "1a060a001a020801"
 		none   = ""
 	)
 	a := volumeRow(1, "a", 1, "p1", single, none)
-	table := []struct {
-		next int
-		rows [][2]string
-		want string
-	}{
-		{0, nil, "the next number is not 1 to 2^62"},
-		{2, [][2]string{volumeRow(2, "a", 1, "p1", single, none)}, "volume 2: its number is not from 1 to below the next number"},
-		{2, [][2]string{volumeRow(1, "", 1, "p1", single, none)}, "volume 1: its name is not one that a volume can be made with"},
-		{2, [][2]string{volumeRow(1, "a", 1, "p2", single, none)}, "volume 1: its pool is not one of the configuration"},
-		{2, [][2]string{volumeRow(1, "a", 0, "p1", single, none)}, "volume 1: its bytes are not a positive multiple of 1048576"},
-		{3, [][2]string{volumeRow(1, "a", 21, "p1", single, none), volumeRow(2, "b", 20, "p1", single, none)}, "pool p1: its volumes have more bytes than it has"},
-		{2, [][2]string{volumeRow(1, "a", 1, "p1", "1a040a001a00", none)}, "volume 1: its caps are not the bytes of supported capabilities in order"},
-		{2, [][2]string{volumeRow(1, "a", 1, "p1", single, "0a0161")}, "volume 1: its params are not the bytes of parameters of at most 4096 bytes"},
-		{2, [][2]string{a, attachmentRow(1, "n1", none)}, "volume 1 at node n1: its cap is not the bytes of one supported capability"},
-		{2, [][2]string{a, attachmentRow(1, "n3", single)}, "volume 1 at node n3: its node is not one of the configuration"},
-		{2, [][2]string{attachmentRow(1, "n1", single)}, "volume 1 at node n1: no volume of its number has its capability"},
-		{2, [][2]string{a, attachmentRow(1, "n1", single), attachmentRow(1, "n2", single)},
-			"volume 1 at node n2: the volume is attached at another node too, and the two cannot have it together"},
-		{3, [][2]string{a, volumeRow(2, "a", 1, "p1", single, none)}, "volume 2: UNIQUE constraint failed"},
-	}
 	full := [][2]string{}
 	for i := 1; i <= 13; i++ {
 		full = append(full, volumeRow(i, fmt.Sprint("v", i), 1, "p1", single, none), attachmentRow(i, "n1", single))
 	}
-	table = append(table, struct {
-		next int
-		rows [][2]string
-		want string
-	}{14, full, "node n1: more volumes are attached there than it can have"})
+	return []ruleCase{
+		{0, nil, "the next number is not 1 to 2^62"},
+		{2, [][2]string{volumeRow(2, "a", 1, "p1", single, none)},
+			"volume 2: its number is not from 1 to below the next number"},
+		{2, [][2]string{volumeRow(1, "", 1, "p1", single, none)},
+			"volume 1: its name is not one that a volume can be made with"},
+		{2, [][2]string{volumeRow(1, "a", 1, "p2", single, none)},
+			"volume 1: its pool is not one of the configuration"},
+		{2, [][2]string{volumeRow(1, "a", 0, "p1", single, none)},
+			"volume 1: its bytes are not a positive multiple of 1048576"},
+		{3, [][2]string{volumeRow(1, "a", 21, "p1", single, none), volumeRow(2, "b", 20, "p1", single, none)},
+			"pool p1: its volumes have more bytes than it has"},
+		{2, [][2]string{volumeRow(1, "a", 1, "p1", "1a040a001a00", none)},
+			"volume 1: its caps are not the bytes of supported capabilities in order"},
+		{2, [][2]string{volumeRow(1, "a", 1, "p1", single, "0a0161")},
+			"volume 1: its params are not the bytes of parameters of at most 4096 bytes"},
+		{2, [][2]string{a, attachmentRow(1, "n1", none)},
+			"volume 1 at node n1: its cap is not the bytes of one supported capability"},
+		{2, [][2]string{a, attachmentRow(1, "n3", single)},
+			"volume 1 at node n3: its node is not one of the configuration"},
+		{2, [][2]string{attachmentRow(1, "n1", single)},
+			"volume 1 at node n1: no volume of its number has its capability"},
+		{2, [][2]string{a, attachmentRow(1, "n1", single), attachmentRow(1, "n2", single)},
+			"volume 1 at node n2: the volume is attached at another node too, and the two cannot have it together"},
+		{3, [][2]string{a, volumeRow(2, "a", 1, "p1", single, none)}, "volume 2: UNIQUE constraint failed"},
+		{14, full, "node n1: more volumes are attached there than it can have"},
+	}
+}
+
+// csid refuses rows in etcd that break a rule of docs/TABLES.md as it refuses those of a file: it
+// names the row and answers no call. Once they are fixed, it serves without a restart.
+func TestRowsThatBreakRules(t *testing.T) {
+	t.Parallel()
 	cluster := clusters.Start(t, 1)
-	client, ctx := cluster.Client(t), context.Background()
+	client := cluster.Client(t)
 	s := newStack(t, "a", cluster.Endpoints())
-	s.startLog(t)
-	program{s.log}.leads(t)
-	for i, row := range table {
-		ops := []clientv3.Op{clientv3.OpPut(name+"/meta", fmt.Sprintf(`{"format_no":2,"next_number":%d}`, row.next))}
-		for _, stored := range row.rows {
-			ops = append(ops, clientv3.OpPut(name+"/"+stored[0], stored[1]))
-		}
-		clean(t, client)
-		if _, err := client.Txn(ctx).Then(ops...).Commit(); err != nil {
-			t.Fatal(err)
-		}
-		// From its start on it reads the rows for each connection, since none of them were taken. What it says at its start it does not say again.
-		before := 0
-		if i == 0 {
-			s.startCsid(t)
-			s.csid.Answers(t)
-		} else {
-			before = len(s.csid.Log.String())
-		}
-		if got := ask(t, s.path("csid.sock")); got != "" {
-			t.Errorf("%s: csid answered %x", row.want, got)
-		}
-		want := "csid: " + s.path("log.sock") + ": " + row.want + "\n"
-		processes.Eventually(t, want, func() bool { return strings.HasSuffix(s.csid.Log.String()[before:], want) })
+	s.startStore(t)
+	program{s.store}.waitLeading(t)
+	cases := ruleCases()
+	cases[0].store(t, client)
+	s.startCsid(t)
+	s.csid.Answers(t)
+	for i, c := range cases {
+		t.Run(c.want, func(t *testing.T) {
+			// csid reported the first case at its start, and does not repeat that line. It reads
+			// the rows again for each connection while it refuses them.
+			before := 0
+			if i > 0 {
+				before = len(s.csid.Log.String())
+				c.store(t, client)
+			}
+			if got := ask(t, s.path("csid.sock")); got != "" {
+				t.Errorf("got the reply %x, want none", got)
+			}
+			want := "csid: " + s.path("log.sock") + ": " + c.want + "\n"
+			processes.Eventually(t, want, func() bool { return strings.HasSuffix(s.csid.Log.String()[before:], want) })
+		})
 	}
 	clean(t, client)
-	if _, err := client.Put(ctx, name+"/meta", `{"format_no":2,"next_number":7}`); err != nil {
-		t.Fatal(err)
-	}
+	put(t, client, name+"/meta", `{"format_no":2,"next_number":7}`)
 	if got := ask(t, s.path("csid.sock")); !strings.HasPrefix(got, "\x00") {
-		t.Errorf("mended: csid answered %x", got)
+		t.Errorf("fixed rows: got the reply %x, want OK", got)
 	}
 }
 
@@ -109,7 +131,7 @@ func clean(t *testing.T, client *clientv3.Client) {
 	}
 }
 
-// ask is what csid replies to a Probe on a connection of its own.
+// ask sends a Probe to csid over a new connection and returns the bytes of the reply.
 func ask(t *testing.T, socket string) string {
 	t.Helper()
 	peer, err := net.Dial("unix", socket)

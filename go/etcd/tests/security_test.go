@@ -23,7 +23,7 @@ import (
 	"./clusters"
 )
 
-// authority signs certificates, and keeps all in a folder.
+// authority signs certificates and keeps them in a folder.
 type authority struct {
 	folder string
 	cert   *x509.Certificate
@@ -34,29 +34,30 @@ type authority struct {
 func newAuthority(t *testing.T) *authority {
 	t.Helper()
 	a := &authority{folder: processes.Folder(t)}
-	a.cert, a.key = a.sign(t, "ca", &x509.Certificate{IsCA: true, BasicConstraintsValid: true, KeyUsage: x509.KeyUsageCertSign})
+	a.cert, a.key = a.sign(t, "ca", &x509.Certificate{IsCA: true, BasicConstraintsValid: true,
+		KeyUsage: x509.KeyUsageCertSign})
 	return a
 }
 
 func (a *authority) path(name string) string { return filepath.Join(a.folder, name) }
 
 // sign makes a certificate for loopback, and its key, as the files NAME.pem and NAME.key.
-func (a *authority) sign(t *testing.T, name string, asked *x509.Certificate) (*x509.Certificate, *ecdsa.PrivateKey) {
+func (a *authority) sign(t *testing.T, name string, request *x509.Certificate) (*x509.Certificate, *ecdsa.PrivateKey) {
 	t.Helper()
 	a.count++
-	asked.SerialNumber = big.NewInt(a.count)
-	asked.Subject = pkix.Name{CommonName: name}
-	asked.NotBefore, asked.NotAfter = time.Now().Add(-time.Hour), time.Now().Add(time.Hour)
-	asked.IPAddresses = []net.IP{net.IPv4(127, 0, 0, 1)}
+	request.SerialNumber = big.NewInt(a.count)
+	request.Subject = pkix.Name{CommonName: name}
+	request.NotBefore, request.NotAfter = time.Now().Add(-time.Hour), time.Now().Add(time.Hour)
+	request.IPAddresses = []net.IP{net.IPv4(127, 0, 0, 1)}
 	key, err := ecdsa.GenerateKey(elliptic.P256(), rand.Reader)
 	if err != nil {
 		t.Fatal(err)
 	}
-	parent, signer := asked, key
+	parent, signer := request, key
 	if a.cert != nil {
 		parent, signer = a.cert, a.key
 	}
-	der, err := x509.CreateCertificate(rand.Reader, asked, parent, &key.PublicKey, signer)
+	der, err := x509.CreateCertificate(rand.Reader, request, parent, &key.PublicKey, signer)
 	if err != nil {
 		t.Fatal(err)
 	}
@@ -86,68 +87,72 @@ func (a *authority) client(t *testing.T, name string) []string {
 	return []string{"--cacert", a.path("ca.pem"), "--cert", a.path(name + ".pem"), "--key", a.path(name + ".key")}
 }
 
-// secure starts a cluster that speaks TLS and wants certificates of clients.
-func secure(t *testing.T, a *authority, count int) *clusters.Cluster {
+// startSecure starts a cluster with TLS that verifies the certificates of clients.
+func startSecure(t *testing.T, a *authority, count int) *clusters.Cluster {
 	t.Helper()
-	a.sign(t, "etcd", &x509.Certificate{ExtKeyUsage: []x509.ExtKeyUsage{x509.ExtKeyUsageServerAuth, x509.ExtKeyUsageClientAuth}})
-	c := clusters.New(t, count, clusters.Settings{IsSecure: true, Words: []string{"--client-cert-auth", "--trusted-ca-file", a.path("ca.pem"),
-		"--cert-file", a.path("etcd.pem"), "--key-file", a.path("etcd.key")}})
-	c.Words = a.client(t, "root")
+	a.sign(t, "etcd", &x509.Certificate{ExtKeyUsage: []x509.ExtKeyUsage{x509.ExtKeyUsageServerAuth,
+		x509.ExtKeyUsageClientAuth}})
+	c := clusters.New(t, count, clusters.Settings{IsSecure: true,
+		Args: []string{"--client-cert-auth", "--trusted-ca-file", a.path("ca.pem"),
+			"--cert-file", a.path("etcd.pem"), "--key-file", a.path("etcd.key")}})
+	c.Args = a.client(t, "root")
 	c.StartAll(t)
 	processes.Eventually(t, "etcd with TLS", func() bool { return c.Try("endpoint", "health") == nil })
 	return c
 }
 
-// Members are reached by TLS with a certificate, and by nothing else.
+// Members accept TLS with a valid certificate, and nothing else.
 func TestTLS(t *testing.T) {
 	t.Parallel()
 	a := newAuthority(t)
-	cluster := secure(t, a, 3)
-	words := a.client(t, "csid")
-	p := start(t, cluster.Endpoints(), words...).leads(t)
+	cluster := startSecure(t, a, 3)
+	args := a.client(t, "csid")
+	p := start(t, cluster.Endpoints(), args...).waitLeading(t)
 	l := p.dial(t)
-	l.wants(t, makePath, "", codes.OK, "")
-	l.commits(t, addVolume(1, "a"))
-	plain := start(t, strings.ReplaceAll(cluster.Endpoints(), "https://", ""), append(words, "--timeout", "1s")...)
-	plain.says(t, "csid-etcd: waits for the lock, which ")
+	l.wantReply(t, makePath, "", codes.OK, "")
+	l.mustCommit(t, addVolume(1, "a"))
+	plain := start(t, strings.ReplaceAll(cluster.Endpoints(), "https://", ""), append(args, "--timeout", "1s")...)
+	plain.waitLog(t, "csid-etcd: waits for the lock, which ")
 	others := newAuthority(t)
 	own := others.client(t, "csid")
 	const unknown = `its certificate "CN=etcd" until %s is refused: x509: signed by unknown authority "CN=ca"`
 	for name, row := range map[string]struct {
-		words []string
-		why   string
+		args []string
+		why  string
 	}{
-		"no certificate":                     {words[:2], "it refuses no certificate: tls: "},
-		"a certificate of another authority": {append(words[:2:2], own[2:]...), `it refuses --cert "CN=csid" until %s: tls: `},
-		"another authority":                  {own, unknown},
-		"an etcd of another authority":       {append(own[:2:2], words[2:]...), unknown},
+		"no certificate": {args[:2], "it refuses no certificate: tls: "},
+		"a certificate of another authority": {append(args[:2:2], own[2:]...),
+			`it refuses --cert "CN=csid" until %s: tls: `},
+		"another authority":            {own, unknown},
+		"an etcd of another authority": {append(own[:2:2], args[2:]...), unknown},
 	} {
-		t.Run(name, func(t *testing.T) { refusedByTLS(t, cluster, row.words, row.why) })
+		t.Run(name, func(t *testing.T) { wantTLSRefusal(t, cluster, row.args, row.why) })
 	}
-	// Files that are not there yet are waited for.
+	// A program waits for missing files.
 	missing := start(t, cluster.Endpoints(), "--cacert", a.path("later.pem"))
-	missing.says(t, "csid-etcd: no lock: --cacert: open "+a.path("later.pem")+": no such file or directory")
+	missing.waitLog(t, "csid-etcd: no lock: --cacert: open "+a.path("later.pem")+": no such file or directory")
 }
 
-// refusedByTLS wants that a program waits for the lock, and that its line says of which member and
-// which certificate.
-func refusedByTLS(t *testing.T, cluster *clusters.Cluster, words []string, why string) {
+// wantTLSRefusal checks that a program waits for the lock, and that its line names the member and
+// the certificate.
+func wantTLSRefusal(t *testing.T, cluster *clusters.Cluster, args []string, why string) {
 	t.Helper()
-	p := start(t, cluster.Endpoints(), append(words, "--timeout", "1s")...)
-	// The certificates of the test end within two hours.
+	p := start(t, cluster.Endpoints(), append(args, "--timeout", "1s")...)
+	// The end of a certificate differs from run to run.
 	why = regexp.QuoteMeta(why)
 	why = strings.ReplaceAll(why, "%s", `[0-9]{4}-[0-9]{2}-[0-9]{2}T[0-9:]{8}Z`)
 	line := regexp.MustCompile(`csid-etcd: no lock: .* \(.*https://127\.0\.0\.1:[0-9]+: ` + why)
-	processes.Eventually(t, "the certificate in "+line.String(), func() bool { return line.MatchString(p.Log.String()) })
+	processes.Eventually(t, "the certificate in "+line.String(),
+		func() bool { return line.MatchString(p.Log.String()) })
 	dialled := p.dial(t)
-	if reply, err := dialled.call(readPath, nil); err != nil || reply.Code != codes.FailedPrecondition || !strings.HasPrefix(reply.Text, "waiting for the lock: ") {
-		t.Errorf("%v, %v", reply, err)
+	if reply, err := dialled.call(readPath, nil); err != nil || reply.Code != codes.FailedPrecondition ||
+		!strings.HasPrefix(reply.Text, "waiting for the lock: ") {
+		t.Errorf("got %v, error %v, want a refusal for want of the lock", reply, err)
 	}
 }
 
-// Another authority takes the place of the first one, in the order of docs/ETCD.md, "Certificates":
-// the program leads on without a restart, also with a user, and says each time which certificates
-// are in use.
+// The authority is replaced in the order of docs/ETCD.md, "Certificates". The program, with or
+// without a user, leads all the time, and reports each time which certificates are in use.
 func TestRotation(t *testing.T) {
 	t.Parallel()
 	for _, withUser := range []bool{false, true} {
@@ -155,14 +160,14 @@ func TestRotation(t *testing.T) {
 		t.Run(map[bool]string{false: "by certificates", true: "by a password"}[withUser], func(t *testing.T) {
 			t.Parallel()
 			r := newRotation(t)
-			words := append([]string{"--lease", "60", "--timeout", "20s"}, r.words...)
+			args := append([]string{"--lease", "60", "--timeout", "20s"}, r.args...)
 			if withUser {
-				r.addUser(t)
-				words = append(words, "--user", "csid:first")
+				addUser(t, r.cluster)
+				args = append(args, "--user", "csid:first")
 			}
-			p := start(t, r.cluster.Endpoints(), words...).leads(t)
+			p := start(t, r.cluster.Endpoints(), args...).waitLeading(t)
 			l := p.dial(t)
-			l.wants(t, makePath, "", codes.OK, "")
+			l.wantReply(t, makePath, "", codes.OK, "")
 			for i, step := range []func(){
 				func() { r.trust(t, r.first, r.second) },
 				func() { r.replace(t, "etcd"); r.replace(t, "csid"); r.replace(t, "root") },
@@ -170,40 +175,41 @@ func TestRotation(t *testing.T) {
 			} {
 				step()
 				r.restart(t)
-				l.commits(t, addVolume(uint64(i+1), fmt.Sprint("a", i)))
+				l.mustCommit(t, addVolume(uint64(i+1), fmt.Sprint("a", i)))
 			}
-			said := p.Log.String()
-			if strings.Count(said, "leads, from revision ") != 1 || strings.Contains(said, "leads no more") {
-				t.Errorf("it did not lead all the time: %s", said)
+			lines := p.Log.String()
+			if strings.Count(lines, "leads, from revision ") != 1 || strings.Contains(lines, "leads no more") {
+				t.Errorf("got another term, want one: %s", lines)
 			}
-			p.says(t, `csid-etcd: certificates: --cert "CN=csid" until `)
-			if got := strings.Count(said, "csid-etcd: certificates: "); got < 4 {
-				t.Errorf("%d lines of certificates: %s", got, said)
+			p.waitLog(t, `csid-etcd: certificates: --cert "CN=csid" until `)
+			if got := strings.Count(lines, "csid-etcd: certificates: "); got < 4 {
+				t.Errorf("got %d lines of certificates, want 4 or more: %s", got, lines)
 			}
 		})
 	}
 }
 
-// rotation is an etcd whose authority is replaced. Its files are in the folder of the first one:
-// all that trust an authority read one file, which is that of etcd's --trusted-ca-file too.
+// rotation is an etcd whose authority is replaced. All files are in the folder of the first
+// authority. Clients and etcd read the same file of trusted authorities.
 type rotation struct {
 	first, second *authority
 	cluster       *clusters.Cluster
-	words         []string
+	args          []string
 }
 
 func newRotation(t *testing.T) *rotation {
 	t.Helper()
 	r := &rotation{first: newAuthority(t), second: newAuthority(t)}
-	r.cluster = secure(t, r.first, 1)
-	r.words = r.first.client(t, "csid")
+	r.cluster = startSecure(t, r.first, 1)
+	r.args = r.first.client(t, "csid")
 	for _, name := range []string{"etcd", "csid", "root"} {
-		r.second.sign(t, name, &x509.Certificate{ExtKeyUsage: []x509.ExtKeyUsage{x509.ExtKeyUsageServerAuth, x509.ExtKeyUsageClientAuth}})
+		r.second.sign(t, name, &x509.Certificate{ExtKeyUsage: []x509.ExtKeyUsage{x509.ExtKeyUsageServerAuth,
+			x509.ExtKeyUsageClientAuth}})
 	}
 	return r
 }
 
-// trust makes the file of authorities.
+// trust writes the file of trusted authorities.
 func (r *rotation) trust(t *testing.T, trusted ...*authority) {
 	t.Helper()
 	var all []byte
@@ -229,8 +235,7 @@ func (r *rotation) replace(t *testing.T, name string) {
 	}
 }
 
-// restart ends the member, which reads its file of authorities at its start alone, and starts it
-// again.
+// restart restarts the member, which reads its trusted authorities only at its start.
 func (r *rotation) restart(t *testing.T) {
 	t.Helper()
 	r.cluster.Members[0].Kill()
@@ -238,102 +243,132 @@ func (r *rotation) restart(t *testing.T) {
 	processes.Eventually(t, "etcd after its start", func() bool { return r.cluster.Try("endpoint", "health") == nil })
 }
 
-// addUser adds a user with a password, and enables authentication.
-func (r *rotation) addUser(t *testing.T) {
+// addUser adds a user who may read and write the rows of the plugin, and enables authentication.
+func addUser(t *testing.T, cluster *clusters.Cluster) {
 	t.Helper()
-	for _, words := range [][]string{
-		{"user", "add", "root:secret"}, {"role", "add", "csid"}, {"role", "grant-permission", "csid", "readwrite", name + "/", "--prefix"},
-		{"user", "add", "csid:first"}, {"user", "grant-role", "csid", "csid"}, {"auth", "enable"},
+	for _, args := range [][]string{
+		{"user", "add", "root:secret"},
+		{"role", "add", "csid"},
+		{"role", "grant-permission", "csid", "readwrite", name + "/", "--prefix"},
+		{"user", "add", "csid:first"},
+		{"user", "grant-role", "csid", "csid"},
+		{"auth", "enable"},
 	} {
-		r.cluster.Ctl(t, words...)
+		cluster.Ctl(t, args...)
 	}
 }
 
-// A user whose role may read and write below NAME/ has all rights that the program needs, with a password of a file that may change.
+// userCluster is an etcd with a user, and a file with that user's password.
+type userCluster struct {
+	*clusters.Cluster
+	password string
+}
+
+func newUserCluster(t *testing.T) *userCluster {
+	t.Helper()
+	cluster := clusters.Start(t, 1)
+	addUser(t, cluster)
+	cluster.Args = []string{"--user", "root:secret"}
+	return &userCluster{cluster, filepath.Join(processes.Folder(t), "password")}
+}
+
+// args are the arguments of a csid-etcd with the user.
+func (u *userCluster) args(more ...string) []string {
+	return append([]string{"--user", "csid", "--password-file", u.password}, more...)
+}
+
+// write writes the file of the password.
+func (u *userCluster) write(t *testing.T, text string) {
+	t.Helper()
+	if err := os.WriteFile(u.password, []byte(text), 0o600); err != nil {
+		t.Fatal(err)
+	}
+}
+
+// refused is the end of a line about a refused password.
+func (u *userCluster) refused() string {
+	return "etcdserver: authentication failed, invalid user ID or password (" + u.Endpoints() + ")\n"
+}
+
+// A user with a role that may read and write below NAME/ has all rights that the program needs.
 func TestUser(t *testing.T) {
 	t.Parallel()
-	cluster := clusters.Start(t, 1)
-	password := filepath.Join(processes.Folder(t), "password")
-	write := func(text string) {
-		t.Helper()
-		if err := os.WriteFile(password, []byte(text), 0o600); err != nil {
-			t.Fatal(err)
-		}
-	}
-	cluster.Ctl(t, "user", "add", "root:secret")
-	cluster.Ctl(t, "role", "add", "csid")
-	cluster.Ctl(t, "role", "grant-permission", "csid", "readwrite", name+"/", "--prefix")
-	cluster.Ctl(t, "user", "add", "csid:first")
-	cluster.Ctl(t, "user", "grant-role", "csid", "csid")
-	cluster.Ctl(t, "auth", "enable")
-	cluster.Words = []string{"--user", "root:secret"}
-	write("wrong\n")
-	p := start(t, cluster.Endpoints(), "--user", "csid", "--password-file", password, "--lease", "3")
-	p.says(t, "csid-etcd: no lock: etcdserver: authentication failed, invalid user ID or password ("+cluster.Endpoints()+")\n")
-	write("first\n")
-	p.leads(t)
+	u := newUserCluster(t)
+	u.write(t, "wrong\n")
+	p := start(t, u.Endpoints(), u.args("--lease", "3")...)
+	p.waitLog(t, "csid-etcd: no lock: "+u.refused())
+	u.write(t, "first\n")
+	p.waitLeading(t)
 	l := p.dial(t)
-	l.wants(t, makePath, "", codes.OK, "")
-	l.commits(t, addVolume(1, "a"))
-	l.commits(t, attach(1, "n", false))
-	l.refuses(t, removeVolume(1), codes.FailedPrecondition, "attachments/00000000000000000001/n is there")
-	l.commits(t, detachAll(1))
-	l.commits(t, setMutable(1, "\x42\x00"))
-	// What was granted is taken away, and given again. The first change after that shows that a token of before does.
-	cluster.Ctl(t, "role", "revoke-permission", "csid", name+"/", "--prefix")
-	l.refuses(t, addVolume(2, "b"), codes.Internal, "etcdserver: permission denied")
-	cluster.Ctl(t, "role", "grant-permission", "csid", "readwrite", name+"/", "--prefix")
-	l.commits(t, addVolume(2, "b"))
-	l.commits(t, removeVolume(1))
-	// A new password while nothing else ends a lease: the program that leads and one that waits take it from the file.
-	waiting := start(t, cluster.Endpoints(), "--user", "csid", "--password-file", password, "--lease", "600")
-	waiting.says(t, "csid-etcd: waits for the lock, which ")
+	l.wantReply(t, makePath, "", codes.OK, "")
+	l.mustCommit(t, addVolume(1, "a"))
+	l.mustCommit(t, attach(1, "n", false))
+	l.wantRefused(t, removeVolume(1), codes.FailedPrecondition, "attachments/00000000000000000001/n is there")
+	l.mustCommit(t, detachAll(1))
+	l.mustCommit(t, setMutable(1, "\x42\x00"))
+	// The right is revoked, and granted again. The next change shows that the earlier token still
+	// works.
+	u.Ctl(t, "role", "revoke-permission", "csid", name+"/", "--prefix")
+	l.wantRefused(t, addVolume(2, "b"), codes.Internal, "etcdserver: permission denied")
+	u.Ctl(t, "role", "grant-permission", "csid", "readwrite", name+"/", "--prefix")
+	l.mustCommit(t, addVolume(2, "b"))
+	l.mustCommit(t, removeVolume(1))
+	u.changePassword(t, p)
+	// The role may also release the lock.
+	wantEnd(t, p)
+	if got := u.Ctl(t, "get", "--prefix", name+"/lock/"); got != "" {
+		t.Errorf("got the lock %s, want none", got)
+	}
+	u.move(t)
+}
+
+// changePassword changes the password twice: while nothing else ends a lease, and together with a
+// restart of etcd, which forgets all tokens. p leads, and takes each password from the file, as
+// does a program that waits.
+func (u *userCluster) changePassword(t *testing.T, p program) {
+	t.Helper()
+	waiting := start(t, u.Endpoints(), u.args("--lease", "600")...)
+	waiting.waitLog(t, "csid-etcd: waits for the lock, which ")
 	before := len(p.Log.String())
-	cluster.Type(t, "between\n", "user", "passwd", "csid", "--interactive=false")
-	p.says(t, "csid-etcd: leads no more: etcdserver: authentication failed, invalid user ID or password ("+cluster.Endpoints()+")\n")
-	waiting.says(t, "csid-etcd: no lock: etcdserver: authentication failed, invalid user ID or password ("+cluster.Endpoints()+")\n")
+	u.Type(t, "between\n", "user", "passwd", "csid", "--interactive=false")
+	p.waitLog(t, "csid-etcd: leads no more: "+u.refused())
+	waiting.waitLog(t, "csid-etcd: no lock: "+u.refused())
 	seen := len(waiting.Log.String())
-	write("between\n")
-	processes.Eventually(t, "that the other one stands for the lock again", func() bool {
-		said := waiting.Log.String()[seen:]
-		return strings.Contains(said, "waits for the lock, which ") || strings.Contains(said, "leads, from revision ")
+	u.write(t, "between\n")
+	processes.Eventually(t, "that the other one campaigns again", func() bool {
+		lines := waiting.Log.String()[seen:]
+		return strings.Contains(lines, "waits for the lock, which ") || strings.Contains(lines, "leads, from revision ")
 	})
-	waiting.Terminate(t)
-	if status := waiting.Status(t); status != 0 {
-		t.Errorf("it ended with %d", status)
-	}
-	p.leadsSince(t, before)
-	l = p.dial(t)
-	l.commits(t, attach(2, "m", false))
-	// Another one, and an etcd that knows no token of before.
+	wantEnd(t, waiting)
+	p.waitLeadingSince(t, before)
+	p.dial(t).mustCommit(t, attach(2, "m", false))
 	before = len(p.Log.String())
-	cluster.Type(t, "second\n", "user", "passwd", "csid", "--interactive=false")
-	cluster.Members[0].Kill()
-	cluster.Members[0].Start(t)
-	processes.Eventually(t, "that it leads no more", func() bool { return strings.Contains(p.Log.String()[before:], "leads no more: ") })
-	p.says(t, "csid-etcd: no lock: etcdserver: authentication failed, invalid user ID or password ("+cluster.Endpoints()+")\n")
-	write("second\n")
-	p.leadsSince(t, before)
-	l = p.dial(t)
-	l.commits(t, attach(2, "n", false))
-	// The lock is given back with the rights of that role.
-	p.Terminate(t)
-	if status := p.Status(t); status != 0 {
-		t.Errorf("it ended with %d", status)
+	u.Type(t, "second\n", "user", "passwd", "csid", "--interactive=false")
+	u.Members[0].Kill()
+	u.Members[0].Start(t)
+	processes.Eventually(t, "that it leads no more", func() bool {
+		return strings.Contains(p.Log.String()[before:], "leads no more: ")
+	})
+	p.waitLog(t, "csid-etcd: no lock: "+u.refused())
+	u.write(t, "second\n")
+	p.waitLeadingSince(t, before)
+	p.dial(t).mustCommit(t, attach(2, "n", false))
+}
+
+// move imports and exports rows with the rights of the role. With fewer rights the import is
+// refused.
+func (u *userCluster) move(t *testing.T) {
+	t.Helper()
+	u.Ctl(t, "del", "--prefix", name+"/")
+	runOnce(t, threeRows, "--import", u.Endpoints(), u.args()...).check(t, "an import by a user", 0, threeSaid, "")
+	if got := runOnce(t, "", "--export", u.Endpoints(), u.args()...); got.status != 0 || got.stdout != threeSQL {
+		t.Errorf("an export by a user: got %v, want %s", got, threeSQL)
 	}
-	if got := cluster.Ctl(t, "get", "--prefix", name+"/lock/"); got != "" {
-		t.Errorf("the lock: %s", got)
-	}
-	// Rows are moved with these rights too, and with less they are not.
-	words := []string{"--user", "csid", "--password-file", password}
-	cluster.Ctl(t, "del", "--prefix", name+"/")
-	moves(t, threeRows, "--import", cluster.Endpoints(), words...).wants(t, "an import by a user", 0, threeSaid, "")
-	if got := moves(t, "", "--export", cluster.Endpoints(), words...); got.status != 0 || got.said != threeSQL {
-		t.Errorf("an export by a user: %v", got)
-	}
-	cluster.Ctl(t, "del", "--prefix", name+"/")
-	cluster.Ctl(t, "role", "revoke-permission", "csid", name+"/", "--prefix")
-	cluster.Ctl(t, "role", "grant-permission", "csid", "read", name+"/", "--prefix")
-	moves(t, threeRows, "--import", cluster.Endpoints(), words...).wants(t, "an import by a user who may only read", 1, "",
-		"csid-etcd: --import: volumes/00000000000000000001: etcdserver: permission denied; nothing was written ("+cluster.Endpoints()+")\n")
+	u.Ctl(t, "del", "--prefix", name+"/")
+	u.Ctl(t, "role", "revoke-permission", "csid", name+"/", "--prefix")
+	u.Ctl(t, "role", "grant-permission", "csid", "read", name+"/", "--prefix")
+	runOnce(t, threeRows, "--import", u.Endpoints(), u.args()...).check(t, "an import by a user who may only read", 1,
+		"",
+		"csid-etcd: --import: volumes/00000000000000000001: etcdserver: permission denied; nothing was written ("+
+			u.Endpoints()+")\n")
 }

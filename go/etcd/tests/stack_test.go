@@ -27,7 +27,7 @@ import (
 	"./clusters"
 )
 
-// A pool in which the volumes of all callers have no room together, and nodes on which there is little.
+// The pool is too small for the volumes of all callers, and the nodes have little room.
 const (
 	poolMebibytes = 40
 	configuration = `name = "example.fomaheti"
@@ -49,19 +49,19 @@ max_volumes = 12
 `
 )
 
-// stack is a csid-etcd, a csid before it and a front before that, which are killed and started again.
+// stack is a csid-etcd with its csid and its front, which are killed and started again.
 type stack struct {
 	name      string
 	folder    string
 	endpoints string
-	log       *processes.Process
+	store     *processes.Process
 	csid      *processes.Process
 	front     *processes.Process
 }
 
-func newStack(t *testing.T, called, endpoints string) *stack {
+func newStack(t *testing.T, volumeName, endpoints string) *stack {
 	t.Helper()
-	s := &stack{name: called, folder: processes.Folder(t), endpoints: endpoints}
+	s := &stack{name: volumeName, folder: processes.Folder(t), endpoints: endpoints}
 	if err := os.WriteFile(s.path("config.toml"), []byte(configuration), 0o600); err != nil {
 		t.Fatal(err)
 	}
@@ -70,36 +70,40 @@ func newStack(t *testing.T, called, endpoints string) *stack {
 
 func (s *stack) path(name string) string { return filepath.Join(s.folder, name) }
 
-func (s *stack) startLog(t *testing.T) {
+func (s *stack) startStore(t *testing.T) {
 	t.Helper()
-	s.log = startAt(t, s.path("log.sock"), s.endpoints, append(shortLease, "--id", s.name, "--revision", s.path("revision"))...).Process
+	s.store = startAt(t, s.path("log.sock"), s.endpoints,
+		append(shortLease, "--id", s.name, "--revision", s.path("revision"))...).Process
 }
 
 func (s *stack) startCsid(t *testing.T) {
 	t.Helper()
-	// No csid takes the socket of another one over.
+	// csid does not replace the socket of an earlier process.
 	os.Remove(s.path("csid.sock"))
-	s.csid = processes.Start(t, s.path("csid.sock"), exec.Command(processes.CsidProgram(t), "serve", "--socket", s.path("csid.sock"), "--log", s.path("log.sock"), "--config", s.path("config.toml")))
+	s.csid = processes.Start(t, s.path("csid.sock"),
+		exec.Command(processes.CsidProgram(t), "serve", "--socket", s.path("csid.sock"), "--log", s.path("log.sock"),
+			"--config", s.path("config.toml")))
 }
 
 func (s *stack) startFront(t *testing.T) {
 	t.Helper()
-	s.front = processes.Start(t, s.path("csi.sock"), exec.Command(processes.FrontProgram(t), "--csid", s.path("csid.sock"), "--listen", s.path("csi.sock")))
+	s.front = processes.Start(t, s.path("csi.sock"),
+		exec.Command(processes.FrontProgram(t), "--csid", s.path("csid.sock"), "--listen", s.path("csi.sock")))
 }
 
 func (s *stack) start(t *testing.T) *stack {
 	t.Helper()
-	s.startLog(t)
+	s.startStore(t)
 	s.startCsid(t)
 	s.startFront(t)
 	return s
 }
 
-// revive starts again what has ended.
-func (s *stack) revive(t *testing.T) {
+// restartEnded starts the programs that have ended.
+func (s *stack) restartEnded(t *testing.T) {
 	t.Helper()
-	if hasEnded(s.log) {
-		s.startLog(t)
+	if hasEnded(s.store) {
+		s.startStore(t)
 	}
 	if hasEnded(s.csid) {
 		s.startCsid(t)
@@ -118,40 +122,41 @@ func hasEnded(p *processes.Process) bool {
 	}
 }
 
-// bytesCodec sends and receives messages as they are.
+// bytesCodec passes messages through as bytes.
 type bytesCodec struct{}
 
 func (bytesCodec) Marshal(v interface{}) ([]byte, error)      { return v.([]byte), nil }
 func (bytesCodec) Unmarshal(data []byte, v interface{}) error { *v.(*[]byte) = data; return nil }
 func (bytesCodec) Name() string                               { return "proto" }
 
-// fleet is both stacks before one etcd, and their callers.
+// fleet is two stacks over one etcd, and their callers.
 type fleet struct {
 	t       *testing.T
 	cluster *clusters.Cluster
 	stacks  []*stack
 	conns   []*grpc.ClientConn
-	// How many answers there were by their codes and texts, and when the call of the last OK was begun.
+	// The number of answers by code and text, and the time at which the last call with OK was sent.
 	mutex    sync.Mutex
 	answers  map[string]int
 	lastCall time.Time
-	// Ids that were given, by the names that they were given for.
-	given map[string]string
-	// Calls that were answered OK.
-	oks int64
+	// The name of each volume by its id.
+	ids map[string]string
+	// The number of calls with OK.
+	ok int64
 }
 
 func newFleet(t *testing.T) *fleet {
 	t.Helper()
-	f := &fleet{t: t, cluster: clusters.Start(t, 3), answers: map[string]int{}, given: map[string]string{}}
-	for _, called := range []string{"a", "b"} {
-		s := newStack(t, called, f.cluster.Endpoints()).start(t)
+	f := &fleet{t: t, cluster: clusters.Start(t, 3), answers: map[string]int{}, ids: map[string]string{}}
+	for _, volumeName := range []string{"a", "b"} {
+		s := newStack(t, volumeName, f.cluster.Endpoints()).start(t)
 		f.stacks = append(f.stacks, s)
 		dial := func(ctx context.Context, _ string) (net.Conn, error) {
 			return (&net.Dialer{}).DialContext(ctx, "unix", s.path("csi.sock"))
 		}
-		conn, err := grpc.Dial("passthrough:///"+called, grpc.WithInsecure(), grpc.WithContextDialer(dial),
-			grpc.WithDefaultCallOptions(grpc.ForceCodec(bytesCodec{})), grpc.WithConnectParams(grpc.ConnectParams{MinConnectTimeout: time.Second}))
+		conn, err := grpc.Dial("passthrough:///"+volumeName, grpc.WithInsecure(), grpc.WithContextDialer(dial),
+			grpc.WithDefaultCallOptions(grpc.ForceCodec(bytesCodec{})),
+			grpc.WithConnectParams(grpc.ConnectParams{MinConnectTimeout: time.Second}))
 		if err != nil {
 			t.Fatal(err)
 		}
@@ -161,7 +166,7 @@ func newFleet(t *testing.T) *fleet {
 	return f
 }
 
-// call makes a call, by the one front and the other, until the answer is not UNAVAILABLE.
+// call makes a call over both fronts in turn until the answer is not UNAVAILABLE.
 func (f *fleet) call(method string, message []byte) ([]byte, *status.Status) {
 	for i := 0; ; i++ {
 		ctx, cancel := context.WithTimeout(context.Background(), time.Minute)
@@ -187,7 +192,7 @@ func (f *fleet) note(method string, why *status.Status, begin time.Time) {
 	defer f.mutex.Unlock()
 	switch why.Code() {
 	case codes.OK:
-		f.oks++
+		f.ok++
 		if begin.After(f.lastCall) {
 			f.lastCall = begin
 		}
@@ -198,38 +203,38 @@ func (f *fleet) note(method string, why *status.Status, begin time.Time) {
 	}
 }
 
-// served reports whether a call was answered OK that was begun after a time.
-func (f *fleet) served(since time.Time) bool {
+// servedSince reports whether a call that was sent after a time was answered OK.
+func (f *fleet) servedSince(since time.Time) bool {
 	f.mutex.Lock()
 	defer f.mutex.Unlock()
 	return f.lastCall.After(since)
 }
 
-// give notes the id of a volume, which no other one has ever been given.
-func (f *fleet) give(id, called string) {
+// noteID notes the id of a volume. No other volume may ever have had it.
+func (f *fleet) noteID(id, volumeName string) {
 	f.mutex.Lock()
 	defer f.mutex.Unlock()
-	if before, is := f.given[id]; is && before != called {
-		f.t.Errorf("%s was given to %s, and then to %s", id, before, called)
+	if before, is := f.ids[id]; is && before != volumeName {
+		f.t.Errorf("got the id %s for %s, and then for %s", id, before, volumeName)
 	}
-	f.given[id] = called
+	f.ids[id] = volumeName
 }
 
-// holding is a volume of a caller: what it was answered.
-type holding struct{ called, id, node, params string }
+// heldVolume is a volume of a caller, as the replies describe it.
+type heldVolume struct{ volumeName, id, node, params string }
 
-// caller has some volumes that no other one touches, so what it was answered is what must be there.
+// caller has volumes that no other caller uses, so the replies determine what must be there.
 type caller struct {
 	*fleet
 	number  int
 	random  *rand.Rand
-	volumes []*holding
+	volumes []*heldVolume
 	made    int
 }
 
 var volumeID = regexp.MustCompile(`vol-[0-9]+`)
 
-// step makes one call that changes something, and notes what it was answered.
+// step makes one call that changes something, and notes the reply.
 func (c *caller) step() {
 	if len(c.volumes) == 0 || (len(c.volumes) < 7 && c.random.Intn(3) == 0) {
 		c.create()
@@ -242,24 +247,24 @@ func (c *caller) step() {
 	case what == 0:
 		value := strconv.Itoa(c.random.Intn(1000))
 		entry := text(text(nil, 1, "k"), 2, value)
-		if c.wants("ControllerModifyVolume", text(id, 3, string(entry))) {
+		if c.wantReply("ControllerModifyVolume", text(id, 3, string(entry))) {
 			v.params = fmt.Sprintf("%x", text(nil, 8, string(entry)))
 		}
 	case v.node == "" && what < 3:
 		node := []string{"n1", "n2"}[c.random.Intn(2)]
-		if c.wants("ControllerPublishVolume", text(text(id, 2, node), 3, block[2:]), "node is full") {
+		if c.wantReply("ControllerPublishVolume", text(text(id, 2, node), 3, block[2:]), "node is full") {
 			v.node = node
 		}
 	case v.node != "" && what < 4:
-		if c.wants("ControllerUnpublishVolume", text(id, 2, v.node)) {
+		if c.wantReply("ControllerUnpublishVolume", text(id, 2, v.node)) {
 			v.node = ""
 		}
 	case v.node == "":
-		if c.wants("DeleteVolume", id) {
+		if c.wantReply("DeleteVolume", id) {
 			c.volumes = append(c.volumes[:i], c.volumes[i+1:]...)
 		}
 	default:
-		if c.wants("DeleteVolume", id, "volume is in use") {
+		if c.wantReply("DeleteVolume", id, "volume is in use") {
 			c.t.Errorf("%s was deleted in use", v.id)
 		}
 	}
@@ -267,8 +272,8 @@ func (c *caller) step() {
 
 func (c *caller) create() {
 	c.made++
-	v := &holding{called: fmt.Sprintf("pvc-%d-%d", c.number, c.made)}
-	message := text(text(nil, 1, v.called), 3, block[2:])
+	v := &heldVolume{volumeName: fmt.Sprintf("pvc-%d-%d", c.number, c.made)}
+	message := text(text(nil, 1, v.volumeName), 3, block[2:])
 	for again := 0; again < 2; again++ {
 		body, why := c.call("CreateVolume", message)
 		if why.Code() == codes.ResourceExhausted && why.Message() == "no room in the topology" && again == 0 {
@@ -276,17 +281,17 @@ func (c *caller) create() {
 		}
 		id := string(volumeID.Find(body))
 		if why.Code() != codes.OK || id == "" || (again == 1 && id != v.id) {
-			c.t.Errorf("%s: %v %q, %q", v.called, why.Code(), why.Message(), id)
+			c.t.Errorf("%s: %v %q, %q", v.volumeName, why.Code(), why.Message(), id)
 			return
 		}
 		v.id = id
-		c.give(id, v.called)
+		c.noteID(id, v.volumeName)
 	}
 	c.volumes = append(c.volumes, v)
 }
 
-// wants makes a call that must be answered OK, or refused by one of these texts.
-func (c *caller) wants(method string, message []byte, refusals ...string) bool {
+// wantReply makes a call that must get OK or one of these refusals. It reports whether it got OK.
+func (c *caller) wantReply(method string, message []byte, refusals ...string) bool {
 	_, why := c.call(method, message)
 	if why.Code() == codes.OK {
 		return true
@@ -300,12 +305,14 @@ func (c *caller) wants(method string, message []byte, refusals ...string) bool {
 	return false
 }
 
-// standing is the rows that callers were answered, as keys and values of etcd.
-func standing(callers []*caller) (all []string) {
+// wantedRows returns the keys and values that must be in etcd after the replies.
+func wantedRows(callers []*caller) (all []string) {
 	for _, c := range callers {
 		for _, v := range c.volumes {
 			number, _ := strconv.Atoi(strings.TrimPrefix(v.id, "vol-"))
-			all = append(all, fmt.Sprintf(`volumes/%020d {"name":"%s","bytes":1048576,"pool":"p1","caps":"%x","params":"%s"}`, number, v.called, block, v.params))
+			all = append(all, fmt.Sprintf(`volumes/%020d `+
+				`{"name":"%s","bytes":1048576,"pool":"p1","caps":"%x","params":"%s"}`, number, v.volumeName, block,
+				v.params))
 			if v.node != "" {
 				all = append(all, fmt.Sprintf(`attachments/%020d/%s {"cap":"%x","readonly":0}`, number, v.node, block))
 			}
@@ -315,8 +322,8 @@ func standing(callers []*caller) (all []string) {
 	return all
 }
 
-// stored is the rows of etcd at one revision, but for meta; and the next number.
-func stored(client *clientv3.Client) (all []string, next int, err error) {
+// storedRows returns the rows of etcd at one revision except meta, and the next number.
+func storedRows(client *clientv3.Client) (all []string, next int, err error) {
 	ctx, cancel := context.WithTimeout(context.Background(), 5*time.Second)
 	defer cancel()
 	read, err := client.Get(ctx, name+"/", clientv3.WithPrefix())
@@ -337,15 +344,16 @@ func stored(client *clientv3.Client) (all []string, next int, err error) {
 	return all, next, nil
 }
 
-// watchRows looks at the rows again and again: at no revision is the pool overcommitted, a name twice there, a number above the next one, or an attachment
-// of no volume or next to another one.
-func watchRows(t *testing.T, client *clientv3.Client, ctx context.Context) (looks int) {
+// watchRows reads the rows again and again. At no revision may the pool be overcommitted, a name be
+// there twice, a number reach the next one, or an attachment have no volume or be a volume's second
+// one.
+func watchRows(t *testing.T, client *clientv3.Client, ctx context.Context) (checks int) {
 	for ; ctx.Err() == nil; time.Sleep(50 * time.Millisecond) {
-		all, next, err := stored(client)
+		all, next, err := storedRows(client)
 		if err != nil {
 			continue
 		}
-		looks++
+		checks++
 		names, volumes, attached := map[string]bool{}, map[string]bool{}, map[string]bool{}
 		for i := len(all) - 1; i >= 0; i-- {
 			key, value, _ := strings.Cut(all[i], " ")
@@ -362,7 +370,7 @@ func watchRows(t *testing.T, client *clientv3.Client, ctx context.Context) (look
 				continue
 			}
 			if !volumes[parts[1]] || attached[parts[1]] {
-				t.Errorf("%s: of no volume, or beside another one", all[i])
+				t.Errorf("%s: of no volume, or next to another one", all[i])
 			}
 			attached[parts[1]] = true
 		}
@@ -370,10 +378,10 @@ func watchRows(t *testing.T, client *clientv3.Client, ctx context.Context) (look
 			t.Errorf("the pool has %d MiB, and volumes of %d MiB", poolMebibytes, len(volumes))
 		}
 	}
-	return looks
+	return checks
 }
 
-// leader is the stack whose csid-etcd has the lock; nil where none is known.
+// leader returns the stack whose csid-etcd has the lock, or nil if none is known.
 func (f *fleet) leader(client *clientv3.Client) *stack {
 	ctx, cancel := context.WithTimeout(context.Background(), 2*time.Second)
 	defer cancel()
@@ -382,28 +390,29 @@ func (f *fleet) leader(client *clientv3.Client) *stack {
 		return nil
 	}
 	for _, s := range f.stacks {
-		if s.name == string(read.Kvs[0].Value) && !hasEnded(s.log) {
+		if s.name == string(read.Kvs[0].Value) && !hasEnded(s.store) {
 			return s
 		}
 	}
 	return nil
 }
 
-// kills is how many there are: a few in the gate.
+// kills returns the number of kills: a few in the gate.
 func kills(t *testing.T) int {
 	t.Helper()
-	said := os.Getenv("KILLS")
-	if said == "" {
+	stdout := os.Getenv("KILLS")
+	if stdout == "" {
 		return 10
 	}
-	count, err := strconv.Atoi(said)
+	count, err := strconv.Atoi(stdout)
 	if err != nil {
 		t.Fatal(err)
 	}
 	return count
 }
 
-// victim is what is killed: on its own, or so that the csid-etcd of its stack is asked to end, as a unit does that is bound to it.
+// victim is what is killed. With isBound, the csid-etcd of its stack is then told to end, as by a
+// unit that is bound to it.
 type victim struct {
 	name    string
 	isBound bool
@@ -416,13 +425,13 @@ func (v victim) String() string {
 	return v.name
 }
 
-// What of etcd may be killed: a member, any, or the one that leads.
+// Members of etcd as victims.
 const (
 	anyMember     = "member of etcd"
 	leadingMember = "leader of etcd"
 )
 
-// member is the member of etcd that a victim is; nil where it is none.
+// member returns the member that a victim means, or nil for another victim.
 func (f *fleet) member(who victim, random *rand.Rand) *clusters.Member {
 	switch who.name {
 	case anyMember:
@@ -433,8 +442,8 @@ func (f *fleet) member(who victim, random *rand.Rand) *clusters.Member {
 	return nil
 }
 
-// Of two stacks the one that serves loses its csid-etcd, its csid or its front again and again, or etcd one of its three members, while eight callers make
-// calls to both.
+// While eight callers make calls to two stacks, the serving stack loses its csid-etcd, its csid or
+// its front again and again, or etcd loses one of its three members.
 func TestStacks(t *testing.T) {
 	help, err := exec.Command(processes.CsidProgram(t), "serve", "--help").Output()
 	if err != nil || !strings.Contains(string(help), "--log") {
@@ -443,8 +452,8 @@ func TestStacks(t *testing.T) {
 	f := newFleet(t)
 	client := f.cluster.Client(t)
 	watched, endWatch := context.WithCancel(context.Background())
-	looks := make(chan int, 1)
-	go func() { looks <- watchRows(t, client, watched) }()
+	checks := make(chan int, 1)
+	go func() { checks <- watchRows(t, client, watched) }()
 	callers, isOver := make([]*caller, 8), int32(0)
 	var running sync.WaitGroup
 	for i := range callers {
@@ -461,69 +470,28 @@ func TestStacks(t *testing.T) {
 	atomic.StoreInt32(&isOver, 1)
 	running.Wait()
 	endWatch()
-	all, next, err := stored(client)
-	told := standing(callers)
-	if err != nil || strings.Join(all, "\n") != strings.Join(told, "\n") {
-		t.Errorf("%v: etcd has\n%s\ntold\n%s", err, strings.Join(all, "\n"), strings.Join(told, "\n"))
+	all, next, err := storedRows(client)
+	want := wantedRows(callers)
+	if err != nil || strings.Join(all, "\n") != strings.Join(want, "\n") {
+		t.Errorf("error %v: got the rows\n%s\nwant\n%s", err, strings.Join(all, "\n"), strings.Join(want, "\n"))
 	}
-	t.Logf("%d OK, answers beside them %v, %d volumes and attachments, next number %d, %d ids given, rows looked at %d times", f.oks, f.answers, len(all), next, len(f.given), <-looks)
+	t.Logf("%d OK, answers beside them %v, %d volumes and attachments, next number %d, %d ids given, rows looked at "+
+		"%d times", f.ok, f.answers, len(all), next, len(f.ids), <-checks)
 }
 
-// kill kills again and again, and wants that service is back within the lease and 2 s, after a member of etcd within 10 s.
+// kill kills victims in turn. Service must be back within the lease and 2 s, or within 10 s after
+// the kill of a member of etcd.
 func (f *fleet) kill(client *clientv3.Client) {
-	t := f.t
 	random := rand.New(rand.NewSource(9))
-	victims := []victim{{"csid-etcd", false}, {"csid", false}, {"front", false}, {"csid", true}, {"front", true}, {anyMember, false}, {leadingMember, false}}
+	victims := []victim{
+		{"csid-etcd", false}, {"csid", false}, {"front", false}, {"csid", true}, {"front", true},
+		{anyMember, false}, {leadingMember, false},
+	}
 	gaps := map[victim][]time.Duration{}
-	count := kills(t)
-	for i := 0; i < count && !t.Failed(); i++ {
-		begin := time.Now()
-		var s *stack
-		processes.Eventually(t, "service by a leader", func() bool {
-			s = f.leader(client)
-			return s != nil && f.served(begin)
-		})
-		time.Sleep(time.Duration(100+random.Intn(400)) * time.Millisecond)
+	count := kills(f.t)
+	for i := 0; i < count && !f.t.Failed(); i++ {
 		who := victims[i%len(victims)]
-		member := f.member(who, random)
-		at := time.Now()
-		if member != nil {
-			member.Kill()
-		} else {
-			map[string]*processes.Process{"csid-etcd": s.log, "csid": s.csid, "front": s.front}[who.name].Kill()
-		}
-		if who.isBound {
-			s.log.Terminate(t)
-			s.log.Status(t)
-		}
-		revived := false
-		for !f.served(at) {
-			if time.Since(at) > 20*time.Second {
-				t.Fatalf("kill %d of %v of %s: no service\n%s\n%s\n%s", i, who, s.name, s.log.Log, s.csid.Log, s.front.Log)
-			}
-			// Another one is started instead after a moment.
-			if !revived && time.Since(at) > 200*time.Millisecond {
-				s.revive(t)
-				revived = true
-			}
-			time.Sleep(2 * time.Millisecond)
-		}
-		gap, limit := time.Since(at), leaseLength+2*time.Second
-		if member != nil {
-			// An election of etcd's takes a second round now and then.
-			limit = 10 * time.Second
-		}
-		if gap > limit {
-			t.Errorf("kill %d of %v: no service for %v", i, who, gap)
-		}
-		gaps[who] = append(gaps[who], gap)
-		s.revive(t)
-		if member != nil {
-			member.Start(t)
-			f.cluster.Answers(t)
-			// A new leader of etcd's keeps each lease for its whole length, and that of an election more.
-			time.Sleep(leaseLength)
-		}
+		gaps[who] = append(gaps[who], f.killOnce(client, random, who))
 	}
 	for _, who := range victims {
 		all := gaps[who]
@@ -531,6 +499,63 @@ func (f *fleet) kill(client *clientv3.Client) {
 			continue
 		}
 		sort.Slice(all, func(i, j int) bool { return all[i] < all[j] })
-		t.Logf("%d kills of %v: service was back within %v in the middle, %v at most", len(all), who, all[len(all)/2].Round(time.Millisecond), all[len(all)-1].Round(time.Millisecond))
+		f.t.Logf("%d kills of %v: service was back within %v in the middle, %v at most", len(all), who,
+			all[len(all)/2].Round(time.Millisecond), all[len(all)-1].Round(time.Millisecond))
 	}
+}
+
+// killOnce kills a victim while the fleet serves, and returns the time until it serves again.
+func (f *fleet) killOnce(client *clientv3.Client, random *rand.Rand, who victim) time.Duration {
+	begin := time.Now()
+	var s *stack
+	processes.Eventually(f.t, "service by a leader", func() bool {
+		s = f.leader(client)
+		return s != nil && f.servedSince(begin)
+	})
+	time.Sleep(time.Duration(100+random.Intn(400)) * time.Millisecond)
+	member := f.member(who, random)
+	at := time.Now()
+	if member != nil {
+		member.Kill()
+	} else {
+		map[string]*processes.Process{"csid-etcd": s.store, "csid": s.csid, "front": s.front}[who.name].Kill()
+	}
+	if who.isBound {
+		s.store.Terminate(f.t)
+		s.store.Status(f.t)
+	}
+	gap, limit := f.waitServed(s, who, at), leaseLength+2*time.Second
+	if member != nil {
+		// An election of etcd takes a second round now and then.
+		limit = 10 * time.Second
+	}
+	if gap > limit {
+		f.t.Errorf("kill of %v: got no service for %v, want at most %v", who, gap, limit)
+	}
+	s.restartEnded(f.t)
+	if member != nil {
+		member.Start(f.t)
+		f.cluster.WaitReady(f.t)
+		// A new leader of etcd keeps each lease for its whole length, and an election takes longer.
+		time.Sleep(leaseLength)
+	}
+	return gap
+}
+
+// waitServed waits until a call that was sent after the kill is answered, and returns how long that
+// took. After a moment it starts the killed programs again.
+func (f *fleet) waitServed(s *stack, who victim, killed time.Time) time.Duration {
+	restarted := false
+	for !f.servedSince(killed) {
+		if time.Since(killed) > 20*time.Second {
+			f.t.Fatalf("kill of %v of %s: got no service\n%s\n%s\n%s", who, s.name, s.store.Log, s.csid.Log,
+				s.front.Log)
+		}
+		if !restarted && time.Since(killed) > 200*time.Millisecond {
+			s.restartEnded(f.t)
+			restarted = true
+		}
+		time.Sleep(2 * time.Millisecond)
+	}
+	return time.Since(killed)
 }

@@ -19,46 +19,49 @@ const leaseLength = 3 * time.Second
 
 var shortLease = []string{"--lease", "3", "--timeout", "2s"}
 
-// pair is two programs before a cluster, of which the first leads.
-func pair(t *testing.T, cluster *clusters.Cluster) (first, second program) {
+// startPair starts two programs. The first one leads.
+func startPair(t *testing.T, cluster *clusters.Cluster) (first, second program) {
 	t.Helper()
-	first = start(t, cluster.Endpoints(), append(shortLease, "--id", "first")...).leads(t)
+	first = start(t, cluster.Endpoints(), append(shortLease, "--id", "first")...).waitLeading(t)
 	second = start(t, cluster.Endpoints(), append(shortLease, "--id", "second")...)
-	second.says(t, "csid-etcd: waits for the lock, which first holds\n")
+	second.waitLog(t, "csid-etcd: waits for the lock, which first holds\n")
 	return first, second
 }
 
-// leadsSince waits until the program leads again after what its log had, and returns how long that took.
-func (p program) leadsSince(t *testing.T, before int) time.Duration {
+// waitLeadingSince waits until the program leads after the start of its log, and returns how long
+// that took.
+func (p program) waitLeadingSince(t *testing.T, before int) time.Duration {
 	t.Helper()
 	begin := time.Now()
-	processes.Eventually(t, "another leader, whose log has "+p.Log.String(), func() bool { return strings.Contains(p.Log.String()[before:], "leads, from revision") })
+	processes.Eventually(t, "another leader, whose log has "+p.Log.String(),
+		func() bool { return strings.Contains(p.Log.String()[before:], "leads, from revision") })
 	return time.Since(begin)
 }
 
-// isWaiting reports whether a program refuses calls for want of the lock.
-func (p program) wantsWaiting(t *testing.T, holder string) {
+// wantWaiting checks that a program refuses calls because holder has the lock.
+func (p program) wantWaiting(t *testing.T, holder string) {
 	t.Helper()
 	l := p.dial(t)
 	want := "waiting for the lock, which " + holder + " holds"
 	begin := time.Now()
-	l.wants(t, readPath, "", codes.FailedPrecondition, want)
-	l.wants(t, makePath, "", codes.FailedPrecondition, want)
-	l.wants(t, leadPath, "", codes.FailedPrecondition, want)
-	l.refuses(t, addVolume(1, "a"), codes.FailedPrecondition, want)
-	l.wants(t, "/fomaheti.log.v1.Log/Other", "", codes.Unimplemented, "unknown method")
+	l.wantReply(t, readPath, "", codes.FailedPrecondition, want)
+	l.wantReply(t, makePath, "", codes.FailedPrecondition, want)
+	l.wantReply(t, leadPath, "", codes.FailedPrecondition, want)
+	l.wantRefused(t, addVolume(1, "a"), codes.FailedPrecondition, want)
+	l.wantReply(t, "/fomaheti.log.v1.Log/Other", "", codes.Unimplemented, "unknown method")
 	if took := time.Since(begin); took > time.Second {
-		t.Errorf("refusing took %v", took)
+		t.Errorf("the refusals took %v, want a second or less", took)
 	}
 	l.Close()
 }
 
-// A program that waits refuses at once, and leads within the lease and 2 s once the one before it was killed, and at once when that was ended.
+// A waiting program refuses calls at once. It leads within the lease and 2 s after the leading one
+// is killed, and at once after that one has ended.
 func TestStandby(t *testing.T) {
 	t.Parallel()
 	cluster := clusters.Start(t, 3)
-	first, second := pair(t, cluster)
-	second.wantsWaiting(t, "first")
+	first, second := startPair(t, cluster)
+	second.wantWaiting(t, "first")
 	d := newDriver(t, first, second)
 	end := d.begin()
 	time.Sleep(500 * time.Millisecond)
@@ -70,31 +73,32 @@ func TestStandby(t *testing.T) {
 		} else {
 			first.Terminate(t)
 		}
-		took := second.leadsSince(t, before)
+		took := second.waitLeadingSince(t, before)
 		limit := time.Second
 		if isKilled {
 			limit = leaseLength + 2*time.Second
 		} else if status := first.Status(t); status != 0 {
-			t.Errorf("it ended with %d: %s", status, first.Log)
+			t.Errorf("got status %d, want 0: %s", status, first.Log)
 		}
 		if took > limit {
-			t.Errorf("killed %v: the other one led after %v", isKilled, took)
+			t.Errorf("killed %v: the other one led after %v, want %v or less", isKilled, took, limit)
 		}
 		t.Logf("killed %v: the other one led after %v", isKilled, took.Round(time.Millisecond))
 		if _, err := os.Lstat(first.Socket); (err == nil) != isKilled {
-			t.Errorf("killed %v: the socket: %v", isKilled, err)
+			t.Errorf("killed %v: got the socket %v, want it only after a kill", isKilled, err)
 		}
-		again := startAt(t, first.Socket, cluster.Endpoints(), append(shortLease, "--id", fmt.Sprintf("again-%d", i))...)
-		again.says(t, "waits for the lock, which ")
+		again := startAt(t, first.Socket, cluster.Endpoints(),
+			append(shortLease, "--id", fmt.Sprintf("again-%d", i))...)
+		again.waitLog(t, "waits for the lock, which ")
 		first, second = second, again
 		time.Sleep(300 * time.Millisecond)
 	}
 	end()
 	t.Log(d)
-	wantsTold(t, d, first)
+	wantRows(t, d, first)
 }
 
-// stop stops a program, and waits until each of its threads has stopped.
+// stop stops a program and waits until all its threads have stopped.
 func (p program) stop(t *testing.T) {
 	t.Helper()
 	if err := p.Cmd.Process.Signal(syscall.SIGSTOP); err != nil {
@@ -111,23 +115,24 @@ func (p program) stop(t *testing.T) {
 	})
 }
 
-// A program that is stopped for twice its lease closes the connection and writes nothing more, also what it was asked for before, and does not say that it leads.
+// A program that was stopped for twice its lease closes its connection. It writes no reply, even to
+// a call that arrived before, and does not confirm its lead.
 func TestStopped(t *testing.T) {
 	t.Parallel()
 	cluster := clusters.Start(t, 3)
-	first, second := pair(t, cluster)
+	first, second := startPair(t, cluster)
 	d := newDriver(t, second, first)
 	for i := 0; i < 3; i++ {
 		l := first.dial(t)
-		if _, _, err := l.walk(); err != nil {
+		if _, _, err := l.readAll(); err != nil {
 			t.Fatal(err)
 		}
 		l.call(makePath, nil)
-		read, _, err := l.walk()
+		read, _, err := l.readAll()
 		if err != nil {
 			t.Fatal(err)
 		}
-		d.known, d.open = nil, nil
+		d.known, d.pending = nil, nil
 		if err := d.compare(read); err != nil {
 			t.Fatal(err)
 		}
@@ -140,9 +145,9 @@ func TestStopped(t *testing.T) {
 		}
 		d.sockets = []string{second.Socket}
 		end := d.begin()
-		took := second.leadsSince(t, before)
+		took := second.waitLeadingSince(t, before)
 		if took > leaseLength+2*time.Second {
-			t.Errorf("the other one led after %v", took)
+			t.Errorf("the other one led after %v, want %v or less", took, leaseLength+2*time.Second)
 		}
 		time.Sleep(2*leaseLength - took)
 		stoppedLog := len(first.Log.String())
@@ -153,34 +158,36 @@ func TestStopped(t *testing.T) {
 		begin := time.Now()
 		got := make([]byte, 1)
 		if size, err := l.Read(got); size > 0 && got[0] == 0 {
-			t.Errorf("a program that was stopped made a change, or said that it leads: %v", err)
+			t.Errorf("got OK from a program that was stopped, error %v", err)
 		}
 		closed := time.Since(begin)
-		first.says(t, "leads no more")
+		first.waitLog(t, "leads no more")
 		processes.Eventually(t, "that it waits again", func() bool {
-			return strings.Contains(first.Log.String()[stoppedLog:], "which second holds") || strings.Contains(first.Log.String()[stoppedLog:], "which first holds")
+			return strings.Contains(first.Log.String()[stoppedLog:], "which second holds") ||
+				strings.Contains(first.Log.String()[stoppedLog:], "which first holds")
 		})
 		end()
-		t.Logf("the other one led after %v; let go, the connection was closed or refused after %v; %v", took.Round(time.Millisecond), closed.Round(time.Millisecond), d)
-		wantsTold(t, d, second)
+		t.Logf("the other one led after %v; let go, the connection was closed or refused after %v; %v",
+			took.Round(time.Millisecond), closed.Round(time.Millisecond), d)
+		wantRows(t, d, second)
 		first, second = second, first
 	}
 }
 
-// The lock is given back at an end by either signal, and the file of the revision has what was answered last.
+// Both signals release the lock, and leave the revision of the last answer in the file.
 func TestEnd(t *testing.T) {
 	t.Parallel()
 	cluster := clusters.Start(t, 1)
 	client, file := cluster.Client(t), filepath.Join(processes.Folder(t), "revision")
 	next := uint64(1)
 	for _, signal := range []syscall.Signal{syscall.SIGTERM, syscall.SIGINT} {
-		p := start(t, cluster.Endpoints(), "--revision", file).leads(t)
+		p := start(t, cluster.Endpoints(), "--revision", file).waitLeading(t)
 		l := p.dial(t)
 		if next == 1 {
-			l.wants(t, makePath, "", codes.OK, "")
+			l.wantReply(t, makePath, "", codes.OK, "")
 		}
 		for i := 0; i < 20; i++ {
-			l.commits(t, addVolume(next, fmt.Sprintf("a%d", next)))
+			l.mustCommit(t, addVolume(next, fmt.Sprintf("a%d", next)))
 			next++
 		}
 		answered := revision(t, client)
@@ -188,62 +195,66 @@ func TestEnd(t *testing.T) {
 			t.Fatal(err)
 		}
 		if status := p.Status(t); status != 0 {
-			t.Errorf("%v: it ended with %d: %s", signal, status, p.Log)
+			t.Errorf("%v: got status %d, want 0: %s", signal, status, p.Log)
 		}
 		if got := cluster.Ctl(t, "get", "--prefix", name+"/lock/"); got != "" {
-			t.Errorf("%v: the lock: %s", signal, got)
+			t.Errorf("%v: got the lock %s, want none", signal, got)
 		}
 		if leases := strings.TrimSpace(cluster.Ctl(t, "lease", "list")); leases != "found 0 leases" {
-			t.Errorf("%v: leases: %s", signal, leases)
+			t.Errorf("%v: got the leases %s, want none", signal, leases)
 		}
 		if _, err := os.Lstat(p.Socket); err == nil {
-			t.Errorf("%v: the socket stands", signal)
+			t.Errorf("%v: the socket exists", signal)
 		}
 		if text, err := os.ReadFile(file); err != nil || string(text) != fmt.Sprintf("%d\n", answered) {
-			t.Errorf("%v: the file has %q, %v, wanted %d", signal, text, err, answered)
+			t.Errorf("%v: got %q in the file, error %v, want %d", signal, text, err, answered)
 		}
 	}
 }
 
-// A lock whose key somebody took away is lost, and had again by another key; what the lock says is what --id has.
+// A program whose key somebody deletes loses the lock, and gets it again by another key. The value
+// of the key is --id.
 func TestLockTakenAway(t *testing.T) {
 	t.Parallel()
-	cluster, p, l := begun(t)
+	cluster, p, l := startLeading(t)
 	lines := strings.Split(cluster.Ctl(t, "get", "--prefix", name+"/lock/"), "\n")
 	host, _ := os.Hostname()
 	if len(lines) != 3 || lines[1] != fmt.Sprintf("%s:%d", host, p.Cmd.Process.Pid) {
-		t.Errorf("the lock: %q", lines)
+		t.Errorf("got the lock %q, want the host and process", lines)
 	}
 	before := len(p.Log.String())
 	cluster.Ctl(t, "del", lines[0])
 	reply, err := l.call(commitPath, addVolume(1, "a"))
-	if err == nil && (reply.Code != codes.FailedPrecondition || reply.Text != "this program does not lead any more: its key of the lock is gone") {
-		t.Errorf("without the key: %v", reply)
+	if err == nil && (reply.Code != codes.FailedPrecondition ||
+		reply.Text != "this program does not lead any more: its key of the lock is gone") {
+		t.Errorf("without the key: got %v, want a refusal", reply)
 	}
-	p.leadsSince(t, before)
+	p.waitLeadingSince(t, before)
 	second := p.dial(t)
-	second.wants(t, readPath, "", codes.OK, "0a04 0802 1001 2200")
-	// The key is put again by hand: what comes next is refused, and then made after a fence.
+	second.wantReply(t, readPath, "", codes.OK, "0a04 0802 1001 2200")
+	// The key is put again by hand: the next change is refused, and the one after it is made after
+	// a fence.
 	lines = strings.Split(cluster.Ctl(t, "get", "--prefix", name+"/lock/"), "\n")
 	cluster.Ctl(t, "put", "--ignore-lease", lines[0], "other")
-	second.refuses(t, addVolume(1, "a"), codes.FailedPrecondition, "the key of the lock was put again")
-	second.commits(t, addVolume(1, "a"))
-	// The lease is ended by hand.
+	second.wantRefused(t, addVolume(1, "a"), codes.FailedPrecondition, "the key of the lock was put again")
+	second.mustCommit(t, addVolume(1, "a"))
+	// The lease is revoked by hand.
 	before = len(p.Log.String())
 	cluster.Ctl(t, "lease", "revoke", lines[0][strings.LastIndex(lines[0], "/")+1:])
-	p.leadsSince(t, before)
-	p.says(t, "leads no more")
+	p.waitLeadingSince(t, before)
+	p.waitLog(t, "leads no more")
 	third := p.dial(t)
-	third.commits(t, addVolume(2, "b"))
-	// The key is put without its lease: the program leads again by another one, and nothing is left after its end.
+	third.mustCommit(t, addVolume(2, "b"))
+	// The key is put without its lease: the program leads again by another key, and leaves none at
+	// its end.
 	lines = strings.Split(cluster.Ctl(t, "get", "--prefix", name+"/lock/"), "\n")
 	before = len(p.Log.String())
 	cluster.Ctl(t, "put", lines[0], "other")
-	p.leadsSince(t, before)
-	p.dial(t).commits(t, addVolume(3, "c"))
+	p.waitLeadingSince(t, before)
+	p.dial(t).mustCommit(t, addVolume(3, "c"))
 	p.Terminate(t)
 	p.Status(t)
 	if got := cluster.Ctl(t, "get", "--prefix", name+"/lock/"); got != "" {
-		t.Errorf("after its end the lock is %q", got)
+		t.Errorf("after the end: got the lock %q, want none", got)
 	}
 }

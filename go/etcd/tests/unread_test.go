@@ -15,8 +15,8 @@ import (
 	"./clusters"
 )
 
-// holder is the --id of who has the lock, and the lease of its key; empty where nobody has it.
-func holder(t *testing.T, client *clientv3.Client) (id string, lease clientv3.LeaseID) {
+// lockHolder returns the --id of the holder of the lock and the lease of its key, or nothing.
+func lockHolder(t *testing.T, client *clientv3.Client) (id string, lease clientv3.LeaseID) {
 	t.Helper()
 	read, err := client.Get(context.Background(), name+"/lock/", clientv3.WithFirstCreate()...)
 	if err != nil {
@@ -28,8 +28,8 @@ func holder(t *testing.T, client *clientv3.Client) (id string, lease clientv3.Le
 	return id, lease
 }
 
-// saysThatItLeads waits until a program answers that it leads.
-func (p program) saysThatItLeads(t *testing.T) {
+// waitConfirmsLead waits until a program confirms that it leads.
+func (p program) waitConfirmsLead(t *testing.T) {
 	t.Helper()
 	processes.Eventually(t, "that it says that it leads", func() bool {
 		l, err := dial(p.Socket)
@@ -43,53 +43,54 @@ func (p program) saysThatItLeads(t *testing.T) {
 	})
 }
 
-// A program whose standard error takes no line answers and keeps the lock, and it gives the lock up and waits for it again as any other. Lines that find no
-// room are dropped, and reported once somebody reads.
+// A program whose standard error accepts no line answers, keeps the lock, and gives it up and waits
+// for it as any other program. It drops lines, and reports their number once somebody reads.
 func TestUnreadLog(t *testing.T) {
 	t.Parallel()
 	pipe := processes.NewFullPipe(t)
-	for _, errors := range []*os.File{pipe.Out, processes.ClosedPipe(t)} {
-		cluster := clusters.Start(t, 1)
-		client := cluster.Client(t)
-		socket := filepath.Join(processes.Folder(t), "log.sock")
-		words := append([]string{"--name", name, "--listen", socket, "--endpoints", cluster.Endpoints(), "--id", "unread"}, shortLease...)
-		command := exec.Command(processes.EtcdProgram(t), words...)
-		command.Stderr = errors
-		p := program{processes.Start(t, socket, command).Answers(t)}
-		p.saysThatItLeads(t)
-		l := p.dial(t)
-		l.wants(t, makePath, "", codes.OK, "")
-		// Each of these is a line, and there is room for 1,024.
-		for i := 0; i < 1100; i++ {
-			l.refuses(t, attach(1, "n", false), codes.FailedPrecondition, "volumes/00000000000000000001 is not there")
-			if t.Failed() {
-				t.FailNow()
+	cases := []struct {
+		name   string
+		stderr *os.File
+	}{{"full pipe", pipe.Out}, {"closed pipe", processes.ClosedPipe(t)}}
+	for _, c := range cases {
+		t.Run(c.name, func(t *testing.T) {
+			cluster := clusters.Start(t, 1)
+			client := cluster.Client(t)
+			socket := filepath.Join(processes.Folder(t), "log.sock")
+			args := append([]string{"--name", name, "--listen", socket, "--endpoints", cluster.Endpoints(),
+				"--id", "unread"}, shortLease...)
+			command := exec.Command(processes.EtcdProgram(t), args...)
+			command.Stderr = c.stderr
+			p := program{processes.Start(t, socket, command).Answers(t)}
+			p.waitConfirmsLead(t)
+			l := p.dial(t)
+			l.wantReply(t, makePath, "", codes.OK, "")
+			// Each refusal is a line. The queue has room for 1,024.
+			for i := 0; i < 1100; i++ {
+				l.wantRefused(t, attach(1, "n", false), codes.FailedPrecondition,
+					"volumes/00000000000000000001 is not there")
+				if t.Failed() {
+					t.FailNow()
+				}
 			}
-		}
-		second := start(t, cluster.Endpoints(), append(shortLease, "--id", "second")...)
-		second.says(t, "waits for the lock, which unread holds")
-		// It has more than one lease's time to lose the lock, and keeps it.
-		time.Sleep(leaseLength + time.Second)
-		id, lease := holder(t, client)
-		if id != "unread" {
-			t.Errorf("%q has the lock", id)
-		}
-		l.commits(t, addVolume(1, "a"))
-		if _, err := client.Revoke(context.Background(), lease); err != nil {
-			t.Fatal(err)
-		}
-		second.leads(t)
-		second.Terminate(t)
-		if status := second.Status(t); status != 0 {
-			t.Errorf("the other one ended with %d", status)
-		}
-		p.saysThatItLeads(t)
-		if errors == pipe.Out {
-			pipe.Read(t, "csid-etcd: lines dropped, since standard error did not take them: ")
-		}
-		p.Terminate(t)
-		if status := p.Status(t); status != 0 {
-			t.Errorf("it ended with %d", status)
-		}
+			second := start(t, cluster.Endpoints(), append(shortLease, "--id", "second")...)
+			second.waitLog(t, "waits for the lock, which unread holds")
+			// The program keeps the lock for longer than its lease.
+			time.Sleep(leaseLength + time.Second)
+			id, lease := lockHolder(t, client)
+			if id != "unread" {
+				t.Errorf("got the holder %q, want unread", id)
+			}
+			l.mustCommit(t, addVolume(1, "a"))
+			if _, err := client.Revoke(context.Background(), lease); err != nil {
+				t.Fatal(err)
+			}
+			wantEnd(t, second.waitLeading(t))
+			p.waitConfirmsLead(t)
+			if c.stderr == pipe.Out {
+				pipe.Read(t, "csid-etcd: lines dropped, since standard error did not take them: ")
+			}
+			wantEnd(t, p)
+		})
 	}
 }

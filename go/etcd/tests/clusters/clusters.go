@@ -1,4 +1,5 @@
-// Package clusters starts etcd on loopback for tests, each member in a folder of its own, and ends it.
+// Package clusters runs clusters of etcd on loopback for tests. Each member has a folder of its
+// own.
 package clusters
 
 import (
@@ -19,42 +20,42 @@ import (
 	"../../../front/tests/processes"
 )
 
-// Member is one etcd, which may be killed and started again where it was.
+// Member is one etcd. It can be killed and started again with its data.
 type Member struct {
-	Name   string
-	Folder string
-	// HOST:PORT for clients.
+	name   string
+	folder string
+	// Address is HOST:PORT for clients.
 	Address string
-	words   []string
+	args    []string
 	Current *processes.Process
 }
 
-// Cluster is some members, with what each client says that speaks to them.
+// Cluster is a cluster of etcd.
 type Cluster struct {
 	Members []*Member
 	scheme  string
-	// Words for etcdctl before all others.
-	Words []string
+	// Args are the first arguments of each etcdctl, such as a user.
+	Args []string
 }
 
-// Settings is what a cluster has next to its members.
+// Settings are the optional settings of a cluster.
 type Settings struct {
-	// More words of the command line of each member.
-	Words []string
-	// Whether clients speak TLS.
+	// Args are further arguments of each member.
+	Args []string
+	// IsSecure makes clients use TLS.
 	IsSecure bool
 }
 
-// Start starts a cluster of so many members, and waits until it answers.
-func Start(t *testing.T, count int, words ...string) *Cluster {
+// Start starts a cluster with count members, and waits until it has a leader.
+func Start(t *testing.T, count int, args ...string) *Cluster {
 	t.Helper()
-	c := New(t, count, Settings{Words: words})
+	c := New(t, count, Settings{Args: args})
 	c.StartAll(t)
-	c.Answers(t)
+	c.WaitReady(t)
 	return c
 }
 
-// New is a cluster whose members were not started yet.
+// New returns a cluster with count members. StartAll starts them.
 func New(t *testing.T, count int, settings Settings) *Cluster {
 	t.Helper()
 	c := &Cluster{scheme: "http://"}
@@ -64,22 +65,25 @@ func New(t *testing.T, count int, settings Settings) *Cluster {
 	var all []string
 	ports := FreePorts(t, 2*count)
 	for i := 0; i < count; i++ {
-		m := &Member{Name: fmt.Sprintf("m%d", i), Folder: processes.Folder(t), Address: ports[2*i]}
+		m := &Member{name: fmt.Sprintf("m%d", i), folder: processes.Folder(t), Address: ports[2*i]}
 		peer := "http://" + ports[2*i+1]
 		client := c.scheme + m.Address
-		m.words = append([]string{"--name", m.Name, "--data-dir", filepath.Join(m.Folder, "data"), "--logger", "zap", "--log-level", "warn",
-			"--listen-client-urls", client, "--advertise-client-urls", client, "--listen-peer-urls", peer, "--initial-advertise-peer-urls", peer}, settings.Words...)
-		all = append(all, m.Name+"="+peer)
+		m.args = append([]string{
+			"--name", m.name, "--data-dir", filepath.Join(m.folder, "data"), "--logger", "zap", "--log-level", "warn",
+			"--listen-client-urls", client, "--advertise-client-urls", client,
+			"--listen-peer-urls", peer, "--initial-advertise-peer-urls", peer,
+		}, settings.Args...)
+		all = append(all, m.name+"="+peer)
 		c.Members = append(c.Members, m)
 	}
 	for _, m := range c.Members {
-		m.words = append(m.words, "--initial-cluster", strings.Join(all, ","), "--initial-cluster-state", "new", "--initial-cluster-token", m.Folder)
-		m.words[len(m.words)-1] = c.Members[0].Folder
+		m.args = append(m.args, "--initial-cluster", strings.Join(all, ","), "--initial-cluster-state", "new",
+			"--initial-cluster-token", c.Members[0].folder)
 	}
 	return c
 }
 
-// FreePorts is so many addresses of loopback on which nobody listens.
+// FreePorts returns unused addresses of loopback.
 func FreePorts(t *testing.T, count int) (addresses []string) {
 	t.Helper()
 	for i := 0; i < count; i++ {
@@ -101,36 +105,36 @@ func (c *Cluster) StartAll(t *testing.T) {
 	}
 }
 
-// Start starts a member where it was.
+// Start starts a member on its data.
 func (m *Member) Start(t *testing.T) {
 	t.Helper()
-	command := exec.Command("etcd", m.words...)
-	command.Dir = m.Folder
+	command := exec.Command("etcd", m.args...)
+	command.Dir = m.folder
 	m.Current = processes.Start(t, "", command)
 }
 
-// Kill ends a member without a warning.
+// Kill sends SIGKILL to a member.
 func (m *Member) Kill() { m.Current.Kill() }
 
-// Restore puts a snapshot instead of what a member of a cluster of one had, which was ended before.
+// Restore replaces the data of a stopped member by a snapshot. The cluster must have one member.
 func (m *Member) Restore(t *testing.T, snapshot string) {
 	t.Helper()
-	if err := os.RemoveAll(filepath.Join(m.Folder, "data")); err != nil {
+	if err := os.RemoveAll(filepath.Join(m.folder, "data")); err != nil {
 		t.Fatal(err)
 	}
-	said := map[string]string{}
-	for i := 0; i+1 < len(m.words); i += 2 {
-		said[m.words[i]] = m.words[i+1]
+	flags := map[string]string{}
+	for i := 0; i+1 < len(m.args); i += 2 {
+		flags[m.args[i]] = m.args[i+1]
 	}
-	words := []string{"snapshot", "restore", snapshot}
+	args := []string{"snapshot", "restore", snapshot}
 	for _, name := range []string{"--name", "--data-dir", "--initial-cluster", "--initial-cluster-token"} {
-		words = append(words, name, said[name])
+		args = append(args, name, flags[name])
 	}
-	words = append(words, "--initial-advertise-peer-urls", said["--initial-advertise-peer-urls"])
-	run(t, words)
+	args = append(args, "--initial-advertise-peer-urls", flags["--initial-advertise-peer-urls"])
+	run(t, args)
 }
 
-// Endpoints is all members, as --endpoints of csid-etcd has them.
+// Endpoints returns all members as a value of csid-etcd's --endpoints.
 func (c *Cluster) Endpoints() string {
 	var all []string
 	for _, m := range c.Members {
@@ -146,8 +150,8 @@ func (m *Member) endpoint(scheme string) string {
 	return scheme + m.Address
 }
 
-// Answers waits until etcd answers, and has a leader.
-func (c *Cluster) Answers(t *testing.T) {
+// WaitReady waits until etcd answers and has a leader.
+func (c *Cluster) WaitReady(t *testing.T) {
 	t.Helper()
 	client := c.Client(t)
 	processes.Eventually(t, "an answer of etcd", func() bool {
@@ -158,10 +162,11 @@ func (c *Cluster) Answers(t *testing.T) {
 	})
 }
 
-// Client is a client of etcd's own, without TLS.
+// Client returns a client of the cluster without TLS. It is closed at the end of the test.
 func (c *Cluster) Client(t *testing.T) *clientv3.Client {
 	t.Helper()
-	client, err := clientv3.New(clientv3.Config{Endpoints: strings.Split(c.Endpoints(), ","), DialTimeout: 2 * time.Second, MaxCallSendMsgSize: 16 << 20,
+	client, err := clientv3.New(clientv3.Config{Endpoints: strings.Split(c.Endpoints(), ","),
+		DialTimeout: 2 * time.Second, MaxCallSendMsgSize: 16 << 20,
 		LogConfig: &zap.Config{Level: zap.NewAtomicLevelAt(zap.FatalLevel), Encoding: "json"}})
 	if err != nil {
 		t.Fatal(err)
@@ -170,47 +175,47 @@ func (c *Cluster) Client(t *testing.T) *clientv3.Client {
 	return client
 }
 
-// Ctl runs etcdctl, and gives what it says.
-func (c *Cluster) Ctl(t *testing.T, words ...string) string {
+// Ctl runs etcdctl and returns its standard output.
+func (c *Cluster) Ctl(t *testing.T, args ...string) string {
 	t.Helper()
-	return run(t, append(append([]string{"--endpoints", c.Endpoints()}, c.Words...), words...))
+	return run(t, append(append([]string{"--endpoints", c.Endpoints()}, c.Args...), args...))
 }
 
-// Try runs etcdctl, and reports whether it failed.
-func (c *Cluster) Try(words ...string) error {
-	_, err := ctl(append(append([]string{"--endpoints", c.Endpoints()}, c.Words...), words...), "")
+// Try runs etcdctl and returns its error.
+func (c *Cluster) Try(args ...string) error {
+	_, err := ctl(append(append([]string{"--endpoints", c.Endpoints()}, c.Args...), args...), "")
 	return err
 }
 
-// Type runs etcdctl with a text on its standard input.
-func (c *Cluster) Type(t *testing.T, text string, words ...string) {
+// Type runs etcdctl with text on its standard input.
+func (c *Cluster) Type(t *testing.T, text string, args ...string) {
 	t.Helper()
-	if _, err := ctl(append(append([]string{"--endpoints", c.Endpoints()}, c.Words...), words...), text); err != nil {
+	if _, err := ctl(append(append([]string{"--endpoints", c.Endpoints()}, c.Args...), args...), text); err != nil {
 		t.Fatal(err)
 	}
 }
 
-func run(t *testing.T, words []string) string {
+func run(t *testing.T, args []string) string {
 	t.Helper()
-	said, err := ctl(words, "")
+	stdout, err := ctl(args, "")
 	if err != nil {
 		t.Fatal(err)
 	}
-	return said
+	return stdout
 }
 
-func ctl(words []string, typed string) (string, error) {
-	command := exec.Command("etcdctl", words...)
+func ctl(args []string, stdin string) (string, error) {
+	command := exec.Command("etcdctl", args...)
 	command.Env = append(os.Environ(), "ETCDCTL_API=3")
-	var said, failed bytes.Buffer
-	command.Stdin, command.Stdout, command.Stderr = strings.NewReader(typed), &said, &failed
+	var stdout, stderr bytes.Buffer
+	command.Stdin, command.Stdout, command.Stderr = strings.NewReader(stdin), &stdout, &stderr
 	if err := command.Run(); err != nil {
-		return "", fmt.Errorf("etcdctl %v: %w: %s", words, err, failed.String())
+		return "", fmt.Errorf("etcdctl %v: %w: %s", args, err, stderr.String())
 	}
-	return said.String(), nil
+	return stdout.String(), nil
 }
 
-// Leader is the member that leads.
+// Leader returns the member that leads.
 func (c *Cluster) Leader(t *testing.T) *Member {
 	t.Helper()
 	client := c.Client(t)

@@ -15,7 +15,8 @@ func TestCreate(t *testing.T) {
 		isMade bool
 	}{
 		{"nothing", func(path, other string) error { return nil }, true},
-		{"a file", func(path, other string) error { return os.WriteFile(path, []byte("longer than new"), 0o644) }, true},
+		{"a file", func(path, other string) error { return os.WriteFile(path, []byte("longer than new"), 0o644) },
+			true},
 		{"another name of a file", func(path, other string) error { return os.Link(other, path) }, true},
 		{"a link to a file", func(path, other string) error { return os.Symlink(other, path) }, false},
 		{"a link to nothing", func(path, other string) error { return os.Symlink(other+".none", path) }, false},

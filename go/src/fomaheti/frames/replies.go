@@ -1,4 +1,5 @@
-// Package frames has the envelope of docs/PROTOCOL.md: calls and replies as frames, each written and read.
+// Package frames has the envelope of docs/PROTOCOL.md: calls and replies as frames, each written
+// and read.
 package frames
 
 import (
@@ -30,6 +31,7 @@ type Reply struct {
 // Malformed is a reply that breaks a rule of the envelope.
 type Malformed string
 
+// Error names the part of the reply that breaks the rule.
 func (part Malformed) Error() string { return "malformed reply: bad " + string(part) }
 
 // IsPath reports whether a frame can have the path.
@@ -66,13 +68,15 @@ func isStatus(code codes.Code) bool {
 // Replies is a stream of replies, which are read in order.
 type Replies struct {
 	in *bufio.Reader
-	// The reply whose body is being read, and how much of the body has been read. There is none where body is nil.
+	// The reply whose body is being read, and how much of the body has been read. There is none
+	// where body is nil.
 	code codes.Code
 	text string
 	body []byte
 	read int
 }
 
+// NewReplies returns the replies that in has.
 func NewReplies(in io.Reader) *Replies {
 	// Bodies longer than this are read without passing through the buffer.
 	return &Replies{in: bufio.NewReaderSize(in, 4<<10)}
@@ -87,8 +91,8 @@ func (r *Replies) Await() error {
 	return err
 }
 
-// Next reads the next reply. What breaks a rule is reported as soon as it is received. Where the reader fails by a deadline, Next can be called
-// again, and goes on where it stopped.
+// Next reads the next reply. What breaks a rule is reported as soon as it is received. Where the
+// reader fails by a deadline, Next can be called again, and goes on where it stopped.
 func (r *Replies) Next() (Reply, error) {
 	if r.body == nil {
 		if err := r.readHead(); err != nil {
@@ -107,7 +111,8 @@ func (r *Replies) Next() (Reply, error) {
 	return reply, nil
 }
 
-// readHead reads all of a reply before its body. It takes the bytes out of the buffer only once all of them are there.
+// readHead reads all of a reply before its body. It takes the bytes out of the buffer only once all
+// of them are there.
 func (r *Replies) readHead() error {
 	code, err := r.peekStatus()
 	if err != nil {
@@ -201,7 +206,8 @@ func inside(err error) error {
 	return err
 }
 
-// IsClosing reports whether the peer closed the connection: an end where it read all that was sent, otherwise a reset or a broken pipe.
+// IsClosing reports whether the peer closed the connection: an end where it read all that was sent,
+// otherwise a reset or a broken pipe.
 func IsClosing(err error) bool {
 	return err == io.EOF || errors.Is(err, syscall.ECONNRESET) || errors.Is(err, syscall.EPIPE)
 }

@@ -56,7 +56,8 @@ func TestPath(t *testing.T) {
 		path string
 		want bool
 	}{
-		{"", false}, {"!", true}, {"~", true}, {"/a/b", true}, {"/a /b", false}, {"/a/\x7f", false}, {"/a/\t", false}, {"/a/\x80", false},
+		{"", false}, {"!", true}, {"~", true}, {"/a/b", true}, {"/a /b", false}, {"/a/\x7f", false}, {"/a/\t", false},
+		{"/a/\x80", false},
 		{strings.Repeat("a", 128), true}, {strings.Repeat("a", 129), false},
 	}
 	for _, row := range rows {
@@ -78,20 +79,24 @@ func TestGoodReply(t *testing.T) {
 	}
 	for _, row := range rows {
 		got, err := NewReplies(bytes.NewReader(fromHex(t, row.bytes))).Next()
-		if err != nil || got.Code != row.want.Code || got.Text != row.want.Text || !bytes.Equal(got.Body, row.want.Body) {
+		if err != nil || got.Code != row.want.Code || got.Text != row.want.Text ||
+			!bytes.Equal(got.Body, row.want.Body) {
 			t.Errorf("%s: %v, %v", row.bytes, got, err)
 		}
 	}
 }
 
-// Each fault is reported though nothing follows: a csid that stays silent after it would otherwise hold up the call.
+// Each fault is reported though nothing follows: a csid that stays silent after it would otherwise
+// hold up the call.
 func TestMalformedReply(t *testing.T) {
 	rows := []struct{ bytes, want string }{
-		{"01", "status 1"}, {"02", "status 2"}, {"04", "status 4"}, {"07", "status 7"}, {"0e", "status 14"}, {"10", "status 16"}, {"ff", "status 255"},
+		{"01", "status 1"}, {"02", "status 2"}, {"04", "status 4"}, {"07", "status 7"}, {"0e", "status 14"},
+		{"10", "status 16"}, {"ff", "status 255"},
 		{"00 0001", "text length"}, {"03 0401", "text length"}, {"03 ffff", "text length"},
 		{"03 0001 1f", "text"}, {"03 0001 7f", "text"},
 		{"00 0000 01", "flag"}, {"03 0001 41 80", "flag"},
-		{"03 0000 00 00000001", "body length"}, {"00 0000 00 00400001", "body length"}, {"00 0000 00 ffffffff", "body length"},
+		{"03 0000 00 00000001", "body length"}, {"00 0000 00 00400001", "body length"},
+		{"00 0000 00 ffffffff", "body length"},
 	}
 	for _, row := range rows {
 		silent, other := io.Pipe()
@@ -102,7 +107,8 @@ func TestMalformedReply(t *testing.T) {
 	}
 }
 
-// An end after any byte of a reply but the last is reported, and only that after none is a clean one.
+// An end after any byte of a reply but the last is reported, and only that after none is a clean
+// one.
 func TestReplyCutShort(t *testing.T) {
 	for _, whole := range []string{"00 0000 00 00000004 0a020801", "05 0002 4142 00 00000000"} {
 		all := fromHex(t, whole)
@@ -135,7 +141,8 @@ func (r *interrupted) Read(into []byte) (int, error) {
 	return 1, nil
 }
 
-// A reply is read to its end however often a deadline stops it, and the bytes after it are those of the next one.
+// A reply is read to its end however often a deadline stops it, and the bytes after it are those of
+// the next one.
 func TestInterruptedReply(t *testing.T) {
 	const whole = "00 0000 00 00000004 0a020801 05 0002 4142 00 00000000 00 0000 00 00000000"
 	replies := NewReplies(&interrupted{bytes: fromHex(t, whole)})
@@ -148,9 +155,11 @@ func TestInterruptedReply(t *testing.T) {
 	for _, want := range []struct {
 		reply Reply
 		bytes int
-	}{{Reply{codes.OK, "", []byte{0x0a, 2, 8, 1}}, 12}, {Reply{codes.NotFound, "AB", nil}, 10}, {Reply{codes.OK, "", nil}, 8}} {
+	}{{Reply{codes.OK, "", []byte{0x0a, 2, 8, 1}}, 12}, {Reply{codes.NotFound, "AB", nil}, 10},
+		{Reply{codes.OK, "", nil}, 8}} {
 		got, stops, err := next()
-		if err != nil || got.Code != want.reply.Code || got.Text != want.reply.Text || !bytes.Equal(got.Body, want.reply.Body) || stops != want.bytes {
+		if err != nil || got.Code != want.reply.Code || got.Text != want.reply.Text ||
+			!bytes.Equal(got.Body, want.reply.Body) || stops != want.bytes {
 			t.Errorf("%v, %v, stopped %d times, wanted %v", got, err, stops, want)
 		}
 	}

@@ -13,12 +13,14 @@ type Request struct {
 	Message []byte
 }
 
-// Fault is the first fault of a stream of calls, at a place that counts its bytes from 0. Nothing after it is a call.
+// Fault is the first fault of a stream of calls, at a place that counts its bytes from 0. Nothing
+// after it is a call.
 type Fault struct {
 	Reason string
 	Place  int64
 }
 
+// Error returns the reason and the place, as a reply has them.
 func (f Fault) Error() string { return fmt.Sprintf("%s at byte %d", f.Reason, f.Place) }
 
 // Requests is a stream of calls, which are read in order.
@@ -28,9 +30,11 @@ type Requests struct {
 	read int64
 }
 
+// NewRequests returns the calls that in has.
 func NewRequests(in io.Reader) *Requests { return &Requests{in: bufio.NewReader(in)} }
 
-// Next reads the next call. A stream that ends after a whole one ends with io.EOF; a Fault is returned as soon as it is read, without another read.
+// Next reads the next call. A stream that ends after a whole one ends with io.EOF; a Fault is
+// returned as soon as it is read, without another read.
 func (r *Requests) Next() (Request, error) {
 	begin := r.read
 	length, err := r.take(2)
@@ -109,7 +113,8 @@ func (r *Requests) within(err error) error {
 // isShown reports whether a text may have the character.
 func isShown(character byte) bool { return 0x20 <= character && character <= 0x7e }
 
-// Append puts a reply as a frame after other bytes. Its text must be one that a frame can have, as Text makes it.
+// Append puts a reply as a frame after other bytes. Its text must be one that a frame can have, as
+// Text makes it.
 func (answer Reply) Append(frame []byte) []byte {
 	frame = append(frame, byte(answer.Code), byte(len(answer.Text)>>8), byte(len(answer.Text)))
 	frame = append(frame, answer.Text...)
@@ -119,8 +124,8 @@ func (answer Reply) Append(frame []byte) []byte {
 	return append(frame, answer.Body...)
 }
 
-// Text is a text as a reply can have it: other characters than those from 0x20 to 0x7E are shown by the hexadecimal digits of their bytes, and
-// what is too long is cut.
+// Text is a text as a reply can have it: other characters than those from 0x20 to 0x7E are shown by
+// the hexadecimal digits of their bytes, and what is too long is cut.
 func Text(said string) string {
 	var shown []byte
 	for i := 0; i < len(said); i++ {

@@ -45,12 +45,15 @@ type slowReader struct{ io.Reader }
 
 func (r slowReader) Read(into []byte) (int, error) { return r.Reader.Read(into[:1]) }
 
-// Each fault has the place that docs/PROTOCOL.md says, also after a call, and is reported though nothing follows.
+// Each fault has the place that docs/PROTOCOL.md says, also after a call, and is reported though
+// nothing follows.
 func TestFaults(t *testing.T) {
 	const call = "0001 21 00 00000000"
 	rows := []struct{ bytes, want string }{
-		{"0000", "bad path length at byte 0"}, {"0081", "bad path length at byte 0"}, {call + "ffff", "bad path length at byte 8"},
-		{"0002 2120", "bad path at byte 3"}, {"0002 7f", "bad path at byte 2"}, {call + "0001 80", "bad path at byte 10"},
+		{"0000", "bad path length at byte 0"}, {"0081", "bad path length at byte 0"},
+		{call + "ffff", "bad path length at byte 8"},
+		{"0002 2120", "bad path at byte 3"}, {"0002 7f", "bad path at byte 2"},
+		{call + "0001 80", "bad path at byte 10"},
 		{"0001 21 01", "bad flag at byte 3"}, {call + "0001 21 80", "bad flag at byte 11"},
 		{"0001 21 00 00100001", "message too long at byte 4"}, {"0001 21 00 ffffffff", "message too long at byte 4"},
 	}
@@ -100,7 +103,8 @@ func TestReplyWritten(t *testing.T) {
 
 func TestText(t *testing.T) {
 	rows := []struct{ said, want string }{
-		{"", ""}, {" a~", " a~"}, {"a\nb\x7f", `a\x0ab\x7f`}, {"é", `\xc3\xa9`}, {strings.Repeat("a", 1024), strings.Repeat("a", 1024)},
+		{"", ""}, {" a~", " a~"}, {"a\nb\x7f", `a\x0ab\x7f`}, {"é", `\xc3\xa9`},
+		{strings.Repeat("a", 1024), strings.Repeat("a", 1024)},
 		{strings.Repeat("a", 1025), strings.Repeat("a", 1024)},
 	}
 	for _, row := range rows {

@@ -1,4 +1,5 @@
-// Package logqueue writes log lines without ever making their author wait: standard error can be a pipe that nobody reads.
+// Package logqueue writes log lines without ever making their author wait: standard error can be a
+// pipe that nobody reads.
 package logqueue
 
 import (
@@ -16,8 +17,9 @@ func Report(count uint64) string {
 	return fmt.Sprintf("lines dropped, since standard error did not take them: %d", count)
 }
 
-// Queue holds lines until they are written, by a goroutine of its own. A line is dropped and counted where there is no room for it, and where writing
-// it fails. Once lines can be written again, one more says at their place how many were dropped.
+// Queue holds lines until they are written, by a goroutine of its own. A line is dropped and
+// counted where there is no room for it, and where writing it fails. Once lines can be written
+// again, one more says at their place how many were dropped.
 type Queue struct {
 	out io.Writer
 	// The line that says how many were dropped.
@@ -26,9 +28,11 @@ type Queue struct {
 	mutex   sync.Mutex
 	changed *sync.Cond
 	waiting []line
-	// Lines that were dropped after the last one that waits and are not reported yet, and all that were ever dropped.
+	// Lines that were dropped after the last one that waits and are not reported yet, and all that
+	// were ever dropped.
 	unreported, dropped uint64
-	// Whether the last write failed. A report waits for the next line then, so that a reader who has gone is not written to again and again.
+	// Whether the last write failed. A report waits for the next line then, so that a reader who
+	// has gone is not written to again and again.
 	isFailing bool
 	isEnding  bool
 	ended     chan struct{}
@@ -40,7 +44,8 @@ type line struct {
 	droppedBefore uint64
 }
 
-// New begins a queue before a writer. The report gives the line, with its end, that says how many lines were dropped.
+// New begins a queue before a writer. The report gives the line, with its end, that says how many
+// lines were dropped.
 func New(out io.Writer, report func(count uint64) string) *Queue {
 	q := &Queue{out: out, report: report, ended: make(chan struct{})}
 	q.changed = sync.NewCond(&q.mutex)
@@ -71,7 +76,8 @@ func (q *Queue) Dropped() uint64 {
 	return q.dropped
 }
 
-// End waits until all lines are written, at most so long. It is called once, at the end of the program.
+// End waits until all lines are written, at most so long. It is called once, at the end of the
+// program.
 func (q *Queue) End(limit time.Duration) {
 	q.mutex.Lock()
 	q.isEnding = true

@@ -68,7 +68,8 @@ func promptly(t *testing.T, act func()) {
 	}
 }
 
-// No line waits for a writer that is stuck. Beyond the room lines are dropped, and reported where they are missing once it goes on.
+// No line waits for a writer that is stuck. Beyond the room lines are dropped, and reported where
+// they are missing once it goes on.
 func TestFull(t *testing.T) {
 	out := newStuck()
 	q := New(out, report)
@@ -115,7 +116,8 @@ func TestFull(t *testing.T) {
 	}
 }
 
-// A line whose writing fails is dropped, and so is a report that fails, which is said with the next line that can be written.
+// A line whose writing fails is dropped, and so is a report that fails, which is said with the next
+// line that can be written.
 func TestFailing(t *testing.T) {
 	out, gone := newStuck(), errors.New("any")
 	q := New(out, report)

@@ -30,13 +30,15 @@ type Socket struct {
 	close sync.Once
 }
 
-// ListenForGroup makes a socket to which its owner alone may connect, with the mode 0600, or its owner and a group, with 0660.
+// ListenForGroup makes a socket to which its owner alone may connect, with the mode 0600, or its
+// owner and a group, with 0660.
 func ListenForGroup(path, group string) (*Socket, error) {
 	number, err := groupNumber(group)
 	if err != nil {
 		return nil, err
 	}
-	// The mode is that of the umask from the beginning: between the making of a file and the setting of its mode anybody could open it.
+	// The mode is that of the umask from the beginning: between the making of a file and the
+	// setting of its mode anybody could open it.
 	before := syscall.Umask(0o177)
 	socket, err := Listen(path)
 	syscall.Umask(before)
@@ -80,7 +82,8 @@ func Listen(path string) (*Socket, error) {
 	if isLocked, err := lockSoon(folder); err != nil {
 		return nil, err
 	} else if !isLocked {
-		log.Printf("%s: another process keeps this folder locked, and a socket is made there without the lock", folder.Name())
+		log.Printf("%s: another process keeps this folder locked, and a socket is made there without the lock",
+			folder.Name())
 	}
 	if err := removeDeadSocket(path); err != nil {
 		return nil, err

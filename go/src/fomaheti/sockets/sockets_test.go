@@ -102,7 +102,8 @@ func TestStartInAFolderThatStaysLocked(t *testing.T) {
 	if took := time.Since(begin); took < time.Second {
 		t.Errorf("it waited for %v", took)
 	}
-	want := filepath.Dir(path) + ": another process keeps this folder locked, and a socket is made there without the lock\n"
+	want := filepath.Dir(path) +
+		": another process keeps this folder locked, and a socket is made there without the lock\n"
 	if lines.String() != want {
 		t.Errorf("logged %q", lines)
 	}
@@ -133,7 +134,8 @@ func TestEndInAFolderThatIsLocked(t *testing.T) {
 	}
 }
 
-// A socket of which a connection does not say that nobody answers stays: here one of datagrams, that is in use.
+// A socket of which a connection does not say that nobody answers stays: here one of datagrams,
+// that is in use.
 func TestSocketOfAnotherKindStays(t *testing.T) {
 	path := filepath.Join(t.TempDir(), "csi.sock")
 	other, err := net.ListenUnixgram("unixgram", &net.UnixAddr{Name: path, Net: "unixgram"})
@@ -186,7 +188,8 @@ func TestFileOfTheSocket(t *testing.T) {
 	}
 }
 
-// The mode is that of the owner alone, whatever the umask is, or of a group next to him; the umask is as it was afterwards.
+// The mode is that of the owner alone, whatever the umask is, or of a group next to him; the umask
+// is as it was afterwards.
 func TestSocketForGroup(t *testing.T) {
 	before := syscall.Umask(0o002)
 	defer syscall.Umask(before)
