@@ -80,13 +80,13 @@ func noHeader(reply interface{}) {
 }
 
 func noRevision(reply interface{}) {
-	if reply, is := reply.(*pb.RangeResponse); is {
+	if reply, ok := reply.(*pb.RangeResponse); ok {
 		reply.Header.Revision = 0
 	}
 }
 
 func noRowRevision(reply interface{}) {
-	if reply, is := reply.(*pb.RangeResponse); is {
+	if reply, ok := reply.(*pb.RangeResponse); ok {
 		reply.Kvs[0].CreateRevision = 0
 	}
 }
@@ -96,37 +96,37 @@ func noID(reply interface{}) { reply.(*pb.LeaseGrantResponse).ID = 0 }
 func noLength(reply interface{}) { reply.(*pb.LeaseGrantResponse).TTL = 0 }
 
 func noResponses(reply interface{}) {
-	if reply, is := reply.(*pb.TxnResponse); is {
+	if reply, ok := reply.(*pb.TxnResponse); ok {
 		reply.Responses = nil
 	}
 }
 
 func oneLess(reply interface{}) {
-	if reply, is := reply.(*pb.TxnResponse); is {
+	if reply, ok := reply.(*pb.TxnResponse); ok {
 		reply.Responses = reply.Responses[1:]
 	}
 }
 
 func emptyResponse(reply interface{}) {
-	if reply, is := reply.(*pb.TxnResponse); is {
+	if reply, ok := reply.(*pb.TxnResponse); ok {
 		reply.Responses[len(reply.Responses)-1] = &pb.ResponseOp{}
 	}
 }
 
 func anotherKind(reply interface{}) {
-	if reply, is := reply.(*pb.TxnResponse); is {
+	if reply, ok := reply.(*pb.TxnResponse); ok {
 		reply.Responses[0] = &pb.ResponseOp{Response: &pb.ResponseOp_ResponseTxn{ResponseTxn: &pb.TxnResponse{}}}
 	}
 }
 
 func moreAfterNone(reply interface{}) {
-	if reply, is := reply.(*pb.RangeResponse); is {
+	if reply, ok := reply.(*pb.RangeResponse); ok {
 		reply.Kvs, reply.More = nil, true
 	}
 }
 
 func anotherRow(reply interface{}) {
-	if reply, is := reply.(*pb.RangeResponse); is {
+	if reply, ok := reply.(*pb.RangeResponse); ok {
 		reply.Kvs[0].Key = []byte("of nobody")
 	}
 }
@@ -166,11 +166,11 @@ var (
 
 // Texts of errors for malformed answers.
 const (
-	saysRevision = "has no revision"
-	saysCount    = "responses to"
-	saysKind     = "is missing, or is one to another operation"
-	saysRows     = "more rows follow none"
-	saysOther    = `the row "of nobody" was not asked for`
+	wantRevision = "has no revision"
+	wantCount    = "responses to"
+	wantKind     = "is missing, or is one to another operation"
+	wantRows     = "more rows follow none"
+	wantOther    = `the row "of nobody" was not asked for`
 )
 
 // Servers with complete answers.
@@ -184,47 +184,47 @@ var malformedCases = []struct {
 	remove func(reply interface{})
 	want   string
 }{
-	{"a lease without a header", wholeServer, askLease, noHeader, saysRevision},
-	{"a lease without an id", wholeServer, askLease, noID, saysRevision},
-	{"a lease without a length", wholeServer, askLease, noLength, saysRevision},
-	{"a reading without a revision", wholeServer, askKey, noRevision, saysRevision},
-	{"the own key without its revision", wholeServer, askLead, noRowRevision, saysRevision},
-	{"the queue without a header", wholeServer, askQueue, noHeader, saysRevision},
-	{"the queue with another row", wholeServer, askQueue, anotherRow, saysOther},
-	{"the own key without a header", wholeServer, askLead, noHeader, saysRevision},
-	{"a reading without a header", wholeServer, askKey, noHeader, saysRevision},
-	{"a reading of another row", wholeServer, askKey, anotherRow, saysOther},
-	{"a change that was made, without a header", wholeServer, commitAttach, noHeader, saysRevision},
-	{"a change that was made, without responses", wholeServer, commitAttach, noResponses, saysCount},
-	{"a change that was made, of another kind", wholeServer, commitAttach, anotherKind, saysKind},
-	{"a change that was refused, without a header", refusingServer, commitAttach, noHeader, saysRevision},
-	{"a change that was refused, without responses", refusingServer, commitAttach, noResponses, saysCount},
-	{"a change that was refused, without one", refusingServer, commitAttach, oneLess, saysCount},
-	{"a change that was refused, with an empty one", refusingServer, commitAttach, emptyResponse, saysKind},
-	{"a change that was refused, of another kind", refusingServer, commitAttach, anotherKind, saysKind},
-	{"the row of a change without a header", wholeServer, commitMutable, noHeader, saysRevision},
-	{"a reading after no space, without a header", fullServer, commitAttach, noHeader, saysRevision},
-	{"a fence without a header", wholeServer, askFence, noHeader, saysRevision},
-	{"a fence without a response", wholeServer, askFence, noResponses, saysCount},
-	{"a walk without a header", wholeServer, beginWalk, noHeader, saysRevision},
-	{"a walk without responses", wholeServer, beginWalk, noResponses, saysCount},
-	{"a walk without the last one", wholeServer, beginWalk, oneLess, saysCount},
-	{"a walk with an empty one", wholeServer, beginWalk, emptyResponse, saysKind},
-	{"a walk of another kind", wholeServer, beginWalk, anotherKind, saysKind},
-	{"a walk that is refused, without responses", refusingServer, beginWalk, noResponses, saysCount},
-	{"a page without a header", wholeServer, askPage, noHeader, saysRevision},
-	{"a page of no rows that is not the last", wholeServer, askPage, moreAfterNone, saysRows},
-	{"a page of another row", wholeServer, askPage, anotherRow, saysOther},
-	{"an import that looks, without a header", wholeServer, lookBeforeImport, noHeader, saysRevision},
-	{"an import without a header", wholeServer, importRow, noHeader, saysRevision},
-	{"an import that is refused, without responses", refusingServer, importRow, noResponses, saysCount},
-	{"an import that is refused, with an empty one", refusingServer, importRow, emptyResponse, saysKind},
-	{"an import that is refused, of another kind", refusingServer, importRow, anotherKind, saysKind},
-	{"an export without a header", wholeServer, beginExport, noHeader, saysRevision},
-	{"an export of no rows that is not at its end", wholeServer, exportRows, moreAfterNone, saysRows},
-	{"a first row without a header", wholeServer, makeFirstRow, noHeader, saysRevision},
-	{"a first row that is there, without a response", refusingServer, makeFirstRow, noResponses, saysCount},
-	{"a first row that is there, of another kind", refusingServer, makeFirstRow, anotherKind, saysKind},
+	{"a lease without a header", wholeServer, askLease, noHeader, wantRevision},
+	{"a lease without an id", wholeServer, askLease, noID, wantRevision},
+	{"a lease without a length", wholeServer, askLease, noLength, wantRevision},
+	{"a reading without a revision", wholeServer, askKey, noRevision, wantRevision},
+	{"the own key without its revision", wholeServer, askLead, noRowRevision, wantRevision},
+	{"the queue without a header", wholeServer, askQueue, noHeader, wantRevision},
+	{"the queue with another row", wholeServer, askQueue, anotherRow, wantOther},
+	{"the own key without a header", wholeServer, askLead, noHeader, wantRevision},
+	{"a reading without a header", wholeServer, askKey, noHeader, wantRevision},
+	{"a reading of another row", wholeServer, askKey, anotherRow, wantOther},
+	{"a change that was made, without a header", wholeServer, commitAttach, noHeader, wantRevision},
+	{"a change that was made, without responses", wholeServer, commitAttach, noResponses, wantCount},
+	{"a change that was made, of another kind", wholeServer, commitAttach, anotherKind, wantKind},
+	{"a change that was refused, without a header", refusingServer, commitAttach, noHeader, wantRevision},
+	{"a change that was refused, without responses", refusingServer, commitAttach, noResponses, wantCount},
+	{"a change that was refused, without one", refusingServer, commitAttach, oneLess, wantCount},
+	{"a change that was refused, with an empty one", refusingServer, commitAttach, emptyResponse, wantKind},
+	{"a change that was refused, of another kind", refusingServer, commitAttach, anotherKind, wantKind},
+	{"the row of a change without a header", wholeServer, commitMutable, noHeader, wantRevision},
+	{"a reading after no space, without a header", fullServer, commitAttach, noHeader, wantRevision},
+	{"a fence without a header", wholeServer, askFence, noHeader, wantRevision},
+	{"a fence without a response", wholeServer, askFence, noResponses, wantCount},
+	{"a walk without a header", wholeServer, beginWalk, noHeader, wantRevision},
+	{"a walk without responses", wholeServer, beginWalk, noResponses, wantCount},
+	{"a walk without the last one", wholeServer, beginWalk, oneLess, wantCount},
+	{"a walk with an empty one", wholeServer, beginWalk, emptyResponse, wantKind},
+	{"a walk of another kind", wholeServer, beginWalk, anotherKind, wantKind},
+	{"a walk that is refused, without responses", refusingServer, beginWalk, noResponses, wantCount},
+	{"a page without a header", wholeServer, askPage, noHeader, wantRevision},
+	{"a page of no rows that is not the last", wholeServer, askPage, moreAfterNone, wantRows},
+	{"a page of another row", wholeServer, askPage, anotherRow, wantOther},
+	{"an import that looks, without a header", wholeServer, lookBeforeImport, noHeader, wantRevision},
+	{"an import without a header", wholeServer, importRow, noHeader, wantRevision},
+	{"an import that is refused, without responses", refusingServer, importRow, noResponses, wantCount},
+	{"an import that is refused, with an empty one", refusingServer, importRow, emptyResponse, wantKind},
+	{"an import that is refused, of another kind", refusingServer, importRow, anotherKind, wantKind},
+	{"an export without a header", wholeServer, beginExport, noHeader, wantRevision},
+	{"an export of no rows that is not at its end", wholeServer, exportRows, moreAfterNone, wantRows},
+	{"a first row without a header", wholeServer, makeFirstRow, noHeader, wantRevision},
+	{"a first row that is there, without a response", refusingServer, makeFirstRow, noResponses, wantCount},
+	{"a first row that is there, of another kind", refusingServer, makeFirstRow, anotherKind, wantKind},
 }
 
 // An answer with a missing or a wrong part is refused by each of its readers.
@@ -263,7 +263,7 @@ func (s *partialServer) newTerm(t *testing.T) *term {
 func TestMalformedAnswerIsOpen(t *testing.T) {
 	server := &partialServer{remove: noHeader}
 	term := server.newTerm(t)
-	if _, is := commitAttach(term).(unknownOutcome); !is || !term.needsFence {
+	if _, ok := commitAttach(term).(unknownOutcome); !ok || !term.needsFence {
 		t.Errorf("got needsFence %v, want an unknown outcome and a fence", term.needsFence)
 	}
 }

@@ -192,8 +192,8 @@ func (i *importer) write(rows []importLine) error {
 	ctx, cancel := context.WithTimeout(clientv3.WithRequireLeader(context.Background()), i.timeout)
 	defer cancel()
 	done, err := i.client.Txn(withSendOnce(ctx)).If(compares...).Then(success...).Else(failure...).Commit()
-	if why, ok := notMade(err); ok {
-		return brokenRow(k, rows[0].key, why)
+	if reason, ok := notMade(err); ok {
+		return brokenRow(k, rows[0].key, reason)
 	}
 	if err != nil {
 		return unknownOutcome{err}

@@ -33,9 +33,10 @@ func TestOlderWhileLeading(t *testing.T) {
 	for _, observed := range []queue{{revision: 90, least: 110}, {revision: 200, least: 110},
 		{revision: 201, least: 110}} {
 		isLeading = c.lead(term, observed, isLeading)
-		if term, why := state.current(); term != nil || why.code != 9 || why.text != older || isLeading || drops != 1 {
+		if term, reason := state.current(); term != nil || reason.code != 9 || reason.text != older || isLeading ||
+			drops != 1 {
 			t.Errorf("at revision %d: got term %+v, refusal %v, %d drops, want %s and 1 drop",
-				observed.revision, term, why, drops, older)
+				observed.revision, term, reason, drops, older)
 		}
 	}
 	want := []string{"leads, from revision 110 on, by the key lock/1", "leads no more: " + older, "no lock: " + older}

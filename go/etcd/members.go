@@ -105,14 +105,14 @@ func (m *members) noteUnreached(ctx context.Context, to string, err error) {
 	if ctx.Err() == context.Canceled {
 		return
 	}
-	why := handshakeError(err)
+	reason := handshakeError(err)
 	var failure *net.OpError
 	if errors.As(err, &failure) {
-		why = failure.Err.Error()
+		reason = failure.Err.Error()
 	}
 	m.mutex.Lock()
 	defer m.mutex.Unlock()
-	m.unreached[to] = why
+	m.unreached[to] = reason
 }
 
 // recordAnswer is an interceptor that notes the member that answered a call, and its error.
@@ -135,9 +135,9 @@ func (m *members) recordAnswer(ctx context.Context, method string, request, repl
 	return err
 }
 
-// membersOf names the members behind an error, in parentheses. If no member answered, these are the
-// unreachable ones with their reasons; otherwise the members that returned the error last. It is
-// empty for an error that does not come from etcd.
+// membersOf names the members that caused an error, in parentheses. If no member answered, these
+// are the unreachable ones with their reasons; otherwise the members that returned the error last.
+// It is empty for an error that does not come from etcd.
 func (m *members) membersOf(err error) string {
 	if m == nil || err == nil {
 		return ""
@@ -147,8 +147,8 @@ func (m *members) membersOf(err error) string {
 	var found []string
 	for _, to := range m.opts.endpoints {
 		refused := m.refused[to]
-		if why := m.unreached[to]; why != "" && isNoAnswer(err) {
-			found = append(found, to+": "+why)
+		if reason := m.unreached[to]; reason != "" && isNoAnswer(err) {
+			found = append(found, to+": "+reason)
 		} else if refused != "" && strings.Contains(err.Error(), refused) {
 			found = append(found, to)
 		}

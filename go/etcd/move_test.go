@@ -172,7 +172,7 @@ func TestImportNotKnown(t *testing.T) {
 	if requests := atomic.LoadInt32(&server.requests); requests != 1 || err == nil {
 		t.Fatalf("got %d requests, error %v, want 1 request and an error", requests, err)
 	}
-	if why := err.Error(); !strings.HasPrefix(why, "it is not known whether it was made: ") {
+	if reason := err.Error(); !strings.HasPrefix(reason, "it is not known whether it was made: ") {
 		t.Errorf("got error %v, want an unknown outcome", err)
 	}
 }
@@ -211,7 +211,7 @@ func TestExportedOnce(t *testing.T) {
 	for n := uint64(1); n <= count; n++ {
 		server.rows[sampleKeys.volume(n)] = string(volume{name: "a", pool: "p"}.encoded())
 	}
-	for _, row := range closest() {
+	for _, row := range adjacent() {
 		server.rows[sampleKeys.attachment(row.number, row.node)] = string(row.encoded())
 	}
 	r := &snapshot{client: startServer(t, server, 1), timeout: 5 * time.Second}

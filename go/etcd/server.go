@@ -126,9 +126,9 @@ func (s *server) handle(c *connection, request frames.Request) (frames.Reply, er
 	if !isPath(request.Path) {
 		return refusalReply(refusal{codes.Unimplemented, "unknown method"}), nil
 	}
-	term, why := s.state.current()
+	term, reason := s.state.current()
 	if term == nil {
-		return refusalReply(why), nil
+		return refusalReply(reason), nil
 	}
 	// A page that is read ahead belongs to the order of the calls too.
 	c.walk.waitAhead()
@@ -136,16 +136,18 @@ func (s *server) handle(c *connection, request frames.Request) (frames.Reply, er
 	if term.isOver() {
 		return frames.Reply{}, errOver
 	}
-	if errors.As(err, &why) {
-		s.logf("%s %d %q%s", request.Path, why.code, why.text, frames.Text(s.members.membersOf(why)))
-		return refusalReply(why), nil
+	if errors.As(err, &reason) {
+		s.logf("%s %d %q%s", request.Path, reason.code, reason.text, frames.Text(s.members.membersOf(reason)))
+		return refusalReply(reason), nil
 	}
 	return frames.Reply{Body: body}, err
 }
 
 var errNoRows = refuse("there are no rows, and none are made")
 
-func refusalReply(why refusal) frames.Reply { return frames.Reply{Code: why.code, Text: why.text} }
+func refusalReply(reason refusal) frames.Reply {
+	return frames.Reply{Code: reason.code, Text: reason.text}
+}
 
 func isPath(path string) bool {
 	return path == readPath || path == makePath || path == commitPath || path == leadPath
@@ -170,11 +172,11 @@ func (s *server) dispatch(c *connection, t *term, request frames.Request) ([]byt
 		}
 		return nil, t.commit(t.ctx, makeMeta{})
 	default:
-		asked, err := readChange(request.Message)
+		requested, err := readChange(request.Message)
 		if err != nil {
 			return nil, err
 		}
-		return nil, t.commit(t.ctx, asked)
+		return nil, t.commit(t.ctx, requested)
 	}
 }
 

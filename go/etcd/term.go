@@ -100,8 +100,8 @@ func readError(err error) error {
 	if err == rpctypes.ErrCompacted {
 		return refuse("etcd compacted the revision of this walk over the rows: start again")
 	}
-	if why, ok := notMade(err); ok {
-		return why
+	if reason, ok := notMade(err); ok {
+		return reason
 	}
 	return unknownOutcome{err}
 }
@@ -190,7 +190,7 @@ func (t *term) endReason() error {
 func (t *term) confirmLead(ctx context.Context) error {
 	ctx, cancel := context.WithTimeout(ctx, t.timeout)
 	defer cancel()
-	var why error
+	var reason error
 	for {
 		read, err := t.get(ctx, t.key, clientv3.WithKeysOnly())
 		if err == nil && len(read.Kvs) > 0 && read.Kvs[0].CreateRevision == t.created {
@@ -203,12 +203,12 @@ func (t *term) confirmLead(ctx context.Context) error {
 			err = unknown.err
 		}
 		// An error before the deadline tells more than the deadline itself.
-		if why == nil || ctx.Err() == nil {
-			why = err
+		if reason == nil || ctx.Err() == nil {
+			reason = err
 		}
 		sleep(ctx, leadRetryPause)
 		if ctx.Err() != nil {
-			return refuse("etcd does not say whether this program leads: %v", why)
+			return refuse("etcd does not say whether this program leads: %v", reason)
 		}
 	}
 }
@@ -272,8 +272,8 @@ func (t *term) transact(ctx context.Context, planned plan) (*clientv3.TxnRespons
 	if err == rpctypes.ErrNoSpace {
 		return nil, t.noSpaceOutcome(ctx, planned)
 	}
-	if why, ok := notMade(err); ok {
-		return nil, why
+	if reason, ok := notMade(err); ok {
+		return nil, reason
 	}
 	if err != nil {
 		t.needsFence = true
@@ -338,8 +338,8 @@ func (t *term) compareFailure(done *clientv3.TxnResponse, planned plan) error {
 		return refuse("the key of the lock was put again")
 	}
 	if planned.explain != nil {
-		if why := planned.explain(read[1:]); why != "" {
-			return refuse("%s", why)
+		if reason := planned.explain(read[1:]); reason != "" {
+			return refuse("%s", reason)
 		}
 	}
 	return refuse("a comparison failed")

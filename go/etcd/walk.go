@@ -103,13 +103,13 @@ func (w *walk) next(ctx context.Context) ([]byte, error) { return w.deliver(ctx,
 
 // deliver returns a page and starts to read the next one while csid puts the rows of this page into
 // its tables. waitAhead must be called before the term is used for anything else.
-func (w *walk) deliver(ctx context.Context, given page) ([]byte, error) {
-	w.token, w.ahead = given.token, nil
-	if given.token != nil {
+func (w *walk) deliver(ctx context.Context, p page) ([]byte, error) {
+	w.token, w.ahead = p.token, nil
+	if p.token != nil {
 		w.ahead = make(chan page, 1)
 		go func() { w.ahead <- w.read(ctx, nil) }()
 	}
-	return given.body, given.err
+	return p.body, p.err
 }
 
 // waitAhead returns once no page is being read.

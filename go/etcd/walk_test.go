@@ -114,8 +114,8 @@ func TestLongestRow(t *testing.T) {
 	}
 }
 
-// closest returns attachments with adjacent keys: wherever a read ends, the next key has a row.
-func closest() (rows []attachment) {
+// adjacent returns attachments with adjacent keys: wherever a read ends, the next key has a row.
+func adjacent() (rows []attachment) {
 	for count := 0; count < 100; count++ {
 		rows = append(rows, attachment{1, "n" + strings.Repeat("\x00", count), nil, false})
 	}
@@ -134,7 +134,7 @@ func TestPages(t *testing.T) {
 				server.rows[sampleKeys.volume(n)] = string(row.encoded())
 				want = appendBytes(want, row.field(), row.message())
 			}
-			for _, row := range closest() {
+			for _, row := range adjacent() {
 				server.rows[sampleKeys.attachment(row.number, row.node)] = string(row.encoded())
 				want = appendBytes(want, row.field(), row.message())
 			}

@@ -98,12 +98,13 @@ func (l *storeConn) call(path string, message []byte) (frames.Reply, error) {
 func (l *storeConn) wantReply(t *testing.T, path, message string, code codes.Code, want string) {
 	t.Helper()
 	got, err := l.call(path, fromHex(t, message))
-	said := got.Text
+	gotText := got.Text
 	if got.Code == codes.OK {
-		said, want = hex.EncodeToString(got.Body), strings.ReplaceAll(want, " ", "")
+		gotText, want = hex.EncodeToString(got.Body), strings.ReplaceAll(want, " ", "")
 	}
-	if err != nil || got.Code != code || said != want {
-		t.Errorf("%s %.200s: got %d %.1000q, error %v, want %d %.1000q", path, message, got.Code, said, err, code, want)
+	if err != nil || got.Code != code || gotText != want {
+		t.Errorf("%s %.200s: got %d %.1000q, error %v, want %d %.1000q", path, message, got.Code, gotText, err, code,
+			want)
 	}
 }
 

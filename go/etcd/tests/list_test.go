@@ -34,7 +34,7 @@ func TestList(t *testing.T) {
 	cluster := clusters.Start(t, 1)
 	client := cluster.Client(t)
 	runOnce(t, "", "--list", cluster.Endpoints()).check(t, "no rows", 1, "", "csid-etcd: --list: "+errNoMeta)
-	runOnce(t, threeRows, "--import", cluster.Endpoints()).check(t, "an import", 0, threeSaid, "")
+	runOnce(t, threeRows, "--import", cluster.Endpoints()).check(t, "an import", 0, threeCounts, "")
 	for _, c := range []struct{ args, want string }{
 		{"", listedThree},
 		{"--volume a", listedThree},

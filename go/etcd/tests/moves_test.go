@@ -42,13 +42,13 @@ func (got result) check(t *testing.T, what string, status int, stdout, stderr st
 }
 
 const (
-	blockRow  = `{"name":"a","bytes":1048576,"pool":"ssd","caps":"1a060a001a020801","params":""}`
-	firstRow  = "volumes/00000000000000000001\t" + blockRow + "\n"
-	nodeRow   = "attachments/00000000000000000001/n\t{\"cap\":\"1a060a001a020801\",\"readonly\":0}\n"
-	metaRow   = "meta\t{\"format_no\":2,\"next_number\":2}\n"
-	threeRows = firstRow + nodeRow + metaRow
-	threeSaid = "volumes 1, attachments 1, next number 2, format 2\n"
-	threeSQL  = "BEGIN;\nUPDATE meta SET next_number = 2;\nINSERT INTO attachments VALUES " +
+	blockRow    = `{"name":"a","bytes":1048576,"pool":"ssd","caps":"1a060a001a020801","params":""}`
+	firstRow    = "volumes/00000000000000000001\t" + blockRow + "\n"
+	nodeRow     = "attachments/00000000000000000001/n\t{\"cap\":\"1a060a001a020801\",\"readonly\":0}\n"
+	metaRow     = "meta\t{\"format_no\":2,\"next_number\":2}\n"
+	threeRows   = firstRow + nodeRow + metaRow
+	threeCounts = "volumes 1, attachments 1, next number 2, format 2\n"
+	threeSQL    = "BEGIN;\nUPDATE meta SET next_number = 2;\nINSERT INTO attachments VALUES " +
 		"(1,'n',X'1a060a001a020801',0);\n" +
 		"INSERT INTO volumes VALUES (1,'a',1048576,'ssd',X'1a060a001a020801',X'');\nCOMMIT;\n"
 )
@@ -114,12 +114,12 @@ func TestMoves(t *testing.T) {
 		"csid-etcd: --import: line 2: volumes/7: its key has no number of 20 digits; nothing was written\n")
 	wantKeys(t, cluster)
 	importWhileLeading(t, cluster)
-	runOnce(t, threeRows, "--import", cluster.Endpoints()).check(t, "an import", 0, threeSaid, "")
+	runOnce(t, threeRows, "--import", cluster.Endpoints()).check(t, "an import", 0, threeCounts, "")
 	wantKeys(t, cluster,
 		name+"/attachments/00000000000000000001/n", `{"cap":"1a060a001a020801","readonly":0}`,
 		name+"/meta", `{"format_no":2,"next_number":2}`,
 		name+"/volumes/00000000000000000001", blockRow)
-	at := fmt.Sprintf("csid-etcd: at revision %d: %s", revision(t, client), threeSaid)
+	at := fmt.Sprintf("csid-etcd: at revision %d: %s", revision(t, client), threeCounts)
 	runOnce(t, "", "--export", cluster.Endpoints()).check(t, "an export", 0, threeSQL, at)
 	cases := []struct{ key, there string }{
 		{"attachments/00000000000000000001/n", "a row"},
@@ -166,7 +166,7 @@ func TestExport(t *testing.T) {
 	t.Parallel()
 	cluster := clusters.Start(t, 1)
 	client := cluster.Client(t)
-	runOnce(t, threeRows, "--import", cluster.Endpoints()).check(t, "an import again", 0, threeSaid, "")
+	runOnce(t, threeRows, "--import", cluster.Endpoints()).check(t, "an import again", 0, threeCounts, "")
 	for key, reason := range map[string]string{
 		"volumes/00000000000000000002": `its value is not of the form ` +
 			`{"name":TEXT,"bytes":NUMBER,"pool":TEXT,"caps":HEX,"params":HEX}`,
@@ -199,7 +199,7 @@ func TestExport(t *testing.T) {
 	}
 	put(t, client, name+"/meta", `{"format_no":2,"next_number":2}`)
 	start(t, cluster.Endpoints()).waitLeading(t)
-	at := fmt.Sprintf("csid-etcd: at revision %d: %s", revision(t, client), threeSaid)
+	at := fmt.Sprintf("csid-etcd: at revision %d: %s", revision(t, client), threeCounts)
 	runOnce(t, "", "--export", cluster.Endpoints()).check(t, "an export while a program leads", 0, threeSQL, at)
 }
 

@@ -117,8 +117,8 @@ func TestTLS(t *testing.T) {
 	own := others.client(t, "csid")
 	const unknown = `its certificate "CN=etcd" until %s is refused: x509: signed by unknown authority "CN=ca"`
 	for name, row := range map[string]struct {
-		args []string
-		why  string
+		args   []string
+		reason string
 	}{
 		"no certificate": {args[:2], "it refuses no certificate: tls: "},
 		"a certificate of another authority": {append(args[:2:2], own[2:]...),
@@ -126,7 +126,7 @@ func TestTLS(t *testing.T) {
 		"another authority":            {own, unknown},
 		"an etcd of another authority": {append(own[:2:2], args[2:]...), unknown},
 	} {
-		t.Run(name, func(t *testing.T) { wantTLSRefusal(t, cluster, row.args, row.why) })
+		t.Run(name, func(t *testing.T) { wantTLSRefusal(t, cluster, row.args, row.reason) })
 	}
 	// A program waits for missing files.
 	missing := start(t, cluster.Endpoints(), "--cacert", a.path("later.pem"))
@@ -135,13 +135,13 @@ func TestTLS(t *testing.T) {
 
 // wantTLSRefusal checks that a program waits for the lock, and that its line names the member and
 // the certificate.
-func wantTLSRefusal(t *testing.T, cluster *clusters.Cluster, args []string, why string) {
+func wantTLSRefusal(t *testing.T, cluster *clusters.Cluster, args []string, reason string) {
 	t.Helper()
 	p := start(t, cluster.Endpoints(), append(args, "--timeout", "1s")...)
 	// The end of a certificate differs from run to run.
-	why = regexp.QuoteMeta(why)
-	why = strings.ReplaceAll(why, "%s", `[0-9]{4}-[0-9]{2}-[0-9]{2}T[0-9:]{8}Z`)
-	line := regexp.MustCompile(`csid-etcd: no lock: .* \(.*https://127\.0\.0\.1:[0-9]+: ` + why)
+	reason = regexp.QuoteMeta(reason)
+	reason = strings.ReplaceAll(reason, "%s", `[0-9]{4}-[0-9]{2}-[0-9]{2}T[0-9:]{8}Z`)
+	line := regexp.MustCompile(`csid-etcd: no lock: .* \(.*https://127\.0\.0\.1:[0-9]+: ` + reason)
 	processes.Eventually(t, "the certificate in "+line.String(),
 		func() bool { return line.MatchString(p.Log.String()) })
 	dialled := p.dial(t)
@@ -360,7 +360,7 @@ func (u *userCluster) changePassword(t *testing.T, p program) {
 func (u *userCluster) move(t *testing.T) {
 	t.Helper()
 	u.Ctl(t, "del", "--prefix", name+"/")
-	runOnce(t, threeRows, "--import", u.Endpoints(), u.args()...).check(t, "an import by a user", 0, threeSaid, "")
+	runOnce(t, threeRows, "--import", u.Endpoints(), u.args()...).check(t, "an import by a user", 0, threeCounts, "")
 	if got := runOnce(t, "", "--export", u.Endpoints(), u.args()...); got.status != 0 || got.stdout != threeSQL {
 		t.Errorf("an export by a user: got %v, want %s", got, threeSQL)
 	}

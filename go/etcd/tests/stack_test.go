@@ -214,7 +214,7 @@ func (f *fleet) servedSince(since time.Time) bool {
 func (f *fleet) noteID(id, volumeName string) {
 	f.mutex.Lock()
 	defer f.mutex.Unlock()
-	if before, is := f.ids[id]; is && before != volumeName {
+	if before, ok := f.ids[id]; ok && before != volumeName {
 		f.t.Errorf("got the id %s for %s, and then for %s", id, before, volumeName)
 	}
 	f.ids[id] = volumeName
