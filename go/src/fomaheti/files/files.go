@@ -1,4 +1,4 @@
-// Package files makes files that take the place of others.
+// Package files makes files that replace others.
 package files
 
 import (
@@ -6,11 +6,10 @@ import (
 	"syscall"
 )
 
-// Create makes a file under a name that a program uses for what is unfinished, and opens it for
-// writing. A regular file that an earlier end of the program left there is removed. Anything else
-// stays, and is an error for which os.IsExist reports true: Create never follows a symbolic link
-// and never writes into a file that is there, so the name may be in a folder that others can write
-// to.
+// Create creates an unfinished file and opens it for writing. It removes a regular file with this
+// name, which an earlier crash left. Anything else stays, and is an error for which os.IsExist
+// reports true: Create never follows a symbolic link and never writes into an existing file, so
+// others may be able to write to the folder.
 func Create(path string, mode os.FileMode) (*os.File, error) {
 	if left, err := os.Lstat(path); err == nil && left.Mode().IsRegular() {
 		if err := os.Remove(path); err != nil {

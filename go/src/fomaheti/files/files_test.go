@@ -7,7 +7,7 @@ import (
 	"testing"
 )
 
-// What is there already: a regular file gives way, and nothing else is opened, replaced or changed.
+// Only a regular file is replaced. Other files stay unchanged and are not opened.
 func TestCreate(t *testing.T) {
 	cases := []struct {
 		name   string
@@ -55,7 +55,7 @@ func TestCreate(t *testing.T) {
 	}
 }
 
-// wantsNew writes to a file, and wants that it has nothing else, for its user alone.
+// wantsNew writes to a file, and checks that it was empty and only its user may use it.
 func wantsNew(t *testing.T, file *os.File, path string) {
 	t.Helper()
 	_, err := file.WriteString("new")

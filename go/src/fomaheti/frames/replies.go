@@ -1,5 +1,4 @@
-// Package frames has the envelope of docs/PROTOCOL.md: calls and replies as frames, each written
-// and read.
+// Package frames encodes and decodes the envelope of docs/PROTOCOL.md: calls and replies as frames.
 package frames
 
 import (
@@ -13,7 +12,7 @@ import (
 	"google.golang.org/grpc/codes"
 )
 
-// The greatest parts of a frame (docs/PROTOCOL.md, "Envelope").
+// The limits of a frame in bytes (docs/PROTOCOL.md, "Envelope").
 const (
 	MaxPathBytes    = 128
 	MaxMessageBytes = 1 << 20
@@ -21,17 +20,18 @@ const (
 	MaxBodyBytes    = 4 << 20
 )
 
-// Reply is the answer to one call. With the code OK there is no text, and with any other no body.
+// Reply is the answer to one call. With the code OK it has no text, and with any other code no
+// body.
 type Reply struct {
 	Code codes.Code
 	Text string
 	Body []byte
 }
 
-// Malformed is a reply that breaks a rule of the envelope.
+// Malformed is an error: a reply that breaks a rule of the envelope.
 type Malformed string
 
-// Error names the part of the reply that breaks the rule.
+// Error names the part that breaks the rule.
 func (part Malformed) Error() string { return "malformed reply: bad " + string(part) }
 
 // IsPath reports whether a frame can have the path.
@@ -44,10 +44,10 @@ func IsPath(path string) bool {
 	return 0 < len(path) && len(path) <= MaxPathBytes
 }
 
-// RequestHeadBytes is how many bytes AppendRequestHead appends.
+// RequestHeadBytes returns the number of bytes that AppendRequestHead appends.
 func RequestHeadBytes(path string) int { return 2 + len(path) + 1 + 4 }
 
-// AppendRequestHead appends the frame of a call without its message, which follows it.
+// AppendRequestHead appends the frame of a call up to its message.
 func AppendRequestHead(frame []byte, path string, messageBytes int) []byte {
 	frame = append(frame, byte(len(path)>>8), byte(len(path)))
 	frame = append(frame, path...)
@@ -65,24 +65,24 @@ func isStatus(code codes.Code) bool {
 	return false
 }
 
-// Replies is a stream of replies, which are read in order.
+// Replies reads a stream of replies.
 type Replies struct {
 	in *bufio.Reader
-	// The reply whose body is being read, and how much of the body has been read. There is none
-	// where body is nil.
+	// The reply whose body is being read, and the number of bytes of the body that were read. body
+	// is nil between two replies.
 	code codes.Code
 	text string
 	body []byte
 	read int
 }
 
-// NewReplies returns the replies that in has.
+// NewReplies returns the replies in a stream.
 func NewReplies(in io.Reader) *Replies {
-	// Bodies longer than this are read without passing through the buffer.
+	// The reader copies bodies that are longer than this buffer directly.
 	return &Replies{in: bufio.NewReaderSize(in, 4<<10)}
 }
 
-// Buffered is how many bytes were received and belong to no reply that was read.
+// Buffered returns the number of received bytes after the last reply that was read.
 func (r *Replies) Buffered() int { return r.in.Buffered() }
 
 // Await waits for the first byte of the next reply. Call it only between two replies.
@@ -91,8 +91,8 @@ func (r *Replies) Await() error {
 	return err
 }
 
-// Next reads the next reply. What breaks a rule is reported as soon as it is received. Where the
-// reader fails by a deadline, Next can be called again, and goes on where it stopped.
+// Next reads the next reply. It reports a malformed reply as soon as the fault arrives. After a
+// read that failed by its deadline, another call of Next continues.
 func (r *Replies) Next() (Reply, error) {
 	if r.body == nil {
 		if err := r.readHead(); err != nil {
@@ -111,8 +111,8 @@ func (r *Replies) Next() (Reply, error) {
 	return reply, nil
 }
 
-// readHead reads all of a reply before its body. It takes the bytes out of the buffer only once all
-// of them are there.
+// readHead reads a reply up to its body. It takes no byte out of the buffer before all have
+// arrived.
 func (r *Replies) readHead() error {
 	code, err := r.peekStatus()
 	if err != nil {
@@ -130,7 +130,7 @@ func (r *Replies) readHead() error {
 	if err != nil {
 		return err
 	}
-	// The text is a part of the buffer, which Discard leaves as it is.
+	// The text is a part of the buffer. Discard leaves it unchanged.
 	r.code, r.text, r.body, r.read = code, string(text), make([]byte, bodyBytes), 0
 	_, err = r.in.Discard(1 + 2 + textBytes + 1 + 4)
 	return err
@@ -191,7 +191,8 @@ func (r *Replies) peekBodyLength(code codes.Code, textBytes int) (int, error) {
 	return int(size), nil
 }
 
-// inside is the error of a read in a reply, where an end is right only before its first byte.
+// inside turns the error of a read into the error of Next: an end is clean only before the first
+// byte of a reply.
 func (r *Replies) inside(err error) error {
 	if r.in.Buffered() == 0 {
 		return err
@@ -206,8 +207,8 @@ func inside(err error) error {
 	return err
 }
 
-// IsClosing reports whether the peer closed the connection: an end where it read all that was sent,
-// otherwise a reset or a broken pipe.
+// IsClosing reports whether the peer closed the connection: by an end if it had read everything, or
+// else by a reset or a broken pipe.
 func IsClosing(err error) bool {
 	return err == io.EOF || errors.Is(err, syscall.ECONNRESET) || errors.Is(err, syscall.EPIPE)
 }

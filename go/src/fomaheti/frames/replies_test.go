@@ -35,7 +35,7 @@ func TestRequestHead(t *testing.T) {
 	}
 }
 
-// Waiting for a reply takes nothing of it, and reports an end as such.
+// Await takes no byte of the reply, and returns the end of a connection as it is.
 func TestAwait(t *testing.T) {
 	replies := NewReplies(bytes.NewReader(fromHex(t, "05 0000 00 00000000")))
 	for i := 0; i < 2; i++ {
@@ -86,8 +86,8 @@ func TestGoodReply(t *testing.T) {
 	}
 }
 
-// Each fault is reported though nothing follows: a csid that stays silent after it would otherwise
-// hold up the call.
+// Each fault is reported although nothing follows: otherwise a csid that stays silent after it
+// would delay the call.
 func TestMalformedReply(t *testing.T) {
 	rows := []struct{ bytes, want string }{
 		{"01", "status 1"}, {"02", "status 2"}, {"04", "status 4"}, {"07", "status 7"}, {"0e", "status 14"},
@@ -107,8 +107,7 @@ func TestMalformedReply(t *testing.T) {
 	}
 }
 
-// An end after any byte of a reply but the last is reported, and only that after none is a clean
-// one.
+// An end inside a reply is reported. Only an end before its first byte is clean.
 func TestReplyCutShort(t *testing.T) {
 	for _, whole := range []string{"00 0000 00 00000004 0a020801", "05 0002 4142 00 00000000"} {
 		all := fromHex(t, whole)
@@ -124,7 +123,7 @@ func TestReplyCutShort(t *testing.T) {
 	}
 }
 
-// interrupted gives one byte a read, and a deadline that is over before each of them.
+// interrupted returns one byte per read, and before each of them an expired deadline.
 type interrupted struct {
 	bytes []byte
 	isDue bool
@@ -141,8 +140,8 @@ func (r *interrupted) Read(into []byte) (int, error) {
 	return 1, nil
 }
 
-// A reply is read to its end however often a deadline stops it, and the bytes after it are those of
-// the next one.
+// A reply is read completely although a deadline interrupts it again and again. The next reply
+// follows.
 func TestInterruptedReply(t *testing.T) {
 	const whole = "00 0000 00 00000004 0a020801 05 0002 4142 00 00000000 00 0000 00 00000000"
 	replies := NewReplies(&interrupted{bytes: fromHex(t, whole)})
@@ -168,7 +167,7 @@ func TestInterruptedReply(t *testing.T) {
 	}
 }
 
-// The greatest reply is read, also one that comes with the next one in the same packet.
+// The greatest reply is read, even if it arrives together with the next one.
 func TestGreatestReply(t *testing.T) {
 	body := bytes.Repeat([]byte{7}, MaxBodyBytes)
 	refusal := Reply{codes.Internal, strings.Repeat("a", MaxTextBytes), nil}

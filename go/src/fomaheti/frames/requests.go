@@ -13,28 +13,28 @@ type Request struct {
 	Message []byte
 }
 
-// Fault is the first fault of a stream of calls, at a place that counts its bytes from 0. Nothing
-// after it is a call.
+// Fault is the first fault in a stream of calls. Place is its offset in bytes. No calls follow a
+// fault.
 type Fault struct {
 	Reason string
 	Place  int64
 }
 
-// Error returns the reason and the place, as a reply has them.
+// Error returns the reason and the place as a reply has them.
 func (f Fault) Error() string { return fmt.Sprintf("%s at byte %d", f.Reason, f.Place) }
 
-// Requests is a stream of calls, which are read in order.
+// Requests reads a stream of calls.
 type Requests struct {
 	in *bufio.Reader
-	// How many bytes were read.
+	// The number of bytes that were read.
 	read int64
 }
 
-// NewRequests returns the calls that in has.
+// NewRequests returns the calls in a stream.
 func NewRequests(in io.Reader) *Requests { return &Requests{in: bufio.NewReader(in)} }
 
-// Next reads the next call. A stream that ends after a whole one ends with io.EOF; a Fault is
-// returned as soon as it is read, without another read.
+// Next reads the next call. It returns io.EOF if the stream ends after a complete call. It returns
+// a Fault as soon as the fault arrives, without another read.
 func (r *Requests) Next() (Request, error) {
 	begin := r.read
 	length, err := r.take(2)
@@ -94,7 +94,7 @@ func (r *Requests) message() ([]byte, error) {
 	return r.take(int(size))
 }
 
-// take reads so many bytes, and counts also those that came before an end.
+// take reads size bytes. It also counts the bytes before an end.
 func (r *Requests) take(size int) ([]byte, error) {
 	taken := make([]byte, size)
 	length, err := io.ReadFull(r.in, taken)
@@ -102,7 +102,7 @@ func (r *Requests) take(size int) ([]byte, error) {
 	return taken, err
 }
 
-// within is the error of a read within a call, where an end is never right.
+// within turns the error of a read inside a call into the error of Next: an end is a fault there.
 func (r *Requests) within(err error) error {
 	if err == io.EOF || err == io.ErrUnexpectedEOF {
 		return Fault{"end of input", r.read}
@@ -113,8 +113,7 @@ func (r *Requests) within(err error) error {
 // isShown reports whether a text may have the character.
 func isShown(character byte) bool { return 0x20 <= character && character <= 0x7e }
 
-// Append puts a reply as a frame after other bytes. Its text must be one that a frame can have, as
-// Text makes it.
+// Append appends a reply as a frame. Its text must be allowed in a frame; Text makes it so.
 func (answer Reply) Append(frame []byte) []byte {
 	frame = append(frame, byte(answer.Code), byte(len(answer.Text)>>8), byte(len(answer.Text)))
 	frame = append(frame, answer.Text...)
@@ -124,8 +123,8 @@ func (answer Reply) Append(frame []byte) []byte {
 	return append(frame, answer.Body...)
 }
 
-// Text is a text as a reply can have it: other characters than those from 0x20 to 0x7E are shown by
-// the hexadecimal digits of their bytes, and what is too long is cut.
+// Text makes a text that a reply may have. It replaces bytes outside 0x20 to 0x7E by their
+// hexadecimal digits, and cuts a text that is too long.
 func Text(said string) string {
 	var shown []byte
 	for i := 0; i < len(said); i++ {

@@ -9,7 +9,7 @@ import (
 	"google.golang.org/grpc/codes"
 )
 
-// Calls are read whatever pieces they come in, and an end after a whole one is a clean one.
+// Calls are read from pieces of any size. An end after a complete call is clean.
 func TestGoodRequests(t *testing.T) {
 	stream := fromHex(t, "0016 2f6373692e76312e4964656e746974792f50726f6265 00 00000000 0001 21 00 00000002 0a00")
 	for _, in := range []io.Reader{bytes.NewReader(stream), slowReader{bytes.NewReader(stream)}} {
@@ -26,7 +26,7 @@ func TestGoodRequests(t *testing.T) {
 	}
 }
 
-// The greatest parts of a call are read, and a place after them counts all of their bytes.
+// The greatest parts of a call are read. The place of a later fault counts all their bytes.
 func TestGreatestRequest(t *testing.T) {
 	want := Request{strings.Repeat("~", 128), make([]byte, 1048576)}
 	frame := append(AppendRequestHead(nil, want.Path, len(want.Message)), want.Message...)
@@ -40,13 +40,13 @@ func TestGreatestRequest(t *testing.T) {
 	}
 }
 
-// slowReader gives one byte a read.
+// slowReader returns one byte per read.
 type slowReader struct{ io.Reader }
 
 func (r slowReader) Read(into []byte) (int, error) { return r.Reader.Read(into[:1]) }
 
-// Each fault has the place that docs/PROTOCOL.md says, also after a call, and is reported though
-// nothing follows.
+// Each fault has the place of docs/PROTOCOL.md, even after a call, and is reported although nothing
+// follows.
 func TestFaults(t *testing.T) {
 	const call = "0001 21 00 00000000"
 	rows := []struct{ bytes, want string }{
@@ -71,7 +71,7 @@ func TestFaults(t *testing.T) {
 	}
 }
 
-// An end within a call is a fault at the length of the input.
+// An end inside a call is a fault at the length of the input.
 func TestEndOfInput(t *testing.T) {
 	whole := fromHex(t, "0002 2121 00 00000003 010203")
 	for length := 1; length < len(whole); length++ {
@@ -82,7 +82,7 @@ func TestEndOfInput(t *testing.T) {
 	}
 }
 
-// What is written as a reply is read as it.
+// A reply that was written is read back.
 func TestReplyWritten(t *testing.T) {
 	rows := []struct {
 		reply Reply

@@ -1,5 +1,5 @@
-// Package logqueue writes log lines without ever making their author wait: standard error can be a
-// pipe that nobody reads.
+// Package logqueue writes log lines without making their author wait: standard error may be a pipe
+// without a reader.
 package logqueue
 
 import (
@@ -9,43 +9,42 @@ import (
 	"time"
 )
 
-// Room is how many lines can wait to be written.
+// Room is the number of lines that can wait to be written.
 const Room = 1024
 
-// Report says how many lines were dropped, as the programs that write to standard error do.
+// Report returns the line that reports dropped lines on standard error.
 func Report(count uint64) string {
 	return fmt.Sprintf("lines dropped, since standard error did not take them: %d", count)
 }
 
-// Queue holds lines until they are written, by a goroutine of its own. A line is dropped and
-// counted where there is no room for it, and where writing it fails. Once lines can be written
-// again, one more says at their place how many were dropped.
+// Queue holds lines until a goroutine of its own writes them. It drops and counts a line if there
+// is no room, or if the write fails. Once it can write again, it writes the number of dropped lines
+// at their place.
 type Queue struct {
 	out io.Writer
-	// The line that says how many were dropped.
+	// Returns the line that reports dropped lines.
 	report func(count uint64) string
 
 	mutex   sync.Mutex
 	changed *sync.Cond
 	waiting []line
-	// Lines that were dropped after the last one that waits and are not reported yet, and all that
-	// were ever dropped.
+	// The lines dropped after the last waiting one and not reported yet, and all dropped lines.
 	unreported, dropped uint64
-	// Whether the last write failed. A report waits for the next line then, so that a reader who
-	// has gone is not written to again and again.
+	// Set if the last write failed. Then a report waits for the next line, so that the queue does
+	// not write again and again to a reader that has gone.
 	isFailing bool
 	isEnding  bool
 	ended     chan struct{}
 }
 
-// line is a line that waits, and how many were dropped between it and the one before.
+// line is a waiting line, and the number of lines dropped between the one before and it.
 type line struct {
 	text          []byte
 	droppedBefore uint64
 }
 
-// New begins a queue before a writer. The report gives the line, with its end, that says how many
-// lines were dropped.
+// New starts a queue that writes to out. report returns the line, with its newline, for a number of
+// dropped lines.
 func New(out io.Writer, report func(count uint64) string) *Queue {
 	q := &Queue{out: out, report: report, ended: make(chan struct{})}
 	q.changed = sync.NewCond(&q.mutex)
@@ -53,7 +52,7 @@ func New(out io.Writer, report func(count uint64) string) *Queue {
 	return q
 }
 
-// Write takes a line. It never waits for the writer and never fails.
+// Write queues a line. It never waits for the writer and never fails.
 func (q *Queue) Write(text []byte) (int, error) {
 	q.mutex.Lock()
 	defer q.mutex.Unlock()
@@ -62,21 +61,21 @@ func (q *Queue) Write(text []byte) (int, error) {
 		q.dropped++
 		return len(text), nil
 	}
-	// Whoever writes by the package log uses the bytes again.
+	// Copied, because package log reuses its buffer.
 	q.waiting = append(q.waiting, line{append([]byte(nil), text...), q.unreported})
 	q.unreported = 0
 	q.changed.Signal()
 	return len(text), nil
 }
 
-// Dropped is how many lines were dropped since the start.
+// Dropped returns the number of lines dropped since the start.
 func (q *Queue) Dropped() uint64 {
 	q.mutex.Lock()
 	defer q.mutex.Unlock()
 	return q.dropped
 }
 
-// End waits until all lines are written, at most so long. It is called once, at the end of the
+// End waits until all lines are written, or until the limit. Call it once, at the end of the
 // program.
 func (q *Queue) End(limit time.Duration) {
 	q.mutex.Lock()
@@ -89,7 +88,7 @@ func (q *Queue) End(limit time.Duration) {
 	}
 }
 
-// run writes lines until the queue ends and none is left.
+// run writes lines until the queue has ended and is empty.
 func (q *Queue) run() {
 	defer close(q.ended)
 	for {
@@ -101,7 +100,7 @@ func (q *Queue) run() {
 	}
 }
 
-// next waits for the next line, or for a count that must be reported without one.
+// next waits for the next line, or for a report that needs no line.
 func (q *Queue) next() (next line, isThere bool) {
 	q.mutex.Lock()
 	defer q.mutex.Unlock()
@@ -121,7 +120,7 @@ func (q *Queue) next() (next line, isThere bool) {
 
 func (q *Queue) hasReport() bool { return q.unreported > 0 && !q.isFailing }
 
-// write writes a line, after the report of those that were dropped before it.
+// write writes a line, after the report of the lines dropped before it.
 func (q *Queue) write(next line) {
 	unreported, dropped := next.droppedBefore, uint64(0)
 	var err error
@@ -139,7 +138,7 @@ func (q *Queue) write(next line) {
 	q.wrote(err == nil, unreported, dropped)
 }
 
-// wrote notes how writing a line went: what is left to report, and whether the line was dropped.
+// wrote notes the result of a write: the lines left to report, and whether its line was dropped.
 func (q *Queue) wrote(isGood bool, unreported, dropped uint64) {
 	q.mutex.Lock()
 	defer q.mutex.Unlock()

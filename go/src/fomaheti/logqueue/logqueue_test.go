@@ -11,18 +11,18 @@ import (
 	"time"
 )
 
-// patience is how long anything may take before a test gives it up.
+// patience limits each wait of a test.
 const patience = 10 * time.Second
 
 func report(count uint64) string { return fmt.Sprintf("dropped %d\n", count) }
 
-// stuck is a writer that takes a line only when a test lets it, and fails where that says so.
+// stuck is a writer that waits in each write for the error that the test sends.
 type stuck struct {
 	mutex sync.Mutex
 	text  strings.Builder
-	// What is answered to each write; it waits for it.
+	// Each write waits for a value, and returns it.
 	answers chan error
-	// Has a value for each write that begins.
+	// Receives a value when a write starts.
 	begun chan struct{}
 }
 
@@ -53,7 +53,7 @@ func eventually(t *testing.T, what string, is func() bool) {
 	}
 }
 
-// promptly wants that something takes next to no time, whatever the writer does.
+// promptly checks that act returns at once, whatever the writer does.
 func promptly(t *testing.T, act func()) {
 	t.Helper()
 	done := make(chan struct{})
@@ -68,8 +68,8 @@ func promptly(t *testing.T, act func()) {
 	}
 }
 
-// No line waits for a writer that is stuck. Beyond the room lines are dropped, and reported where
-// they are missing once it goes on.
+// No line waits for a stuck writer. Lines beyond the room are dropped, and reported at their place
+// once the writer continues.
 func TestFull(t *testing.T) {
 	out := newStuck()
 	q := New(out, report)
@@ -79,7 +79,7 @@ func TestFull(t *testing.T) {
 	}
 	say("first")
 	want = append(want, "first")
-	// The writer has the first line, and all others wait.
+	// The writer has the first line. All others wait.
 	<-out.begun
 	promptly(t, func() {
 		for i := 0; i < Room; i++ {
@@ -93,7 +93,7 @@ func TestFull(t *testing.T) {
 	if got := q.Dropped(); got != 17 {
 		t.Errorf("%d were dropped, wanted 17", got)
 	}
-	// One line is written, so there is room for one.
+	// One line is written, which makes room for another.
 	out.answers <- nil
 	<-out.begun
 	say("after")
@@ -116,8 +116,8 @@ func TestFull(t *testing.T) {
 	}
 }
 
-// A line whose writing fails is dropped, and so is a report that fails, which is said with the next
-// line that can be written.
+// A line is dropped if its write fails. A report that fails is repeated with the next line that can
+// be written.
 func TestFailing(t *testing.T) {
 	out, gone := newStuck(), errors.New("any")
 	q := New(out, report)
@@ -133,7 +133,7 @@ func TestFailing(t *testing.T) {
 	fmt.Fprintln(q, "one")
 	answers(gone)
 	eventually(t, "that it is dropped", func() bool { return q.Dropped() == 1 })
-	// Nothing is written until there is another line.
+	// Nothing is written before the next line.
 	select {
 	case <-time.After(20 * time.Millisecond):
 	case out.answers <- nil:
@@ -153,7 +153,7 @@ func TestFailing(t *testing.T) {
 	}
 }
 
-// An end writes what waits, and takes no longer than it may where nobody reads.
+// End writes the waiting lines, and returns at its limit if nobody reads.
 func TestEnd(t *testing.T) {
 	var text strings.Builder
 	q := New(&text, report)

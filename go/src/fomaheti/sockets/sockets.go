@@ -1,4 +1,4 @@
-// Package sockets makes the Unix socket that a program answers on, and takes its file away.
+// Package sockets makes the Unix socket of a program and removes its file at the end.
 package sockets
 
 import (
@@ -15,14 +15,14 @@ import (
 	"time"
 )
 
-// How long a start waits for the lock on the folder of its socket, and how often it tries to get
-// it. A start that keeps the lock needs it for a moment only.
+// A start waits for the lock on the folder of its socket for lockTime, and tries every lockPause.
+// Another start needs the lock only for a moment.
 const (
 	lockTime  = time.Second
 	lockPause = 10 * time.Millisecond
 )
 
-// Socket is a Unix socket that is listened on, whose file goes with it.
+// Socket is a listening Unix socket that removes its file when it is closed.
 type Socket struct {
 	*net.UnixListener
 	path  string
@@ -30,15 +30,15 @@ type Socket struct {
 	close sync.Once
 }
 
-// ListenForGroup makes a socket to which its owner alone may connect, with the mode 0600, or its
-// owner and a group, with 0660.
+// ListenForGroup makes a socket for its owner, with mode 0600, or for its owner and a group, with
+// 0660.
 func ListenForGroup(path, group string) (*Socket, error) {
 	number, err := groupNumber(group)
 	if err != nil {
 		return nil, err
 	}
-	// The mode is that of the umask from the beginning: between the making of a file and the
-	// setting of its mode anybody could open it.
+	// The umask sets the mode from the start: before a later change of the mode anybody could
+	// connect.
 	before := syscall.Umask(0o177)
 	socket, err := Listen(path)
 	syscall.Umask(before)
@@ -55,7 +55,7 @@ func ListenForGroup(path, group string) (*Socket, error) {
 	return socket, nil
 }
 
-// groupNumber is the number of a group that is given by its name or its number.
+// groupNumber returns the number of a group, given by its name or number.
 func groupNumber(group string) (int, error) {
 	if group == "" {
 		return 0, nil
@@ -70,9 +70,9 @@ func groupNumber(group string) (int, error) {
 	return strconv.Atoi(found.Gid)
 }
 
-// Listen makes a socket. One that nobody answers on is what an earlier process left, and gives way;
-// any other file stays, and is an error. Whoever may read the folder can lock it: where another
-// process keeps the lock for a second, the socket is made without it, and package log says so.
+// Listen makes a socket. It replaces the socket of an earlier process, on which nobody answers. Any
+// other file stays and is an error. Everybody with read access can lock the folder: if another
+// process keeps the lock for a second, Listen makes the socket without it and logs a line.
 func Listen(path string) (*Socket, error) {
 	folder, err := openFolder(path)
 	if err != nil {
@@ -101,7 +101,7 @@ func Listen(path string) (*Socket, error) {
 	return &Socket{UnixListener: listener, path: path, file: file}, nil
 }
 
-// Close ends the socket, and removes its file.
+// Close closes the socket and removes its file.
 func (s *Socket) Close() (err error) {
 	s.close.Do(func() {
 		s.remove()
@@ -110,10 +110,9 @@ func (s *Socket) Close() (err error) {
 	return err
 }
 
-// remove removes the file of the socket, unless another one is there now. They are compared by
-// device and inode before the listener is closed, since until then no other file is given that
-// inode. Where another process has the lock it is not waited for: until the listener is closed, no
-// process that starts puts a socket in the place of this one.
+// remove removes the file of the socket, unless it was replaced. It compares device and inode
+// before the listener is closed: until then no other file gets this inode. It does not wait for the
+// lock: until the listener is closed, no starting process replaces this socket.
 func (s *Socket) remove() {
 	folder, err := openFolder(s.path)
 	if err != nil {
@@ -131,8 +130,8 @@ func openFolder(path string) (*os.File, error) {
 	return os.Open(filepath.Dir(path))
 }
 
-// lockSoon locks a folder, so that of two processes that start together none removes the new socket
-// of the other. It reports whether the lock could be had in time.
+// lockSoon locks a folder: if two processes start together, neither removes the other's new socket.
+// It reports whether it got the lock in time.
 func lockSoon(folder *os.File) (isLocked bool, err error) {
 	for end := time.Now().Add(lockTime); ; time.Sleep(lockPause) {
 		err := lock(folder)
@@ -148,7 +147,7 @@ func lockSoon(folder *os.File) (isLocked bool, err error) {
 	}
 }
 
-// lock locks a folder, or fails with EWOULDBLOCK where another process has the lock.
+// lock locks a folder. It fails with EWOULDBLOCK if another process has the lock.
 func lock(folder *os.File) error {
 	return syscall.Flock(int(folder.Fd()), syscall.LOCK_EX|syscall.LOCK_NB)
 }

@@ -12,10 +12,10 @@ import (
 	"time"
 )
 
-// patience is how long anything may take before a test gives it up.
+// patience limits each wait of a test.
 const patience = 10 * time.Second
 
-// holdFolder locks the folder of a file as another process would, with the right to read it alone.
+// holdFolder locks the folder of a file, as another process with read access can.
 func holdFolder(t *testing.T, path string) *os.File {
 	t.Helper()
 	folder, err := openFolder(path)
@@ -29,7 +29,7 @@ func holdFolder(t *testing.T, path string) *os.File {
 	return folder
 }
 
-// within runs something that must not wait for long.
+// within checks that act returns within a limit.
 func within(t *testing.T, limit time.Duration, what string, act func()) {
 	t.Helper()
 	done := make(chan struct{})
@@ -44,7 +44,7 @@ func within(t *testing.T, limit time.Duration, what string, act func()) {
 	}
 }
 
-// logged is what package log says in the meantime.
+// logged returns the buffer that package log writes to during the test.
 func logged(t *testing.T) *bytes.Buffer {
 	t.Helper()
 	lines, flags, before := &bytes.Buffer{}, log.Flags(), log.Writer()
@@ -57,8 +57,7 @@ func logged(t *testing.T) *bytes.Buffer {
 	return lines
 }
 
-// Of two processes that start together the second looks at the socket only when the first has made
-// it.
+// If two processes start together, the second looks at the socket only after the first has made it.
 func TestListenWaitsForTheFolder(t *testing.T) {
 	lines := logged(t)
 	path := filepath.Join(t.TempDir(), "csi.sock")
@@ -85,7 +84,8 @@ func TestListenWaitsForTheFolder(t *testing.T) {
 	}
 }
 
-// Where another process keeps the folder locked, the socket is made after a second, with a line.
+// If another process keeps the folder locked, the socket is made after a second, and a line reports
+// it.
 func TestStartInAFolderThatStaysLocked(t *testing.T) {
 	lines := logged(t)
 	path := filepath.Join(t.TempDir(), "csi.sock")
@@ -109,8 +109,7 @@ func TestStartInAFolderThatStaysLocked(t *testing.T) {
 	}
 }
 
-// Where another process has the folder locked, the end removes the socket at once, and another's
-// socket stays.
+// If another process has locked the folder, Close removes the socket at once. Another socket stays.
 func TestEndInAFolderThatIsLocked(t *testing.T) {
 	for _, isOther := range []bool{false, true} {
 		path := filepath.Join(t.TempDir(), "csi.sock")
@@ -134,8 +133,7 @@ func TestEndInAFolderThatIsLocked(t *testing.T) {
 	}
 }
 
-// A socket of which a connection does not say that nobody answers stays: here one of datagrams,
-// that is in use.
+// A socket stays unless a connection to it is refused: here a datagram socket in use.
 func TestSocketOfAnotherKindStays(t *testing.T) {
 	path := filepath.Join(t.TempDir(), "csi.sock")
 	other, err := net.ListenUnixgram("unixgram", &net.UnixAddr{Name: path, Net: "unixgram"})
@@ -156,7 +154,7 @@ func TestSocketOfAnotherKindStays(t *testing.T) {
 	}
 }
 
-// The end of a socket takes its own file away, once, and no other's that is there in the meantime.
+// Close removes the socket's own file, once, and no file that replaced it.
 func TestFileOfTheSocket(t *testing.T) {
 	path := filepath.Join(t.TempDir(), "csi.sock")
 	rows := map[string]func() *Socket{
@@ -188,8 +186,8 @@ func TestFileOfTheSocket(t *testing.T) {
 	}
 }
 
-// The mode is that of the owner alone, whatever the umask is, or of a group next to him; the umask
-// is as it was afterwards.
+// The mode allows only the owner, or the owner and a group, whatever the umask is. The umask is
+// restored.
 func TestSocketForGroup(t *testing.T) {
 	before := syscall.Umask(0o002)
 	defer syscall.Umask(before)

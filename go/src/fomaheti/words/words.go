@@ -1,4 +1,4 @@
-// Package words reads the words of a command line, as all programs in Go read theirs.
+// Package words parses the command lines of all Go programs.
 package words
 
 import (
@@ -8,9 +8,9 @@ import (
 	"io"
 )
 
-// Parse reads the words into what the flags name. Where they ask for help, the usage and the flags
-// are shown, and the error is flag.ErrHelp; a word after the flags is an error. The flags must be
-// ones that say nothing themselves of an error: flag.ContinueOnError, with no output.
+// Parse parses words into flags. For --help it prints the usage and the flags, and returns
+// flag.ErrHelp. A word after the flags is an error. The flags must be silent: flag.ContinueOnError,
+// without output.
 func Parse(flags *flag.FlagSet, words []string, usage string, shown io.Writer) error {
 	if err := flags.Parse(words); err != nil {
 		if errors.Is(err, flag.ErrHelp) {
