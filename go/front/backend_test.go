@@ -55,8 +55,8 @@ func wants(t *testing.T, b *backend, code codes.Code) {
 	}
 }
 
-// Nor is one that closes when the call has come, and leaves it unread, as csid closes a connection that was idle. Where it was read it may have been done,
-// and is not sent again.
+// Nor is one that closes when the call has come, and leaves it unread, as csid closes a connection
+// that was idle. Where it was read it may have been done, and is not sent again.
 func TestUnreadCallIsSentAnew(t *testing.T) {
 	reads := int32(0)
 	path, connections := csid(t, func(conn net.Conn) {
@@ -79,7 +79,8 @@ func TestUnreadCallIsSentAnew(t *testing.T) {
 	}
 }
 
-// A late reply, also one that comes in parts, is no reply of the next call, and its connection stays.
+// A late reply, also one that comes in parts, is no reply of the next call, and its connection
+// stays.
 func TestLateReply(t *testing.T) {
 	gone := make(chan struct{}, 1)
 	path, connections := csid(t, func(conn net.Conn) {
@@ -112,7 +113,8 @@ func TestLateReply(t *testing.T) {
 	}
 }
 
-// However many call, few connections are made to a csid that closes each; all calls are answered with it, and none waits for the others.
+// However many call, few connections are made to a csid that closes each; all calls are answered
+// with it, and none waits for the others.
 func TestFewConnections(t *testing.T) {
 	path, connections := csid(t, func(net.Conn) {})
 	b := newBackend(path, time.Minute)
@@ -147,7 +149,8 @@ func TestFewConnections(t *testing.T) {
 	t.Logf("%d connections, %d calls", atomic.LoadInt32(connections), told)
 }
 
-// With more callers than there is time for, those who give up leave the others at least half of the calls of patient callers.
+// With more callers than there is time for, those who give up leave the others at least half of the
+// calls of patient callers.
 func TestShortDeadlines(t *testing.T) {
 	path, connections := csid(t, func(conn net.Conn) {
 		for isCalled(conn) {
@@ -175,7 +178,8 @@ func TestShortDeadlines(t *testing.T) {
 		all.Wait()
 		return served
 	}
-	// Another program that runs in the meantime can take the time of either second, so one of three tries must do.
+	// Another program that runs in the meantime can take the time of either second, so one of three
+	// tries must do.
 	patient, hasty := int32(0), int32(0)
 	for try := 0; try < 3 && (try == 0 || hasty < patient/2); try++ {
 		patient, hasty = rate(time.Minute), rate(12*time.Millisecond)
@@ -289,7 +293,8 @@ func TestEndedContextOverAConnection(t *testing.T) {
 	}
 }
 
-// A call that was given up holds up the next ones for so long at most, and then a new connection is made.
+// A call that was given up holds up the next ones for so long at most, and then a new connection is
+// made.
 func TestLateReplyThatNeverComes(t *testing.T) {
 	isSilent := true
 	path, connections := csid(t, func(conn net.Conn) {
@@ -304,7 +309,8 @@ func TestLateReplyThatNeverComes(t *testing.T) {
 	ctx, cancel := context.WithTimeout(context.Background(), 20*time.Millisecond)
 	defer cancel()
 	b.call(ctx, "/a/b", nil)
-	if _, err := b.call(context.Background(), "/a/b", nil); err == nil || err.Error() != "an earlier call was given up, and no reply to it came within 100ms" {
+	if _, err := b.call(context.Background(), "/a/b", nil); err == nil ||
+		err.Error() != "an earlier call was given up, and no reply to it came within 100ms" {
 		t.Errorf("a call that came before: %v", err)
 	}
 	wants(t, b, codes.NotFound)
@@ -350,7 +356,8 @@ func stuff(conn *connection) {
 	conn.socket.SetWriteDeadline(time.Time{})
 }
 
-// A call of which csid can have nothing leaves nothing on the connection when it is given up, and the next one goes out as soon as the socket takes it.
+// A call of which csid can have nothing leaves nothing on the connection when it is given up, and
+// the next one goes out as soon as the socket takes it.
 func TestCallThatIsNeverSent(t *testing.T) {
 	let := make(chan struct{})
 	path, _ := csid(t, func(conn net.Conn) {
@@ -381,7 +388,8 @@ func TestCallThatIsNeverSent(t *testing.T) {
 	wants(t, b, codes.NotFound)
 }
 
-// The pause grows as well with each connection that cannot be made, and the calls that wait are answered with that failure.
+// The pause grows as well with each connection that cannot be made, and the calls that wait are
+// answered with that failure.
 func TestConnectionsThatCannotBeMade(t *testing.T) {
 	_, path := listening(t)
 	b := newBackend(path+".absent", time.Minute)
@@ -435,7 +443,8 @@ func TestReplyAfterAFailure(t *testing.T) {
 	}
 }
 
-// A connection that gave a reply, and is closed unanswered later, costs the call that was on its way, and neither a pause nor the calls that wait.
+// A connection that gave a reply, and is closed unanswered later, costs the call that was on its
+// way, and neither a pause nor the calls that wait.
 func TestConnectionThatEndsAfterAReply(t *testing.T) {
 	let := make(chan struct{})
 	path, _ := csid(t, func(conn net.Conn) {
@@ -486,7 +495,8 @@ func TestRefusedChange(t *testing.T) {
 	}
 }
 
-// The pause after a failure is twice the last one, up to the greatest, and after a reply the least. It begins with a connection.
+// The pause after a failure is twice the last one, up to the greatest, and after a reply the least.
+// It begins with a connection.
 func TestPauses(t *testing.T) {
 	p := pace{pause: leastPause}
 	if got := p.left(); got > 0 {

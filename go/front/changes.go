@@ -13,15 +13,16 @@ const (
 	maxNodeBytes = 256
 )
 
-// change is what the log says of a call that changes volumes: about which volume it is, by the name or the id, and at which node. Nothing else of a message
-// is read: it may have secrets.
+// change is what the log says of a call that changes volumes: about which volume it is, by the name
+// or the id, and at which node. Nothing else of a message is read: it may have secrets.
 type change struct {
 	Name   string `json:"name,omitempty"`
 	Volume string `json:"volume,omitempty"`
 	Node   string `json:"node,omitempty"`
 }
 
-// changes is the number of each field of a request that is in the log (docs/PROTOCOL.md, "Messages"), by the method; 0 where there is none.
+// changes is the number of each field of a request that is in the log (docs/PROTOCOL.md,
+// "Messages"), by the method; 0 where there is none.
 var changes = map[string]struct{ name, volume, node protowire.Number }{
 	createVolume:                             {name: 1},
 	controller + "DeleteVolume":              {volume: 1},
@@ -30,7 +31,8 @@ var changes = map[string]struct{ name, volume, node protowire.Number }{
 	controller + "ControllerModifyVolume":    {volume: 1},
 }
 
-// changeOf is the change that a call asks for; nil where it asks for none. A volume that was created has its id from the body of the reply.
+// changeOf is the change that a call asks for; nil where it asks for none. A volume that was
+// created has its id from the body of the reply.
 func changeOf(path string, message, body []byte) *change {
 	fields, is := changes[path]
 	if !is {

@@ -7,7 +7,8 @@ import (
 	"testing"
 )
 
-// The fields of each request, in messages that are worked out by hand from docs/PROTOCOL.md, "Messages". Field 5 is secrets, of which nothing is read.
+// The fields of each request, in messages that are worked out by hand from docs/PROTOCOL.md,
+// "Messages". Field 5 is secrets, of which nothing is read.
 func TestChangeOf(t *testing.T) {
 	const secrets = "2a07 0a0168 12027077"
 	rows := []struct {
@@ -20,7 +21,8 @@ func TestChangeOf(t *testing.T) {
 		{"CreateVolume", "0a0161 0a", "", &change{}},
 		{"CreateVolume", "", "0a", &change{}},
 		{"DeleteVolume", "0a05 766f6c2d31 1207 0a0168 12027077", "", &change{Volume: "vol-1"}},
-		{"ControllerPublishVolume", "0a05 766f6c2d31 12026e31 1a06 0a00 1a020801" + secrets, "", &change{Volume: "vol-1", Node: "n1"}},
+		{"ControllerPublishVolume", "0a05 766f6c2d31 12026e31 1a06 0a00 1a020801" +
+			secrets, "", &change{Volume: "vol-1", Node: "n1"}},
 		{"ControllerUnpublishVolume", "0a05 766f6c2d31 12026e31", "", &change{Volume: "vol-1", Node: "n1"}},
 		{"ControllerUnpublishVolume", "0a05 766f6c2d31", "", &change{Volume: "vol-1"}},
 		{"ControllerModifyVolume", "0a05 766f6c2d31 1a06 0a016b 120176", "", &change{Volume: "vol-1"}},
@@ -28,7 +30,8 @@ func TestChangeOf(t *testing.T) {
 		{"ValidateVolumeCapabilities", "0a0161", "", nil},
 	}
 	for _, row := range rows {
-		if got := changeOf(controller+row.method, fromHex(t, row.message), fromHex(t, row.body)); !reflect.DeepEqual(got, row.want) {
+		if got := changeOf(controller+row.method, fromHex(t, row.message),
+			fromHex(t, row.body)); !reflect.DeepEqual(got, row.want) {
 			t.Errorf("%s %s: %v, wanted %v", row.method, row.message, got, row.want)
 		}
 	}
@@ -38,7 +41,8 @@ func TestChangeOf(t *testing.T) {
 func TestShownChange(t *testing.T) {
 	long := strings.Repeat("a", 300)
 	message := append(bytesField(1, []byte(long)), bytesField(2, []byte(long))...)
-	if got := changeOf(controller+"ControllerPublishVolume", message, nil); len(got.Volume) != 128 || len(got.Node) != 256 {
+	if got := changeOf(controller+"ControllerPublishVolume", message, nil); len(got.Volume) != 128 ||
+		len(got.Node) != 256 {
 		t.Errorf("%v", got)
 	}
 	rows := []struct {
@@ -46,7 +50,8 @@ func TestShownChange(t *testing.T) {
 		want  string
 	}{
 		{nil, ""}, {&change{}, ""}, {&change{"pvc-1", "vol-1", "n1"}, " name=pvc-1 volume=vol-1 node=n1"},
-		{&change{Name: "a b"}, ` name="a b"`}, {&change{Name: "a\n"}, ` name="a\n"`}, {&change{Name: `a"`}, ` name="a\""`}, {&change{Node: "\xff"}, ` node="\xff"`},
+		{&change{Name: "a b"}, ` name="a b"`}, {&change{Name: "a\n"}, ` name="a\n"`},
+		{&change{Name: `a"`}, ` name="a\""`}, {&change{Node: "\xff"}, ` node="\xff"`},
 	}
 	for _, row := range rows {
 		if got := row.asked.words(); got != row.want {

@@ -43,7 +43,8 @@ type limitedListener struct {
 }
 
 func limitListener(listener net.Listener, limit int, report func()) *limitedListener {
-	return &limitedListener{Listener: listener, limit: limit, report: report, closed: make(chan struct{}), quiet: list.New()}
+	return &limitedListener{Listener: listener, limit: limit, report: report, closed: make(chan struct{}),
+		quiet: list.New()}
 }
 
 // Accept is for servers that take any connection; it gives a *clientConn.

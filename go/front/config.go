@@ -7,8 +7,9 @@ import (
 	"github.com/BurntSushi/toml"
 )
 
-// configuration is what the front takes of the configuration of csid (docs/OPERATING.md, "Configuration"): how much room pools and nodes have. csid judges the
-// file; nothing but metrics comes from what is read here.
+// configuration is what the front takes of the configuration of csid (docs/OPERATING.md,
+// "Configuration"): how much room pools and nodes have. csid judges the file; nothing but metrics
+// comes from what is read here.
 type configuration struct {
 	Pools []pool `toml:"pool"`
 	Nodes []node `toml:"node"`

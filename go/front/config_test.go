@@ -18,7 +18,8 @@ func fileOf(t *testing.T, text string) string {
 	return path
 }
 
-// The sample of docs/OPERATING.md, whose pools and nodes are known, and keys that csid has and the front does not need.
+// The sample of docs/OPERATING.md, whose pools and nodes are known, and keys that csid has and the
+// front does not need.
 func TestConfiguration(t *testing.T) {
 	_, sample, _ := strings.Cut(page(t, "docs/OPERATING.md"), "\n```\n")
 	sample, _, _ = strings.Cut(sample, "```\n")
@@ -31,7 +32,8 @@ func TestConfiguration(t *testing.T) {
 	if got, err := readConfiguration(fileOf(t, pool+"unknown = [1]\n")); err != nil || len(got.Nodes) != 0 {
 		t.Errorf("a pool without nodes: %v, %v", got, err)
 	}
-	if got, err := readConfiguration(fileOf(t, pool+"[[node]]\nid = \"p\"\nmax_volumes = 1\n")); err != nil || len(got.Nodes) != 1 {
+	if got, err := readConfiguration(fileOf(t, pool+"[[node]]\nid = \"p\"\nmax_volumes = 1\n")); err != nil ||
+		len(got.Nodes) != 1 {
 		t.Errorf("a node that has the name of a pool: %v, %v", got, err)
 	}
 }
@@ -39,9 +41,12 @@ func TestConfiguration(t *testing.T) {
 func TestRefusedConfiguration(t *testing.T) {
 	const p, n = "[[pool]]\nname = \"p\"\nbytes = 1048576\n", "[[node]]\nid = \"n\"\nmax_volumes = 1\n"
 	rows := []struct{ text, want string }{
-		{"", "there is no pool"}, {n, "there is no pool"}, {"pool = 1", "pool"}, {"[[pool", "toml: "}, {p + p, `pool "p"`}, {p + n + n, `node "n"`},
-		{"[[pool]]\nname = \"p\"\n", `pool "p"`}, {"[[pool]]\nbytes = 1\n", `pool ""`}, {"[[pool]]\nname = \"p\"\nbytes = \"1\"\n", "bytes"},
-		{"[[pool]]\nname = \"p\"\nbytes = -1\n", `pool "p"`}, {p + "[[node]]\nid = \"n\"\n", `node "n"`}, {p + "[[node]]\nmax_volumes = 1\n", `node ""`},
+		{"", "there is no pool"}, {n, "there is no pool"}, {"pool = 1", "pool"}, {"[[pool", "toml: "},
+		{p + p, `pool "p"`}, {p + n + n, `node "n"`},
+		{"[[pool]]\nname = \"p\"\n", `pool "p"`}, {"[[pool]]\nbytes = 1\n", `pool ""`},
+		{"[[pool]]\nname = \"p\"\nbytes = \"1\"\n", "bytes"},
+		{"[[pool]]\nname = \"p\"\nbytes = -1\n", `pool "p"`}, {p + "[[node]]\nid = \"n\"\n", `node "n"`},
+		{p + "[[node]]\nmax_volumes = 1\n", `node ""`},
 	}
 	for _, row := range rows {
 		if got, err := readConfiguration(fileOf(t, row.text)); err == nil || !strings.Contains(err.Error(), row.want) {

@@ -32,8 +32,9 @@ const peerLookTime = 100 * time.Millisecond
 // viaControl is the word of log lines about calls that came over the control socket.
 const viaControl = "control"
 
-// control answers calls in the envelope of docs/PROTOCOL.md over a Unix socket, as csid does: who uses csictl need not wait until the front leaves csid's one
-// connection. Each connection has one call at a time, which waits like those of gRPC.
+// control answers calls in the envelope of docs/PROTOCOL.md over a Unix socket, as csid does: who
+// uses csictl need not wait until the front leaves csid's one connection. Each connection has one
+// call at a time, which waits like those of gRPC.
 type control struct {
 	handler  *handler
 	listener *limitedListener
@@ -128,8 +129,8 @@ func (c *control) wait() {
 	}
 }
 
-// answerAll answers the calls of a connection, in order, until it ends or has one that gets no reply. A fault of the envelope is answered as
-// csid answers it, and nothing of it goes to csid.
+// answerAll answers the calls of a connection, in order, until it ends or has one that gets no
+// reply. A fault of the envelope is answered as csid answers it, and nothing of it goes to csid.
 func (c *control) answerAll(conn *clientConn) {
 	requests := frames.NewRequests(conn)
 	for c.awaits(conn) {
@@ -169,7 +170,8 @@ func (c *control) reply(conn *clientConn, answer frames.Reply) error {
 	return err
 }
 
-// answer has a call done by csid. Where csid gives no reply there is none: whoever made the call takes it as one that csid itself left unanswered.
+// answer has a call done by csid. Where csid gives no reply there is none: whoever made the call
+// takes it as one that csid itself left unanswered.
 func (c *control) answer(conn *clientConn, request frames.Request) (frames.Reply, error) {
 	begin := time.Now()
 	ctx, cancel := context.WithCancel(context.Background())
@@ -182,11 +184,13 @@ func (c *control) answer(conn *clientConn, request frames.Request) (frames.Reply
 	if err != nil {
 		why = status.Convert(refusal(ctx, csidName, err))
 	}
-	c.handler.ended(viaControl, request.Path, c.handler.loggedChange(request.Path, request.Message, answer.Body), why, time.Since(begin))
+	c.handler.ended(viaControl, request.Path, c.handler.loggedChange(request.Path, request.Message, answer.Body), why,
+		time.Since(begin))
 	return answer, err
 }
 
-// cancelGone cancels a context once the peer of a connection has closed it. A peer that has closed its sending half alone waits for the reply.
+// cancelGone cancels a context once the peer of a connection has closed it. A peer that has closed
+// its sending half alone waits for the reply.
 func cancelGone(ctx context.Context, cancel func(), conn *net.UnixConn) {
 	looks := time.NewTicker(peerLookTime)
 	defer looks.Stop()

@@ -64,7 +64,8 @@ func dial(t *testing.T, path string) *net.UnixConn {
 
 const shortFrame = "0004 2f612f62 00 00000000"
 
-// Calls of one connection are answered in order, also by one that ends its writing at once, with the bytes that csid answers.
+// Calls of one connection are answered in order, also by one that ends its writing at once, with
+// the bytes that csid answers.
 func TestControlCalls(t *testing.T) {
 	path, _ := csid(t, answering(fromHex(t, "09 0002 4142 00 00000000")))
 	c, socket, log := controlled(t, path)
@@ -126,7 +127,8 @@ func TestMalformedControlCall(t *testing.T) {
 	path, connections := csid(t, answering(notFound))
 	_, socket, log := controlled(t, path)
 	for bytes, text := range map[string]string{
-		"0000": "bad path length at byte 0", "0004 2f612f20": "bad path at byte 5", "0004 2f612f62 01": "bad flag at byte 6",
+		"0000": "bad path length at byte 0", "0004 2f612f20": "bad path at byte 5",
+		"0004 2f612f62 01":          "bad flag at byte 6",
 		"0004 2f612f62 00 00100001": "message too long at byte 7", "0004 2f61": "end of input at byte 4",
 	} {
 		conn := dial(t, socket)
@@ -154,7 +156,8 @@ func TestUnansweredControlCall(t *testing.T) {
 	if got, err := io.ReadAll(conn); err != nil || len(got) > 0 {
 		t.Errorf("%x, %v", got, err)
 	}
-	if want := `front: control /a/b 14 "csid: the connection was closed unanswered: see the log of csid" `; !strings.HasPrefix(log.String(), want) {
+	if want := `front: control /a/b 14 "csid: the connection was closed unanswered: see the log ` +
+		`of csid" `; !strings.HasPrefix(log.String(), want) {
 		t.Errorf("logged %q", log)
 	}
 }
@@ -193,8 +196,8 @@ func TestControlPeerThatGoes(t *testing.T) {
 	}
 }
 
-// Calls of the control socket and of gRPC are on their way together. If the connection ends, the first
-// of them gets no reply, and the other one has that of the next connection.
+// Calls of the control socket and of gRPC are on their way together. If the connection ends, the
+// first of them gets no reply, and the other one has that of the next connection.
 func TestControlCallOnTheWay(t *testing.T) {
 	for _, isControlFirst := range []bool{true, false} {
 		path, connections := concurrentCsid(t, func(conn net.Conn, number int32) {
@@ -282,7 +285,8 @@ func TestEndOfControl(t *testing.T) {
 	}
 }
 
-// A peer that keeps its connection after its reply is not waited for at the end, and a connection that is accepted then is closed.
+// A peer that keeps its connection after its reply is not waited for at the end, and a connection
+// that is accepted then is closed.
 func TestControlConnectionsAtTheEnd(t *testing.T) {
 	path, let := holding(t)
 	c, socket, _ := controlled(t, path)

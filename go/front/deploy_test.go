@@ -56,7 +56,8 @@ var (
 	matchers = regexp.MustCompile(`(\w+)(=|!=|=~|!~)\\?"([^"\\]*)\\?"`)
 )
 
-// The dashboard, the alerts and the page name only metrics that exist, and the labels that these have.
+// The dashboard, the alerts and the page name only metrics that exist, and the labels that these
+// have.
 func TestMetricsThatAreNamed(t *testing.T) {
 	names := told(t)
 	codeNames := map[string]bool{}

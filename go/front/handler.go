@@ -15,23 +15,26 @@ import (
 	"fomaheti/frames"
 )
 
-// How long a client may take until its connection speaks HTTP/2; it holds up a graceful end for no longer.
+// How long a client may take until its connection speaks HTTP/2; it holds up a graceful end for no
+// longer.
 const greetingTime = 5 * time.Second
 
 // How many calls one client may have at once.
 const maxWaitingCalls = 256
 
-// What a call of a client may have sent before its message is received, and what all of them may have on their way. They are the least
-// that gRPC has, and stay so.
+// What a call of a client may have sent before its message is received, and what all of them may
+// have on their way. They are the least that gRPC has, and stay so.
 const (
 	callWindow   = 64 << 10
 	clientWindow = 1 << 20
 )
 
-// How many goroutines are kept for calls. A new one would have to grow its stack for each call; calls beyond these have one all the same.
+// How many goroutines are kept for calls. A new one would have to grow its stack for each call;
+// calls beyond these have one all the same.
 const callWorkers = 32
 
-// What the names and values of the headers of one call may have, with 32 bytes for each (RFC 9113, section 6.5.2). A call keeps them until it ends.
+// What the names and values of the headers of one call may have, with 32 bytes for each (RFC 9113,
+// section 6.5.2). A call keeps them until it ends.
 const maxHeaderBytes = 16 << 10
 
 // anyPings lets clients send PING at any time. For too many of them grpc-go 1.33 would end its
@@ -67,15 +70,18 @@ type handler struct {
 	// Whether the health service of gRPC is answered, and whether each change is logged.
 	hasHealth  bool
 	logChanges bool
-	// Whether the front has --standby, and whether it waits for csid. Why it does is reported then, so what is asked in the meantime has no lines.
+	// Whether the front has --standby, and whether it waits for csid. Why it does is reported then,
+	// so what is asked in the meantime has no lines.
 	standsBy  bool
 	isWaiting atomic.Bool
 }
 
 func newHandler(asked options, log *logger) *handler {
 	h := &handler{
-		backend: newBackend(asked.csid, asked.late), messages: newMessages(asked.waiting << 20), metrics: newMetrics(), log: log,
-		checks: make(chan struct{}, maxHealthChecks), hasHealth: asked.health, logChanges: asked.logChanges, standsBy: asked.standby > 0,
+		backend: newBackend(asked.csid, asked.late), messages: newMessages(asked.waiting << 20), metrics: newMetrics(),
+		log:    log,
+		checks: make(chan struct{}, maxHealthChecks), hasHealth: asked.health, logChanges: asked.logChanges,
+		standsBy: asked.standby > 0,
 	}
 	h.isWaiting.Store(h.standsBy)
 	if asked.node != "" {
@@ -109,7 +115,8 @@ func (h *handler) handle(_ interface{}, stream grpc.ServerStream) error {
 	return err
 }
 
-// ended counts a call that came over a socket (an empty name is that of gRPC), and logs it where it was refused, or where it was a change that is logged.
+// ended counts a call that came over a socket (an empty name is that of gRPC), and logs it where it
+// was refused, or where it was a change that is logged.
 func (h *handler) ended(socket, path string, asked *change, why *status.Status, took time.Duration) {
 	h.metrics.ended(path, why.Code(), took)
 	if why.Code() != codes.OK {
@@ -218,8 +225,9 @@ func isDown(answer frames.Reply) bool {
 	return answer.Code == codes.Internal && answer.Text == downReason
 }
 
-// openReasons are the texts of status 13 after which it is open whether a change was made. An orchestrator is then answered UNAVAILABLE:
-// sidecars take INTERNAL for a final answer, after which they believe that none was.
+// openReasons are the texts of status 13 after which it is open whether a change was made. An
+// orchestrator is then answered UNAVAILABLE: sidecars take INTERNAL for a final answer, after which
+// they believe that none was.
 var openReasons = map[string]bool{"out of memory": true, "store refused": true, downReason: true}
 
 // refusal is the answer to a call that got no reply. It has one of the codes after which an orchestrator takes the outcome as open,

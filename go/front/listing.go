@@ -11,21 +11,24 @@ import (
 	"google.golang.org/protobuf/encoding/protowire"
 )
 
-// What a listing costs csid is bounded by the pause between two pages, each of 100 volumes at most, and by the pause from the beginning of a listing to that of
-// the next one; after one that failed it is shorter.
+// What a listing costs csid is bounded by the pause between two pages, each of 100 volumes at most,
+// and by the pause from the beginning of a listing to that of the next one; after one that failed
+// it is shorter.
 const (
 	pagePause    = 100 * time.Millisecond
 	listingPause = time.Minute
 	failurePause = 10 * time.Second
 )
 
-// The most volumes that csid has (docs/OPERATING.md, "Limits"), and the most pages that are asked for in one listing: ten times as many as those are in.
+// The most volumes that csid has (docs/OPERATING.md, "Limits"), and the most pages that are asked
+// for in one listing: ten times as many as those are in.
 const (
 	maxVolumes = 100_000
 	maxPages   = maxVolumes / 100 * 10
 )
 
-// listing is what all volumes take, by one walk over the pages of ListVolumes. Volumes that come or go in the meantime are in it or not.
+// listing is what all volumes take, by one walk over the pages of ListVolumes. Volumes that come or
+// go in the meantime are in it or not.
 type listing struct {
 	endedAt time.Time
 	volumes int
@@ -39,7 +42,8 @@ type poolUse struct {
 	bytes   int64
 }
 
-// listings lists all volumes again and again, and reports as metrics what the last whole listing has next to what the configuration has room for.
+// listings lists all volumes again and again, and reports as metrics what the last whole listing
+// has next to what the configuration has room for.
 type listings struct {
 	handler *handler
 	config  *configuration
@@ -50,10 +54,12 @@ type listings struct {
 }
 
 func newListings(h *handler, config *configuration) *listings {
-	return &listings{handler: h, config: config, pagePause: pagePause, listingPause: listingPause, failurePause: failurePause}
+	return &listings{handler: h, config: config, pagePause: pagePause, listingPause: listingPause,
+		failurePause: failurePause}
 }
 
-// run lists volumes until the context ends. A front that stands by asks for none: its csid may not serve.
+// run lists volumes until the context ends. A front that stands by asks for none: its csid may not
+// serve.
 func (l *listings) run(ctx context.Context) {
 	for ctx.Err() == nil {
 		next := l.failurePause
@@ -121,7 +127,8 @@ func (l *listings) kept() *listing {
 	return l.last
 }
 
-// addPage adds the volumes of a page (docs/PROTOCOL.md, "Messages"), and gives the token of the next one; an empty token is that of the last page.
+// addPage adds the volumes of a page (docs/PROTOCOL.md, "Messages"), and gives the token of the
+// next one; an empty token is that of the last page.
 func (l *listing) addPage(body []byte) (token string, err error) {
 	err = eachField(body, func(number protowire.Number, kind protowire.Type, value []byte) error {
 		if kind != protowire.BytesType {
@@ -139,7 +146,8 @@ func (l *listing) addPage(body []byte) (token string, err error) {
 	return token, err
 }
 
-// addEntry adds a volume, of which field 1 is what it is, and field 1 of field 2 the nodes where it is.
+// addEntry adds a volume, of which field 1 is what it is, and field 1 of field 2 the nodes where it
+// is.
 func (l *listing) addEntry(entry []byte) error {
 	l.volumes++
 	return eachField(entry, func(number protowire.Number, kind protowire.Type, value []byte) error {
@@ -163,7 +171,8 @@ func (l *listing) addEntry(entry []byte) error {
 	})
 }
 
-// addVolume adds the bytes of a volume, its field 1, to those of its pool, which the entry "pool" of the context, its field 3, names.
+// addVolume adds the bytes of a volume, its field 1, to those of its pool, which the entry "pool"
+// of the context, its field 3, names.
 func (l *listing) addVolume(volume []byte) error {
 	var bytes uint64
 	var name string
@@ -186,15 +195,18 @@ func (l *listing) addVolume(volume []byte) error {
 
 // What is reported of pools, nodes and volumes.
 var (
-	poolSize        = newDesc("pool_size_bytes", "Bytes of a pool, by the configuration.", "pool")
-	poolUsed        = newDesc("pool_used_bytes", "Bytes of a pool that its volumes take, by the last listing.", "pool")
-	poolFree        = newDesc("pool_free_bytes", "Bytes of a pool that are free, by the configuration and the last listing.", "pool")
-	poolVolumes     = newDesc("pool_volumes", "Volumes of a pool, by the last listing.", "pool")
-	nodeMaxVolumes  = newDesc("node_max_volumes", "How many volumes can be attached at a node, by the configuration.", "node")
+	poolSize = newDesc("pool_size_bytes", "Bytes of a pool, by the configuration.", "pool")
+	poolUsed = newDesc("pool_used_bytes", "Bytes of a pool that its volumes take, by the last listing.", "pool")
+	poolFree = newDesc("pool_free_bytes",
+		"Bytes of a pool that are free, by the configuration and the last listing.", "pool")
+	poolVolumes    = newDesc("pool_volumes", "Volumes of a pool, by the last listing.", "pool")
+	nodeMaxVolumes = newDesc("node_max_volumes", "How many volumes can be attached at a node, by the configuration.",
+		"node")
 	nodeAttachments = newDesc("node_attachments", "Volumes that are attached at a node, by the last listing.", "node")
 	volumesMost     = newDesc("max_volumes", "How many volumes csid can have.")
 	volumesNow      = newDesc("volumes", "Volumes that there are, by the last listing.")
-	listedAt        = newDesc("listing_timestamp_seconds", "When the last listing of all volumes ended, as seconds since 1970.")
+	listedAt        = newDesc("listing_timestamp_seconds",
+		"When the last listing of all volumes ended, as seconds since 1970.")
 )
 
 func newDesc(name, help string, labels ...string) *prometheus.Desc {
@@ -202,12 +214,14 @@ func newDesc(name, help string, labels ...string) *prometheus.Desc {
 }
 
 func (l *listings) Describe(metrics chan<- *prometheus.Desc) {
-	for _, desc := range []*prometheus.Desc{poolSize, poolUsed, poolFree, poolVolumes, nodeMaxVolumes, nodeAttachments, volumesMost, volumesNow, listedAt} {
+	for _, desc := range []*prometheus.Desc{poolSize, poolUsed, poolFree, poolVolumes, nodeMaxVolumes, nodeAttachments,
+		volumesMost, volumesNow, listedAt} {
 		metrics <- desc
 	}
 }
 
-// Collect reports what the configuration has, and once there was a whole listing what that has of the pools and nodes of the configuration.
+// Collect reports what the configuration has, and once there was a whole listing what that has of
+// the pools and nodes of the configuration.
 func (l *listings) Collect(metrics chan<- prometheus.Metric) {
 	report := func(desc *prometheus.Desc, value float64, labels ...string) {
 		metrics <- prometheus.MustNewConstMetric(desc, prometheus.GaugeValue, value, labels...)

@@ -14,17 +14,20 @@ import (
 	"fomaheti/frames"
 )
 
-// Entries of ListVolumes, worked out by hand from docs/PROTOCOL.md, "Messages": 'vol-1' has 1 MiB of the pool p1 at the nodes n1 and n2, 'vol-2' 3 MiB of p2
-// at none and in no good condition, and 'vol-3' 1 MiB of p1 at n1, with a further entry of its context and a topology.
+// Entries of ListVolumes, worked out by hand from docs/PROTOCOL.md, "Messages": 'vol-1' has 1 MiB
+// of the pool p1 at the nodes n1 and n2, 'vol-2' 3 MiB of p2 at none and in no good condition, and
+// 'vol-3' 1 MiB of p1 at n1, with a further entry of its context and a topology.
 const (
 	entry1 = "0a23 0a17 08808040 1205 766f6c2d31 1a0a 0a04706f6f6c 12027031 1208 0a026e31 0a026e32"
 	entry2 = "0a20 0a18 088080c001 1205 766f6c2d32 1a0a 0a04706f6f6c 12027032 1204 1202 0801"
-	entry3 = "0a34 0a2c 08808040 1205 766f6c2d33 1a06 0a0161 120162 1a0a 0a04706f6f6c 12027031 2a0b 0a09 0a047a6f6e65 120161 1204 0a026e31"
+	entry3 = "0a34 0a2c 08808040 1205 766f6c2d33 1a06 0a0161 120162 1a0a 0a04706f6f6c 12027031 2a0b 0a09 " +
+		"0a047a6f6e65 120161 1204 0a026e31"
 )
 
 var room = &configuration{[]pool{{"p1", 10485760}, {"p2", 4194304}, {"p3", 1048576}}, []node{{"n1", 2}, {"n3", 4}}}
 
-// paging is a csid that answers ListVolumes by these pages, of which each is named by the token in hexadecimal, and notes the messages.
+// paging is a csid that answers ListVolumes by these pages, of which each is named by the token in
+// hexadecimal, and notes the messages.
 func paging(t *testing.T, pages map[string]string) (*listings, chan string) {
 	t.Helper()
 	asked := make(chan string, 99)
@@ -58,7 +61,8 @@ func TestListing(t *testing.T) {
 	}
 	got := l.kept()
 	if got.volumes != 3 || !reflect.DeepEqual(got.pools, map[string]poolUse{"p1": {2, 2 << 20}, "p2": {1, 3 << 20}}) ||
-		!reflect.DeepEqual(got.attachments, map[string]int{"n1": 2, "n2": 1}) || got.endedAt.Sub(begin) < 2*l.pagePause || time.Since(got.endedAt) > time.Minute {
+		!reflect.DeepEqual(got.attachments, map[string]int{"n1": 2, "n2": 1}) ||
+		got.endedAt.Sub(begin) < 2*l.pagePause || time.Since(got.endedAt) > time.Minute {
 		t.Errorf("%v", got)
 	}
 	for _, want := range []string{"", "\x12\x011", "\x12\x012"} {
@@ -121,7 +125,8 @@ func TestPaceOfListings(t *testing.T) {
 	<-ended
 }
 
-// What is reported of each pool and node of the configuration; before the first listing what they have room for alone.
+// What is reported of each pool and node of the configuration; before the first listing what they
+// have room for alone.
 func TestMetricsOfListings(t *testing.T) {
 	l, _ := paging(t, map[string]string{"": entry1 + entry2 + entry3})
 	sizes := `

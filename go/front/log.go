@@ -69,8 +69,8 @@ func newLogger(out io.Writer, format string) *logger {
 	return &logger{lines: log.New(out, "front: ", 0)}
 }
 
-// newLog is the log of the program. No line waits for whoever reads it, also none that a package writes on its own: gRPC its errors, and any other what it
-// has for Go's own log.
+// newLog is the log of the program. No line waits for whoever reads it, also none that a package
+// writes on its own: gRPC its errors, and any other what it has for Go's own log.
 func newLog(out io.Writer, format string) *logger {
 	queue := logqueue.New(out, func(count uint64) string {
 		var line strings.Builder
@@ -146,8 +146,8 @@ func (l *logger) isReady() {
 	l.write(text, entry{Level: levelInfo, Message: text})
 }
 
-// refuses reports a call that was refused, and about which volume it was where that is logged. Nothing else of its message goes into the log: it may have
-// secrets.
+// refuses reports a call that was refused, and about which volume it was where that is logged.
+// Nothing else of its message goes into the log: it may have secrets.
 func (l *logger) refuses(socket, path string, asked *change, why *status.Status, took time.Duration) {
 	l.writeFew(endedLine(entry{Level: levelWarn, Message: "call refused", Socket: socket}, path, asked, why, took))
 }
@@ -155,26 +155,30 @@ func (l *logger) refuses(socket, path string, asked *change, why *status.Status,
 // changes reports a change that was made. It has a line in any case: there are no more of them than
 // csid makes.
 func (l *logger) changes(socket, path string, asked *change, took time.Duration) {
-	l.write(endedLine(entry{Level: levelInfo, Message: "change", Socket: socket}, path, asked, status.New(codes.OK, ""), took))
+	l.write(endedLine(entry{Level: levelInfo, Message: "change", Socket: socket}, path, asked, status.New(codes.OK, ""),
+		took))
 }
 
 // endedLine is the line of a call, as text and in JSON.
 func endedLine(line entry, path string, asked *change, why *status.Status, took time.Duration) (string, entry) {
 	line.endedCall, line.change = &endedCall{shownPath(path), why.Code(), why.Message(), took.Milliseconds()}, asked
 	call := line.endedCall
-	return fmt.Sprintf("%s%s %d %q %d ms%s", via(line.Socket), call.Path, call.Code, call.Text, call.Milliseconds, asked.words()), line
+	return fmt.Sprintf("%s%s %d %q %d ms%s", via(line.Socket), call.Path, call.Code, call.Text, call.Milliseconds,
+		asked.words()), line
 }
 
 // malformed reports a frame over a socket that is no call.
 func (l *logger) malformed(socket string, fault error) {
-	l.writeFew(via(socket)+fault.Error(), entry{Level: levelWarn, Message: "malformed call", Socket: socket, Error: fault.Error()})
+	l.writeFew(via(socket)+fault.Error(), entry{Level: levelWarn, Message: "malformed call", Socket: socket,
+		Error: fault.Error()})
 }
 
 // closedFor gives what reports that a connection was closed for another one, where as many were
 // open as can be on the socket of an option.
 func (l *logger) closedFor(who, option string, limit int) func() {
 	return func() {
-		fmt.Fprintf(saying{l, who}, "a connection of %s without a call was closed for another one: %d were open", option, limit)
+		fmt.Fprintf(saying{l, who}, "a connection of %s without a call was closed for another one: %d were open",
+			option, limit)
 	}
 }
 

@@ -15,7 +15,8 @@ import (
 	"google.golang.org/grpc/status"
 )
 
-// What packages write on their own are lines of the front, and the last lines are written at its end.
+// What packages write on their own are lines of the front, and the last lines are written at its
+// end.
 func TestLinesOfPackages(t *testing.T) {
 	defer log.SetFlags(log.Flags())
 	defer log.SetOutput(log.Writer())
@@ -26,12 +27,14 @@ func TestLinesOfPackages(t *testing.T) {
 	grpclog.Warning("not an error")
 	l.isReady()
 	l.queue.End(10 * time.Second)
-	if want := regexp.MustCompile(`^front: one\nfront: ERROR: [0-9/]+ [0-9:]+ two\nfront: csid is ready\n$`); !want.MatchString(text.String()) {
+	if want := regexp.MustCompile(`^front: one\nfront: ERROR: [0-9/]+ [0-9:]+ two\nfront: csid is ` +
+		`ready\n$`); !want.MatchString(text.String()) {
 		t.Errorf("%q", text.String())
 	}
 }
 
-// Each line in both formats, with its time in UTC wherever that is. A number of JSON is a float64 to encoding/json.
+// Each line in both formats, with its time in UTC wherever that is. A number of JSON is a float64
+// to encoding/json.
 func TestLines(t *testing.T) {
 	local := time.Local
 	time.Local = time.FixedZone("", 3600)
@@ -69,28 +72,34 @@ func TestLines(t *testing.T) {
 		},
 		{
 			func(l *logger) {
-				l.refuses("", "/a/b", nil, status.New(codes.FailedPrecondition, "volume is in use"), 1999*time.Microsecond)
+				l.refuses("", "/a/b", nil, status.New(codes.FailedPrecondition, "volume is in use"),
+					1999*time.Microsecond)
 			},
 			"front: /a/b 9 \"volume is in use\" 1 ms\n",
-			fields{"level": "warn", "message": "call refused", "path": "/a/b", "code": 9.0, "text": "volume is in use", "milliseconds": 1.0},
+			fields{"level": "warn", "message": "call refused", "path": "/a/b", "code": 9.0, "text": "volume is in use",
+				"milliseconds": 1.0},
 		},
 		{
 			func(l *logger) { l.refuses("", "/a/b", nil, status.New(codes.Unavailable, "\"a\"\n"), 0) },
 			"front: /a/b 14 \"\\\"a\\\"\\n\" 0 ms\n",
-			fields{"level": "warn", "message": "call refused", "path": "/a/b", "code": 14.0, "text": "\"a\"\n", "milliseconds": 0.0},
+			fields{"level": "warn", "message": "call refused", "path": "/a/b", "code": 14.0, "text": "\"a\"\n",
+				"milliseconds": 0.0},
 		},
 		{
 			func(l *logger) {
-				l.refuses("control", "/a/b", &change{Volume: "vol-1", Node: "n 1"}, status.New(codes.NotFound, "node not found"), 0)
+				l.refuses("control", "/a/b", &change{Volume: "vol-1", Node: "n 1"},
+					status.New(codes.NotFound, "node not found"), 0)
 			},
 			"front: control /a/b 5 \"node not found\" 0 ms volume=vol-1 node=\"n 1\"\n",
-			fields{"level": "warn", "message": "call refused", "socket": "control", "path": "/a/b", "code": 5.0, "text": "node not found", "milliseconds": 0.0,
+			fields{"level": "warn", "message": "call refused", "socket": "control", "path": "/a/b", "code": 5.0,
+				"text": "node not found", "milliseconds": 0.0,
 				"volume": "vol-1", "node": "n 1"},
 		},
 		{
 			func(l *logger) { l.changes("", "/a/b", &change{Name: "pvc-1", Volume: "vol-1"}, 2*time.Millisecond) },
 			"front: /a/b 0 \"\" 2 ms name=pvc-1 volume=vol-1\n",
-			fields{"level": "info", "message": "change", "path": "/a/b", "code": 0.0, "text": "", "milliseconds": 2.0, "name": "pvc-1", "volume": "vol-1"},
+			fields{"level": "info", "message": "change", "path": "/a/b", "code": 0.0, "text": "", "milliseconds": 2.0,
+				"name": "pvc-1", "volume": "vol-1"},
 		},
 		{
 			func(l *logger) { l.malformed("control", errors.New("bad flag at byte 3")) },
@@ -100,14 +109,16 @@ func TestLines(t *testing.T) {
 		{
 			func(l *logger) { l.refuses("", "/a\n", nil, status.New(codes.Unimplemented, ""), 0) },
 			"front: \"/a\\n\" 12 \"\" 0 ms\n",
-			fields{"level": "warn", "message": "call refused", "path": `"/a\n"`, "code": 12.0, "text": "", "milliseconds": 0.0},
+			fields{"level": "warn", "message": "call refused", "path": `"/a\n"`, "code": 12.0, "text": "",
+				"milliseconds": 0.0},
 		},
 		{
 			func(l *logger) {
 				l.refuses("", "/"+strings.Repeat("a", 200), nil, status.New(codes.Unimplemented, ""), 0)
 			},
 			"front: \"/" + strings.Repeat("a", 127) + "\" 12 \"\" 0 ms\n",
-			fields{"level": "warn", "message": "call refused", "path": `"/` + strings.Repeat("a", 127) + `"`, "code": 12.0, "text": "", "milliseconds": 0.0},
+			fields{"level": "warn", "message": "call refused", "path": `"/` + strings.Repeat("a", 127) +
+				`"`, "code": 12.0, "text": "", "milliseconds": 0.0},
 		},
 		{
 			func(l *logger) { saying{l, "HTTP server"}.Write([]byte("http: it <broke>\n")) },
@@ -117,12 +128,14 @@ func TestLines(t *testing.T) {
 		{
 			func(l *logger) { l.closedFor("control", "--control", 16)() },
 			"front: a connection of --control without a call was closed for another one: 16 were open\n",
-			fields{"level": "warn", "message": "control", "error": "a connection of --control without a call was closed for another one: 16 were open"},
+			fields{"level": "warn", "message": "control",
+				"error": "a connection of --control without a call was closed for another one: 16 were open"},
 		},
 		{
 			func(l *logger) { l.leavesOut(map[string]uint64{"malformed call": 3, "call refused": 15}) },
 			"front: lines left out, since more than 10 came in a second: 18 (call refused 15, malformed call 3)\n",
-			fields{"level": "warn", "message": "lines left out", "left_out": fields{"call refused": 15.0, "malformed call": 3.0}},
+			fields{"level": "warn", "message": "lines left out",
+				"left_out": fields{"call refused": 15.0, "malformed call": 3.0}},
 		},
 		{
 			func(l *logger) { l.drops(17) },
@@ -139,11 +152,13 @@ func TestLines(t *testing.T) {
 		begin := time.Now()
 		row.tell(newLogger(&object, jsonLines))
 		var got fields
-		if err := json.Unmarshal([]byte(object.String()), &got); err != nil || strings.Count(object.String(), "\n") != 1 {
+		if err := json.Unmarshal([]byte(object.String()), &got); err != nil ||
+			strings.Count(object.String(), "\n") != 1 {
 			t.Fatalf("%q: %v", object.String(), err)
 		}
 		said, _ := got["time"].(string)
-		if at, err := time.Parse(time.RFC3339, said); err != nil || !strings.HasSuffix(said, "Z") || at.Before(begin) || at.After(time.Now()) {
+		if at, err := time.Parse(time.RFC3339, said); err != nil || !strings.HasSuffix(said, "Z") || at.Before(begin) ||
+			at.After(time.Now()) {
 			t.Errorf("the time %q, %v", said, err)
 		}
 		delete(got, "time")

@@ -42,7 +42,8 @@ func TestLinesBeyondTen(t *testing.T) {
 	// So late that no second is over before the test ends.
 	begin := time.Now().Add(time.Hour)
 	l.finish(begin)
-	if count := passed(l, 8, "a", begin) + passed(l, 5, "b", begin) + passed(l, 2, "a", begin.Add(time.Second/2)); count != 10 {
+	if count := passed(l, 8, "a", begin) + passed(l, 5, "b", begin) +
+		passed(l, 2, "a", begin.Add(time.Second/2)); count != 10 {
 		t.Errorf("%d passed", count)
 	}
 	l.finish(begin.Add(time.Second))

@@ -47,8 +47,9 @@ func main() {
 	os.Exit(status)
 }
 
-// useOneProcessor keeps all goroutines on one processor, unless GOMAXPROCS says otherwise. A call passes through several that wait for one another, and waking
-// one on another processor takes longer than its work.
+// useOneProcessor keeps all goroutines on one processor, unless GOMAXPROCS says otherwise. A call
+// passes through several that wait for one another, and waking one on another processor takes
+// longer than its work.
 func useOneProcessor() {
 	if os.Getenv("GOMAXPROCS") == "" {
 		runtime.GOMAXPROCS(1)
@@ -68,7 +69,8 @@ func run(asked options, err error, log *logger) int {
 		fmt.Println("front", version)
 		return done
 	}
-	f := &front{asked, log, newHandler(asked, log), nil, make(chan os.Signal, 2), make(chan error, 2), make(chan error, 1)}
+	f := &front{asked, log, newHandler(asked, log), nil, make(chan os.Signal, 2), make(chan error, 2),
+		make(chan error, 1)}
 	signal.Notify(f.stop, syscall.SIGTERM, syscall.SIGINT)
 	if f.control, err = startControl(f.handler, asked); err != nil {
 		return f.fails(err, noSocket)
@@ -131,7 +133,8 @@ func take(server *grpc.Server, listener net.Listener) error {
 	return errors.New("taking connections ended")
 }
 
-// end takes no further calls, and waits for those that run: for the grace, or until a further signal.
+// end takes no further calls, and waits for those that run: for the grace, or until a further
+// signal.
 func (f *front) end(server *grpc.Server) int {
 	ended := make(chan struct{})
 	go func() {

@@ -14,7 +14,8 @@ import (
 // How often it is looked whether a message is late.
 const lookTime = 50 * time.Millisecond
 
-// errLate ends a call whose message held up others. What was received of it is dropped, or it would have no bound.
+// errLate ends a call whose message held up others. What was received of it is dropped, or it would
+// have no bound.
 var errLate = status.Error(codes.Unavailable, "the message did not come in time, and other calls wait")
 
 // messages bounds what the messages of all calls take that wait to be sent or for their replies.
@@ -47,12 +48,14 @@ func (m *messages) receive(stream grpc.ServerStream) ([]byte, error) {
 		return nil, err
 	}
 	if !m.take(len(message)) {
-		return nil, status.Errorf(codes.Unavailable, "the messages of all calls that wait would have more than %d bytes", m.limit)
+		return nil, status.Errorf(codes.Unavailable,
+			"the messages of all calls that wait would have more than %d bytes", m.limit)
 	}
 	return message, nil
 }
 
-// take counts a message, unless there is no room for it. For an empty one, as that of Probe is, there always is.
+// take counts a message, unless there is no room for it. For an empty one, as that of Probe is,
+// there always is.
 func (m *messages) take(bytes int) bool {
 	m.mutex.Lock()
 	defer m.mutex.Unlock()
@@ -69,7 +72,8 @@ func (m *messages) giveBack(message []byte) {
 	m.bytes -= len(message)
 }
 
-// receiver receives messages in a goroutine of its own, which is kept for the next one: a new goroutine would have to grow its stack each time.
+// receiver receives messages in a goroutine of its own, which is kept for the next one: a new
+// goroutine would have to grow its stack each time.
 type receiver struct {
 	next    chan func() ([]byte, error)
 	done    chan struct{}
@@ -110,7 +114,8 @@ func (m *messages) keep(r *receiver) {
 	}
 }
 
-// inTime gives what is received, unless it is late. The end of the call ends the receiving then, and the receiver is not used again.
+// inTime gives what is received, unless it is late. The end of the call ends the receiving then,
+// and the receiver is not used again.
 func (m *messages) inTime(receive func() ([]byte, error)) ([]byte, error) {
 	begin, r := time.Now(), m.receiver()
 	r.next <- receive
@@ -124,7 +129,8 @@ func (m *messages) inTime(receive func() ([]byte, error)) ([]byte, error) {
 	return message, err
 }
 
-// isDone lets the receiver go first, and reports whether it has the message: most have come whole with the headers of their calls.
+// isDone lets the receiver go first, and reports whether it has the message: most have come whole
+// with the headers of their calls.
 func (r *receiver) isDone() bool {
 	runtime.Gosched()
 	select {
@@ -151,7 +157,8 @@ func (m *messages) awaits(r *receiver, begin time.Time) bool {
 	}
 }
 
-// onlyMessage receives the message of a call. A message that is too long is refused by RecvMsg, before it is read.
+// onlyMessage receives the message of a call. A message that is too long is refused by RecvMsg,
+// before it is read.
 func onlyMessage(stream grpc.ServerStream) ([]byte, error) {
 	var message, second []byte
 	if err := stream.RecvMsg(&message); err == io.EOF {

@@ -69,7 +69,8 @@ func TestMessagesThatAreLate(t *testing.T) {
 // A receiver is kept for the next message without the one that it had. One more than are kept ends.
 func TestReceiversThatAreKept(t *testing.T) {
 	m := newMessages(10)
-	if got, err := m.inTime(func() ([]byte, error) { return []byte("a"), io.EOF }); string(got) != "a" || err != io.EOF {
+	if got, err := m.inTime(func() ([]byte, error) { return []byte("a"), io.EOF }); string(got) != "a" ||
+		err != io.EOF {
 		t.Errorf("%q, %v", got, err)
 	}
 	r := <-m.idle

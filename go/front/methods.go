@@ -12,7 +12,8 @@ const (
 	healthCheck  = "/grpc.health.v1.Health/Check"
 )
 
-// otherMethod is the label of each method that is not one of the table: a client can call any, and each label is a series.
+// otherMethod is the label of each method that is not one of the table: a client can call any, and
+// each label is a series.
 const otherMethod = "other"
 
 // methods are those that csid answers (docs/PROTOCOL.md, "Paths").

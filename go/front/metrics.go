@@ -14,7 +14,8 @@ import (
 // The prefix of the names of all metrics that are the front's own.
 const namespace = "csid_front"
 
-// The bounds of the histogram, in seconds: from a call that csid answers at once to the greatest deadlines of sidecars.
+// The bounds of the histogram, in seconds: from a call that csid answers at once to the greatest
+// deadlines of sidecars.
 var buckets = []float64{.001, .0025, .005, .01, .025, .05, .1, .25, .5, 1, 2.5, 5, 10, 30, 60}
 
 // metrics counts the calls of clients.
@@ -27,7 +28,8 @@ type metrics struct {
 	series map[string]*series
 }
 
-// series are those of one method: how many calls were answered, by code, and how long they took. The latter is made with the first call.
+// series are those of one method: how many calls were answered, by code, and how long they took.
+// The latter is made with the first call.
 type series struct {
 	calls   [codes.Unauthenticated + 1]prometheus.Counter
 	once    sync.Once
@@ -41,13 +43,15 @@ func newMetrics() *metrics {
 			Namespace: namespace, Name: "calls_total", Help: "Calls that were answered, by method and gRPC code.",
 		}, []string{"method", "code"}),
 		seconds: prometheus.NewHistogramVec(prometheus.HistogramOpts{
-			Namespace: namespace, Name: "call_duration_seconds", Help: "Seconds from the beginning of a call to its answer, by method.", Buckets: buckets,
+			Namespace: namespace, Name: "call_duration_seconds",
+			Help: "Seconds from the beginning of a call to its answer, by method.", Buckets: buckets,
 		}, []string{"method"}),
 		waiting: prometheus.NewGauge(prometheus.GaugeOpts{
 			Namespace: namespace, Name: "waiting_calls", Help: "Calls that wait to be sent to csid, or for its reply.",
 		}),
 		refusals: prometheus.NewCounterVec(prometheus.CounterOpts{
-			Namespace: namespace, Name: "internal_refusals_total", Help: "Calls that csid refused for want of memory or for its store, by reason.",
+			Namespace: namespace, Name: "internal_refusals_total",
+			Help: "Calls that csid refused for want of memory or for its store, by reason.",
 		}, []string{"reason"}),
 	}
 	m.begin(methods)
@@ -85,7 +89,8 @@ func (m *metrics) ended(path string, code codes.Code, took time.Duration) {
 	m.seconds.WithLabelValues(method).Observe(took.Seconds())
 }
 
-// newRegistry has all that is reported at /metrics; of pools and nodes nothing where there are no listings.
+// newRegistry has all that is reported at /metrics; of pools and nodes nothing where there are no
+// listings.
 func newRegistry(h *handler, topologies []topology, listings *listings) *prometheus.Registry {
 	registry := prometheus.NewRegistry()
 	registry.MustRegister(
@@ -142,7 +147,8 @@ func nodeCalls(n *nodePlugin) prometheus.Collector {
 
 func droppedLines(log *logger) prometheus.Collector {
 	return prometheus.NewCounterFunc(prometheus.CounterOpts{
-		Namespace: namespace, Name: "log_lines_dropped_total", Help: "Lines that were dropped, since standard error did not take them.",
+		Namespace: namespace, Name: "log_lines_dropped_total",
+		Help: "Lines that were dropped, since standard error did not take them.",
 	}, func() float64 {
 		if log.queue == nil {
 			return 0
@@ -160,7 +166,8 @@ func buildInfo() prometheus.Collector {
 	return info
 }
 
-// csidCollector asks csid each time it is collected: whether it is ready, and how many bytes each topology has.
+// csidCollector asks csid each time it is collected: whether it is ready, and how many bytes each
+// topology has.
 type csidCollector struct {
 	handler    *handler
 	topologies []topology
@@ -174,7 +181,8 @@ func newCsidCollector(h *handler, topologies []topology) *csidCollector {
 		topologies: append([]topology{everywhere}, topologies...),
 		up:         prometheus.NewDesc(namespace+"_csid_up", "Whether csid answered that it is ready.", nil, nil),
 		capacity: prometheus.NewDesc(namespace+"_available_capacity_bytes",
-			"Bytes that are free in the pools that serve a topology, by GetCapacity; without a topology, in all pools.", []string{"topology"}, nil),
+			"Bytes that are free in the pools that serve a topology, by GetCapacity; without a topology, in all pools.",
+			[]string{"topology"}, nil),
 	}
 }
 

@@ -25,7 +25,8 @@ func TestMethodsOfTheProtocol(t *testing.T) {
 		t.Fatal(err)
 	}
 	told := map[string]bool{}
-	for _, row := range regexp.MustCompile("(?m)^\\| `(/csi\\.v1\\.\\w+/)M` \\| (.*) \\|$").FindAllStringSubmatch(string(page), -1) {
+	for _, row := range regexp.MustCompile("(?m)^\\| `(/csi\\.v1\\.\\w+/)M` \\| "+
+		"(.*) \\|$").FindAllStringSubmatch(string(page), -1) {
 		for _, method := range strings.Split(row[2], ", ") {
 			told[row[1]+method] = true
 		}

@@ -30,10 +30,12 @@ const (
 // refuses them. Ten thousand short lines would take some MiB as headers.
 const maxRequestBytes = 8 << 10
 
-// newMonitor answers who watches the front: /metrics for Prometheus, /healthz for a liveness probe, and /livez for that of a front that stands by.
+// newMonitor answers who watches the front: /metrics for Prometheus, /healthz for a liveness probe,
+// and /livez for that of a front that stands by.
 func newMonitor(h *handler, topologies []topology, listings *listings) http.Handler {
 	mux := http.NewServeMux()
-	mux.Handle("/metrics", promhttp.HandlerFor(newRegistry(h, topologies, listings), promhttp.HandlerOpts{MaxRequestsInFlight: maxScrapes}))
+	mux.Handle("/metrics", promhttp.HandlerFor(newRegistry(h, topologies, listings),
+		promhttp.HandlerOpts{MaxRequestsInFlight: maxScrapes}))
 	mux.HandleFunc("/healthz", h.healthz)
 	if h.standsBy {
 		mux.HandleFunc("/livez", h.livez)
@@ -72,8 +74,8 @@ func duringRequests(next http.Handler) http.Handler {
 	})
 }
 
-// startMonitor begins to answer at --metrics, if there is one. An end of it is reported as a failure, since nothing ends it but the end of
-// the front.
+// startMonitor begins to answer at --metrics, if there is one. An end of it is reported as a
+// failure, since nothing ends it but the end of the front.
 func startMonitor(h *handler, asked options, failed chan<- error) error {
 	if asked.metrics == "" {
 		return nil

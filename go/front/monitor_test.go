@@ -47,7 +47,8 @@ func TestHealthChecksThatWait(t *testing.T) {
 			time.Sleep(50 * time.Millisecond)
 			<-h.checks
 		}()
-		if status, text := asks(h, path, 10*time.Second); status != 200 || text != "ok\n" || time.Since(begin) < 50*time.Millisecond {
+		if status, text := asks(h, path, 10*time.Second); status != 200 || text != "ok\n" ||
+			time.Since(begin) < 50*time.Millisecond {
 			t.Errorf("%s: %d %q after %v", path, status, text, time.Since(begin))
 		}
 		h.checks <- struct{}{}

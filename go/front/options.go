@@ -36,10 +36,12 @@ type options struct {
 	logFormat string
 	// Whether each change has a line.
 	logChanges bool
-	// Where calls are taken in csid's own envelope; nowhere if it is empty. A group that may connect there has a name or a number.
+	// Where calls are taken in csid's own envelope; nowhere if it is empty. A group that may
+	// connect there has a name or a number.
 	control      string
 	controlGroup string
-	// How long csid may answer nothing. Where it is 0 that has no bound, and the socket is made without csid.
+	// How long csid may answer nothing. Where it is 0 that has no bound, and the socket is made
+	// without csid.
 	standby time.Duration
 	health  bool
 	// Where metrics are reported; nowhere if it is empty.
@@ -50,26 +52,39 @@ type options struct {
 	version       bool
 }
 
-// readOptions reads the words that were given; endpoint is the value of CSI_ENDPOINT, and counts where no --listen is given.
+// readOptions reads the words that were given; endpoint is the value of CSI_ENDPOINT, and counts
+// where no --listen is given.
 func readOptions(given []string, endpoint string, shown io.Writer) (options, error) {
 	var asked options
 	flags := flag.NewFlagSet("front", flag.ContinueOnError)
 	flags.SetOutput(io.Discard)
-	flags.StringVar(&asked.listen, "listen", endpoint, "the `PATH` of the socket for the orchestrator, also as unix://PATH; without it CSI_ENDPOINT")
+	flags.StringVar(&asked.listen, "listen", endpoint,
+		"the `PATH` of the socket for the orchestrator, also as unix://PATH; without it CSI_ENDPOINT")
 	flags.StringVar(&asked.csid, "csid", "", "the `PATH` of the socket that csid serves")
 	flags.StringVar(&asked.node, "node", "", "the `PATH` of the socket of a node plugin, which answers the calls of the Node service")
 	flags.DurationVar(&asked.grace, "grace", 20*time.Second, "how long calls may go on after SIGTERM, as 20s: a `TIME`")
-	flags.DurationVar(&asked.late, "late", time.Minute, "how long csid may take for the reply to a call that was given up, before its connection is closed: a `TIME`")
+	flags.DurationVar(&asked.late, "late", time.Minute,
+		"how long csid may take for the reply to a call that was given up, before its connection is closed: a `TIME`")
 	flags.IntVar(&asked.waiting, "waiting", 64, "how many `MIB` the messages of all calls that wait may have together")
-	flags.StringVar(&asked.logFormat, "log-format", textLines, "the `FORMAT` of lines on standard error: text, or json for one object a line")
-	flags.BoolVar(&asked.logChanges, "log-changes", false, "log each call that changes volumes, with the name or id of its volume and its node")
-	flags.StringVar(&asked.control, "control", "", "the `PATH` of a socket on which calls are taken as csid takes them, for csictl")
-	flags.StringVar(&asked.controlGroup, "control-group", "", "the `NAME` or number of the group that may connect to the socket of --control; without it its owner alone may")
-	flags.Func("standby", "make the socket only once csid is ready, and end where csid answered nothing for so long, 1s to 1h: a `TIME`", asked.setStandby)
+	flags.StringVar(&asked.logFormat, "log-format", textLines,
+		"the `FORMAT` of lines on standard error: text, or json for one object a line")
+	flags.BoolVar(&asked.logChanges, "log-changes", false,
+		"log each call that changes volumes, with the name or id of its volume and its node")
+	flags.StringVar(&asked.control, "control", "",
+		"the `PATH` of a socket on which calls are taken as csid takes them, for csictl")
+	flags.StringVar(&asked.controlGroup, "control-group", "",
+		"the `NAME` or number of the group that may connect to the socket of --control; without it its owner alone may")
+	flags.Func("standby", "make the socket only once csid is ready, and end where csid answered nothing for so long, "+
+		"1s to 1h: a `TIME`", asked.setStandby)
 	flags.BoolVar(&asked.health, "health", false, "answer gRPC's health service: Check, by a Probe")
-	flags.StringVar(&asked.metrics, "metrics", "", "the `HOST:PORT` on which /metrics and /healthz are answered over HTTP; port 0 is any that is free, and the log says which")
-	flags.Func("metrics-topology", "a topology whose available capacity is one of the metrics, as `KEY=VALUE,..`; may be given again", asked.addTopology)
-	flags.Func("config", "the configuration of csid, a `FILE`: what its pools and nodes have room for, and what all volumes take of it, are among the metrics", asked.setConfiguration)
+	flags.StringVar(&asked.metrics, "metrics", "",
+		"the `HOST:PORT` on which /metrics and /healthz are answered over HTTP; port 0 is any that is free, and the "+
+			"log says which")
+	flags.Func("metrics-topology",
+		"a topology whose available capacity is one of the metrics, as `KEY=VALUE,..`; may be given again",
+		asked.addTopology)
+	flags.Func("config", "the configuration of csid, a `FILE`: what its pools and nodes have room for, and what all "+
+		"volumes take of it, are among the metrics", asked.setConfiguration)
 	flags.BoolVar(&asked.version, "version", false, "print the version, and end")
 	if err := words.Parse(flags, given, usage, shown); err != nil {
 		return options{}, err

@@ -61,9 +61,10 @@ func TestOptions(t *testing.T) {
 		{"--csid c --listen l --metrics [::1]:65535", "", watched("[::1]:65535")},
 		{"--csid c --listen l --metrics :9809", "", watched(":9809")},
 		{"--csid c --listen l --metrics :9809 --config " + fileOf(t, sampleConfiguration), "", configured},
-		{"--csid c --listen l --metrics-topology zone=a --metrics :9809 --metrics-topology zone=b,rack=", "", watched(":9809",
-			topology{"zone=a", fromHex(t, "1a0b 0a09 0a047a6f6e65 120161")},
-			topology{"zone=b,rack=", fromHex(t, "1a15 0a09 0a047a6f6e65 120162 0a08 0a047261636b 1200")})},
+		{"--csid c --listen l --metrics-topology zone=a --metrics :9809 --metrics-topology zone=b,rack=", "",
+			watched(":9809",
+				topology{"zone=a", fromHex(t, "1a0b 0a09 0a047a6f6e65 120161")},
+				topology{"zone=b,rack=", fromHex(t, "1a15 0a09 0a047a6f6e65 120162 0a08 0a047261636b 1200")})},
 	}
 	for _, row := range rows {
 		got, err := readOptions(strings.Fields(row.words), row.endpoint, io.Discard)
@@ -111,15 +112,18 @@ func TestRefusedOptions(t *testing.T) {
 		{"--csid c --listen l --metrics :0 --metrics-topology =a", "", `"=a" is not KEY=VALUE`},
 		{"--csid c --listen l --metrics :0 --metrics-topology zone=a,", "", `"" is not KEY=VALUE`},
 		{"--csid c --listen l --metrics :0 --metrics-topology zone=a,zone=b", "", `the key "zone" is there twice`},
-		{"--csid c --listen l --metrics :0 --metrics-topology zone=a --metrics-topology zone=a", "", "it is there twice"},
+		{"--csid c --listen l --metrics :0 --metrics-topology zone=a --metrics-topology zone=a", "",
+			"it is there twice"},
 		{"--csid c --listen l --metrics :0 --metrics-topology zone=\xff", "", "it is not UTF-8"},
-		{"--csid c --listen l --metrics :0 --config /absent/config.toml", "", "-config: open /absent/config.toml: no such file or directory"},
+		{"--csid c --listen l --metrics :0 --config /absent/config.toml", "",
+			"-config: open /absent/config.toml: no such file or directory"},
 		{"--csid c --listen l --config " + fileOf(t, sampleConfiguration), "", "--config: there is no --metrics"},
 		{"--version x", "", "a word that is not known"},
 		{"--csid", "l", "needs an argument"},
 	}
 	for _, row := range rows {
-		if _, err := readOptions(strings.Fields(row.words), row.endpoint, io.Discard); err == nil || !strings.Contains(err.Error(), row.want) {
+		if _, err := readOptions(strings.Fields(row.words), row.endpoint, io.Discard); err == nil ||
+			!strings.Contains(err.Error(), row.want) {
 			t.Errorf("%s, %s: %v", row.words, row.endpoint, err)
 		}
 	}

@@ -2,8 +2,9 @@ package main
 
 import "time"
 
-// csid opens and judges its whole file for each connection, also for one that was left in the meantime. So connections begin a pause apart at
-// least, and it doubles with each that gave no reply.
+// csid opens and judges its whole file for each connection, also for one that was left in the
+// meantime. So connections begin a pause apart at least, and it doubles with each that gave no
+// reply.
 const (
 	leastPause    = 100 * time.Millisecond
 	greatestPause = time.Second
@@ -21,7 +22,8 @@ func (p *pace) left() time.Duration { return time.Until(p.last.Add(p.pause)) }
 // begins records that a connection begins now.
 func (p *pace) begins() { p.last = time.Now() }
 
-// served notes that a reply came over the last connection: where it lasted the least pause, the next one need not wait.
+// served notes that a reply came over the last connection: where it lasted the least pause, the
+// next one need not wait.
 func (p *pace) served() {
 	p.pause = leastPause
 }

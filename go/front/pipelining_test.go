@@ -115,7 +115,10 @@ func (c *caller) begins(t *testing.T, ctx context.Context, number uint32) {
 		got, err := c.b.call(ctx, "/a/b", numbered(number))
 		c.results <- result{number, got, err}
 	}()
-	awaits(t, "a call begins", func() bool { nowWaiting, nowSent := count(c.b); return nowWaiting+nowSent > waiting+sent })
+	awaits(t, "a call begins", func() bool {
+		nowWaiting, nowSent := count(c.b)
+		return nowWaiting+nowSent > waiting+sent
+	})
 }
 
 // all waits for the outcomes of that number of calls, and returns them by number.
@@ -162,7 +165,8 @@ func sends(t *testing.T, count int, contexts map[uint32]context.Context) *onThei
 }
 
 // sendsBefore is sends with another way to serve further connections.
-func sendsBefore(t *testing.T, count int, contexts map[uint32]context.Context, later func(net.Conn, *table)) *onTheirWay {
+func sendsBefore(t *testing.T, count int, contexts map[uint32]context.Context,
+	later func(net.Conn, *table)) *onTheirWay {
 	t.Helper()
 	s := &onTheirWay{made: &table{}}
 	first := make(chan net.Conn)
@@ -212,8 +216,8 @@ func concurrentCsid(t *testing.T, serve func(net.Conn, int32)) (path string, con
 	return path, connections
 }
 
-// ending is how a csid ends a connection. It reads some bytes of the calls, makes all changes of whole
-// calls, and answers them. The last whole call may be answered in part or not at all.
+// ending is how a csid ends a connection. It reads some bytes of the calls, makes all changes of
+// whole calls, and answers them. The last whole call may be answered in part or not at all.
 type ending struct {
 	calls, reads  int
 	isUnanswered  bool
@@ -222,7 +226,8 @@ type ending struct {
 
 func (e ending) String() string {
 	if e.isUnanswered {
-		return fmt.Sprintf("%d calls, %d bytes read, the last whole one has %d bytes of its reply", e.calls, e.reads, e.writesOfReply)
+		return fmt.Sprintf("%d calls, %d bytes read, the last whole one has %d bytes of its reply", e.calls, e.reads,
+			e.writesOfReply)
 	}
 	return fmt.Sprintf("%d calls, %d bytes read, each whole one answered", e.calls, e.reads)
 }
@@ -328,13 +333,13 @@ func TestConnectionThatEnds(t *testing.T) {
 	}
 }
 
-// After a refused change the calls that were answered that the store is down are sent again, in order
-// and before a newer call. The others have their replies.
+// After a refused change the calls that were answered that the store is down are sent again, in
+// order and before a newer call. The others have their replies.
 func TestCallsAfterARefusedChange(t *testing.T) {
 	rows := []struct {
 		name string
-		// The call of 16 that is refused, whether the call after it needs no store, and after how many
-		// further replies csid ends the connection; with 0 the front does.
+		// The call of 16 that is refused, whether the call after it needs no store, and after how
+		// many further replies csid ends the connection; with 0 the front does.
 		refused   uint32
 		readsNext bool
 		ends      int
@@ -486,8 +491,8 @@ func givesUp(t *testing.T, numbers ...uint32) (contexts map[uint32]context.Conte
 	}
 }
 
-// A caller that gives up while its call is on its way is answered at once. The reply is dropped when
-// it comes, and the other calls have theirs over the same connection.
+// A caller that gives up while its call is on its way is answered at once. The reply is dropped
+// when it comes, and the other calls have theirs over the same connection.
 func TestCallersThatGiveUpOnTheWay(t *testing.T) {
 	for _, gone := range [][]uint32{{1}, {5}, {16}, {1, 2, 3, 16}} {
 		contexts, giveUp := givesUp(t, gone...)
@@ -585,7 +590,8 @@ func TestLimitsOfCallsOnTheirWay(t *testing.T) {
 				all.Add(1)
 				go func() {
 					defer all.Done()
-					if got, err := b.call(context.Background(), "/a/b", make([]byte, row.bytes)); err != nil || got.Code != codes.NotFound {
+					if got, err := b.call(context.Background(), "/a/b", make([]byte, row.bytes)); err != nil ||
+						got.Code != codes.NotFound {
 						t.Errorf("%v, %v", got, err)
 					}
 				}()
@@ -593,15 +599,18 @@ func TestLimitsOfCallsOnTheirWay(t *testing.T) {
 			awaits(t, "20 calls", func() bool { waiting, sent := count(b); return waiting+sent == 20 })
 			// A reply has the others go out.
 			let <- struct{}{}
-			awaits(t, "calls go out", func() bool { waiting, sent := count(b); return waiting+sent == 19 && sent == row.sent })
+			awaits(t, "calls go out", func() bool {
+				waiting, sent := count(b)
+				return waiting+sent == 19 && sent == row.sent
+			})
 			close(let)
 			all.Wait()
 		})
 	}
 }
 
-// A new connection has one call on its way until its first reply: csid may be closing each connection
-// unanswered.
+// A new connection has one call on its way until its first reply: csid may be closing each
+// connection unanswered.
 func TestNewConnectionHasOneCall(t *testing.T) {
 	let := make(chan struct{})
 	path, _ := concurrentCsid(t, func(conn net.Conn, _ int32) {
@@ -674,7 +683,8 @@ func TestRepliesThatEndAConnection(t *testing.T) {
 			s := sends(t, row.calls, nil)
 			s.conn.Write(fromHex(t, row.sends))
 			for number, got := range s.all(t, row.calls) {
-				if row.want == "" && got.err != nil || row.want != "" && (got.err == nil || got.err.Error() != row.want) {
+				if row.want == "" && got.err != nil || row.want != "" &&
+					(got.err == nil || got.err.Error() != row.want) {
 					t.Errorf("call %d: %v", number, got)
 				}
 			}
@@ -770,8 +780,8 @@ func TestGivenUpAfterACallThatIsAnswered(t *testing.T) {
 	}
 }
 
-// endsAtRandom is a csid that serves one connection at a time, and ends each at a random place: between
-// two calls, within one, before, within or after a reply, or after it refused a change.
+// endsAtRandom is a csid that serves one connection at a time, and ends each at a random place:
+// between two calls, within one, before, within or after a reply, or after it refused a change.
 func endsAtRandom(t *testing.T, made *table, seed int64) string {
 	t.Helper()
 	source := rand.New(rand.NewSource(seed))
@@ -820,8 +830,8 @@ var stressTime = func() time.Duration {
 // tally counts the outcomes of calls.
 type tally struct{ served, refused, gone atomic.Int32 }
 
-// callsAtRandom makes calls one after the other for some time, in which the numbers rise. It gives up
-// some of them, and some have long messages. It notes which were answered.
+// callsAtRandom makes calls one after the other for some time, in which the numbers rise. It gives
+// up some of them, and some have long messages. It notes which were answered.
 func callsAtRandom(t *testing.T, b *backend, caller uint32, until time.Time, answered *sync.Map, counts *tally) {
 	source := rand.New(rand.NewSource(int64(caller) + until.UnixNano()))
 	for number := caller << 20; time.Now().Before(until); {
@@ -830,7 +840,8 @@ func callsAtRandom(t *testing.T, b *backend, caller uint32, until time.Time, ans
 		if source.Intn(50) == 0 {
 			message = append(message, make([]byte, source.Intn(500_000))...)
 		}
-		ctx, cancel := context.WithTimeout(context.Background(), time.Duration(source.Int63n(int64(200*time.Millisecond))))
+		ctx, cancel := context.WithTimeout(context.Background(),
+			time.Duration(source.Int63n(int64(200*time.Millisecond))))
 		if source.Intn(4) == 0 {
 			time.AfterFunc(time.Duration(source.Int63n(int64(time.Millisecond))), cancel)
 		}
@@ -869,8 +880,9 @@ func (t *table) areOnce(test *testing.T, answered *sync.Map) {
 	})
 }
 
-// Whatever many callers do, and however connections end: a change that was answered was made once, any
-// other at most once, and the changes of one caller are made in its order, also those it gave up.
+// Whatever many callers do, and however connections end: a change that was answered was made once,
+// any other at most once, and the changes of one caller are made in its order, also those it gave
+// up.
 func TestManyCallersOverConnectionsThatEnd(t *testing.T) {
 	seed, until := time.Now().UnixNano(), time.Now().Add(stressTime)
 	t.Logf("seed %d", seed)
@@ -896,7 +908,8 @@ func TestManyCallersOverConnectionsThatEnd(t *testing.T) {
 		}(front)
 	}
 	fronts.Wait()
-	t.Logf("%d calls were served, %d refused, %d given up", counts.served.Load(), counts.refused.Load(), counts.gone.Load())
+	t.Logf("%d calls were served, %d refused, %d given up", counts.served.Load(), counts.refused.Load(),
+		counts.gone.Load())
 	if counts.served.Load() == 0 || counts.refused.Load() == 0 || counts.gone.Load() == 0 {
 		t.Error("not each outcome was there")
 	}

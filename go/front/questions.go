@@ -34,7 +34,8 @@ type topology struct {
 // everywhere is the topology that all pools serve.
 var everywhere topology
 
-// readTopology reads segments, and encodes the message: a field 3, in which each segment is a field 1 of key 1 and value 2.
+// readTopology reads segments, and encodes the message: a field 3, in which each segment is a field
+// 1 of key 1 and value 2.
 func readTopology(name string) (topology, error) {
 	if !utf8.ValidString(name) {
 		return topology{}, errors.New("it is not UTF-8")
@@ -60,9 +61,11 @@ func bytesField(number protowire.Number, value []byte) []byte {
 	return protowire.AppendBytes(protowire.AppendTag(nil, number, protowire.BytesType), value)
 }
 
-// question hands a call of the front's own to csid, and gives field 1 of the reply. Where it is refused that is logged, as it is of a
-// client's call, unless the front waits for csid and said why.
-func (h *handler) question(ctx context.Context, path string, message []byte, kind protowire.Type) (value []byte, is bool, err error) {
+// question hands a call of the front's own to csid, and gives field 1 of the reply. Where it is
+// refused that is logged, as it is of a client's call, unless the front waits for csid and said
+// why.
+func (h *handler) question(ctx context.Context, path string, message []byte, kind protowire.Type) (value []byte,
+	is bool, err error) {
 	begin := time.Now()
 	body, err := h.ask(ctx, path, message)
 	if err == nil {

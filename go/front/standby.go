@@ -23,8 +23,9 @@ const (
 	mostStandby  = time.Hour
 )
 
-// standBy makes the socket once csid is ready, and serves until nothing was answered by csid for so long as --standby says. An orchestrator's
-// sidecars wait for a socket that is not there, but end where their first Probe is answered UNAVAILABLE.
+// standBy makes the socket once csid is ready, and serves until nothing was answered by csid for so
+// long as --standby says. An orchestrator's sidecars wait for a socket that is not there, but end
+// where their first Probe is answered UNAVAILABLE.
 func (f *front) standBy() int {
 	if err := startMonitor(f.handler, f.asked, f.failed); err != nil {
 		return f.fails(err, noSocket)
@@ -94,7 +95,8 @@ func (l *life) silence() time.Duration {
 	return time.Since(l.shown)
 }
 
-// await asks csid by Probe until it is ready, or the context ends. Why it waits is reported once, and again where the reason is another one.
+// await asks csid by Probe until it is ready, or the context ends. Why it waits is reported once,
+// and again where the reason is another one.
 func (h *handler) await(ctx context.Context) {
 	h.isWaiting.Store(true)
 	defer h.isWaiting.Store(false)
@@ -120,8 +122,9 @@ func (h *handler) await(ctx context.Context) {
 	}
 }
 
-// watch waits until nothing was answered by csid for so long, and says why. Each reply counts, so that a Probe is asked only where none came for a
-// third of that time, and one that waits after other calls ends nothing while they are answered.
+// watch waits until nothing was answered by csid for so long, and says why. Each reply counts, so
+// that a Probe is asked only where none came for a third of that time, and one that waits after
+// other calls ends nothing while they are answered.
 func (h *handler) watch(limit time.Duration) error {
 	for why := ""; ; {
 		if pause := limit/3 - h.backend.life.silence(); pause > 0 {
@@ -154,8 +157,9 @@ func soonReady(ctx context.Context, check func(context.Context) error, length ti
 	return check(ctx)
 }
 
-// livez reports whether csid does anything. One that cannot serve, since another has the lock, closes each connection, and that is as it should be; a
-// Probe that waits after calls that are answered is no fault either.
+// livez reports whether csid does anything. One that cannot serve, since another has the lock,
+// closes each connection, and that is as it should be; a Probe that waits after calls that are
+// answered is no fault either.
 func (h *handler) livez(answer http.ResponseWriter, request *http.Request) {
 	err := h.checkInTurn(request.Context(), h.isCsidReady)
 	if status.Code(err) == codes.DeadlineExceeded && h.backend.life.silence() >= questionTime {

@@ -14,8 +14,8 @@ import (
 	"time"
 )
 
-// While replies come a Probe may wait for longer than the limit, and once none comes the watch is over. A machine that is too slow for a limit gets twice as
-// long a one.
+// While replies come a Probe may wait for longer than the limit, and once none comes the watch is
+// over. A machine that is too slow for a limit gets twice as long a one.
 func TestWatchOverABusyCsid(t *testing.T) {
 	for limit := 600 * time.Millisecond; ; limit *= 2 {
 		err := watchABusyCsid(t, limit)
@@ -54,7 +54,8 @@ func watchABusyCsid(t *testing.T, limit time.Duration) error {
 	begin := time.Now()
 	isSilent.Store(true)
 	err := <-over
-	if want := fmt.Sprintf("nothing was answered by csid for %v: context deadline exceeded", limit); err == nil || err.Error() != want {
+	if want := fmt.Sprintf("nothing was answered by csid for %v: context deadline exceeded", limit); err == nil ||
+		err.Error() != want {
 		return fmt.Errorf("%v, wanted %s", err, want)
 	}
 	if spent := time.Since(begin); spent < limit-took || spent > 4*limit {
@@ -63,7 +64,8 @@ func watchABusyCsid(t *testing.T, limit time.Duration) error {
 	return nil
 }
 
-// longWait lets so many callers call until the context ends. What it gives is closed once one of them waited for longer than that.
+// longWait lets so many callers call until the context ends. What it gives is closed once one of
+// them waited for longer than that.
 func longWait(ctx context.Context, b *backend, callers int, length time.Duration) <-chan struct{} {
 	waited := make(chan struct{})
 	var once sync.Once
@@ -93,7 +95,8 @@ func TestWatchOverClosedConnections(t *testing.T) {
 	h.backend.life.shows()
 	begin := time.Now()
 	err := h.watch(limit)
-	if want := "nothing was answered by csid for 300ms: the connection was closed unanswered: see the log of csid"; err == nil || err.Error() != want {
+	if want := "nothing was answered by csid for 300ms: the connection was closed unanswered: see the " +
+		"log of csid"; err == nil || err.Error() != want {
 		t.Errorf("%v, wanted %s", err, want)
 	}
 	// Seven Probes, each a third of the limit after the one before, and then none.
@@ -105,7 +108,8 @@ func TestWatchOverClosedConnections(t *testing.T) {
 	}
 }
 
-// A front that hung itself, so that it heard nothing for longer than the bound, asks before it believes that csid does.
+// A front that hung itself, so that it heard nothing for longer than the bound, asks before it
+// believes that csid does.
 func TestWatchAfterAStandstill(t *testing.T) {
 	const limit = time.Minute
 	h := replying(t, "00 0000 00 00000000")
@@ -164,8 +168,8 @@ func answerOnce(conn net.Conn, reply []byte) bool {
 	return true
 }
 
-// A csid that closes connections is alive, and so is one that is not there: its supervisor knows. One that hangs is not, and no front without
-// --standby says any of it.
+// A csid that closes connections is alive, and so is one that is not there: its supervisor knows.
+// One that hangs is not, and no front without --standby says any of it.
 func TestLiveness(t *testing.T) {
 	closing, _ := csid(t, func(net.Conn) {})
 	still := func(conn net.Conn) { conn.Read(make([]byte, 1)); time.Sleep(time.Second) }
@@ -198,7 +202,8 @@ func TestLiveness(t *testing.T) {
 	}
 }
 
-// While the front waits, what refuses its questions is reported by the line of that, and after it each has a line again.
+// While the front waits, what refuses its questions is reported by the line of that, and after it
+// each has a line again.
 func TestLinesWhileItWaits(t *testing.T) {
 	path, _ := csid(t, func(net.Conn) {})
 	var said strings.Builder
@@ -210,7 +215,8 @@ func TestLinesWhileItWaits(t *testing.T) {
 	}
 	h.isWaiting.Store(false)
 	h.isReady(soon(t))
-	if want := `front: /csi.v1.Identity/Probe 14 "csid: the connection was closed unanswered: see the log of csid" `; !strings.HasPrefix(said.String(), want) {
+	if want := `front: /csi.v1.Identity/Probe 14 "csid: the connection was closed unanswered: see the log ` +
+		`of csid" `; !strings.HasPrefix(said.String(), want) {
 		t.Errorf("said %q", said.String())
 	}
 }

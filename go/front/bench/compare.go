@@ -12,7 +12,8 @@ var folders = []struct{ name, path string }{{"disk", os.TempDir()}, {"tmpfs", "/
 // The numbers of callers next to a driver, in rising order.
 var comparedCallers = []int{1, 8, 64}
 
-// compare measures each work through the front and csid, and by a driver in Go: the same calls by the same callers, in rounds that take turns.
+// compare measures each work through the front and csid, and by a driver in Go: the same calls by
+// the same callers, in rounds that take turns.
 func compare(csid, front, driver string, rounds int) error {
 	for i, folder := range folders {
 		if err := compareIn(folder.path, folder.name, csid, front, driver, rounds, i == 0); err != nil {
@@ -22,14 +23,16 @@ func compare(csid, front, driver string, rounds int) error {
 	return nil
 }
 
-// compareIn compares over files of tables in a folder; work that changes nothing only where that is asked for.
+// compareIn compares over files of tables in a folder; work that changes nothing only where that is
+// asked for.
 func compareIn(path, name, csid, front, driver string, rounds int, isAll bool) error {
 	folder, err := os.MkdirTemp(path, "front")
 	if err != nil {
 		return err
 	}
 	defer os.RemoveAll(folder)
-	csidSocket, frontSocket, driverSocket := filepath.Join(folder, "csid.sock"), filepath.Join(folder, "csi.sock"), filepath.Join(folder, "driver.sock")
+	csidSocket, frontSocket, driverSocket := filepath.Join(folder, "csid.sock"), filepath.Join(folder, "csi.sock"),
+		filepath.Join(folder, "driver.sock")
 	running, err := startCsid(csid, folder, csidSocket, filepath.Join(folder, "volumes.db"))
 	if err != nil {
 		return err
@@ -40,7 +43,8 @@ func compareIn(path, name, csid, front, driver string, rounds int, isAll bool) e
 	for _, each := range []struct {
 		socket string
 		words  []string
-	}{{frontSocket, []string{front, "--csid", csidSocket, "--listen", frontSocket}}, {driverSocket, []string{driver, driverSocket, filepath.Join(folder, "driver.db")}}} {
+	}{{frontSocket, []string{front, "--csid", csidSocket, "--listen", frontSocket}},
+		{driverSocket, []string{driver, driverSocket, filepath.Join(folder, "driver.db")}}} {
 		server, err := start(each.socket, each.words[0], each.words[1:]...)
 		if err != nil {
 			return err
@@ -74,7 +78,8 @@ func compareWork(w work, folder string, groups [][]caller, rounds int) error {
 		if err != nil {
 			return err
 		}
-		fmt.Printf("%-27s %2d callers: front and csid %7.0f calls/s, driver in Go %7.0f, front by driver %.2f\n", name, count, best[0].rate, best[1].rate, best[0].rate/best[1].rate)
+		fmt.Printf("%-27s %2d callers: front and csid %7.0f calls/s, driver in Go %7.0f, front by driver %.2f\n", name,
+			count, best[0].rate, best[1].rate, best[0].rate/best[1].rate)
 	}
 	return nil
 }

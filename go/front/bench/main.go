@@ -1,5 +1,6 @@
-// bench measures calls through the front next to the same calls to csid alone over its socket, or next to a driver in Go (bench/front runs it), and how
-// service comes back after a stop of csid, and under callers who give up (go/front/stalls does).
+// bench measures calls through the front next to the same calls to csid alone over its socket, or
+// next to a driver in Go (bench/front runs it), and how service comes back after a stop of csid,
+// and under callers who give up (go/front/stalls does).
 //
 // usage: bench calls CSID FRONT [ROUNDS]
 //
@@ -51,7 +52,8 @@ type caller interface {
 	call(path string, message []byte) ([]byte, error)
 }
 
-// work is what is measured: calls number i of a caller, how many they are, and whether they change volumes.
+// work is what is measured: calls number i of a caller, how many they are, and whether they change
+// volumes.
 type work struct {
 	name    string
 	calls   int
@@ -60,7 +62,10 @@ type work struct {
 }
 
 var works = []work{
-	{"probe", 1, false, func(c caller, _, _ int) error { return wants(c, "/csi.v1.Identity/Probe", nil, []byte{0x0a, 2, 8, 1}) }},
+	{"probe", 1, false, func(c caller, _, _ int) error {
+		return wants(c, "/csi.v1.Identity/Probe", nil,
+			[]byte{0x0a, 2, 8, 1})
+	}},
 	{"probe of 64 KiB", 1, false, func(c caller, _, _ int) error {
 		return wants(c, "/csi.v1.Identity/Probe", padded, []byte{0x0a, 2, 8, 1})
 	}},
@@ -123,15 +128,16 @@ func entries(page []byte) (count int) {
 	return count
 }
 
-// mix is the life of a volume: it is made, published, listed with up to nine others, unpublished and
-// deleted. A page that is full may not have the volume of this caller.
+// mix is the life of a volume: it is made, published, listed with up to nine others, unpublished
+// and deleted. A page that is full may not have the volume of this caller.
 func mix(c caller, caller, i int) error {
 	volume, err := create(c, caller, i)
 	if err != nil {
 		return err
 	}
 	published := append(append([]byte(nil), volume...), 0x12, 2, 'n', '1')
-	if err := wants(c, controller+"ControllerPublishVolume", append(published, 0x1a, 6, 0x0a, 0, 0x1a, 2, 8, 1), readonly); err != nil {
+	if err := wants(c, controller+"ControllerPublishVolume", append(published, 0x1a, 6, 0x0a, 0, 0x1a, 2, 8, 1),
+		readonly); err != nil {
 		return err
 	}
 	page, err := c.call(controller+"ListVolumes", []byte{8, pageEntries})
@@ -212,12 +218,14 @@ func measure(name string, w work, callers []caller, rounds int) error {
 	}
 	times := best[0].times
 	middle, late := times[len(times)/2], times[len(times)*99/100]
-	fmt.Printf("%-18s %-14s %d callers: %7.0f calls/s, a call %5d us at the middle, %6d us at 99 of 100\n", w.name, name, len(callers),
+	fmt.Printf("%-18s %-14s %d callers: %7.0f calls/s, a call %5d us at the middle, %6d us at 99 of 100\n", w.name,
+		name, len(callers),
 		best[0].rate, middle.Microseconds(), late.Microseconds())
 	return nil
 }
 
-// bestRounds lets each of some groups of callers do the work in rounds of a second, in turn, and gives the best round of each.
+// bestRounds lets each of some groups of callers do the work in rounds of a second, in turn, and
+// gives the best round of each.
 func bestRounds(w work, groups [][]caller, rounds int) ([]round, error) {
 	best := make([]round, len(groups))
 	for i := 0; i < rounds; i++ {
@@ -333,7 +341,8 @@ func throughFront(program, csid, folder string, rounds int) error {
 	return measureAll("front and csid", callers, rounds)
 }
 
-// alone measures each work over one connection to csid, with one caller and with eight who take turns.
+// alone measures each work over one connection to csid, with one caller and with eight who take
+// turns.
 func alone(csid string, rounds int) error {
 	conn, err := net.Dial("unix", csid)
 	if err != nil {
@@ -391,7 +400,8 @@ func rounds(words []string) (int, error) {
 }
 
 // errWords is of a command line that is not understood.
-var errWords = errors.New("usage: bench calls CSID FRONT [ROUNDS]; bench driver CSID FRONT DRIVER [ROUNDS]; bench stop|quiet CSID FRONT FILE; bench hasty CSID FRONT")
+var errWords = errors.New("usage: bench calls CSID FRONT [ROUNDS]; bench driver CSID FRONT DRIVER [ROUNDS]; bench " +
+	"stop|quiet CSID FRONT FILE; bench hasty CSID FRONT")
 
 // do does what the words ask for.
 func do(words []string) error {

@@ -29,13 +29,15 @@ const (
 	quietPeers    = 1000
 )
 
-// How long a stop may cost service beyond itself and one opening of the file, and how long it is waited for.
+// How long a stop may cost service beyond itself and one opening of the file, and how long it is
+// waited for.
 const (
 	allowed = 2 * time.Second
 	waited  = 90 * time.Second
 )
 
-// repeating is a caller that makes volumes and deletes them, each call under a deadline, and repeats those that are lost.
+// repeating is a caller that makes volumes and deletes them, each call under a deadline, and
+// repeats those that are lost.
 type repeating struct {
 	*grpc.ClientConn
 	number   int
@@ -230,7 +232,8 @@ func comesBack(crowd *crowd, opened time.Duration) error {
 	before, _ := crowd.counts()
 	time.Sleep(behindStop)
 	done, lost := crowd.counts()
-	fmt.Printf("after the stop the first of %d callers was served after %d ms, the last after %d ms; then %.0f calls/s; lost %d calls\n",
+	fmt.Printf("after the stop the first of %d callers was served after %d ms, the last after %d ms; then %.0f "+
+		"calls/s; lost %d calls\n",
 		stopCallers, first.Milliseconds(), all.Milliseconds(), float64(done-before)/behindStop.Seconds(), lost)
 	if all > allowed+opened {
 		return fmt.Errorf("service came back after %v, and not within %v and one opening of the file", all, allowed)
@@ -238,7 +241,8 @@ func comesBack(crowd *crowd, opened time.Duration) error {
 	return nil
 }
 
-// crowdIn connects peers to csid that each send the same and then nothing more, and gives what closes them.
+// crowdIn connects peers to csid that each send the same and then nothing more, and gives what
+// closes them.
 func crowdIn(socket string, peers int, sent []byte) (end func(), err error) {
 	var conns []net.Conn
 	end = func() {
@@ -258,8 +262,8 @@ func crowdIn(socket string, peers int, sent []byte) (end func(), err error) {
 	return end, nil
 }
 
-// quiet returns how long a call waits after peers that stay and send nothing, or garbage: one over a connection of its own, and then the
-// front's first one.
+// quiet returns how long a call waits after peers that stay and send nothing, or garbage: one over
+// a connection of its own, and then the front's first one.
 func quiet(_ *os.Process, csidSocket, socket string) error {
 	opened, err := opening(csidSocket)
 	if err != nil {
@@ -286,7 +290,8 @@ func quiet(_ *os.Process, csidSocket, socket string) error {
 		return err
 	}
 	took := time.Since(begin)
-	fmt.Printf("a file opened in %d ms; after %d silent and %d garbage peers a connection was answered after %d ms, and the front's after %d ms\n",
+	fmt.Printf("a file opened in %d ms; after %d silent and %d garbage peers a connection was answered after %d ms, "+
+		"and the front's after %d ms\n",
 		opened.Milliseconds(), quietPeers, quietPeers, own.Milliseconds(), took.Milliseconds())
 	if own > allowed+opened || took > allowed+opened {
 		return fmt.Errorf("a call after quiet peers waited for longer than %v and one opening of the file", allowed)
@@ -312,7 +317,8 @@ func hasty(_ *os.Process, _, socket string) error {
 		crowd.end()
 		done, lost = done-before, lost-lostBefore
 		rates[deadline] = float64(done) / hastyTime.Seconds()
-		fmt.Printf("%d callers with deadlines of %v: %.0f calls/s; lost %d calls\n", hastyCallers, deadline, rates[deadline], lost)
+		fmt.Printf("%d callers with deadlines of %v: %.0f calls/s; lost %d calls\n", hastyCallers, deadline,
+			rates[deadline], lost)
 	}
 	if rates[hastyDeadline] < rates[time.Minute]/2 {
 		return errors.New("hasty callers get less than half of the calls a second of patient ones")

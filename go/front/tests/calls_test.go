@@ -22,7 +22,8 @@ func behindSlow(t *testing.T) (*fake, *processes.Process, chan struct{}) {
 	return csid, processes.StartFront(t, csid.socket), let
 }
 
-// A deadline ends a call that csid does not answer; the next one goes over the same connection, and does not get the late reply.
+// A deadline ends a call that csid does not answer; the next one goes over the same connection, and
+// does not get the late reply.
 func TestDeadline(t *testing.T) {
 	t.Parallel()
 	csid, process, let := behindSlow(t)
@@ -38,7 +39,8 @@ func TestDeadline(t *testing.T) {
 	csid.dropsLate(t, front, let)
 }
 
-// dropsLate lets csid send the reply to a call that was given up, while the next call waits for that.
+// dropsLate lets csid send the reply to a call that was given up, while the next call waits for
+// that.
 func (f *fake) dropsLate(t *testing.T, front *client, let chan struct{}) {
 	t.Helper()
 	calls, _ := f.seen()
@@ -50,8 +52,8 @@ func (f *fake) dropsLate(t *testing.T, front *client, let chan struct{}) {
 	}
 }
 
-// gaveUp reports whether the front logged that a call ended by its deadline or its caller: a client whose deadline is over cancels its
-// call, which the front may learn before its own clock says so.
+// gaveUp reports whether the front logged that a call ended by its deadline or its caller: a client
+// whose deadline is over cancels its call, which the front may learn before its own clock says so.
 func gaveUp(front *processes.Process, path string) bool {
 	log := front.Log.String()
 	return strings.Contains(log, "front: "+path+" 4 ") || strings.Contains(log, "front: "+path+" 1 ")
@@ -131,7 +133,8 @@ func TestLateReplyThatNeverComes(t *testing.T) {
 	csid.sees(t, "/a/b ", "/a/c ", probe+" ")
 }
 
-// Callers that all give up cost csid one call and no connection, and once it goes on the next call is served.
+// Callers that all give up cost csid one call and no connection, and once it goes on the next call
+// is served.
 func TestCallersThatAllGiveUp(t *testing.T) {
 	t.Parallel()
 	let := make(chan struct{})
@@ -152,7 +155,8 @@ func TestClientThatSpeaksNothing(t *testing.T) {
 	t.Parallel()
 	csid := startFake(t)
 	process := processes.StartFront(t, csid.socket)
-	for _, said := range []string{"", "PRI * HT", "GET / HTTP/1.1\r\n\r\n", "PRI * HTTP/2.0\r\n\r\nSM\r\n\r\n", strings.Repeat("\xff", 100)} {
+	for _, said := range []string{"", "PRI * HT", "GET / HTTP/1.1\r\n\r\n", "PRI * HTTP/2.0\r\n\r\nSM\r\n\r\n",
+		strings.Repeat("\xff", 100)} {
 		conn, err := net.Dial("unix", process.Socket)
 		if err != nil {
 			t.Fatal(err)
@@ -163,14 +167,16 @@ func TestClientThatSpeaksNothing(t *testing.T) {
 	newClient(t, process.Socket).wants(t, probe, "", ok(ready))
 }
 
-// A call that was given up while half of its frame was written is written to its end, and leaves no half frame before the next one.
+// A call that was given up while half of its frame was written is written to its end, and leaves no
+// half frame before the next one.
 func TestHalfFrame(t *testing.T) {
 	t.Parallel()
 	listening := make(chan struct{})
 	csid := (&fake{deaf: listening}).start(t)
 	process := processes.StartFront(t, csid.socket)
 	front := newClient(t, process.Socket)
-	if got := front.send(soon(t, 300*time.Millisecond), "/a/b", make([]byte, 1048576)); got.code != codes.DeadlineExceeded {
+	if got := front.send(soon(t, 300*time.Millisecond), "/a/b",
+		make([]byte, 1048576)); got.code != codes.DeadlineExceeded {
 		t.Errorf("%v, wanted DEADLINE_EXCEEDED", got)
 	}
 	processes.Eventually(t, "the call in the log", func() bool { return gaveUp(process, "/a/b") })
@@ -182,7 +188,8 @@ func TestHalfFrame(t *testing.T) {
 	}
 }
 
-// A call that waits for others ends with its own deadline, or when its caller gives up, and csid never sees it.
+// A call that waits for others ends with its own deadline, or when its caller gives up, and csid
+// never sees it.
 func TestWaitingForTheTurn(t *testing.T) {
 	t.Parallel()
 	first := runCall(t, "/a/first")
@@ -195,7 +202,8 @@ func TestWaitingForTheTurn(t *testing.T) {
 	if got := front.send(ctx, "/a/cancel", nil); got.code != codes.Canceled {
 		t.Errorf("%v, wanted CANCELLED", got)
 	}
-	processes.Eventually(t, "both in the log", func() bool { return gaveUp(process, "/a/deadline") && gaveUp(process, "/a/cancel") })
+	processes.Eventually(t, "both in the log",
+		func() bool { return gaveUp(process, "/a/deadline") && gaveUp(process, "/a/cancel") })
 	first.ends(t)
 	front.wants(t, probe, "", ok(ready))
 	csid.sees(t, "/a/first ", probe+" ")
@@ -210,17 +218,20 @@ func TestWhatNoFrameCanHave(t *testing.T) {
 	csid, front := behindFront(t)
 	longest := "/a/" + strings.Repeat("b", 125)
 	unknown := refused(codes.Unimplemented, "unknown method")
-	for _, path := range []string{longest + "b", "/a/ b", "/a /b", "/a/b ", "/a/\tb", "/a/\x80", "/\xff/b", "/" + strings.Repeat("a/", 5000)} {
+	for _, path := range []string{longest + "b", "/a/ b", "/a /b", "/a/b ", "/a/\tb", "/a/\x80", "/\xff/b", "/" +
+		strings.Repeat("a/", 5000)} {
 		front.wants(t, path, "", unknown)
 	}
-	// HTTP/2 has no such bytes, and a path of one part is none of gRPC: they don't come as far as the front's own check.
+	// HTTP/2 has no such bytes, and a path of one part is none of gRPC: they don't come as far as
+	// the front's own check.
 	for _, path := range []string{"/a/\x7f", "/a/\x00", "/a/\n", "/a"} {
 		if got := front.call(t, path, ""); got.code == codes.OK {
 			t.Errorf("%q: %v", path, got)
 		}
 	}
 	for _, size := range []int{1048577, 1048578, 4194304, 5000000} {
-		if got := front.send(soon(t, processes.Patience), "/a/b", make([]byte, size)); got.code != codes.ResourceExhausted {
+		if got := front.send(soon(t, processes.Patience), "/a/b",
+			make([]byte, size)); got.code != codes.ResourceExhausted {
 			t.Errorf("a message of %d bytes: %v", size, got)
 		}
 	}
@@ -234,7 +245,8 @@ func TestCompressedMessage(t *testing.T) {
 	t.Parallel()
 	csid, front := behindFront(t)
 	var body []byte
-	if err := front.Invoke(soon(t, processes.Patience), "/a/b", make([]byte, 1000), &body, grpc.UseCompressor(gzip.Name)); grpc.Code(err) != codes.Unimplemented {
+	if err := front.Invoke(soon(t, processes.Patience), "/a/b", make([]byte, 1000), &body,
+		grpc.UseCompressor(gzip.Name)); grpc.Code(err) != codes.Unimplemented {
 		t.Errorf("%v, wanted UNIMPLEMENTED", err)
 	}
 	csid.sees(t)
@@ -255,14 +267,16 @@ func TestOneMessageACall(t *testing.T) {
 		stream.CloseSend()
 		var body []byte
 		err = stream.RecvMsg(&body)
-		if want := map[int]codes.Code{0: codes.Unimplemented, 1: codes.OK, 2: codes.Unimplemented}[count]; grpc.Code(err) != want {
+		if want := map[int]codes.Code{0: codes.Unimplemented, 1: codes.OK,
+			2: codes.Unimplemented}[count]; grpc.Code(err) != want {
 			t.Errorf("%d messages: %v, wanted %v", count, err, want)
 		}
 	}
 	csid.sees(t, "/a/b 01")
 }
 
-// Each refused call is one line, with its path, code, text and milliseconds, and never its message; done ones are none.
+// Each refused call is one line, with its path, code, text and milliseconds, and never its message;
+// done ones are none.
 func TestLog(t *testing.T) {
 	t.Parallel()
 	csid := startFake(t, step{write: okFrame("")}, step{write: refusalFrame(9, "volume is in use")}, step{close: true})
@@ -275,7 +289,9 @@ func TestLog(t *testing.T) {
 	front.call(t, "/a/no path", secret)
 	processes.Eventually(t, "three lines", func() bool { return strings.Count(process.Log.String(), "\n") >= 3 })
 	lines := strings.SplitAfter(process.Log.String(), "\n")
-	want := []string{`front: /a/refused 9 "volume is in use" `, `front: /a/lost 14 "csid: the connection was closed unanswered: see the log of csid" `, `front: "/a/no path" 12 "unknown method" `, ""}
+	want := []string{`front: /a/refused 9 "volume is in use" `,
+		`front: /a/lost 14 "csid: the connection was closed unanswered: see the log of csid" `,
+		`front: "/a/no path" 12 "unknown method" `, ""}
 	if len(lines) != len(want) {
 		t.Fatalf("logged: %q", lines)
 	}

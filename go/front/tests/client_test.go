@@ -1,4 +1,5 @@
-// Package tests runs the built front as a process: before the built csid, and before a csid of its own that breaks the rules.
+// Package tests runs the built front as a process: before the built csid, and before a csid of its
+// own that breaks the rules.
 package tests
 
 import (
@@ -53,7 +54,8 @@ func newClient(t *testing.T, socket string) *client {
 	dial := func(ctx context.Context, _ string) (net.Conn, error) {
 		return (&net.Dialer{}).DialContext(ctx, "unix", socket)
 	}
-	conn, err := grpc.DialContext(ctx, "passthrough:///csi", grpc.WithInsecure(), grpc.WithBlock(), grpc.WithContextDialer(dial),
+	conn, err := grpc.DialContext(ctx, "passthrough:///csi", grpc.WithInsecure(), grpc.WithBlock(),
+		grpc.WithContextDialer(dial),
 		grpc.WithDefaultCallOptions(grpc.ForceCodec(bytesCodec{})))
 	if err != nil {
 		t.Fatal(err)

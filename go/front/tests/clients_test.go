@@ -158,6 +158,7 @@ func TestSilentPeersOfTheControlSocket(t *testing.T) {
 		t.Error("the first one that was silent is still there")
 	}
 	processes.Eventually(t, "a line", func() bool {
-		return regexp.MustCompile(`(?m)^front: a connection of --control without a call was closed for another one: 16 were open$`).MatchString(process.Log.String())
+		return regexp.MustCompile(`(?m)^front: a connection of --control without a call was closed for another one: ` +
+			`16 were open$`).MatchString(process.Log.String())
 	})
 }

@@ -24,7 +24,8 @@ func controlled(t *testing.T, csid string, words ...string) (*processes.Process,
 	return processes.StartFront(t, csid, append([]string{"--control", path}, words...)...), path
 }
 
-// control makes a call in csid's envelope as csictl does: it ends its writing, and reads one reply. An error is an end without one.
+// control makes a call in csid's envelope as csictl does: it ends its writing, and reads one reply.
+// An error is an end without one.
 func control(t *testing.T, socket string, frame []byte) (frames.Reply, error) {
 	t.Helper()
 	conn, err := net.DialUnix("unix", nil, &net.UnixAddr{Name: socket, Net: "unix"})
@@ -46,7 +47,8 @@ func frameOf(t *testing.T, path, message string) []byte {
 	return append(frames.AppendRequestHead(nil, path, len(bytes)), bytes...)
 }
 
-// Calls of the control socket and of gRPC are about the same volumes, while the front keeps csid's one connection.
+// Calls of the control socket and of gRPC are about the same volumes, while the front keeps csid's
+// one connection.
 func TestControlSocket(t *testing.T) {
 	t.Parallel()
 	csid := processes.StartCsid(t)
@@ -71,14 +73,16 @@ func TestControlSocket(t *testing.T) {
 			t.Errorf("%s: %v, %v, wanted %v", row.path, got, err, row.want)
 		}
 	}
-	if reply, err := control(t, socket, fromHex(t, "0081")); err != nil || reply.Code != codes.InvalidArgument || reply.Text != "bad path length at byte 0" {
+	if reply, err := control(t, socket, fromHex(t, "0081")); err != nil || reply.Code != codes.InvalidArgument ||
+		reply.Text != "bad path length at byte 0" {
 		t.Errorf("%v, %v", reply, err)
 	}
 	front.wants(t, controller+"ControllerUnpublishVolume", vol1, ok(""))
 	processes.Eventually(t, "three lines", func() bool { return strings.Count(process.Log.String(), "\n") >= 3 })
 	for i, line := range strings.Split(process.Log.String(), "\n")[:3] {
 		want := []string{
-			"front: control " + controller + `DeleteVolume 9 "volume is in use" `, "front: control " + controller + `CreateSnapshot 12 "unknown method" `,
+			"front: control " + controller + `DeleteVolume 9 "volume is in use" `, "front: control " + controller +
+				`CreateSnapshot 12 "unknown method" `,
 			"front: control bad path length at byte 0",
 		}[i]
 		if !strings.HasPrefix(line, want) {
@@ -148,7 +152,8 @@ func TestControlWithoutCsid(t *testing.T) {
 		t.Errorf("the socket: %v", err)
 	}
 	lines := objects(t, process)
-	if len(lines) != 1 || lines[0]["socket"] != "control" || lines[0]["path"] != probe || lines[0]["code"] != float64(14) {
+	if len(lines) != 1 || lines[0]["socket"] != "control" || lines[0]["path"] != probe ||
+		lines[0]["code"] != float64(14) {
 		t.Errorf("logged %v", lines)
 	}
 }

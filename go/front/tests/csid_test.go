@@ -22,7 +22,7 @@ import (
 
 // Parts of messages, worked out by hand from docs/PROTOCOL.md, "Messages".
 const (
-	block   = "1a06 0a00 1a020801"                 // volume_capabilities of one block device with mode 1; volume_capability of one likewise
+	block   = "1a06 0a00 1a020801"                 // volume_capabilities or volume_capability: a block device, mode 1
 	vol1    = "0a05 766f6c2d31"                    // volume_id "vol-1"
 	vol2    = "0a05 766f6c2d32"                    // volume_id "vol-2"
 	n1      = "1202 6e31"                          // node_id "n1"
@@ -34,7 +34,8 @@ const (
 	volume2 = "0a25 088080c001 1205 766f6c2d32 1a0a 0a04706f6f6c 12027032 2a0b 0a09 0a047a6f6e65 120162"
 )
 
-// A day of an orchestrator, under the sample configuration (docs/OPERATING.md). The rows go over one another's volumes.
+// A day of an orchestrator, under the sample configuration (docs/OPERATING.md). The rows go over
+// one another's volumes.
 func TestCallsOfVolumes(t *testing.T) {
 	t.Parallel()
 	rows := []struct {
@@ -44,26 +45,35 @@ func TestCallsOfVolumes(t *testing.T) {
 		{probe, "", ok(ready)},
 		{identity + "GetPluginInfo", "", ok("0a11 706f6f6c732e6578616d706c652e6f7267 1205 312e302e30")},
 		{identity + "GetPluginCapabilities", "", ok("0a040a020801 0a040a020802")},
-		{controller + "ControllerGetCapabilities", "", ok("0a040a020801 0a040a020802 0a040a020803 0a040a020804 0a040a020808 0a040a02080a 0a040a02080d 0a040a02080e")},
+		{controller + "ControllerGetCapabilities", "",
+			ok("0a040a020801 0a040a020802 0a040a020803 0a040a020804 0a040a020808 0a040a02080a 0a040a02080d " +
+				"0a040a02080e")},
 		{controller + "GetCapacity", "", ok("0880808007 1205 0880808004")},
 		{controller + "CreateVolume", createA, ok(volume1)},
 		{controller + "CreateVolume", createA, ok(volume1)},
 		{controller + "CreateVolume", "0a0162" + threeB + block + zoneB, ok(volume2)},
-		{controller + "CreateVolume", "0a0161" + threeB + "1a06 0a00 1a020801", refused(codes.AlreadyExists, "volume exists and is not compatible")},
+		{controller + "CreateVolume", "0a0161" + threeB +
+			"1a06 0a00 1a020801", refused(codes.AlreadyExists, "volume exists and is not compatible")},
 		{controller + "CreateVolume", block, refused(codes.InvalidArgument, "name is missing")},
-		{controller + "CreateVolume", createA + "0a", refused(codes.InvalidArgument, "malformed message in the field at byte 11")},
-		{controller + "CreateVolume", "0a0163 1206 088080808001" + block, refused(codes.OutOfRange, "capacity is out of range")},
-		{controller + "CreateVolume", "0a0163 1205 0880808002" + block + zoneB, refused(codes.ResourceExhausted, "no room in the topology")},
+		{controller + "CreateVolume", createA + "0a",
+			refused(codes.InvalidArgument, "malformed message in the field at byte 11")},
+		{controller + "CreateVolume", "0a0163 1206 088080808001" +
+			block, refused(codes.OutOfRange, "capacity is out of range")},
+		{controller + "CreateVolume", "0a0163 1205 0880808002" + block +
+			zoneB, refused(codes.ResourceExhausted, "no room in the topology")},
 		{controller + "GetCapacity", "", ok("0880808005 1205 0880808004")},
 		{controller + "ControllerPublishVolume", vol1 + n1 + block, ok("0a11 0a08 726561646f6e6c79 1205 66616c7365")},
-		{controller + "ControllerPublishVolume", vol1 + "1202 6e32" + block, refused(codes.FailedPrecondition, "volume is published elsewhere")},
+		{controller + "ControllerPublishVolume", vol1 + "1202 6e32" +
+			block, refused(codes.FailedPrecondition, "volume is published elsewhere")},
 		{controller + "ControllerPublishVolume", vol2 + "1202 6e39" + block, refused(codes.NotFound, "node not found")},
 		{controller + "ControllerModifyVolume", vol1 + "1a06 0a016b 120176", ok("")},
 		{controller + "ControllerModifyVolume", vol1 + "1a06 0a016b 120176", ok("")},
 		{controller + "ControllerModifyVolume", vol1, refused(codes.InvalidArgument, "mutable parameters are missing")},
-		{controller + "ControllerModifyVolume", "0a05 766f6c2d39 1a06 0a016b 120176", refused(codes.NotFound, "volume not found")},
+		{controller + "ControllerModifyVolume", "0a05 766f6c2d39 1a06 0a016b 120176",
+			refused(codes.NotFound, "volume not found")},
 		{controller + "CreateVolume", createA + "4206 0a016b 120176", ok(volume1)},
-		{controller + "CreateVolume", createA + "4206 0a016b 120177", refused(codes.AlreadyExists, "volume exists and is not compatible")},
+		{controller + "CreateVolume", createA + "4206 0a016b 120177",
+			refused(codes.AlreadyExists, "volume exists and is not compatible")},
 		{controller + "ListVolumes", "0801", ok("0a2c" + volume1 + "1204 0a026e31 120131")},
 		{controller + "ListVolumes", "120131", ok("0a29" + volume2 + "1200")},
 		{controller + "ListVolumes", "120139", refused(codes.Aborted, "bad starting token")},
@@ -79,9 +89,11 @@ func TestCallsOfVolumes(t *testing.T) {
 		{probe + "/", "", refused(codes.Unimplemented, "unknown method")},
 		{"/~/" + strings.Repeat("~", 125), "", refused(codes.Unimplemented, "unknown method")},
 		{"/~/" + strings.Repeat("~", 126), "", refused(codes.Unimplemented, "unknown method")},
-		// One unknown field of 1,048,576 bytes: its tag, a length of three bytes, and so many bytes. Then one of a byte more.
+		// One unknown field of 1,048,576 bytes: its tag, a length of three bytes, and so many
+		// bytes. Then one of a byte more.
 		{probe, "7a fcff3f" + strings.Repeat("78", 1048572), ok(ready)},
-		{probe, "7a fdff3f" + strings.Repeat("78", 1048573), refused(codes.ResourceExhausted, "grpc: received message larger than max (1048577 vs. 1048576)")},
+		{probe, "7a fdff3f" + strings.Repeat("78", 1048573),
+			refused(codes.ResourceExhausted, "grpc: received message larger than max (1048577 vs. 1048576)")},
 		{probe, "", ok(ready)},
 	}
 	csid := processes.StartCsid(t)
@@ -114,7 +126,8 @@ func create(ctx context.Context, front *client, name string) (string, answer) {
 
 var volumeID = regexp.MustCompile(`vol-[0-9]+`)
 
-// list gives the ids of all volumes, page after page: a page that begins after the last volume is empty.
+// list gives the ids of all volumes, page after page: a page that begins after the last volume is
+// empty.
 func list(t *testing.T, front *client) (ids []string) {
 	t.Helper()
 	for token := ""; ; {
@@ -199,8 +212,8 @@ func TestConcurrentCallers(t *testing.T) {
 	told.isListed(t, newClient(t, socket))
 }
 
-// createThrough makes volumes while csid is killed and started again several times. A caller is answered an open outcome at
-// worst, and repeats.
+// createThrough makes volumes while csid is killed and started again several times. A caller is
+// answered an open outcome at worst, and repeats.
 func createThrough(t *testing.T, csid *processes.Server, socket string) *book {
 	const callers, names, kills = 4, 150, 3
 	told, lost, made := &book{}, int32(0), int32(0)
@@ -228,7 +241,8 @@ func createThrough(t *testing.T, csid *processes.Server, socket string) *book {
 		})
 	}()
 	for kill := int32(1); kill <= kills; kill++ {
-		processes.Eventually(t, "volumes before a kill", func() bool { return atomic.LoadInt32(&made) >= kill*callers*names/(kills+1) })
+		processes.Eventually(t, "volumes before a kill",
+			func() bool { return atomic.LoadInt32(&made) >= kill*callers*names/(kills+1) })
 		before := atomic.LoadInt32(&lost)
 		csid.Kill(t)
 		processes.Eventually(t, "a call that is lost", func() bool { return atomic.LoadInt32(&lost) > before })
@@ -284,7 +298,8 @@ func TestImpatientCallers(t *testing.T) {
 	told.isListed(t, newClient(t, socket))
 }
 
-// A csid that hangs for a while is met by no further connection, and serves every caller once it goes on.
+// A csid that hangs for a while is met by no further connection, and serves every caller once it
+// goes on.
 func TestCsidThatStandsStill(t *testing.T) {
 	t.Parallel()
 	const callers, still = 20, 1500 * time.Millisecond
@@ -366,21 +381,25 @@ func TestTenThousandCalls(t *testing.T) {
 		files, memory := each.process.OpenFiles(t), each.process.ResidentBytes(t)
 		defer func() {
 			filesAfter, memoryAfter := each.process.OpenFiles(t), each.process.ResidentBytes(t)
-			t.Logf("%s: %d files, %d KiB; before %d files, %d KiB", each.name, filesAfter, memoryAfter>>10, files, memory>>10)
+			t.Logf("%s: %d files, %d KiB; before %d files, %d KiB", each.name, filesAfter, memoryAfter>>10, files,
+				memory>>10)
 			if filesAfter > files || memoryAfter > memory+(4<<20) {
-				t.Errorf("%s grew: %d files, %d KiB; before %d files, %d KiB", each.name, filesAfter, memoryAfter>>10, files, memory>>10)
+				t.Errorf("%s grew: %d files, %d KiB; before %d files, %d KiB", each.name, filesAfter, memoryAfter>>10,
+					files, memory>>10)
 			}
 		}()
 	}
 	calls(10000)
 }
 
-// A connection that csid closes as idle costs no call, also where that is just when the next one is sent; and who else waits is served in the meantime.
+// A connection that csid closes as idle costs no call, also where that is just when the next one is
+// sent; and who else waits is served in the meantime.
 func TestIdleConnection(t *testing.T) {
 	t.Parallel()
 	folder := processes.Folder(t)
 	socket := filepath.Join(folder, "csid.sock")
-	csid := processes.Start(t, socket, exec.Command(processes.CsidProgram(t), "serve", "--socket", socket, "--tables", filepath.Join(folder, "volumes.db"), "--idle", "1")).Answers(t)
+	csid := processes.Start(t, socket, exec.Command(processes.CsidProgram(t), "serve", "--socket", socket, "--tables",
+		filepath.Join(folder, "volumes.db"), "--idle", "1")).Answers(t)
 	front := newClient(t, processes.StartFront(t, csid.Socket).Socket)
 	for late := -3; late <= 3; late++ {
 		front.wants(t, probe, "", ok(ready))

@@ -62,8 +62,9 @@ func back(t *testing.T, front *client, name string) (string, time.Duration) {
 	}
 }
 
-// While the disk is full each change is reported to be open, and what needs none is answered. Once there is room again service is back, though
-// nobody started anything again, and the rows are those of the volumes that were reported.
+// While the disk is full each change is reported to be open, and what needs none is answered. Once
+// there is room again service is back, though nobody started anything again, and the rows are those
+// of the volumes that were reported.
 func TestFullDisk(t *testing.T) {
 	t.Parallel()
 	disk := smallDisk(t, 1<<20)
@@ -96,7 +97,8 @@ func TestFullDisk(t *testing.T) {
 	told.isListed(t, front)
 }
 
-// refusedCreates creates volumes on a full disk, and gives the names of those that were refused: a few still have room in what the log has.
+// refusedCreates creates volumes on a full disk, and gives the names of those that were refused: a
+// few still have room in what the log has.
 func refusedCreates(t *testing.T, front *client, round int, told *book) (names []string) {
 	t.Helper()
 	for i := 0; i < 50 && len(names) < 3; i++ {
@@ -121,7 +123,8 @@ func inject(t *testing.T, p *processes.Process, calls, fault string) {
 	if err != nil {
 		t.Skip("left out: strace is not here")
 	}
-	command := exec.Command(program, "-f", "-qq", "-o", "/dev/null", "-p", strconv.Itoa(p.Process.Pid), "-e", "trace="+calls, "-e", "inject="+calls+":error="+fault+":when=1")
+	command := exec.Command(program, "-f", "-qq", "-o", "/dev/null", "-p", strconv.Itoa(p.Process.Pid), "-e",
+		"trace="+calls, "-e", "inject="+calls+":error="+fault+":when=1")
 	said := &processes.ErrorLog{}
 	command.Stderr = said
 	if err := command.Start(); err != nil {
@@ -155,7 +158,8 @@ func isTraced(t *testing.T, id int) bool {
 	return !strings.Contains(string(text), "\nTracerPid:\t0\n")
 }
 
-// A write or a sync that fails once costs the change that it was for, or leaves it open, and nothing else.
+// A write or a sync that fails once costs the change that it was for, or leaves it open, and
+// nothing else.
 func TestFaultOfTheDisk(t *testing.T) {
 	t.Parallel()
 	for calls, fault := range map[string]string{"fdatasync": "EIO", "pwrite64": "ENOSPC"} {

@@ -26,7 +26,8 @@ type step struct {
 	mute bool
 }
 
-// fake represents a csid: it serves one connection at a time, and takes a step a frame; once there are no more it is ready.
+// fake represents a csid: it serves one connection at a time, and takes a step a frame; once there
+// are no more it is ready.
 type fake struct {
 	// Where it listens; where that is empty, in a folder of its own.
 	socket string
@@ -34,7 +35,8 @@ type fake struct {
 	steps  []step
 	// The messages of the frames that were read, in hexadecimal, after their paths.
 	calls []string
-	// How many connections came to an end, and how many bytes of a frame were left when the last one did.
+	// How many connections came to an end, and how many bytes of a frame were left when the last
+	// one did.
 	ends int
 	rest int
 	// Until this is closed nothing is read from a connection; nil does not hold up anything.

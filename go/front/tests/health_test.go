@@ -27,7 +27,8 @@ func newHealth(t *testing.T, socket string) health {
 	return health{grpc_health_v1.NewHealthClient(conn)}
 }
 
-func (h health) wants(t *testing.T, service string, want grpc_health_v1.HealthCheckResponse_ServingStatus, code codes.Code) {
+func (h health) wants(t *testing.T, service string, want grpc_health_v1.HealthCheckResponse_ServingStatus,
+	code codes.Code) {
 	t.Helper()
 	got, err := h.Check(soon(t, processes.Patience), &grpc_health_v1.HealthCheckRequest{Service: service})
 	if grpc.Code(err) != code || got.GetStatus() != want {
@@ -38,7 +39,8 @@ func (h health) wants(t *testing.T, service string, want grpc_health_v1.HealthCh
 // Check follows csid, for all of the plugin and for its two services.
 func TestHealth(t *testing.T) {
 	t.Parallel()
-	const serving, notServing = grpc_health_v1.HealthCheckResponse_SERVING, grpc_health_v1.HealthCheckResponse_NOT_SERVING
+	const serving, notServing = grpc_health_v1.HealthCheckResponse_SERVING,
+		grpc_health_v1.HealthCheckResponse_NOT_SERVING
 	csid := processes.NewServer(t, "")
 	health := newHealth(t, processes.StartFront(t, csid.Socket(), "--health").Socket)
 	for round := 0; round < 2; round++ {
@@ -58,7 +60,8 @@ func TestHealth(t *testing.T) {
 	}
 }
 
-// A csid that hangs does not serve, and that is reported within a short time, but not before 5 seconds.
+// A csid that hangs does not serve, and that is reported within a short time, but not before 5
+// seconds.
 func TestHealthWhileCsidStandsStill(t *testing.T) {
 	t.Parallel()
 	csid := startFake(t, step{mute: true})
@@ -70,11 +73,13 @@ func TestHealthWhileCsidStandsStill(t *testing.T) {
 	}
 }
 
-// Watch is answered as csid answers any method that it does not know. So is Check without --health (TestCallsOfVolumes).
+// Watch is answered as csid answers any method that it does not know. So is Check without --health
+// (TestCallsOfVolumes).
 func TestHealthThatIsNotAnswered(t *testing.T) {
 	t.Parallel()
 	csid := processes.StartCsid(t)
-	watching, err := newHealth(t, processes.StartFront(t, csid.Socket(), "--health").Socket).Watch(soon(t, processes.Patience), &grpc_health_v1.HealthCheckRequest{})
+	watching, err := newHealth(t, processes.StartFront(t, csid.Socket(), "--health").Socket).Watch(soon(t,
+		processes.Patience), &grpc_health_v1.HealthCheckRequest{})
 	if err != nil {
 		t.Fatal(err)
 	}

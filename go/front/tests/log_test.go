@@ -38,11 +38,13 @@ func objects(t *testing.T, p *processes.Process) (all []map[string]interface{}) 
 	}
 }
 
-// Lines in JSON hold what those of text do: what is refused, where metrics are, and how the front ends.
+// Lines in JSON hold what those of text do: what is refused, where metrics are, and how the front
+// ends.
 func TestLogInJSON(t *testing.T) {
 	t.Parallel()
 	csid := startFake(t, step{write: refusalFrame(9, "volume is in use")}, step{mute: true})
-	process := processes.StartFront(t, csid.socket, "--log-format", "json", "--metrics", "127.0.0.1:0", "--grace", "100ms")
+	process := processes.StartFront(t, csid.socket, "--log-format", "json", "--metrics", "127.0.0.1:0", "--grace",
+		"100ms")
 	front := newClient(t, process.Socket)
 	front.call(t, "/a/refused", "")
 	front.call(t, "/a/no path", "")
@@ -54,7 +56,8 @@ func TestLogInJSON(t *testing.T) {
 	}
 	got := objects(t, process)
 	refused := func(path string, code float64, text string) map[string]interface{} {
-		return map[string]interface{}{"level": "warn", "message": "call refused", "path": path, "code": code, "text": text}
+		return map[string]interface{}{"level": "warn", "message": "call refused", "path": path, "code": code,
+			"text": text}
 	}
 	want := []map[string]interface{}{
 		{"level": "info", "message": "metrics"},
@@ -80,12 +83,14 @@ func TestLogInJSON(t *testing.T) {
 	}
 }
 
-// With --log-changes each call that changes volumes is a line, done or refused, with the name or the id of its volume and its node, and nothing else of the
-// message; calls that change none have none.
+// With --log-changes each call that changes volumes is a line, done or refused, with the name or
+// the id of its volume and its node, and nothing else of the message; calls that change none have
+// none.
 func TestLogOfChanges(t *testing.T) {
 	t.Parallel()
 	const secrets = "2a07 0a0168 12027077"
-	csid := startFake(t, step{write: okFrame(volume1)}, step{write: okFrame("")}, step{write: refusalFrame(9, "volume is published elsewhere")}, step{write: okFrame("")},
+	csid := startFake(t, step{write: okFrame(volume1)}, step{write: okFrame("")},
+		step{write: refusalFrame(9, "volume is published elsewhere")}, step{write: okFrame("")},
 		step{write: okFrame("")}, step{close: true})
 	process, socket := controlled(t, csid.socket, "--log-changes")
 	front := newClient(t, process.Socket)
@@ -99,11 +104,14 @@ func TestLogOfChanges(t *testing.T) {
 	front.call(t, controller+"DeleteVolume", vol1)
 	processes.Eventually(t, "five lines", func() bool { return strings.Count(process.Log.String(), "\n") >= 5 })
 	want := []string{
-		"CreateVolume 0 \"\" N ms name=a volume=vol-1", "ControllerPublishVolume 9 \"volume is published elsewhere\" N ms volume=vol-1 node=n1",
-		"control ControllerUnpublishVolume 0 \"\" N ms volume=vol-1 node=n1", "ControllerModifyVolume 0 \"\" N ms volume=vol-1",
+		"CreateVolume 0 \"\" N ms name=a volume=vol-1",
+		"ControllerPublishVolume 9 \"volume is published elsewhere\" N ms volume=vol-1 node=n1",
+		"control ControllerUnpublishVolume 0 \"\" N ms volume=vol-1 node=n1",
+		"ControllerModifyVolume 0 \"\" N ms volume=vol-1",
 		"DeleteVolume 14 \"csid: the connection was closed unanswered: see the log of csid\" N ms volume=vol-1",
 	}
-	got := regexp.MustCompile(` [0-9]+ ms`).ReplaceAllString(strings.ReplaceAll(process.Log.String(), controller, ""), " N ms")
+	got := regexp.MustCompile(` [0-9]+ ms`).ReplaceAllString(strings.ReplaceAll(process.Log.String(), controller, ""),
+		" N ms")
 	if got != "front: "+strings.Join(want, "\nfront: ")+"\n" {
 		t.Errorf("logged %q", got)
 	}
@@ -129,13 +137,14 @@ func unread(t *testing.T, csid string, errors *os.File) (*processes.Process, str
 	}
 	free.Close()
 	socket, monitor := filepath.Join(processes.Folder(t), "csi.sock"), free.Addr().String()
-	command := exec.Command(processes.FrontProgram(t), "--csid", csid, "--listen", socket, "--metrics", monitor, "--log-changes")
+	command := exec.Command(processes.FrontProgram(t), "--csid", csid, "--listen", socket, "--metrics", monitor,
+		"--log-changes")
 	command.Stderr = errors
 	return processes.Start(t, socket, command).Answers(t), "http://" + monitor
 }
 
-// Calls are answered, whoever reads standard error: one who does not read, or has gone. Lines that find no room are dropped and counted, and reported
-// once somebody reads.
+// Calls are answered, whoever reads standard error: one who does not read, or has gone. Lines that
+// find no room are dropped and counted, and reported once somebody reads.
 func TestUnreadLog(t *testing.T) {
 	t.Parallel()
 	const calls = 1100
@@ -157,7 +166,8 @@ func TestUnreadLog(t *testing.T) {
 				t.Fatalf("%s: call %d: %v", row.name, i, got)
 			}
 		}
-		processes.Eventually(t, row.dropped+" lines dropped", func() bool { return series(t, monitor)["csid_front_log_lines_dropped_total"] == row.dropped })
+		processes.Eventually(t, row.dropped+" lines dropped",
+			func() bool { return series(t, monitor)["csid_front_log_lines_dropped_total"] == row.dropped })
 		if row.name == "not read" {
 			pipe.Read(t, "front: lines dropped, since standard error did not take them: 76\n")
 			if lines := pipe.Lines(); len(lines) != 1026 || !strings.HasSuffix(lines[1024], " ms name=pvc-1023") {
@@ -192,8 +202,10 @@ func TestManyLines(t *testing.T) {
 		t.Errorf("status %d", status)
 	}
 	text := process.Log.String()
-	refused, left, changed := strings.Count(text, `front: "/a/no path" 12 `), 0, strings.Count(text, `DeleteVolume 0 ""`)
-	for _, count := range regexp.MustCompile(`(?m)^front: lines left out, since more than 10 came in a second: ([0-9]+) \(.*\)$`).FindAllStringSubmatch(text, -1) {
+	refused, left, changed := strings.Count(text, `front: "/a/no path" 12 `), 0,
+		strings.Count(text, `DeleteVolume 0 ""`)
+	for _, count := range regexp.MustCompile(`(?m)^front: lines left out, since more than 10 came in a second: `+
+		`([0-9]+) \(.*\)$`).FindAllStringSubmatch(text, -1) {
 		number, _ := strconv.Atoi(count[1])
 		left += number
 	}
@@ -206,8 +218,10 @@ func TestManyLines(t *testing.T) {
 // An end with a reason does not wait long for one who does not read it.
 func TestUnreadEnd(t *testing.T) {
 	t.Parallel()
-	for name, errors := range map[string]*os.File{"not read": processes.NewFullPipe(t).Out, "closed": processes.ClosedPipe(t)} {
-		command := exec.Command(processes.FrontProgram(t), "--csid", "csid.sock", "--listen", filepath.Join(processes.Folder(t), "absent", "csi.sock"))
+	for name, errors := range map[string]*os.File{"not read": processes.NewFullPipe(t).Out,
+		"closed": processes.ClosedPipe(t)} {
+		command := exec.Command(processes.FrontProgram(t), "--csid", "csid.sock", "--listen",
+			filepath.Join(processes.Folder(t), "absent", "csi.sock"))
 		command.Stderr = errors
 		begin := time.Now()
 		status := processes.Start(t, "", command).Status(t)
@@ -217,20 +231,24 @@ func TestUnreadEnd(t *testing.T) {
 	}
 }
 
-// Why a front does not start is a line in JSON once its arguments are read; what is wrong with these is text.
+// Why a front does not start is a line in JSON once its arguments are read; what is wrong with
+// these is text.
 func TestStartsThatFailInJSON(t *testing.T) {
 	t.Parallel()
 	socket := filepath.Join(processes.Folder(t), "absent", "csi.sock")
-	refused := processes.Start(t, "", exec.Command(processes.FrontProgram(t), "--csid", "csid.sock", "--listen", socket, "--log-format", "json"))
+	refused := processes.Start(t, "", exec.Command(processes.FrontProgram(t), "--csid", "csid.sock", "--listen", socket,
+		"--log-format", "json"))
 	if status := refused.Status(t); status != 7 {
 		t.Errorf("status %d", status)
 	}
-	want := []map[string]interface{}{{"level": "error", "message": "the front ends", "error": "open " + filepath.Dir(socket) + ": no such file or directory"}}
+	want := []map[string]interface{}{{"level": "error", "message": "the front ends", "error": "open " +
+		filepath.Dir(socket) + ": no such file or directory"}}
 	if got := objects(t, refused); !reflect.DeepEqual(got, want) {
 		t.Errorf("logged %v", got)
 	}
 	for _, words := range []string{"--log-format xml", "--log-format json --late -1s"} {
-		command := exec.Command(processes.FrontProgram(t), append([]string{"--csid", "csid.sock", "--listen", socket}, strings.Fields(words)...)...)
+		command := exec.Command(processes.FrontProgram(t),
+			append([]string{"--csid", "csid.sock", "--listen", socket}, strings.Fields(words)...)...)
 		refuses(t, processes.Start(t, "", command), 2, "front: --l")
 	}
 }

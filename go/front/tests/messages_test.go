@@ -20,8 +20,8 @@ import (
 	"./processes"
 )
 
-// Beyond the bound of the messages that wait a call is refused at once; one without a message never is, and after the call that held the
-// room there is room again.
+// Beyond the bound of the messages that wait a call is refused at once; one without a message never
+// is, and after the call that held the room there is room again.
 func TestMessagesThatWait(t *testing.T) {
 	t.Parallel()
 	first, second := make(chan struct{}), make(chan struct{})
@@ -55,12 +55,14 @@ func TestMessagesThatWait(t *testing.T) {
 func TestRoomBehindCallsThatFail(t *testing.T) {
 	t.Parallel()
 	let := make(chan struct{})
-	csid := startFake(t, step{write: refusalFrame(9, "volume is in use")}, step{close: true}, step{wait: let, write: okFrame("01")})
+	csid := startFake(t, step{write: refusalFrame(9, "volume is in use")}, step{close: true},
+		step{wait: let, write: okFrame("01")})
 	process := processes.StartFront(t, csid.socket, "--waiting", "1")
 	front := newClient(t, process.Socket)
 	message := make([]byte, 1048576)
 	for _, code := range []codes.Code{codes.FailedPrecondition, codes.Unavailable} {
-		if got := front.send(soon(t, processes.Patience), "/a/b", message); got.code != code || strings.Contains(got.text, "all calls that wait") {
+		if got := front.send(soon(t, processes.Patience), "/a/b", message); got.code != code ||
+			strings.Contains(got.text, "all calls that wait") {
 			t.Errorf("%v, wanted %v", got, code)
 		}
 	}
@@ -79,8 +81,9 @@ func TestRoomBehindCallsThatFail(t *testing.T) {
 	}
 }
 
-// Many clients with many great messages take no more memory than the bound and what gRPC has on the way. Those that have room are served, and the others are
-// refused: for want of room, or because they came too slowly, as they do where other programs have the processors.
+// Many clients with many great messages take no more memory than the bound and what gRPC has on the
+// way. Those that have room are served, and the others are refused: for want of room, or because
+// they came too slowly, as they do where other programs have the processors.
 func TestManyGreatMessages(t *testing.T) {
 	t.Parallel()
 	const clients, calls, room = 8, 256, 64
@@ -110,7 +113,8 @@ func TestManyGreatMessages(t *testing.T) {
 			})
 		})
 	}()
-	processes.GoesOn(t, "calls that are refused", clients*calls-room, func() int { return int(atomic.LoadInt32(&full) + atomic.LoadInt32(&late)) })
+	processes.GoesOn(t, "calls that are refused", clients*calls-room,
+		func() int { return int(atomic.LoadInt32(&full) + atomic.LoadInt32(&late)) })
 	taken := process.ResidentBytes(t)
 	if taken > 512<<20 {
 		t.Errorf("the front takes %d MiB", taken>>20)
@@ -123,8 +127,9 @@ func TestManyGreatMessages(t *testing.T) {
 	t.Logf("%d MiB, %d calls came too slowly", taken>>20, late)
 }
 
-// Callers that never send their messages, as many as a client can have, hold up the others for a while at most, and take no room. Those that nobody
-// waits after are served themselves once they send them.
+// Callers that never send their messages, as many as a client can have, hold up the others for a
+// while at most, and take no room. Those that nobody waits after are served themselves once they
+// send them.
 func TestMessagesThatNeverCome(t *testing.T) {
 	t.Parallel()
 	const calls, places = 256, 16
@@ -133,7 +138,8 @@ func TestMessagesThatNeverCome(t *testing.T) {
 	silent := newClient(t, process.Socket)
 	begins := func(count int) (streams []grpc.ClientStream) {
 		for call := 0; call < count; call++ {
-			stream, err := silent.NewStream(soon(t, 3*processes.Patience), &grpc.StreamDesc{ClientStreams: true}, "/a/silent")
+			stream, err := silent.NewStream(soon(t, 3*processes.Patience), &grpc.StreamDesc{ClientStreams: true},
+				"/a/silent")
 			if err != nil {
 				t.Fatal(err)
 			}
@@ -157,7 +163,8 @@ func TestMessagesThatNeverCome(t *testing.T) {
 			stream.CloseSend()
 			if err := stream.RecvMsg(&body); err == nil {
 				served++
-			} else if status.Code(err) != codes.Unavailable || !strings.Contains(err.Error(), "the message did not come in time, and other calls wait") {
+			} else if status.Code(err) != codes.Unavailable ||
+				!strings.Contains(err.Error(), "the message did not come in time, and other calls wait") {
 				t.Error(err)
 			}
 		}
@@ -225,7 +232,8 @@ func TestCallsWithoutAMessageThatComeAgain(t *testing.T) {
 	}
 }
 
-// Calls that announce a great message, send a part of it, and go, again and again: no room is kept for what does not come.
+// Calls that announce a great message, send a part of it, and go, again and again: no room is kept
+// for what does not come.
 func TestMessagesThatAreAnnounced(t *testing.T) {
 	t.Parallel()
 	const turns, clients, calls = 2, 4, 256
@@ -270,7 +278,8 @@ func TestHeadersThatAreTooLong(t *testing.T) {
 	csid.sees(t, "/a/short ", "/a/then ")
 }
 
-// How many calls a client may have, what of a message it may send before that is received, and how long its headers may be, is reported as it connects.
+// How many calls a client may have, what of a message it may send before that is received, and how
+// long its headers may be, is reported as it connects.
 func TestBoundsOfAClient(t *testing.T) {
 	t.Parallel()
 	conn, framer := speak(t, processes.StartFront(t, startFake(t).socket).Socket)
@@ -281,7 +290,8 @@ func TestBoundsOfAClient(t *testing.T) {
 		t.Fatalf("%v, %v", frame, err)
 	}
 	for setting, want := range map[http2.SettingID]uint32{
-		http2.SettingMaxConcurrentStreams: 256, http2.SettingInitialWindowSize: 64 << 10, http2.SettingMaxHeaderListSize: 16 << 10,
+		http2.SettingMaxConcurrentStreams: 256, http2.SettingInitialWindowSize: 64 << 10,
+		http2.SettingMaxHeaderListSize: 16 << 10,
 	} {
 		if got, is := settings.Value(setting); !is || got != want {
 			t.Errorf("%v is %d, wanted %d", setting, got, want)
@@ -330,13 +340,15 @@ func writeCall(framer *http2.Framer, stream uint32, fields int) {
 	write := func(name, value string) {
 		encoder.WriteField(hpack.HeaderField{Name: name, Value: value, Sensitive: true})
 	}
-	for _, field := range [][2]string{{":method", "POST"}, {":scheme", "http"}, {":path", "/a/long"}, {":authority", "csi"}, {"te", "trailers"}, {"content-type", "application/grpc"}} {
+	for _, field := range [][2]string{{":method", "POST"}, {":scheme", "http"}, {":path", "/a/long"},
+		{":authority", "csi"}, {"te", "trailers"}, {"content-type", "application/grpc"}} {
 		write(field[0], field[1])
 	}
 	for i := 0; i < fields; i++ {
 		write(fmt.Sprintf("n%d", i), strings.Repeat("v", 1000))
 	}
-	framer.WriteHeaders(http2.HeadersFrameParam{StreamID: stream, BlockFragment: block.Next(1 << 14), EndHeaders: fields == 0})
+	framer.WriteHeaders(http2.HeadersFrameParam{StreamID: stream, BlockFragment: block.Next(1 << 14),
+		EndHeaders: fields == 0})
 	for block.Len() > 0 {
 		part := block.Next(1 << 14)
 		framer.WriteContinuation(stream, block.Len() == 0, part)

@@ -34,7 +34,8 @@ func monitorOf(t *testing.T, front *processes.Process) string {
 	t.Helper()
 	var told []string
 	processes.Eventually(t, "the address of metrics", func() bool {
-		told = regexp.MustCompile(`(?m)^front: metrics at (127\.0\.0\.1:[1-9][0-9]*)$`).FindStringSubmatch(front.Log.String())
+		told = regexp.MustCompile(`(?m)^front: metrics at ` +
+			`(127\.0\.0\.1:[1-9][0-9]*)$`).FindStringSubmatch(front.Log.String())
 		return told != nil
 	})
 	return "http://" + told[1]
@@ -56,7 +57,8 @@ func get(t *testing.T, url string) (int, string) {
 	return answer.StatusCode, string(text)
 }
 
-// series is each series that a front reports itself, with its value; the parts of histograms only by their counts.
+// series is each series that a front reports itself, with its value; the parts of histograms only
+// by their counts.
 func series(t *testing.T, monitor string) map[string]string {
 	t.Helper()
 	status, text := get(t, monitor+"/metrics")
@@ -96,7 +98,8 @@ func counted(all map[string]string) map[string]string {
 	return some
 }
 
-// Each series after calls of each kind. GetCapacity's field 3 is a topology, whose field 1 is a segment.
+// Each series after calls of each kind. GetCapacity's field 3 is a topology, whose field 1 is a
+// segment.
 func TestMetrics(t *testing.T) {
 	t.Parallel()
 	const create, remove = controller + "CreateVolume", controller + "DeleteVolume"
@@ -149,7 +152,8 @@ func TestMetrics(t *testing.T) {
 		wantsSeries(t, got, name, map[string]string{name: value})
 	}
 	csid.sees(t, create+" ", create+" ", create+" ", remove+" ", remove+" ", "/a/b ",
-		probe+" ", getCapacity+" ", getCapacity+" 1a0b0a090a047a6f6e65120161", getCapacity+" 1a160a090a047a6f6e651201620a090a045a6f6e65120162")
+		probe+" ", getCapacity+" ", getCapacity+" 1a0b0a090a047a6f6e65120161",
+		getCapacity+" 1a160a090a047a6f6e651201620a090a045a6f6e65120162")
 	processes.Eventually(t, "what was refused in the log", func() bool {
 		return strings.Contains(process.Log.String(), "front: "+getCapacity+` 3 "topology keys are alike" `)
 	})
@@ -184,7 +188,8 @@ func TestMetricsOfTheProcess(t *testing.T) {
 	_, monitor := watched(t, startFake(t).socket)
 	_, text := get(t, monitor+"/metrics")
 	version := regexp.QuoteMeta(strings.TrimSpace(string(number)))
-	for _, line := range []string{`csid_front_build_info\{goversion="go[0-9.]+",version="` + version + `"\} 1`, `go_goroutines [0-9]+`, `process_open_fds [0-9]+`} {
+	for _, line := range []string{`csid_front_build_info\{goversion="go[0-9.]+",version="` + version +
+		`"\} 1`, `go_goroutines [0-9]+`, `process_open_fds [0-9]+`} {
 		if !regexp.MustCompile(`(?m)^` + line + `$`).MatchString(text) {
 			t.Errorf("no line %s", line)
 		}
@@ -200,7 +205,8 @@ func TestMetricsOfInventedMethods(t *testing.T) {
 		front.wants(t, fmt.Sprintf("/csi.v1.Controller/Invented%d", i), "", ok(ready))
 	}
 	got := series(t, monitor)
-	wantsSeries(t, counted(got), "csid_front_calls_total", map[string]string{`csid_front_calls_total{code="OK",method="other"}`: "50"})
+	wantsSeries(t, counted(got), "csid_front_calls_total",
+		map[string]string{`csid_front_calls_total{code="OK",method="other"}`: "50"})
 	for name := range got {
 		if strings.Contains(name, "Invented") {
 			t.Error(name)
@@ -208,7 +214,8 @@ func TestMetricsOfInventedMethods(t *testing.T) {
 	}
 }
 
-// While csid hangs, who watches learns so within a short time, and which calls wait; the histogram has how long they took.
+// While csid hangs, who watches learns so within a short time, and which calls wait; the histogram
+// has how long they took.
 func TestMetricsWhileCsidStandsStill(t *testing.T) {
 	t.Parallel()
 	let := make(chan struct{})
@@ -358,7 +365,8 @@ func TestConnectionsToMetrics(t *testing.T) {
 		dialMonitor(t, monitor)
 	}
 	processes.Eventually(t, "connections that were closed for others", func() bool {
-		return strings.Contains(process.Log.String(), "\nfront: a connection of --metrics without a call was closed for another one: 64 were open\n")
+		return strings.Contains(process.Log.String(),
+			"\nfront: a connection of --metrics without a call was closed for another one: 64 were open\n")
 	})
 	// One more waits for room.
 	if open := process.OpenFiles(t) - before; open > most+1 {
@@ -369,10 +377,12 @@ func TestConnectionsToMetrics(t *testing.T) {
 	}
 }
 
-// The sample configuration has 10 MiB in zone a and 4 MiB in zone b. 1 MiB is taken there, and 3 MiB here.
+// The sample configuration has 10 MiB in zone a and 4 MiB in zone b. 1 MiB is taken there, and 3
+// MiB here.
 func TestMetricsOfPools(t *testing.T) {
 	t.Parallel()
-	process, monitor := watched(t, processes.StartCsid(t).Socket(), "--metrics-topology", "zone=a", "--metrics-topology", "zone=b", "--metrics-topology", "zone=c")
+	process, monitor := watched(t, processes.StartCsid(t).Socket(), "--metrics-topology", "zone=a",
+		"--metrics-topology", "zone=b", "--metrics-topology", "zone=c")
 	front := newClient(t, process.Socket)
 	front.wants(t, controller+"CreateVolume", createA, ok(volume1))
 	front.wants(t, controller+"CreateVolume", "0a0162"+threeB+block+zoneB, ok(volume2))
@@ -384,7 +394,8 @@ func TestMetricsOfPools(t *testing.T) {
 	})
 }
 
-// What 205 volumes on three pages take of a pool of 1 TiB, and one of them of a node, as a front finds it at its start.
+// What 205 volumes on three pages take of a pool of 1 TiB, and one of them of a node, as a front
+// finds it at its start.
 func TestMetricsOfListings(t *testing.T) {
 	t.Parallel()
 	const volumes = 205
@@ -396,7 +407,8 @@ func TestMetricsOfListings(t *testing.T) {
 			t.Fatal(got)
 		}
 	}
-	front.wants(t, controller+"ControllerPublishVolume", vol1+n1+block, ok("0a11 0a08 726561646f6e6c79 1205 66616c7365"))
+	front.wants(t, controller+"ControllerPublishVolume", vol1+n1+block,
+		ok("0a11 0a08 726561646f6e6c79 1205 66616c7365"))
 	earlier.Kill()
 	config := filepath.Join(processes.Folder(t), "config.toml")
 	if err := os.WriteFile(config, []byte(withNode), 0o600); err != nil {
@@ -409,8 +421,10 @@ func TestMetricsOfListings(t *testing.T) {
 		return got["csid_front_listing_timestamp_seconds"] != ""
 	})
 	for name, value := range map[string]string{
-		"csid_front_volumes": "205", "csid_front_max_volumes": "100000", `csid_front_pool_size_bytes{pool="p1"}`: "1.099511627776e+12",
-		`csid_front_pool_used_bytes{pool="p1"}`: "2.1495808e+08", `csid_front_pool_free_bytes{pool="p1"}`: "1.099296669696e+12", `csid_front_pool_volumes{pool="p1"}`: "205",
+		"csid_front_volumes": "205", "csid_front_max_volumes": "100000",
+		`csid_front_pool_size_bytes{pool="p1"}`: "1.099511627776e+12",
+		`csid_front_pool_used_bytes{pool="p1"}`: "2.1495808e+08",
+		`csid_front_pool_free_bytes{pool="p1"}`: "1.099296669696e+12", `csid_front_pool_volumes{pool="p1"}`: "205",
 		`csid_front_node_max_volumes{node="n1"}`: "1000", `csid_front_node_attachments{node="n1"}`: "1",
 	} {
 		if got[name] != value {
@@ -424,7 +438,8 @@ func TestHealthOverHTTP(t *testing.T) {
 	csid := processes.NewServer(t, "")
 	_, monitor := watched(t, csid.Socket())
 	for round := 0; round < 2; round++ {
-		if status, text := get(t, monitor+"/healthz"); status != 503 || !regexp.MustCompile("^csid: dial unix .*\n$").MatchString(text) {
+		if status, text := get(t, monitor+"/healthz"); status != 503 ||
+			!regexp.MustCompile("^csid: dial unix .*\n$").MatchString(text) {
 			t.Errorf("without csid: %d %q", status, text)
 		}
 		csid.Start(t)
@@ -454,7 +469,8 @@ func TestMetricsThatCannotBeTold(t *testing.T) {
 	}
 	for _, row := range rows {
 		socket := filepath.Join(processes.Folder(t), "csi.sock")
-		command := exec.Command(processes.FrontProgram(t), "--csid", csid.socket, "--listen", socket, "--metrics", row.metrics)
+		command := exec.Command(processes.FrontProgram(t), "--csid", csid.socket, "--listen", socket, "--metrics",
+			row.metrics)
 		refuses(t, processes.Start(t, socket, command), row.status, row.part)
 		if _, err := os.Lstat(socket); !os.IsNotExist(err) {
 			t.Errorf("%s: the socket: %v", row.metrics, err)
@@ -466,8 +482,10 @@ func TestMetricsThatCannotBeTold(t *testing.T) {
 func TestMetricsOfGreatMessages(t *testing.T) {
 	t.Parallel()
 	process, monitor := watched(t, startFake(t).socket)
-	if got := newClient(t, process.Socket).send(soon(t, processes.Patience), probe, make([]byte, 1048577)); got.code != codes.ResourceExhausted {
+	if got := newClient(t, process.Socket).send(soon(t, processes.Patience), probe,
+		make([]byte, 1048577)); got.code != codes.ResourceExhausted {
 		t.Errorf("%v", got)
 	}
-	wantsSeries(t, counted(series(t, monitor)), "csid_front_calls_total", map[string]string{`csid_front_calls_total{code="ResourceExhausted",method="` + probe + `"}`: "1"})
+	wantsSeries(t, counted(series(t, monitor)), "csid_front_calls_total",
+		map[string]string{`csid_front_calls_total{code="ResourceExhausted",method="` + probe + `"}`: "1"})
 }

@@ -47,8 +47,8 @@ func TestEveryReplyComesBack(t *testing.T) {
 	}
 }
 
-// Behind status 13 the next call has a new connection, since csid makes no change any more over the old one. Of its three texts the
-// outcome is open, so they are UNAVAILABLE.
+// Behind status 13 the next call has a new connection, since csid makes no change any more over the
+// old one. Of its three texts the outcome is open, so they are UNAVAILABLE.
 func TestRefusedChange(t *testing.T) {
 	t.Parallel()
 	rows := []struct {
@@ -77,7 +77,8 @@ func TestRefusedChange(t *testing.T) {
 	}
 }
 
-// losesOneCall has one call lost by what csid does with it; csid gets it once, and the next call over another connection.
+// losesOneCall has one call lost by what csid does with it; csid gets it once, and the next call
+// over another connection.
 func losesOneCall(t *testing.T, does step) {
 	t.Helper()
 	csid, front := behindFront(t, does)
@@ -88,7 +89,8 @@ func losesOneCall(t *testing.T, does step) {
 	csid.sees(t, "/a/b 01", probe+" ")
 }
 
-// eachLosesOneCall does so with each of these replies, after which csid closes the connection, or doesn't.
+// eachLosesOneCall does so with each of these replies, after which csid closes the connection, or
+// doesn't.
 func eachLosesOneCall(t *testing.T, replies map[string][]byte, closes bool) {
 	t.Helper()
 	for name, reply := range replies {
@@ -100,7 +102,8 @@ func eachLosesOneCall(t *testing.T, replies map[string][]byte, closes bool) {
 	}
 }
 
-// A reply that breaks a rule, or breaks off, leaves the outcome open, and ends the connection: the next call has a new one.
+// A reply that breaks a rule, or breaks off, leaves the outcome open, and ends the connection: the
+// next call has a new one.
 func TestMalformedReplies(t *testing.T) {
 	t.Parallel()
 	rows := map[string][]byte{
@@ -116,7 +119,8 @@ func TestMalformedReplies(t *testing.T) {
 	eachLosesOneCall(t, rows, false)
 }
 
-// A connection that breaks in a call leaves the outcome open, and the front doesn't send the call again on its own.
+// A connection that breaks in a call leaves the outcome open, and the front doesn't send the call
+// again on its own.
 func TestConnectionThatBreaks(t *testing.T) {
 	t.Parallel()
 	rows := map[string][]byte{
@@ -130,7 +134,8 @@ func TestConnectionThatBreaks(t *testing.T) {
 	eachLosesOneCall(t, rows, true)
 }
 
-// A connection that csid closes instead of a reply is reported as that, also where it read nothing of the call.
+// A connection that csid closes instead of a reply is reported as that, also where it read nothing
+// of the call.
 func TestUnansweredCall(t *testing.T) {
 	t.Parallel()
 	unanswered := refused(codes.Unavailable, "csid: the connection was closed unanswered: see the log of csid")

@@ -21,7 +21,8 @@ max_volumes = 1000
 // oneCall is the path of a call, and its message in hexadecimal digits.
 type oneCall struct{ path, message string }
 
-// lives are the calls of so many volumes, in order. Of four volumes one is at the end, and one is published.
+// lives are the calls of so many volumes, in order. Of four volumes one is at the end, and one is
+// published.
 func lives(volumes int) (calls []oneCall) {
 	text := func(field byte, text string) string { return fmt.Sprintf("%02x%02x%x", field, len(text), text) }
 	const mode1 = "1a060a001a020801"
@@ -41,8 +42,8 @@ func lives(volumes int) (calls []oneCall) {
 	return calls
 }
 
-// A lone client repeats each call until it is answered, while csid is killed and started again: it gets the replies of the same
-// calls without a kill, and leaves the same volumes.
+// A lone client repeats each call until it is answered, while csid is killed and started again: it
+// gets the replies of the same calls without a kill, and leaves the same volumes.
 func TestRepeatedCallsOverKills(t *testing.T) {
 	t.Parallel()
 	const volumes, kills = 160, 24
@@ -73,7 +74,8 @@ func TestRepeatedCallsOverKills(t *testing.T) {
 		}
 	}()
 	for kill := 1; kill <= kills; kill++ {
-		processes.Eventually(t, "calls before a kill", func() bool { return int(atomic.LoadInt32(&answered)) >= kill*len(calls)/(kills+1) })
+		processes.Eventually(t, "calls before a kill",
+			func() bool { return int(atomic.LoadInt32(&answered)) >= kill*len(calls)/(kills+1) })
 		time.Sleep(time.Duration(rand.Intn(4000)) * time.Microsecond)
 		csid.Kill(t)
 		csid.Start(t)

@@ -34,13 +34,15 @@ func frontAt(t *testing.T, csid, socket string) *processes.Process {
 	return processes.Start(t, socket, exec.Command(processes.FrontProgram(t), "--csid", csid, "--listen", socket))
 }
 
-// refuses waits until a front ends with the status of a socket that cannot be made, and one line about it.
+// refuses waits until a front ends with the status of a socket that cannot be made, and one line
+// about it.
 func refuses(t *testing.T, p *processes.Process, status int, part string) {
 	t.Helper()
 	if got := p.Status(t); got != status {
 		t.Errorf("status %d, wanted %d", got, status)
 	}
-	if log := p.Log.String(); !strings.HasPrefix(log, "front: ") || strings.Count(log, "\n") != 1 || !strings.Contains(log, part) {
+	if log := p.Log.String(); !strings.HasPrefix(log, "front: ") || strings.Count(log, "\n") != 1 ||
+		!strings.Contains(log, part) {
 		t.Errorf("logged %q, wanted a line with %q", log, part)
 	}
 }
@@ -177,7 +179,8 @@ func TestTermWithoutACall(t *testing.T) {
 	}
 }
 
-// A client that never says anything has no call, so it cuts none off, and does not use up the grace.
+// A client that never says anything has no call, so it cuts none off, and does not use up the
+// grace.
 func TestTermWithAClientThatSaysNothing(t *testing.T) {
 	t.Parallel()
 	process := processes.StartFront(t, startFake(t).socket, "--grace", "1h")
@@ -284,7 +287,8 @@ func TestFolderThatStaysLocked(t *testing.T) {
 	if _, err := os.Lstat(socket); !os.IsNotExist(err) {
 		t.Errorf("the socket: %v", err)
 	}
-	want := "front: " + folder.Name() + ": another process keeps this folder locked, and a socket is made there without the lock\n"
+	want := "front: " + folder.Name() +
+		": another process keeps this folder locked, and a socket is made there without the lock\n"
 	if log := front.Log.String(); log != want {
 		t.Errorf("logged %q", log)
 	}

@@ -14,7 +14,8 @@ import (
 	"./processes"
 )
 
-// standingBy is a front with --standby before a csid that may be there later. Where its socket is to be, a former front has left its own.
+// standingBy is a front with --standby before a csid that may be there later. Where its socket is
+// to be, a former front has left its own.
 func standingBy(t *testing.T, csid, length string, words ...string) *processes.Process {
 	t.Helper()
 	socket := deadSocket(t)
@@ -25,7 +26,8 @@ func standingBy(t *testing.T, csid, length string, words ...string) *processes.P
 // says waits until the log of a front has a line.
 func says(t *testing.T, p *processes.Process, line string) {
 	t.Helper()
-	processes.Eventually(t, "the line "+line+" in "+p.Log.String(), func() bool { return strings.Contains(p.Log.String(), line+"\n") })
+	processes.Eventually(t, "the line "+line+" in "+p.Log.String(),
+		func() bool { return strings.Contains(p.Log.String(), line+"\n") })
 }
 
 // closings is steps that close so many connections unanswered: more than are made within a second.
@@ -36,7 +38,8 @@ func closings() (all []step) {
 	return all
 }
 
-// Until csid is ready there is no socket: the file of a former one stays, and who watches the front is answered.
+// Until csid is ready there is no socket: the file of a former one stays, and who watches the front
+// is answered.
 func TestStandbyWaits(t *testing.T) {
 	t.Parallel()
 	path := filepath.Join(processes.Folder(t), "csid.sock")
@@ -48,7 +51,8 @@ func TestStandbyWaits(t *testing.T) {
 	monitor := monitorOf(t, front)
 	absent := fmt.Sprintf("dial unix %s: connect: no such file or directory", path)
 	says(t, front, "front: waits for csid: "+absent)
-	if status, text := get(t, monitor+"/healthz"); status != http.StatusServiceUnavailable || text != "csid: "+absent+"\n" {
+	if status, text := get(t, monitor+"/healthz"); status != http.StatusServiceUnavailable ||
+		text != "csid: "+absent+"\n" {
 		t.Errorf("/healthz: %d, %q", status, text)
 	}
 	if status, text := get(t, monitor+"/livez"); status != http.StatusOK || text != "ok\n" {
@@ -56,7 +60,8 @@ func TestStandbyWaits(t *testing.T) {
 	}
 	wantsSeries(t, series(t, monitor), "csid_front_csid_up", map[string]string{"csid_front_csid_up": "0"})
 	wantsSeries(t, series(t, monitor), "csid_front_standing_by", map[string]string{"csid_front_standing_by": "1"})
-	if after, err := os.Lstat(front.Socket); err != nil || !os.SameFile(before, after) || processes.IsAnswered(front.Socket) {
+	if after, err := os.Lstat(front.Socket); err != nil || !os.SameFile(before, after) ||
+		processes.IsAnswered(front.Socket) {
 		t.Errorf("the socket while it waits: %v, %v", after, err)
 	}
 	csid := (&fake{socket: path, steps: []step{{close: true}, {write: okFrame("0a020800")}}}).start(t)
@@ -68,7 +73,8 @@ func TestStandbyWaits(t *testing.T) {
 		"waits for csid: csid is not ready",
 		"csid is ready",
 	}
-	want := fmt.Sprintf("front: metrics at %s\nfront: %s\n", strings.TrimPrefix(monitor, "http://"), strings.Join(lines, "\nfront: "))
+	want := fmt.Sprintf("front: metrics at %s\nfront: %s\n", strings.TrimPrefix(monitor, "http://"),
+		strings.Join(lines, "\nfront: "))
 	if said := front.Log.String(); said != want {
 		t.Errorf("logged %q, wanted %q", said, want)
 	}
@@ -96,7 +102,8 @@ func TestTermWhileItWaits(t *testing.T) {
 		}
 		var want []map[string]interface{}
 		if name == "closed" {
-			want = append(want, map[string]interface{}{"level": "info", "message": "waits for csid", "reason": "the connection was closed unanswered: see the log of csid"})
+			want = append(want, map[string]interface{}{"level": "info", "message": "waits for csid",
+				"reason": "the connection was closed unanswered: see the log of csid"})
 		}
 		if got := objects(t, front); !reflect.DeepEqual(got, want) {
 			t.Errorf("%s: logged %v", name, got)
@@ -107,7 +114,8 @@ func TestTermWhileItWaits(t *testing.T) {
 	}
 }
 
-// A front whose socket, or whose address of metrics, is another one's ends as it does without --standby, and says why.
+// A front whose socket, or whose address of metrics, is another one's ends as it does without
+// --standby, and says why.
 func TestStandbyThatFindsAnother(t *testing.T) {
 	t.Parallel()
 	csid := startFake(t)
@@ -115,7 +123,8 @@ func TestStandbyThatFindsAnother(t *testing.T) {
 	address := strings.TrimPrefix(monitor, "http://")
 	rows := []struct{ words, line string }{
 		{"--listen " + other.Socket, "front: " + other.Socket + ": somebody answers on it already"},
-		{"--listen " + other.Socket + ".new --metrics " + address, "front: --metrics: listen tcp " + address + ": bind: address already in use"},
+		{"--listen " + other.Socket + ".new --metrics " + address, "front: --metrics: listen tcp " + address +
+			": bind: address already in use"},
 	}
 	for _, row := range rows {
 		words := append([]string{"--csid", csid.socket, "--standby", "1m"}, strings.Fields(row.words)...)
@@ -128,7 +137,8 @@ func TestStandbyThatFindsAnother(t *testing.T) {
 	newClient(t, other.Socket).wants(t, probe, "", ok(ready))
 }
 
-// Where csid closes each connection for so long, the front ends, and its socket is gone. A connection that is closed is no sign of life.
+// Where csid closes each connection for so long, the front ends, and its socket is gone. A
+// connection that is closed is no sign of life.
 func TestStandbyEnds(t *testing.T) {
 	t.Parallel()
 	csid := startFake(t, append([]step{{write: okFrame(ready), close: true}}, closings()...)...)
@@ -149,12 +159,14 @@ func TestStandbyEnds(t *testing.T) {
 	if want := map[string]interface{}{"level": "info", "message": "csid is ready"}; !reflect.DeepEqual(got[0], want) {
 		t.Errorf("logged %v", got[0])
 	}
-	if want := map[string]interface{}{"level": "error", "message": "the front ends", "error": "nothing was answered by csid for 1s: " + reason}; !reflect.DeepEqual(got[last], want) {
+	if want := map[string]interface{}{"level": "error", "message": "the front ends",
+		"error": "nothing was answered by csid for 1s: " + reason}; !reflect.DeepEqual(got[last], want) {
 		t.Errorf("logged %v", got[last])
 	}
 	for _, line := range got[1:last] {
 		// One Probe may have had no time for a connection.
-		if line["level"] != "warn" || line["message"] != "call refused" || line["path"] != probe || line["code"] == 14.0 && line["text"] != "csid: "+reason {
+		if line["level"] != "warn" || line["message"] != "call refused" || line["path"] != probe ||
+			line["code"] == 14.0 && line["text"] != "csid: "+reason {
 			t.Errorf("logged %v", line)
 		}
 	}
@@ -173,7 +185,8 @@ func TestStandbyEndsDuringACall(t *testing.T) {
 			front := newClient(t, process.Socket)
 			go func() { came <- front.send(soon(t, processes.Patience), "/a/b", nil) }()
 			csid.called(t, 2)
-			processes.Eventually(t, "the end of the socket", func() bool { return !processes.IsAnswered(process.Socket) })
+			processes.Eventually(t, "the end of the socket",
+				func() bool { return !processes.IsAnswered(process.Socket) })
 			wants := []string{"csid is ready", "nothing was answered by csid for 1s: context deadline exceeded"}
 			if name == "answered" {
 				close(let)

@@ -1,7 +1,8 @@
 //go:build cgo
 
-// driver is a CSI controller as it is usually written in Go: grpc-go with generated messages, over a file of SQLite by database/sql. It answers the calls that
-// bench/front makes, and promises what csid does: a change is synchronised before it is answered OK.
+// driver is a CSI controller as it is usually written in Go: grpc-go with generated messages, over
+// a file of SQLite by database/sql. It answers the calls that bench/front makes, and promises what
+// csid does: a change is synchronised before it is answered OK.
 //
 // usage: driver SOCKET FILE
 package main
@@ -55,7 +56,8 @@ type driver struct {
 }
 
 func open(path string) (*driver, error) {
-	database, err := sql.Open("sqlite3", "file:"+path+"?_journal_mode=WAL&_synchronous=FULL&_locking_mode=EXCLUSIVE&_txlock=immediate")
+	database, err := sql.Open("sqlite3",
+		"file:"+path+"?_journal_mode=WAL&_synchronous=FULL&_locking_mode=EXCLUSIVE&_txlock=immediate")
 	if err != nil {
 		return nil, err
 	}
@@ -158,7 +160,8 @@ func (d *driver) create(tx *sql.Tx, name string, bytes int64) (number int64, err
 }
 
 func volume(number, bytes int64) *csi.Volume {
-	return &csi.Volume{CapacityBytes: bytes, VolumeId: fmt.Sprintf("vol-%d", number), VolumeContext: map[string]string{"pool": pool}}
+	return &csi.Volume{CapacityBytes: bytes, VolumeId: fmt.Sprintf("vol-%d", number),
+		VolumeContext: map[string]string{"pool": pool}}
 }
 
 // numberOf is the number of a volume's id; 0 where it is none.
@@ -214,7 +217,8 @@ func (d *driver) nodes(tx *sql.Tx, number int64) (nodes []string, err error) {
 	return nodes, rows.Err()
 }
 
-func (d *driver) ControllerPublishVolume(_ context.Context, asked *csi.ControllerPublishVolumeRequest) (*csi.ControllerPublishVolumeResponse, error) {
+func (d *driver) ControllerPublishVolume(_ context.Context,
+	asked *csi.ControllerPublishVolumeRequest) (*csi.ControllerPublishVolumeResponse, error) {
 	err := d.change(func(tx *sql.Tx) error {
 		number, bytes := numberOf(asked.VolumeId), int64(0)
 		if err := tx.Stmt(d.volumeOfNumber).QueryRow(number).Scan(&bytes); errors.Is(err, sql.ErrNoRows) {
@@ -238,7 +242,8 @@ func (d *driver) ControllerPublishVolume(_ context.Context, asked *csi.Controlle
 	return &csi.ControllerPublishVolumeResponse{PublishContext: map[string]string{"readonly": "false"}}, err
 }
 
-func (d *driver) ControllerUnpublishVolume(_ context.Context, asked *csi.ControllerUnpublishVolumeRequest) (*csi.ControllerUnpublishVolumeResponse, error) {
+func (d *driver) ControllerUnpublishVolume(_ context.Context,
+	asked *csi.ControllerUnpublishVolumeRequest) (*csi.ControllerUnpublishVolumeResponse, error) {
 	err := d.change(func(tx *sql.Tx) error {
 		_, err := tx.Stmt(d.detach).Exec(numberOf(asked.VolumeId), asked.NodeId)
 		return err
@@ -270,7 +275,8 @@ func (d *driver) ListVolumes(_ context.Context, asked *csi.ListVolumesRequest) (
 			if err := rows.Scan(&last, &bytes, &nodes); err != nil {
 				return err
 			}
-			entry := &csi.ListVolumesResponse_Entry{Volume: volume(last, bytes), Status: &csi.ListVolumesResponse_Status{}}
+			entry := &csi.ListVolumesResponse_Entry{Volume: volume(last, bytes),
+				Status: &csi.ListVolumesResponse_Status{}}
 			if nodes != "" {
 				entry.Status.PublishedNodeIds = strings.Split(nodes, ",")
 			}

@@ -8,7 +8,8 @@ import (
 	"testing"
 )
 
-// FullPipe is a pipe whose capacity is used up by ends of lines, and that nobody reads before Read: whoever writes to it waits.
+// FullPipe is a pipe whose capacity is used up by ends of lines, and that nobody reads before Read:
+// whoever writes to it waits.
 type FullPipe struct {
 	Out *os.File
 	in  *os.File

@@ -1,4 +1,5 @@
-// Package processes starts the built programs for the tests of this folder and of go/etcd/tests, and ends them.
+// Package processes starts the built programs for the tests of this folder and of go/etcd/tests,
+// and ends them.
 package processes
 
 import (
@@ -19,7 +20,8 @@ import (
 // Patience is how long anything may take before a test gives it up.
 const Patience = time.Minute
 
-// pathOf is the path that a variable of the environment says, otherwise one from the top of the repository on.
+// pathOf is the path that a variable of the environment says, otherwise one from the top of the
+// repository on.
 func pathOf(variable, otherwise string) string {
 	if path := os.Getenv(variable); path != "" {
 		return path
@@ -38,7 +40,8 @@ func program(t *testing.T, variable, otherwise string) string {
 	return path
 }
 
-// FrontProgram is the path of the built front, CsidProgram that of the built csid, EtcdProgram that of the built csid-etcd.
+// FrontProgram is the path of the built front, CsidProgram that of the built csid, EtcdProgram that
+// of the built csid-etcd.
 func FrontProgram(t *testing.T) string { return program(t, "FRONT", "go/front/out/front") }
 func CsidProgram(t *testing.T) string  { return program(t, "CSID", "crates/csid/out/csid") }
 func EtcdProgram(t *testing.T) string  { return program(t, "CSID_ETCD", "go/etcd/out/csid-etcd") }
@@ -72,7 +75,8 @@ type Process struct {
 	Ended  chan struct{}
 }
 
-// Start starts a program that is to answer on a socket. Its log is empty where the command says another standard error.
+// Start starts a program that is to answer on a socket. Its log is empty where the command says
+// another standard error.
 func Start(t *testing.T, socket string, command *exec.Cmd) *Process {
 	t.Helper()
 	p := &Process{Cmd: command, Socket: socket, Log: &ErrorLog{}, Ended: make(chan struct{})}
@@ -184,11 +188,13 @@ func Folder(t *testing.T) string {
 	return path
 }
 
-// StartFront starts a front before the socket of a csid, with further words of its command line, and waits until it answers.
+// StartFront starts a front before the socket of a csid, with further words of its command line,
+// and waits until it answers.
 func StartFront(t *testing.T, csid string, words ...string) *Process {
 	t.Helper()
 	socket := filepath.Join(Folder(t), "csi.sock")
-	return Start(t, socket, exec.Command(FrontProgram(t), append([]string{"--csid", csid, "--listen", socket}, words...)...)).Answers(t)
+	return Start(t, socket, exec.Command(FrontProgram(t),
+		append([]string{"--csid", csid, "--listen", socket}, words...)...)).Answers(t)
 }
 
 // Server is a place for a csid, which may be killed and started again there.
@@ -263,7 +269,8 @@ func StartCsid(t *testing.T) *Server {
 func (s *Server) WantsStartAlone(t *testing.T) {
 	t.Helper()
 	tables := filepath.Join(s.folder, "volumes.db")
-	want := fmt.Sprintf("csid: %s: no tables were there, and new ones were made\ncsid: %s: volumes 0, attachments 0, next number 1, format 2\n", tables, tables)
+	want := fmt.Sprintf("csid: %s: no tables were there, and new ones were made\ncsid: %s: volumes 0, attachments 0, "+
+		"next number 1, format 2\n", tables, tables)
 	if log := s.Current.Log.String(); log != want {
 		t.Errorf("csid said %q, wanted %q", log, want)
 	}

@@ -16,21 +16,25 @@ func startAttacher(t *testing.T, socket string) *attacher {
 // attach publishes a volume at a node, with the context that its persistent volume keeps.
 func (a *attacher) attach(id, node string, context map[string]string) (map[string]string, error) {
 	got := &publishVolumeResponse{}
-	request := &publishVolumeRequest{VolumeID: id, NodeID: node, VolumeCapability: a.volumeCapability(), VolumeContext: context}
+	request := &publishVolumeRequest{VolumeID: id, NodeID: node, VolumeCapability: a.volumeCapability(),
+		VolumeContext: context}
 	err := a.repeat(controller+"ControllerPublishVolume", request, got)
 	return got.PublishContext, err
 }
 
 func (a *attacher) detach(id, node string) error {
-	return a.repeat(controller+"ControllerUnpublishVolume", &unpublishVolumeRequest{VolumeID: id, NodeID: node}, &empty{})
+	return a.repeat(controller+"ControllerUnpublishVolume", &unpublishVolumeRequest{VolumeID: id, NodeID: node},
+		&empty{})
 }
 
-// list is the nodes of each volume, by its id, over pages of so many entries; 0 leaves their length to the driver.
+// list is the nodes of each volume, by its id, over pages of so many entries; 0 leaves their length
+// to the driver.
 func (a *attacher) list(pageLength int32) (map[string][]string, error) {
 	all, token := map[string][]string{}, ""
 	for {
 		page := &listVolumesResponse{}
-		if err := a.ask(callTimeout, controller+"ListVolumes", &listVolumesRequest{MaxEntries: pageLength, StartingToken: token}, page); err != nil {
+		if err := a.ask(callTimeout, controller+"ListVolumes",
+			&listVolumesRequest{MaxEntries: pageLength, StartingToken: token}, page); err != nil {
 			return nil, err
 		}
 		for _, entry := range page.Entries {

@@ -24,7 +24,8 @@ const (
 	stages
 )
 
-// ledger is what exists by what the sidecars were answered: the node of each volume by its id, "" for none.
+// ledger is what exists by what the sidecars were answered: the node of each volume by its id, ""
+// for none.
 type ledger struct {
 	mutex sync.Mutex
 	nodes map[string]string
@@ -51,7 +52,8 @@ type cluster struct {
 
 func startCluster(t *testing.T, socket string) *cluster {
 	t.Helper()
-	return &cluster{provisioner: startProvisioner(t, socket), attacher: startAttacher(t, socket), ledger: ledger{nodes: map[string]string{}}}
+	return &cluster{provisioner: startProvisioner(t, socket), attacher: startAttacher(t, socket),
+		ledger: ledger{nodes: map[string]string{}}}
 }
 
 // lead leads the volume of a claim so far, and writes down what was answered.
@@ -91,7 +93,8 @@ func (k *cluster) lead(c claim, stage int) error {
 	return nil
 }
 
-// workers has several workers of a sidecar take the claims, each those of its turn, and waits for them.
+// workers has several workers of a sidecar take the claims, each those of its turn, and waits for
+// them.
 func workers(count int, claims []claim, take func(i int, c claim)) {
 	processes.Together(count, func(worker int) {
 		for i := worker; i < len(claims); i += count {
@@ -100,8 +103,10 @@ func workers(count int, claims []claim, take func(i int, c claim)) {
 	})
 }
 
-// killUntil kills csid and starts it again, each time 100 to 300 ms after it answers, until something is over, and returns how often.
-func killUntil(t *testing.T, csid *processes.Server, front string, random *rand.Rand, over <-chan struct{}) (kills int) {
+// killUntil kills csid and starts it again, each time 100 to 300 ms after it answers, until
+// something is over, and returns how often.
+func killUntil(t *testing.T, csid *processes.Server, front string, random *rand.Rand,
+	over <-chan struct{}) (kills int) {
 	t.Helper()
 	for ; ; kills++ {
 		select {
@@ -115,8 +120,8 @@ func killUntil(t *testing.T, csid *processes.Server, front string, random *rand.
 	}
 }
 
-// While csid is killed again and again, claims get, attach, detach and delete their volumes: each that was answered exists once as it was
-// answered, and nothing else does.
+// While csid is killed again and again, claims get, attach, detach and delete their volumes: each
+// that was answered exists once as it was answered, and nothing else does.
 func TestKills(t *testing.T) {
 	t.Parallel()
 	const count, wantedKills = 400, 5
@@ -149,7 +154,8 @@ func TestKills(t *testing.T) {
 	wantsListed(t, k.attacher, k.nodes)
 }
 
-// Two provisioners that both take themselves for the leader make one volume a claim, and delete it together.
+// Two provisioners that both take themselves for the leader make one volume a claim, and delete it
+// together.
 func TestTwoProvisioners(t *testing.T) {
 	t.Parallel()
 	const count = 100
@@ -192,7 +198,8 @@ func TestTwoProvisioners(t *testing.T) {
 	wantsListed(t, leaders[1].attacher, map[string]string{})
 }
 
-// cancelEach begins a create for each claim, and cancels it within some milliseconds. It returns how many calls were answered nevertheless.
+// cancelEach begins a create for each claim, and cancels it within some milliseconds. It returns
+// how many calls were answered nevertheless.
 func (k *cluster) cancelEach(t *testing.T, claims []claim, random *rand.Rand) (answered int) {
 	t.Helper()
 	for i, c := range claims {
@@ -211,8 +218,9 @@ func (k *cluster) cancelEach(t *testing.T, claims []claim, random *rand.Rand) (a
 	return answered
 }
 
-// A claim that is deleted while its volume is made: the call is cancelled, and the volume may be made nevertheless. So csi-provisioner repeats
-// the call until it is over, and deletes what came. Nothing is left.
+// A claim that is deleted while its volume is made: the call is cancelled, and the volume may be
+// made nevertheless. So csi-provisioner repeats the call until it is over, and deletes what came.
+// Nothing is left.
 func TestClaimsThatAreDeletedEarly(t *testing.T) {
 	t.Parallel()
 	const count = 80

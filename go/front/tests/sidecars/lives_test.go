@@ -43,7 +43,8 @@ func startDriver(t *testing.T, config string) (*processes.Server, string) {
 	return csid, processes.StartFront(t, csid.Socket()).Socket
 }
 
-// wantsListed compares what csi-attacher is answered, volume by volume, with the nodes that a test says; "" is a volume at no node.
+// wantsListed compares what csi-attacher is answered, volume by volume, with the nodes that a test
+// says; "" is a volume at no node.
 func wantsListed(t *testing.T, a *attacher, want map[string]string) {
 	t.Helper()
 	got, err := a.list(0)
@@ -61,8 +62,8 @@ func wantsListed(t *testing.T, a *attacher, want map[string]string) {
 	}
 }
 
-// A sidecar that starts before csid ends at once, as csi-lib-utils has it, and comes up once csid is there. What it asks at the start is what
-// decides which calls it makes.
+// A sidecar that starts before csid ends at once, as csi-lib-utils has it, and comes up once csid
+// is there. What it asks at the start is what decides which calls it makes.
 func TestStart(t *testing.T) {
 	t.Parallel()
 	csid := processes.NewServer(t, twoZones)
@@ -75,18 +76,20 @@ func TestStart(t *testing.T) {
 	if s.driver != "pools.example.org" {
 		t.Errorf("the driver is %q", s.driver)
 	}
-	if want := map[int32]bool{controllerService: true, accessibilityConstraints: true}; !reflect.DeepEqual(s.plugin, want) {
+	if want := map[int32]bool{controllerService: true, accessibilityConstraints: true}; !reflect.DeepEqual(s.plugin,
+		want) {
 		t.Errorf("the plugin has %v, wanted %v", s.plugin, want)
 	}
-	want := map[int32]bool{createDeleteVolume: true, publishUnpublishVolume: true, listVolumes: true, getCapacity: true, publishReadonly: true,
+	want := map[int32]bool{createDeleteVolume: true, publishUnpublishVolume: true, listVolumes: true, getCapacity: true,
+		publishReadonly:           true,
 		listVolumesPublishedNodes: true, singleNodeMultiWriter: true, modifyVolume: true}
 	if !reflect.DeepEqual(s.controller, want) {
 		t.Errorf("the controller has %v, wanted %v", s.controller, want)
 	}
 }
 
-// The life of a claim's volume: made in the zone of its pod, attached, detached and deleted, each of them twice, since sidecars repeat what was
-// done when they start again.
+// The life of a claim's volume: made in the zone of its pod, attached, detached and deleted, each
+// of them twice, since sidecars repeat what was done when they start again.
 func TestLifeOfAClaim(t *testing.T) {
 	t.Parallel()
 	_, socket := startDriver(t, twoZones)
@@ -98,7 +101,8 @@ func TestLifeOfAClaim(t *testing.T) {
 		made = append(made, v)
 		return err
 	})
-	want := &volume{CapacityBytes: 3 * mebibyte, VolumeID: "vol-1", VolumeContext: map[string]string{"pool": "p2"}, AccessibleTopology: []*topology{zoneTopology("b")}}
+	want := &volume{CapacityBytes: 3 * mebibyte, VolumeID: "vol-1", VolumeContext: map[string]string{"pool": "p2"},
+		AccessibleTopology: []*topology{zoneTopology("b")}}
 	for _, v := range made {
 		if !reflect.DeepEqual(v, want) {
 			t.Errorf("made %v, wanted %v", v, want)
@@ -129,7 +133,8 @@ func twice(t *testing.T, what string, does func() error) {
 	}
 }
 
-// A volume that is attached is not deleted, nor attached elsewhere: both are final errors, and leave the attachment.
+// A volume that is attached is not deleted, nor attached elsewhere: both are final errors, and
+// leave the attachment.
 func TestFinalErrors(t *testing.T) {
 	t.Parallel()
 	_, socket := startDriver(t, twoZones)

@@ -1,6 +1,7 @@
 package sidecars
 
-// The messages of the calls below, with the field numbers of the specification's csi.proto. Debian packages no generated code of it.
+// The messages of the calls below, with the field numbers of the specification's csi.proto. Debian
+// packages no generated code of it.
 
 // empty is each message without fields.
 type empty struct{}
@@ -17,7 +18,8 @@ type boolValue struct {
 	Value bool `protobuf:"varint,1,opt,name=value,proto3"`
 }
 
-// capabilitiesResponse is GetPluginCapabilitiesResponse and ControllerGetCapabilitiesResponse, which have the same numbers.
+// capabilitiesResponse is GetPluginCapabilitiesResponse and ControllerGetCapabilitiesResponse,
+// which have the same numbers.
 type capabilitiesResponse struct {
 	Capabilities []*capability `protobuf:"bytes,1,rep,name=capabilities,proto3"`
 }
@@ -43,7 +45,8 @@ type capacityRange struct {
 	LimitBytes    int64 `protobuf:"varint,2,opt,name=limit_bytes,proto3"`
 }
 
-// volumeCapability has the mount in a oneof, as generated code has it: golang/protobuf writes a oneof after all other fields.
+// volumeCapability has the mount in a oneof, as generated code has it: golang/protobuf writes a
+// oneof after all other fields.
 type volumeCapability struct {
 	AccessType interface{ isAccessType() } `protobuf_oneof:"access_type"`
 	AccessMode *accessMode                 `protobuf:"bytes,3,opt,name=access_mode,proto3"`

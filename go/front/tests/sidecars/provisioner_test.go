@@ -34,7 +34,8 @@ type claim struct {
 // newClaims are claims of 1 to 4 MiB, less some bytes, by turns in both zones.
 func newClaims(random *rand.Rand, count int) (claims []claim) {
 	for i := 0; i < count; i++ {
-		claims = append(claims, claim{uid: newUID(random), bytes: int64(i%4+1)*mebibyte - int64(random.Intn(1000)), zone: zones[i%2]})
+		claims = append(claims, claim{uid: newUID(random), bytes: int64(i%4+1)*mebibyte - int64(random.Intn(1000)),
+			zone: zones[i%2]})
 	}
 	return claims
 }
@@ -45,16 +46,19 @@ func newUID(random *rand.Rand) string {
 	return fmt.Sprintf("%x-%x-%x-%x-%x", b[:4], b[4:6], b[6:8], b[8:10], b[10:])
 }
 
-// volumeCapability is what ReadWriteOnce and a file system become for a driver that knows, or does not know, SINGLE_NODE_MULTI_WRITER.
+// volumeCapability is what ReadWriteOnce and a file system become for a driver that knows, or does
+// not know, SINGLE_NODE_MULTI_WRITER.
 func (s *sidecar) volumeCapability() *volumeCapability {
 	mode := int32(modeSingleNodeWriter)
 	if s.controller[singleNodeMultiWriter] {
 		mode = modeSingleNodeMultiWriter
 	}
-	return &volumeCapability{AccessType: &accessMount{&mountVolume{FsType: "ext4"}}, AccessMode: &accessMode{Mode: mode}}
+	return &volumeCapability{AccessType: &accessMount{&mountVolume{FsType: "ext4"}},
+		AccessMode: &accessMode{Mode: mode}}
 }
 
-// requirements are the zones of the cluster, the preferred ones from the selected one on; of a strict claim the selected one alone.
+// requirements are the zones of the cluster, the preferred ones from the selected one on; of a
+// strict claim the selected one alone.
 func (c claim) requirements() *topologyRequirement {
 	all := []*topology{zoneTopology(c.zone)}
 	if c.strict {
@@ -121,7 +125,8 @@ func (p *provisioner) remove(id string) error {
 	return p.repeat(controller+"DeleteVolume", &deleteVolumeRequest{VolumeID: id}, &empty{})
 }
 
-// persistentContext is what a persistent volume keeps of the context of a volume, for the calls of csi-attacher.
+// persistentContext is what a persistent volume keeps of the context of a volume, for the calls of
+// csi-attacher.
 func (p *provisioner) persistentContext(v *volume) map[string]string {
 	all := map[string]string{provisionerIdentity: p.identity}
 	for key, value := range v.VolumeContext {
@@ -133,6 +138,7 @@ func (p *provisioner) persistentContext(v *volume) map[string]string {
 // capacity asks for the room of a topology segment.
 func (p *provisioner) capacity(zone string) (*getCapacityResponse, error) {
 	got := &getCapacityResponse{}
-	request := &getCapacityRequest{Parameters: map[string]string{"tier": "gold"}, AccessibleTopology: zoneTopology(zone)}
+	request := &getCapacityRequest{Parameters: map[string]string{"tier": "gold"},
+		AccessibleTopology: zoneTopology(zone)}
 	return got, p.ask(callTimeout, controller+"GetCapacity", request, got)
 }

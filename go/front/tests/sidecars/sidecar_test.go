@@ -1,5 +1,6 @@
-// Package sidecars makes the calls of Kubernetes' csi-provisioner and csi-attacher to the built front before the built csid: in their order,
-// with their deadlines and repeats, and reading codes as they do. The pauses between repeats are shorter, so that the tests end.
+// Package sidecars makes the calls of Kubernetes' csi-provisioner and csi-attacher to the built
+// front before the built csid: in their order, with their deadlines and repeats, and reading codes
+// as they do. The pauses between repeats are shorter, so that the tests end.
 package sidecars
 
 import (
@@ -25,14 +26,17 @@ const (
 )
 
 var (
-	// How many times slower csid is than a proved one: one that checks contracts while it runs takes seconds for a connection. All times grow by it.
+	// How many times slower csid is than a proved one: one that checks contracts while it runs
+	// takes seconds for a connection. All times grow by it.
 	slowness = factor("CSID_SLOWNESS")
 
-	// The deadlines of deploy/kubernetes.yaml (--timeout), and of csi-attacher for what it asks at its start.
+	// The deadlines of deploy/kubernetes.yaml (--timeout), and of csi-attacher for what it asks at
+	// its start.
 	callTimeout  = 30 * time.Second * slowness
 	shortTimeout = time.Second * slowness
 
-	// A sidecar repeats after 1 s, then twice as long, up to 5 minutes; kubelet starts a container again after 10 s.
+	// A sidecar repeats after 1 s, then twice as long, up to 5 minutes; kubelet starts a container
+	// again after 10 s.
 	firstPause   = 10 * time.Millisecond * slowness
 	longestPause = 320 * time.Millisecond * slowness
 	restartPause = 100 * time.Millisecond * slowness
@@ -54,7 +58,8 @@ func factor(variable string) time.Duration {
 	return time.Duration(number)
 }
 
-// Capabilities of a plugin and of its controller service, and access modes, as the specification numbers them.
+// Capabilities of a plugin and of its controller service, and access modes, as the specification
+// numbers them.
 const (
 	controllerService        = 1
 	accessibilityConstraints = 2
@@ -72,7 +77,8 @@ const (
 	modeSingleNodeMultiWriter = 7
 )
 
-// sidecar is a process of a sidecar that has come up: its connection, and what it asked at the start.
+// sidecar is a process of a sidecar that has come up: its connection, and what it asked at the
+// start.
 type sidecar struct {
 	*grpc.ClientConn
 	driver     string
@@ -120,7 +126,8 @@ func (s *sidecar) ask(length time.Duration, path string, request, response inter
 	return s.Invoke(ctx, path, request, response)
 }
 
-// probeForever waits until the driver is ready. A deadline that is over is waited out, any other error ends the sidecar.
+// probeForever waits until the driver is ready. A deadline that is over is waited out, any other
+// error ends the sidecar.
 func (s *sidecar) probeForever() error {
 	for {
 		got := &probeResponse{}
@@ -169,7 +176,8 @@ func (s *sidecar) capabilities(path string) (map[int32]bool, error) {
 	return set, nil
 }
 
-// isFinal reports whether a call that ended so is over: after other errors it may still go on in the driver.
+// isFinal reports whether a call that ended so is over: after other errors it may still go on in
+// the driver.
 func isFinal(err error) bool {
 	state, is := status.FromError(err)
 	if !is {

@@ -18,7 +18,8 @@ func (p *provisioner) wantsCapacity(t *testing.T, zone string, want int64) {
 	}
 }
 
-// poll asks for what is free in each zone until something is over, and returns how often; it is never less than nothing or more than a pool has.
+// poll asks for what is free in each zone until something is over, and returns how often; it is
+// never less than nothing or more than a pool has.
 func (p *provisioner) poll(t *testing.T, pool int64, over <-chan struct{}) (polls int) {
 	t.Helper()
 	for ; ; polls++ {
@@ -35,14 +36,16 @@ func (p *provisioner) poll(t *testing.T, pool int64, over <-chan struct{}) (poll
 			}
 			free, greatest := got.AvailableCapacity, got.MaximumVolumeSize.Value
 			if free < 0 || free > pool || greatest < 0 || greatest > free {
-				t.Errorf("zone %s: %d bytes are free, a volume may have %d; the pool has %d", zone, free, greatest, pool)
+				t.Errorf("zone %s: %d bytes are free, a volume may have %d; the pool has %d", zone, free, greatest,
+					pool)
 			}
 		}
 	}
 }
 
-// GetCapacity while volumes come and go. In zone b the callers have volumes of 2, 4, 2 and 4 MiB, for which there is no room together: a create
-// that is refused is repeated until others were deleted. In each zone four volumes of 1 MiB stand in the end.
+// GetCapacity while volumes come and go. In zone b the callers have volumes of 2, 4, 2 and 4 MiB,
+// for which there is no room together: a create that is refused is repeated until others were
+// deleted. In each zone four volumes of 1 MiB stand in the end.
 func TestCapacity(t *testing.T) {
 	t.Parallel()
 	const count, callers, pool = 96, 8, 8 * mebibyte
@@ -92,8 +95,9 @@ func (k *cluster) churn(c claim, rounds int) error {
 	return err
 }
 
-// reconcile walks over all pages, and compares the nodes that it is answered: the volumes that exist throughout are where they are, and the others,
-// by their ids, at the node of their claims or at none.
+// reconcile walks over all pages, and compares the nodes that it is answered: the volumes that
+// exist throughout are where they are, and the others, by their ids, at the node of their claims or
+// at none.
 func (k *cluster) reconcile(t *testing.T, pageLength int32, others map[string]string) {
 	t.Helper()
 	got, err := k.list(pageLength)
@@ -114,8 +118,8 @@ func (k *cluster) reconcile(t *testing.T, pageLength int32, others map[string]st
 	}
 }
 
-// What csi-attacher compares its attachments with, while others come and go: no attachment that exists throughout is missing, and none is shown
-// that never was.
+// What csi-attacher compares its attachments with, while others come and go: no attachment that
+// exists throughout is missing, and none is shown that never was.
 func TestReconciliation(t *testing.T) {
 	t.Parallel()
 	const standing, churning, rounds = 20, 4, 20
