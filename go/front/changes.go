@@ -13,16 +13,16 @@ const (
 	maxNodeBytes = 256
 )
 
-// change is what the log says of a call that changes volumes: about which volume it is, by the name
-// or the id, and at which node. Nothing else of a message is read: it may have secrets.
+// change has the parts of a call that the log shows if the call changes volumes: the name or the
+// id of the volume, and the node. No other field of a message is read: it may have secrets.
 type change struct {
 	Name   string `json:"name,omitempty"`
 	Volume string `json:"volume,omitempty"`
 	Node   string `json:"node,omitempty"`
 }
 
-// changes is the number of each field of a request that is in the log (docs/PROTOCOL.md,
-// "Messages"), by the method; 0 where there is none.
+// changes has the numbers of the logged fields of each request (docs/PROTOCOL.md, "Messages"); 0
+// for an absent field.
 var changes = map[string]struct{ name, volume, node protowire.Number }{
 	createVolume:                             {name: 1},
 	controller + "DeleteVolume":              {volume: 1},
@@ -50,7 +50,7 @@ func changeOf(path string, message, body []byte) *change {
 	return asked
 }
 
-// fieldOf is what a field of bytes has; nothing where there is none, or the message is none.
+// fieldOf returns the bytes of a field; nil if the field is absent or the message is malformed.
 func fieldOf(message []byte, number protowire.Number) []byte {
 	if number == 0 {
 		return nil
@@ -63,7 +63,7 @@ func fieldOf(message []byte, number protowire.Number) []byte {
 	return bytes
 }
 
-// textOf is the text of a field, of so many bytes at most.
+// textOf returns the text of a field, cut to a most of bytes.
 func textOf(message []byte, number protowire.Number, most int) string {
 	bytes := fieldOf(message, number)
 	if len(bytes) > most {

@@ -25,20 +25,20 @@ const (
 	roomPause = 10 * time.Millisecond
 )
 
-// limitedListener keeps at most so many connections open. For one more it closes the connection
-// that has had no call for the longest time; while each of them has one, the new connection waits.
+// limitedListener keeps a limited number of connections open. For a further one it closes the
+// connection that has had no call for the longest time; while each connection has a call, the new
+// one waits.
 type limitedListener struct {
 	net.Listener
 	limit int
-	// Told of each connection that was closed for another one.
+	// Called for each connection that was closed for another one.
 	report func()
 	closed chan struct{}
 	close  sync.Once
 	// The rest is shared with the connections.
 	mutex sync.Mutex
 	open  int
-	// Of the open connections those without a call, the one that has had none for the longest time
-	// first.
+	// The open connections without a call, the longest idle one first.
 	quiet *list.List
 }
 
@@ -172,7 +172,7 @@ func (c *clientConn) release() {
 	}
 }
 
-// RemoteAddr is the address of the client, from which clientOf has the connection.
+// RemoteAddr is the address of the client; clientOf gets the connection from it.
 func (c *clientConn) RemoteAddr() net.Addr { return clientAddr{c.Conn.RemoteAddr(), c} }
 
 type clientAddr struct {
@@ -201,9 +201,9 @@ func (l grpcListener) Accept() (net.Conn, error) {
 	return grpcConn{client}, nil
 }
 
-// grpcConn is a connection of gRPC whose writes do not fail: one that would closes the connection
-// instead, and the reader of gRPC sees its end. grpc-go 1.33 writes in a goroutine of its own.
-// Where that one ends first, the reader waits for it for hours, with some 100 KiB, once 50 replies
+// grpcConn is a connection of gRPC whose writes do not fail: a failing write closes the connection
+// instead, and the reader of gRPC sees its end. grpc-go 1.33 writes in a goroutine of its own. If
+// this goroutine ends first, the reader waits for it for hours, with some 100 KiB, once 50 replies
 // to PING or SETTINGS are to be written.
 type grpcConn struct{ *clientConn }
 

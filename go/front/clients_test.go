@@ -17,8 +17,8 @@ func open(l *limitedListener) int {
 	return l.open
 }
 
-// limited is a listener of which so many connections may be open, where it listens, and how many
-// connections it has closed for others.
+// limited is a listener with a limit of open connections, its address, and the number of
+// connections that it has closed for others.
 func limited(t *testing.T, limit int) (*limitedListener, string, *int32) {
 	t.Helper()
 	listener, path := listening(t)

@@ -7,9 +7,9 @@ import (
 	"github.com/BurntSushi/toml"
 )
 
-// configuration is what the front takes of the configuration of csid (docs/OPERATING.md,
-// "Configuration"): how much room pools and nodes have. csid judges the file; nothing but metrics
-// comes from what is read here.
+// configuration is the part of the configuration of csid that the front uses (docs/OPERATING.md,
+// "Configuration"): the room of pools and nodes. csid judges the file; only metrics are made from
+// the values read here.
 type configuration struct {
 	Pools []pool `toml:"pool"`
 	Nodes []node `toml:"node"`
@@ -25,7 +25,7 @@ type node struct {
 	MaxVolumes int64  `toml:"max_volumes"`
 }
 
-// readConfiguration reads a configuration, and refuses one of which no metrics can be made.
+// readConfiguration reads a configuration, and refuses it if no metrics can be made from it.
 func readConfiguration(path string) (*configuration, error) {
 	config := &configuration{}
 	if _, err := toml.DecodeFile(path, config); err != nil {
@@ -34,7 +34,7 @@ func readConfiguration(path string) (*configuration, error) {
 	return config, config.check()
 }
 
-// check refuses what would be no series, or one that is there twice.
+// check refuses names that would be no series, or the same series twice.
 func (c *configuration) check() error {
 	if len(c.Pools) == 0 {
 		return errors.New("there is no pool")

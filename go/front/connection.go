@@ -19,7 +19,7 @@ const (
 	maxSentBytes = 64 << 10
 )
 
-// A message of at most so many bytes is copied, so that one write sends the frames of several
+// A message of at most this many bytes is copied, so that one write sends the frames of several
 // calls.
 const maxCopiedBytes = 4 << 10
 
@@ -47,9 +47,9 @@ type connection struct {
 	sentCount atomic.Int32
 	// Calls that are sent again over the next connection, in order.
 	again []*call
-	// What is left to write of the calls on their way: the buffer from written on, and then a
-	// message that is not copied. While isWriting, a goroutine waits for the socket to take it, and
-	// no further call is sent.
+	// The unwritten bytes of the calls on their way: the buffer from written on, and then a message
+	// that is not copied. While isWriting, a goroutine waits for the socket to take them, and no
+	// further call is sent.
 	buffer    []byte
 	written   int
 	message   []byte
@@ -110,7 +110,7 @@ func (c *connection) hasRoom(one *call) bool {
 	return c.isOpen() && c.hasServed && len(c.sent) < maxSent && c.sentBytes+one.size <= maxSentBytes
 }
 
-// add puts a call after those on their way, and its frame after what is left to write.
+// add puts a call after the calls on their way, and its frame after the unwritten bytes.
 func (c *connection) add(one *call) {
 	if len(c.sent) == 0 {
 		c.begun = time.Now()
@@ -137,7 +137,7 @@ func (c *connection) takeFirst() *call {
 	return one
 }
 
-// takeBack removes the last call on its way, of which nothing was written.
+// takeBack removes the last call on its way, if no byte of it was written.
 func (c *connection) takeBack() *call {
 	one := c.last()
 	c.dropLast(one.size)
@@ -155,7 +155,7 @@ func (c *connection) dropLast(size int) {
 	c.sentCount.Store(int32(last))
 }
 
-// last is the last call on its way; nil if there is none.
+// last is the last call on its way, or nil.
 func (c *connection) last() *call {
 	if len(c.sent) == 0 {
 		return nil

@@ -23,7 +23,7 @@ func listening(t *testing.T) (net.Listener, string) {
 	return listener, path
 }
 
-// awaitBytes waits until so many bytes of a call have come, and reads none.
+// awaitBytes waits until `count` bytes of a call have come, and reads none of them.
 func awaitBytes(conn net.Conn, count int) {
 	raw, err := conn.(*net.UnixConn).SyscallConn()
 	if err != nil {

@@ -23,7 +23,7 @@ const (
 	takeTime     = 10 * time.Second
 )
 
-// How long no connection is taken after one that could not be.
+// The pause after a connection that could not be accepted.
 const acceptPause = time.Second
 
 // How often it is looked whether a peer that waits for a reply is still there.
@@ -32,9 +32,9 @@ const peerLookTime = 100 * time.Millisecond
 // viaControl is the word of log lines about calls that came over the control socket.
 const viaControl = "control"
 
-// control answers calls in the envelope of docs/PROTOCOL.md over a Unix socket, as csid does: who
-// uses csictl need not wait until the front leaves csid's one connection. Each connection has one
-// call at a time, which waits like those of gRPC.
+// control answers calls in the envelope of docs/PROTOCOL.md over a Unix socket, as csid does:
+// users of csictl need not wait until the front leaves csid's one connection. Each connection has
+// one call at a time, which waits like a gRPC call.
 type control struct {
 	handler  *handler
 	listener *limitedListener
@@ -129,8 +129,8 @@ func (c *control) wait() {
 	}
 }
 
-// answerAll answers the calls of a connection, in order, until it ends or has one that gets no
-// reply. A fault of the envelope is answered as csid answers it, and nothing of it goes to csid.
+// answerAll answers the calls of a connection, in order, until the connection ends or a call gets
+// no reply. A fault of the envelope is answered as csid answers it, and does not reach csid.
 func (c *control) answerAll(conn *clientConn) {
 	requests := frames.NewRequests(conn)
 	for c.awaits(conn) {
@@ -170,8 +170,8 @@ func (c *control) reply(conn *clientConn, answer frames.Reply) error {
 	return err
 }
 
-// answer has a call done by csid. Where csid gives no reply there is none: whoever made the call
-// takes it as one that csid itself left unanswered.
+// answer has a call done by csid. Without a reply of csid the caller gets none, as if csid itself
+// had left the call unanswered.
 func (c *control) answer(conn *clientConn, request frames.Request) (frames.Reply, error) {
 	begin := time.Now()
 	ctx, cancel := context.WithCancel(context.Background())

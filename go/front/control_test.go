@@ -64,8 +64,8 @@ func dial(t *testing.T, path string) *net.UnixConn {
 
 const shortFrame = "0004 2f612f62 00 00000000"
 
-// Calls of one connection are answered in order, also by one that ends its writing at once, with
-// the bytes that csid answers.
+// Calls of one connection are answered in order with the bytes of csid, also on a connection whose
+// peer ends its writing at once.
 func TestControlCalls(t *testing.T) {
 	path, _ := csid(t, answering(fromHex(t, "09 0002 4142 00 00000000")))
 	c, socket, log := controlled(t, path)
@@ -98,7 +98,7 @@ func TestManyControlConnections(t *testing.T) {
 	}
 }
 
-// Peers that have sent no whole call make room for one that has; those whose calls run do not.
+// Peers without a whole call make room for a peer with one; peers whose calls run do not.
 func TestSilentControlPeers(t *testing.T) {
 	path, let := holding(t)
 	c, socket, _ := controlled(t, path)
@@ -197,7 +197,7 @@ func TestControlPeerThatGoes(t *testing.T) {
 }
 
 // Calls of the control socket and of gRPC are on their way together. If the connection ends, the
-// first of them gets no reply, and the other one has that of the next connection.
+// first of them gets no reply, and the other one gets its reply over the next connection.
 func TestControlCallOnTheWay(t *testing.T) {
 	for _, isControlFirst := range []bool{true, false} {
 		path, connections := concurrentCsid(t, func(conn net.Conn, number int32) {
@@ -261,7 +261,7 @@ func holding(t *testing.T) (string, chan struct{}) {
 	return path, let
 }
 
-// At the end a call that runs is answered, and one that is not whole is not.
+// At the end a running call is answered, and an incomplete call is not.
 func TestEndOfControl(t *testing.T) {
 	path, let := holding(t)
 	c, socket, _ := controlled(t, path)

@@ -10,8 +10,8 @@ import (
 	"google.golang.org/grpc/codes"
 )
 
-// told is each series name that a front says, with its labels.
-func told(t *testing.T) map[string]map[string]bool {
+// reportedSeries has the labels of each series that a front reports.
+func reportedSeries(t *testing.T) map[string]map[string]bool {
 	t.Helper()
 	h := replying(t, "00 0000 00 00000005 0880808007")
 	h.standsBy = true
@@ -59,7 +59,7 @@ var (
 // The dashboard, the alerts and the page name only metrics that exist, and the labels that these
 // have.
 func TestMetricsThatAreNamed(t *testing.T) {
-	names := told(t)
+	names := reportedSeries(t)
 	codeNames := map[string]bool{}
 	for code := codes.OK; code <= codes.Unauthenticated; code++ {
 		codeNames[code.String()] = true
@@ -85,7 +85,8 @@ func TestMetricsThatAreNamed(t *testing.T) {
 		for _, selector := range matched.FindAllStringSubmatch(text, -1) {
 			for _, matcher := range matchers.FindAllStringSubmatch(selector[2], -1) {
 				label, value := matcher[1], matcher[3]
-				if !names[selector[1]][label] || label == "method" && !isMethod(matcher[2], value) || label == "code" && !codeNames[value] {
+				isKnown := names[selector[1]][label] && (label != "method" || isMethod(matcher[2], value))
+				if !isKnown || label == "code" && !codeNames[value] {
 					t.Errorf("%s: %s has no label %s of %q", file, selector[1], label, value)
 				}
 			}
@@ -112,7 +113,7 @@ func isMethod(operator, value string) bool {
 // The page has a row for each metric of the front's own, and each alert has one.
 func TestPageOfMetrics(t *testing.T) {
 	text := page(t, "docs/DEPLOY.md")
-	for name := range told(t) {
+	for name := range reportedSeries(t) {
 		isPart := regexp.MustCompile(`_(bucket|sum|count)$`).MatchString(name)
 		if strings.HasPrefix(name, namespace) && !isPart && !strings.Contains(text, "\n| `"+name) {
 			t.Errorf("no row for %s", name)

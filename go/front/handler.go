@@ -29,8 +29,8 @@ const (
 	clientWindow = 1 << 20
 )
 
-// How many goroutines are kept for calls. A new one would have to grow its stack for each call;
-// calls beyond these have one all the same.
+// The number of goroutines kept for calls. A new one must grow its stack for each call; further
+// calls get a new one all the same.
 const callWorkers = 32
 
 // What the names and values of the headers of one call may have, with 32 bytes for each (RFC 9113,
@@ -38,7 +38,7 @@ const callWorkers = 32
 const maxHeaderBytes = 16 << 10
 
 // anyPings lets clients send PING at any time. For too many of them grpc-go 1.33 would end its
-// writer first (grpcConn). A MinTime of 0 would stand for five minutes.
+// writer first (grpcConn). A MinTime of 0 would mean five minutes.
 var anyPings = keepalive.EnforcementPolicy{MinTime: -1, PermitWithoutStream: true}
 
 // bytesCodec hands messages on as they are: Name is for the client of a node plugin, String for the
@@ -56,8 +56,8 @@ const (
 	nodePluginName = "node plugin"
 )
 
-// handler answers every unary method by csid, but those of the Node service where there is a node
-// plugin, and Check of the health service where that is asked for.
+// handler answers every unary method by csid, except the Node service if there is a node plugin,
+// and Check of the health service with --health.
 type handler struct {
 	backend *backend
 	// Answers the Node service; nil without --node.
@@ -70,8 +70,8 @@ type handler struct {
 	// Whether the health service of gRPC is answered, and whether each change is logged.
 	hasHealth  bool
 	logChanges bool
-	// Whether the front has --standby, and whether it waits for csid. Why it does is reported then,
-	// so what is asked in the meantime has no lines.
+	// Whether the front has --standby, and whether it waits for csid. The reason is reported when
+	// the wait begins, so refusals in the meantime have no lines.
 	standsBy  bool
 	isWaiting atomic.Bool
 }
@@ -115,8 +115,8 @@ func (h *handler) handle(_ interface{}, stream grpc.ServerStream) error {
 	return err
 }
 
-// ended counts a call that came over a socket (an empty name is that of gRPC), and logs it where it
-// was refused, or where it was a change that is logged.
+// ended counts a call of a socket (the empty name means gRPC), and logs it if it was refused, or
+// if it was a change and changes are logged.
 func (h *handler) ended(socket, path string, asked *change, why *status.Status, took time.Duration) {
 	h.metrics.ended(path, why.Code(), took)
 	if why.Code() != codes.OK {
@@ -230,8 +230,8 @@ func isDown(answer frames.Reply) bool {
 // they believe that none was.
 var openReasons = map[string]bool{"out of memory": true, "store refused": true, downReason: true}
 
-// refusal is the answer to a call that got no reply. It has one of the codes after which an orchestrator takes the outcome as open,
-// and repeats the call.
+// refusal is the answer to a call without a reply. An orchestrator takes its code as an open
+// outcome, and repeats the call.
 func refusal(ctx context.Context, who string, err error) error {
 	if ended := ended(ctx); ended != nil {
 		return status.FromContextError(ended).Err()

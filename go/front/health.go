@@ -26,8 +26,8 @@ func (h *handler) checkHealth(ctx context.Context, message []byte) ([]byte, erro
 	return proto.Marshal(answer)
 }
 
-// checkOf is what tells whether a service is served; nil for one that is not known. All of the
-// plugin and its Identity service are served by csid and the node plugin together.
+// checkOf returns the check of a service, or nil for an unknown service. The plugin as a whole and
+// its Identity service are served by csid and the node plugin together.
 func (h *handler) checkOf(service string) func(context.Context) error {
 	switch {
 	case service == "" || service == "csi.v1.Identity":

@@ -11,9 +11,9 @@ import (
 	"google.golang.org/protobuf/encoding/protowire"
 )
 
-// What a listing costs csid is bounded by the pause between two pages, each of 100 volumes at most,
-// and by the pause from the beginning of a listing to that of the next one; after one that failed
-// it is shorter.
+// The cost of listings for csid is bounded by the pause between two pages, of at most 100 volumes
+// each, and by the pause between the beginnings of two listings; after a failed listing it is
+// shorter.
 const (
 	pagePause    = 100 * time.Millisecond
 	listingPause = time.Minute
@@ -58,8 +58,7 @@ func newListings(h *handler, config *configuration) *listings {
 		failurePause: failurePause}
 }
 
-// run lists volumes until the context ends. A front that stands by asks for none: its csid may not
-// serve.
+// run lists volumes until the context ends. A standby front does not ask: its csid may not serve.
 func (l *listings) run(ctx context.Context) {
 	for ctx.Err() == nil {
 		next := l.failurePause
@@ -127,8 +126,8 @@ func (l *listings) kept() *listing {
 	return l.last
 }
 
-// addPage adds the volumes of a page (docs/PROTOCOL.md, "Messages"), and gives the token of the
-// next one; an empty token is that of the last page.
+// addPage adds the volumes of a page (docs/PROTOCOL.md, "Messages"), and returns the token of the
+// next page; the token is empty after the last page.
 func (l *listing) addPage(body []byte) (token string, err error) {
 	err = eachField(body, func(number protowire.Number, kind protowire.Type, value []byte) error {
 		if kind != protowire.BytesType {
@@ -146,8 +145,7 @@ func (l *listing) addPage(body []byte) (token string, err error) {
 	return token, err
 }
 
-// addEntry adds a volume, of which field 1 is what it is, and field 1 of field 2 the nodes where it
-// is.
+// addEntry adds the volume of an entry: field 1 is the volume, and field 1 of field 2 its nodes.
 func (l *listing) addEntry(entry []byte) error {
 	l.volumes++
 	return eachField(entry, func(number protowire.Number, kind protowire.Type, value []byte) error {
@@ -171,8 +169,8 @@ func (l *listing) addEntry(entry []byte) error {
 	})
 }
 
-// addVolume adds the bytes of a volume, its field 1, to those of its pool, which the entry "pool"
-// of the context, its field 3, names.
+// addVolume adds the bytes of a volume, its field 1, to its pool's, which the entry "pool" of the
+// context, its field 3, names.
 func (l *listing) addVolume(volume []byte) error {
 	var bytes uint64
 	var name string
@@ -193,7 +191,7 @@ func (l *listing) addVolume(volume []byte) error {
 	return err
 }
 
-// What is reported of pools, nodes and volumes.
+// The series of pools, nodes and volumes.
 var (
 	poolSize = newDesc("pool_size_bytes", "Bytes of a pool, by the configuration.", "pool")
 	poolUsed = newDesc("pool_used_bytes", "Bytes of a pool that its volumes take, by the last listing.", "pool")

@@ -26,8 +26,8 @@ const (
 
 var room = &configuration{[]pool{{"p1", 10485760}, {"p2", 4194304}, {"p3", 1048576}}, []node{{"n1", 2}, {"n3", 4}}}
 
-// paging is a csid that answers ListVolumes by these pages, of which each is named by the token in
-// hexadecimal, and notes the messages.
+// paging is a csid that answers ListVolumes with these pages, each under its token in hexadecimal,
+// and notes the messages.
 func paging(t *testing.T, pages map[string]string) (*listings, chan string) {
 	t.Helper()
 	asked := make(chan string, 99)
@@ -72,7 +72,7 @@ func TestListing(t *testing.T) {
 	}
 }
 
-// A listing that was not whole changes nothing of what is reported, and is in the log.
+// An incomplete listing changes no series, and is logged.
 func TestListingThatFails(t *testing.T) {
 	l, _ := paging(t, map[string]string{"": entry1 + "120131"})
 	before := &listing{volumes: 7}
@@ -86,7 +86,7 @@ func TestListingThatFails(t *testing.T) {
 	}
 }
 
-// A csid whose pages have no end is asked for so many at most.
+// A csid with endless pages is asked for a limited number of them.
 func TestListingWithoutEnd(t *testing.T) {
 	l, asked := paging(t, map[string]string{"": "120131", "\x12\x011": "120131"})
 	go func() {
@@ -98,7 +98,7 @@ func TestListingWithoutEnd(t *testing.T) {
 	}
 }
 
-// Pages come a pause apart, and so do listings; a front that stands by asks for none.
+// Pages come a pause apart, and so do listings; a standby front does not ask.
 func TestPaceOfListings(t *testing.T) {
 	l, asked := paging(t, map[string]string{"": "120131", "\x12\x011": ""})
 	l.pagePause, l.listingPause, l.failurePause = 30*time.Millisecond, 100*time.Millisecond, time.Millisecond
@@ -125,8 +125,7 @@ func TestPaceOfListings(t *testing.T) {
 	<-ended
 }
 
-// What is reported of each pool and node of the configuration; before the first listing what they
-// have room for alone.
+// The series of each pool and node of the configuration; before the first listing only their room.
 func TestMetricsOfListings(t *testing.T) {
 	l, _ := paging(t, map[string]string{"": entry1 + entry2 + entry3})
 	sizes := `

@@ -49,7 +49,7 @@ type entry struct {
 	Dropped uint64    `json:"dropped,omitempty"`
 	// The lines that were left out, by their messages.
 	LeftOut map[string]uint64 `json:"left_out,omitempty"`
-	// The socket over which the calls came that the line is about; that of gRPC has no name.
+	// The socket of the calls that the line is about; empty for gRPC.
 	Socket string `json:"socket,omitempty"`
 	*endedCall
 	*change
@@ -69,8 +69,8 @@ func newLogger(out io.Writer, format string) *logger {
 	return &logger{lines: log.New(out, "front: ", 0)}
 }
 
-// newLog is the log of the program. No line waits for whoever reads it, also none that a package
-// writes on its own: gRPC its errors, and any other what it has for Go's own log.
+// newLog returns the log of the program. No line waits for its reader, also not the lines of
+// packages: gRPC's errors, and every other package's lines for Go's own log.
 func newLog(out io.Writer, format string) *logger {
 	queue := logqueue.New(out, func(count uint64) string {
 		var line strings.Builder
@@ -95,15 +95,15 @@ func (l *logger) write(text string, line entry) {
 	l.lines.Print(text)
 }
 
-// writeFew writes a line of which others may cause any number: ten in a second, and then how many
-// more.
+// writeFew writes a line that clients may cause any number of times: ten in a second, and then the
+// number of the others.
 func (l *logger) writeFew(text string, line entry) {
 	if l.limit.allows(line.Message, time.Now()) {
 		l.write(text, line)
 	}
 }
 
-// end writes what waits to be written, at most so long. It is called once, at the end of the
+// end writes the waiting lines, for at most the given time. It is called once, at the end of the
 // program.
 func (l *logger) end(limit time.Duration) {
 	l.limit.finish(time.Now())
@@ -146,8 +146,8 @@ func (l *logger) isReady() {
 	l.write(text, entry{Level: levelInfo, Message: text})
 }
 
-// refuses reports a call that was refused, and about which volume it was where that is logged.
-// Nothing else of its message goes into the log: it may have secrets.
+// refuses reports a refused call, and its volume if changes are logged. Nothing more of its
+// message is logged: it may have secrets.
 func (l *logger) refuses(socket, path string, asked *change, why *status.Status, took time.Duration) {
 	l.writeFew(endedLine(entry{Level: levelWarn, Message: "call refused", Socket: socket}, path, asked, why, took))
 }

@@ -33,8 +33,8 @@ func TestLinesOfPackages(t *testing.T) {
 	}
 }
 
-// Each line in both formats, with its time in UTC wherever that is. A number of JSON is a float64
-// to encoding/json.
+// Each line in both formats, with its time in UTC in every time zone. A number of JSON is a
+// float64 to encoding/json.
 func TestLines(t *testing.T) {
 	local := time.Local
 	time.Local = time.FixedZone("", 3600)

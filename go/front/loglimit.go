@@ -48,8 +48,7 @@ func (l *lineLimit) allows(kind string, now time.Time) bool {
 	return false
 }
 
-// finish reports the lines that were counted, if any were, and begins a second in which no line
-// passes.
+// finish reports the counted lines, if there are any, and begins a second that lets no line pass.
 func (l *lineLimit) finish(now time.Time) {
 	if l == nil {
 		return

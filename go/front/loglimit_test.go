@@ -35,8 +35,8 @@ func wantsCounts(t *testing.T, reports <-chan map[string]uint64, want map[string
 	}
 }
 
-// Ten lines pass in a second, and the others are counted by kinds. After a second in which lines
-// were counted none passes; after one without lines ten do.
+// Ten lines pass in a second, and the others are counted by kinds. After a second with counted
+// lines no line passes; after a second without lines ten do.
 func TestLinesBeyondTen(t *testing.T) {
 	l, reports := counted()
 	// So late that no second is over before the test ends.
@@ -62,7 +62,7 @@ func TestLinesBeyondTen(t *testing.T) {
 	}
 }
 
-// What was counted is reported without a further line, once the second is over.
+// The counts are reported once the second is over, also without a further line.
 func TestReportOfLinesThatWereLeftOut(t *testing.T) {
 	l, reports := counted()
 	passed(l, 12, "a", time.Now())

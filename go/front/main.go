@@ -1,8 +1,9 @@
 // front answers gRPC over HTTP/2 on a Unix socket by a csid that listens on another one.
 //
-// A call's path and bytes go on as one frame, and the reply's status, text and body come back. Of messages it knows the two that it asks
-// csid for itself: Probe and GetCapacity, for who watches it, and Probe where it stands by. With --node the calls of the Node service go to a
-// node plugin, over gRPC and unread.
+// A call's path and bytes go on as one frame, and the reply's status, text and body come back. It
+// knows only the two messages that it asks csid for itself: Probe and GetCapacity, for monitoring,
+// and Probe while it is on standby. With --node the calls of the Node service go to a node plugin,
+// over gRPC and unread.
 package main
 
 import (

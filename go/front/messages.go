@@ -14,8 +14,8 @@ import (
 // How often it is looked whether a message is late.
 const lookTime = 50 * time.Millisecond
 
-// errLate ends a call whose message held up others. What was received of it is dropped, or it would
-// have no bound.
+// errLate ends a call whose message held up others. The received part of the message is dropped;
+// otherwise memory would have no bound.
 var errLate = status.Error(codes.Unavailable, "the message did not come in time, and other calls wait")
 
 // messages bounds what the messages of all calls take that wait to be sent or for their replies.
@@ -54,8 +54,8 @@ func (m *messages) receive(stream grpc.ServerStream) ([]byte, error) {
 	return message, nil
 }
 
-// take counts a message, unless there is no room for it. For an empty one, as that of Probe is,
-// there always is.
+// take counts a message, unless there is no room for it. An empty message, as Probe's, always has
+// room.
 func (m *messages) take(bytes int) bool {
 	m.mutex.Lock()
 	defer m.mutex.Unlock()
@@ -73,7 +73,7 @@ func (m *messages) giveBack(message []byte) {
 }
 
 // receiver receives messages in a goroutine of its own, which is kept for the next one: a new
-// goroutine would have to grow its stack each time.
+// goroutine must grow its stack each time.
 type receiver struct {
 	next    chan func() ([]byte, error)
 	done    chan struct{}
@@ -94,7 +94,7 @@ func (r *receiver) run() {
 	}
 }
 
-// receiver is one that receives nothing.
+// receiver returns an idle receiver.
 func (m *messages) receiver() *receiver {
 	select {
 	case r := <-m.idle:
@@ -114,8 +114,8 @@ func (m *messages) keep(r *receiver) {
 	}
 }
 
-// inTime gives what is received, unless it is late. The end of the call ends the receiving then,
-// and the receiver is not used again.
+// inTime returns the received message, unless it is late. Then the end of the call ends the
+// receiving, and the receiver is not used again.
 func (m *messages) inTime(receive func() ([]byte, error)) ([]byte, error) {
 	begin, r := time.Now(), m.receiver()
 	r.next <- receive

@@ -66,7 +66,8 @@ func TestMessagesThatAreLate(t *testing.T) {
 	}
 }
 
-// A receiver is kept for the next message without the one that it had. One more than are kept ends.
+// A receiver is kept for the next message, without its last one. A receiver beyond the kept number
+// ends.
 func TestReceiversThatAreKept(t *testing.T) {
 	m := newMessages(10)
 	if got, err := m.inTime(func() ([]byte, error) { return []byte("a"), io.EOF }); string(got) != "a" ||

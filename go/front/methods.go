@@ -32,7 +32,7 @@ var methods = map[string]bool{
 	controller + "ControllerModifyVolume":     true,
 }
 
-// nodeMethods are those of the Node service (CSI 1.x), which a node plugin answers.
+// nodeMethods are the methods of the Node service (CSI 1.x), which a node plugin answers.
 var nodeMethods = map[string]bool{
 	nodeService + "NodeStageVolume":     true,
 	nodeService + "NodeUnstageVolume":   true,

@@ -28,8 +28,8 @@ type metrics struct {
 	series map[string]*series
 }
 
-// series are those of one method: how many calls were answered, by code, and how long they took.
-// The latter is made with the first call.
+// series has the series of one method: the answered calls by code, and their durations. The
+// durations begin with the first call.
 type series struct {
 	calls   [codes.Unauthenticated + 1]prometheus.Counter
 	once    sync.Once
@@ -61,7 +61,8 @@ func newMetrics() *metrics {
 	return m
 }
 
-// begin reports the counters of some methods as 0: where one begins at 1, Prometheus sees no increase.
+// begin reports the counters of some methods as 0: Prometheus sees no increase of a counter that
+// begins at 1.
 func (m *metrics) begin(methods map[string]bool) {
 	for method := range methods {
 		own := &series{}
@@ -116,7 +117,8 @@ func newRegistry(h *handler, topologies []topology, listings *listings) *prometh
 
 func standingBy(h *handler) prometheus.Collector {
 	return prometheus.NewGaugeFunc(prometheus.GaugeOpts{
-		Namespace: namespace, Name: "standing_by", Help: "Whether the front waits for csid: without --node it has no socket then.",
+		Namespace: namespace, Name: "standing_by",
+		Help: "Whether the front waits for csid: without --node it has no socket then.",
 	}, func() float64 {
 		if h.isWaiting.Load() {
 			return 1
@@ -141,7 +143,8 @@ func nodePluginUp(h *handler) prometheus.Collector {
 
 func nodeCalls(n *nodePlugin) prometheus.Collector {
 	return prometheus.NewGaugeFunc(prometheus.GaugeOpts{
-		Namespace: namespace, Name: "node_calls", Help: "Calls of the Node service that the node plugin has not answered.",
+		Namespace: namespace, Name: "node_calls",
+		Help: "Calls of the Node service that the node plugin has not answered.",
 	}, func() float64 { return float64(len(n.calls)) })
 }
 
@@ -191,7 +194,7 @@ func (c *csidCollector) Describe(out chan<- *prometheus.Desc) {
 	out <- c.capacity
 }
 
-// Collect reports nothing of a topology of which csid reports nothing: the log says why.
+// Collect leaves out a topology without an answer of csid: the log says why.
 func (c *csidCollector) Collect(out chan<- prometheus.Metric) {
 	ctx, cancel := context.WithTimeout(context.Background(), questionTime)
 	defer cancel()

@@ -30,8 +30,8 @@ const (
 // refuses them. Ten thousand short lines would take some MiB as headers.
 const maxRequestBytes = 8 << 10
 
-// newMonitor answers who watches the front: /metrics for Prometheus, /healthz for a liveness probe,
-// and /livez for that of a front that stands by.
+// newMonitor serves monitoring: /metrics for Prometheus, /healthz for a liveness probe, and /livez
+// for the liveness probe of a standby front.
 func newMonitor(h *handler, topologies []topology, listings *listings) http.Handler {
 	mux := http.NewServeMux()
 	mux.Handle("/metrics", promhttp.HandlerFor(newRegistry(h, topologies, listings),

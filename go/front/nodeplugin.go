@@ -16,8 +16,8 @@ import (
 // can have at once: where the plugin hangs, three quarters are left for csid.
 const maxNodeCalls = 64
 
-// maxNodeProbes is the most Probes that the plugin has to answer at once. They have places of their
-// own, so that a plugin with many volumes to mount does not look like one that is away.
+// maxNodeProbes is the most Probes that the plugin gets at once. They have places of their own, so
+// that a plugin with many volumes to mount does not look like a missing one.
 const maxNodeProbes = 16
 
 // maxStatusBytes is the most that the headers of a reply may have, with the text and the details of
@@ -30,8 +30,8 @@ var (
 )
 
 // nodePlugin answers the Node service on a socket of its own. Each call has a connection of its
-// own, as the calls of a kubelet have: there are few, each takes longer than a connection, and one
-// that ended with the plugin is never met.
+// own, as a kubelet's calls have: there are few, each takes longer than a connection, and no call
+// meets a connection that ended with the plugin.
 type nodePlugin struct {
 	path          string
 	calls, probes slots
@@ -74,7 +74,7 @@ func (n *nodePlugin) invoke(ctx context.Context, path string, message []byte) ([
 }
 
 // connect waits until the plugin speaks HTTP/2 over a new connection, at most for questionTime. A
-// socket that is missing, or that nobody listens on, is reported at once.
+// socket that is missing, or that has no listener, is reported at once.
 func (n *nodePlugin) connect(ctx context.Context) (*grpc.ClientConn, error) {
 	ctx, cancel := context.WithTimeout(ctx, questionTime)
 	defer cancel()

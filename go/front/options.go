@@ -47,7 +47,7 @@ type options struct {
 	// Where metrics are reported; nowhere if it is empty.
 	metrics    string
 	topologies []topology
-	// What csid has room for; nil where there is no --config.
+	// The room of pools and nodes; nil without --config.
 	configuration *configuration
 	version       bool
 }
@@ -61,7 +61,8 @@ func readOptions(given []string, endpoint string, shown io.Writer) (options, err
 	flags.StringVar(&asked.listen, "listen", endpoint,
 		"the `PATH` of the socket for the orchestrator, also as unix://PATH; without it CSI_ENDPOINT")
 	flags.StringVar(&asked.csid, "csid", "", "the `PATH` of the socket that csid serves")
-	flags.StringVar(&asked.node, "node", "", "the `PATH` of the socket of a node plugin, which answers the calls of the Node service")
+	flags.StringVar(&asked.node, "node", "",
+		"the `PATH` of the socket of a node plugin, which answers the calls of the Node service")
 	flags.DurationVar(&asked.grace, "grace", 20*time.Second, "how long calls may go on after SIGTERM, as 20s: a `TIME`")
 	flags.DurationVar(&asked.late, "late", time.Minute,
 		"how long csid may take for the reply to a call that was given up, before its connection is closed: a `TIME`")

@@ -135,7 +135,10 @@ func TestHelp(t *testing.T) {
 	if !errors.Is(err, flag.ErrHelp) {
 		t.Error(err)
 	}
-	for _, word := range []string{"usage: ", "-csid", "-listen", "-node", "-grace", "-late", "-waiting", "-log-format", "-log-changes", "-control", "-control-group", "-standby", "-health", "-metrics", "-metrics-topology", "-config", "-version"} {
+	words := []string{"usage: ", "-csid", "-listen", "-node", "-grace", "-late", "-waiting", "-log-format",
+		"-log-changes", "-control", "-control-group", "-standby", "-health", "-metrics", "-metrics-topology",
+		"-config", "-version"}
+	for _, word := range words {
 		if !strings.Contains(shown.String(), word) {
 			t.Errorf("no %s in %s", word, shown.String())
 		}

@@ -2,8 +2,8 @@ package main
 
 import "time"
 
-// csid opens and judges its whole file for each connection, also for one that was left in the
-// meantime. So connections begin a pause apart at least, and it doubles with each that gave no
+// csid opens and judges its whole file for each connection, also for an abandoned one. So
+// connections begin at least a pause apart, and the pause doubles with each connection without a
 // reply.
 const (
 	leastPause    = 100 * time.Millisecond

@@ -158,7 +158,7 @@ type onTheirWay struct {
 	connections *int32
 }
 
-// sends returns a backend with so many calls on their way, some under contexts of their own.
+// sends returns a backend with `count` calls on their way, some under contexts of their own.
 func sends(t *testing.T, count int, contexts map[uint32]context.Context) *onTheirWay {
 	t.Helper()
 	return sendsBefore(t, count, contexts, serves)
@@ -265,7 +265,7 @@ func (e ending) lost() uint32 {
 	}
 }
 
-// endings are all endings for so many calls: after each byte of the calls, and of each reply.
+// endings are all endings for `count` calls: after each byte of the calls, and of each reply.
 func endings(calls int) (all []ending) {
 	for reads := 0; reads <= calls*numberedCall; reads++ {
 		all = append(all, ending{calls: calls, reads: reads})
@@ -278,8 +278,8 @@ func endings(calls int) (all []ending) {
 	return all
 }
 
-// check checks that each call had one outcome, each change was made once, that of the lost call at
-// most once, and all in the order of the calls.
+// check checks that each call had one outcome, each change was made once, the lost call's at most
+// once, and all in the order of the calls.
 func (e ending) check(t *testing.T, s *onTheirWay) {
 	t.Helper()
 	results, counts := s.all(t, e.calls), s.made.counts()
@@ -464,7 +464,7 @@ func TestSlowReplyBeforeFastOnes(t *testing.T) {
 	}
 }
 
-// serveOn serves so many calls over the first connection.
+// serveOn serves `count` calls over the first connection.
 func serveOn(s *onTheirWay, calls int) {
 	for call := 0; call < calls; call++ {
 		number, err := takeCall(s.conn)
@@ -830,8 +830,8 @@ var stressTime = func() time.Duration {
 // tally counts the outcomes of calls.
 type tally struct{ served, refused, gone atomic.Int32 }
 
-// callsAtRandom makes calls one after the other for some time, in which the numbers rise. It gives
-// up some of them, and some have long messages. It notes which were answered.
+// callsAtRandom makes calls in sequence for some time, with rising numbers. It gives up some of
+// them, and some have long messages. It notes which were answered.
 func callsAtRandom(t *testing.T, b *backend, caller uint32, until time.Time, answered *sync.Map, counts *tally) {
 	source := rand.New(rand.NewSource(int64(caller) + until.UnixNano()))
 	for number := caller << 20; time.Now().Before(until); {
@@ -862,8 +862,8 @@ func callsAtRandom(t *testing.T, b *backend, caller uint32, until time.Time, ans
 	}
 }
 
-// areOnce checks that the changes of a table are those that were answered, once each, and perhaps
-// others, and that those of one caller are in its order.
+// areOnce checks that the changes of a table include each answered one once, and perhaps others,
+// and that the changes of one caller are in its order.
 func (t *table) areOnce(test *testing.T, answered *sync.Map) {
 	last, made := map[uint32]uint32{}, map[uint32]bool{}
 	for _, number := range t.rows() {
@@ -880,9 +880,8 @@ func (t *table) areOnce(test *testing.T, answered *sync.Map) {
 	})
 }
 
-// Whatever many callers do, and however connections end: a change that was answered was made once,
-// any other at most once, and the changes of one caller are made in its order, also those it gave
-// up.
+// With many callers, and for every end of connections: an answered change was made once, any other
+// at most once, and the changes of one caller are made in its order, also the given up ones.
 func TestManyCallersOverConnectionsThatEnd(t *testing.T) {
 	seed, until := time.Now().UnixNano(), time.Now().Add(stressTime)
 	t.Logf("seed %d", seed)

@@ -66,8 +66,7 @@ func (p *places) take(ctx context.Context, client *clientConn) error {
 	}
 }
 
-// begin takes a place that is free. Where there is none, it gives the place of the call in the
-// queue.
+// begin takes a free place. Otherwise it returns the position of the call in the queue.
 func (p *places) begin(client *clientConn) *list.Element {
 	p.mutex.Lock()
 	defer p.mutex.Unlock()
@@ -113,7 +112,7 @@ func (p *places) giveBack(client *clientConn) {
 	p.forget(client)
 }
 
-// handOn gives a place that nobody has to the next call, if any waits.
+// handOn gives a free place to the next call, if any waits.
 func (p *places) handOn() {
 	if p.waiting == 0 {
 		p.free++
@@ -135,7 +134,7 @@ func (p *places) next() (next *share) {
 	return next
 }
 
-// isBefore reports whether the first call of a share has a place before that of another one.
+// isBefore reports whether the first call of a share has a place before another share's.
 func (s *share) isBefore(other *share) bool {
 	if s.held != other.held {
 		return s.held < other.held
@@ -145,7 +144,7 @@ func (s *share) isBefore(other *share) bool {
 
 func (s *share) first() uint64 { return s.queue.Front().Value.(*turn).number }
 
-// forget drops what is known of a connection that has no place, and whose calls wait for none.
+// forget drops the share of a connection that has no place, and whose calls wait for none.
 func (p *places) forget(client *clientConn) {
 	if own := p.shares[client]; own.held == 0 && own.queue.Len() == 0 {
 		delete(p.shares, client)

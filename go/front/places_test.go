@@ -60,8 +60,7 @@ func TestLateness(t *testing.T) {
 	}
 }
 
-// The first call that waits begins the second in which no message comes, and a further one does
-// not.
+// The first waiting call begins the second without a message, and a further one does not.
 func TestSecondWithoutAMessage(t *testing.T) {
 	p := newPlaces()
 	fill(p, nil)

@@ -34,8 +34,8 @@ type topology struct {
 // everywhere is the topology that all pools serve.
 var everywhere topology
 
-// readTopology reads segments, and encodes the message: a field 3, in which each segment is a field
-// 1 of key 1 and value 2.
+// readTopology reads segments, and encodes the message: field 3 has each segment as a field 1 of
+// key 1 and value 2.
 func readTopology(name string) (topology, error) {
 	if !utf8.ValidString(name) {
 		return topology{}, errors.New("it is not UTF-8")
@@ -77,8 +77,8 @@ func (h *handler) question(ctx context.Context, path string, message []byte, kin
 	return value, is, err
 }
 
-// isReady asks csid by Probe, and then the node plugin where there is one. It says why one of them
-// is not ready.
+// isReady asks csid by Probe, and then the node plugin, if there is one. It returns why one of
+// them is not ready.
 func (h *handler) isReady(ctx context.Context) error {
 	if err := h.isCsidReady(ctx); err != nil || h.node == nil {
 		return err

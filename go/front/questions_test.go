@@ -36,7 +36,7 @@ func replying(t *testing.T, frame string) *handler {
 	return inFront(path)
 }
 
-// What is said of a node plugin names it.
+// The texts about a node plugin name it.
 func TestReadinessOfANodePlugin(t *testing.T) {
 	rows := []struct{ name, body, want string }{
 		{"ready", "0a020801", ""},
@@ -45,7 +45,8 @@ func TestReadinessOfANodePlugin(t *testing.T) {
 		{"not ready", "0a020800", "rpc error: code = Unavailable desc = node plugin is not ready"},
 		{"not ready, as the default", "0a00", "rpc error: code = Unavailable desc = node plugin is not ready"},
 		{"cut short", "0a02", "rpc error: code = Unavailable desc = node plugin: malformed reply: bad message"},
-		{"cut short inside", "0a0108", "rpc error: code = Unavailable desc = node plugin: malformed reply: bad message"},
+		{"cut short inside", "0a0108",
+			"rpc error: code = Unavailable desc = node plugin: malformed reply: bad message"},
 	}
 	for _, row := range rows {
 		got := ""

@@ -23,9 +23,9 @@ const (
 	mostStandby  = time.Hour
 )
 
-// standBy makes the socket once csid is ready, and serves until nothing was answered by csid for so
-// long as --standby says. An orchestrator's sidecars wait for a socket that is not there, but end
-// where their first Probe is answered UNAVAILABLE.
+// standBy makes the socket once csid is ready, and serves until csid has answered nothing for the
+// time of --standby. An orchestrator's sidecars wait for a missing socket, but end if their first
+// Probe is answered UNAVAILABLE.
 func (f *front) standBy() int {
 	if err := startMonitor(f.handler, f.asked, f.failed); err != nil {
 		return f.fails(err, noSocket)
@@ -77,7 +77,8 @@ func (h *handler) follow(limit time.Duration) {
 	}
 }
 
-// life is when csid showed the last time that it lives. A reply shows that, whatever its status.
+// life is the last time at which csid showed that it lives. Every reply shows that, with any
+// status.
 type life struct {
 	mutex sync.Mutex
 	shown time.Time
@@ -150,16 +151,16 @@ func (h *handler) watch(limit time.Duration) error {
 	}
 }
 
-// soonReady asks by Probe, and waits for so long.
+// soonReady asks by Probe, and waits at most for the given time.
 func soonReady(ctx context.Context, check func(context.Context) error, length time.Duration) error {
 	ctx, cancel := context.WithTimeout(ctx, length)
 	defer cancel()
 	return check(ctx)
 }
 
-// livez reports whether csid does anything. One that cannot serve, since another has the lock,
-// closes each connection, and that is as it should be; a Probe that waits after calls that are
-// answered is no fault either.
+// livez reports whether csid does anything. A csid that cannot serve, since another one has the
+// lock, closes each connection, and that is no fault; nor is a Probe that waits behind calls that
+// are answered.
 func (h *handler) livez(answer http.ResponseWriter, request *http.Request) {
 	err := h.checkInTurn(request.Context(), h.isCsidReady)
 	if status.Code(err) == codes.DeadlineExceeded && h.backend.life.silence() >= questionTime {

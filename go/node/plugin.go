@@ -96,7 +96,9 @@ func method[Q, R any](name string, answer func(*plugin, context.Context, *Q) (*R
 
 // alone makes the calls of several methods one at a time. Probe and what the plugin is are answered
 // while one of them runs.
-func alone[Q, R any](answer func(*plugin, context.Context, *Q) (*R, error)) func(*plugin, context.Context, *Q) (*R, error) {
+func alone[Q, R any](
+	answer func(*plugin, context.Context, *Q) (*R, error),
+) func(*plugin, context.Context, *Q) (*R, error) {
 	return func(p *plugin, ctx context.Context, request *Q) (*R, error) {
 		p.mutex.Lock()
 		defer p.mutex.Unlock()

@@ -62,8 +62,8 @@ func (p *process) kill() {
 	<-p.ended
 }
 
-// session is a node plugin, csid under the sample configuration (docs/OPERATING.md), and a front that
-// hands calls to both.
+// session is a node plugin, csid under the sample configuration (docs/OPERATING.md), and a front
+// that hands calls to both.
 type session struct {
 	folder string
 	words  []string
@@ -231,7 +231,8 @@ func TestOneSocket(t *testing.T) {
 	here(row{"", "GetPluginInfo", "", `{"name":"pools.example.org","vendor_version":"1.0.0"}`},
 		row{"", "GetPluginCapabilities", "", `{"capabilities":[{"service":{"type":1}},{"service":{"type":2}}]}`},
 		row{"", "Probe", "", `{"ready":{"value":true}}`},
-		row{"", "NodeGetInfo", "", `{"node_id":"n1","max_volumes_per_node":2,"accessible_topology":{"segments":{"zone":"a"}}}`},
+		row{"", "NodeGetInfo", "",
+			`{"node_id":"n1","max_volumes_per_node":2,"accessible_topology":{"segments":{"zone":"a"}}}`},
 		row{"", "NodeGetCapabilities", "", `{"capabilities":[{"rpc":{"type":1}},{"rpc":{"type":2}}]}`})
 	here(attachedRows(asMount)...)
 	here(publishRow(ofMount, "").answers(notStaged), stageRow(ofMount), publishRow(ofMount, ""))
@@ -242,14 +243,16 @@ func TestOneSocket(t *testing.T) {
 		row{"", "DeleteVolume", `{` + vol1 + `}`, "{}"})
 	s.isEmpty(t)
 	s.node.kill()
-	if got := s.call(controllerSocket, "Probe", ""); !strings.HasPrefix(got, "node-plugin: Unavailable: node plugin: ") {
+	got := s.call(controllerSocket, "Probe", "")
+	if !strings.HasPrefix(got, "node-plugin: Unavailable: node plugin: ") {
 		t.Errorf("Probe without the plugin: %s", got)
 	}
 	s.startNode(t)
 	here(row{"", "Probe", "", `{"ready":{"value":true}}`})
 }
 
-// A staging folder that is missing is made, for the plugin's user and group alone; one that is there keeps its mode.
+// A missing staging folder is made, for the plugin's user and group alone; an existing one keeps
+// its mode.
 func testStagingFolder(t *testing.T, s *session) {
 	s.run(t, attachedRows(asMount)...)
 	for _, each := range []struct {

@@ -242,7 +242,7 @@ func bestRounds(w work, groups [][]caller, rounds int) ([]round, error) {
 	return best, nil
 }
 
-// oneRound lets the callers do the work for so long.
+// oneRound lets the callers do the work for the given time.
 func oneRound(w work, callers []caller, length time.Duration) (round, error) {
 	times := make([][]time.Duration, len(callers))
 	failures := make(chan error, len(callers))
@@ -313,7 +313,7 @@ func startCsid(program, folder, socket, tables string) (*exec.Cmd, error) {
 // The callers of each work next to csid alone, at most.
 const maxCallers = 8
 
-// newCallers returns so many callers, each with a connection of its own.
+// newCallers returns callers, each with a connection of its own.
 func newCallers(socket string, count int) (callers []caller, err error) {
 	for len(callers) < count {
 		each, err := newSidecar(socket)

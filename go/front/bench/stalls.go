@@ -16,7 +16,7 @@ import (
 	"google.golang.org/grpc/codes"
 )
 
-// What is measured of a stop, and what of callers with short deadlines.
+// The figures of a stop, and the figures of callers with short deadlines.
 const (
 	stopCallers   = 100
 	stopDeadline  = 10 * time.Second
@@ -135,7 +135,8 @@ func (c *crowd) servedSince(begin time.Time) (callers int) {
 	return callers
 }
 
-// until waits until so many callers had a call done since then, and returns how long that took.
+// until waits until `count` callers had a call answered since then, and returns how long that
+// took.
 func (c *crowd) until(begin time.Time, callers int) (time.Duration, error) {
 	for time.Since(begin) < waited {
 		if c.servedSince(begin) >= callers {

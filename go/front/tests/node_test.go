@@ -28,7 +28,8 @@ const nodeService = "/csi.v1.Node/"
 // respond is how a node plugin answers a call.
 type respond func(ctx context.Context, path string, message []byte) ([]byte, error)
 
-// nodePlugin represents a node plugin: it answers each method over gRPC, and keeps the calls that it got.
+// nodePlugin plays a node plugin: it answers each method over gRPC, and keeps the calls that it
+// got.
 type nodePlugin struct {
 	socket string
 	server *grpc.Server
@@ -115,7 +116,8 @@ func startBoth(t *testing.T, answers respond) (*fake, *nodePlugin, *client) {
 	return csid, plugin, newClient(t, processes.StartFront(t, csid.socket, "--node", plugin.socket).Socket)
 }
 
-// A call of the Node service reaches the node plugin byte by byte, and so does its reply or status the caller.
+// A call of the Node service reaches the node plugin byte by byte, and its reply or status the
+// caller.
 func TestNodeCalls(t *testing.T) {
 	t.Parallel()
 	const stage = nodeService + "NodeStageVolume"
@@ -149,7 +151,8 @@ func TestNodeCalls(t *testing.T) {
 // The details of a status come as the plugin gave them.
 func TestDetailsOfANodeCall(t *testing.T) {
 	t.Parallel()
-	given, err := status.New(codes.Internal, "mount failed").WithDetails(&grpc_health_v1.HealthCheckRequest{Service: "vol-1"}, &empty.Empty{})
+	given, err := status.New(codes.Internal, "mount failed").
+		WithDetails(&grpc_health_v1.HealthCheckRequest{Service: "vol-1"}, &empty.Empty{})
 	if err != nil {
 		t.Fatal(err)
 	}
@@ -182,15 +185,17 @@ func TestWhoAnswersACall(t *testing.T) {
 	}
 }
 
-// Without --node, and over the control socket, a call of the Node service is one that csid does not know.
+// Without --node, and over the control socket, csid does not know a call of the Node service.
 func TestNodeCallsOfCsid(t *testing.T) {
 	t.Parallel()
 	const info, unknown = nodeService + "NodeGetInfo", "unknown method"
 	csid := processes.StartCsid(t)
-	newClient(t, processes.StartFront(t, csid.Socket()).Socket).wants(t, info, "", refused(codes.Unimplemented, unknown))
+	front := newClient(t, processes.StartFront(t, csid.Socket()).Socket)
+	front.wants(t, info, "", refused(codes.Unimplemented, unknown))
 	plugin := startNode(t, nodeSocket(t), replies(t, ok("")))
 	_, socket := controlled(t, csid.Socket(), "--node", plugin.socket)
-	if reply, err := control(t, socket, frameOf(t, info, "")); err != nil || reply.Code != codes.Unimplemented || reply.Text != unknown {
+	reply, err := control(t, socket, frameOf(t, info, ""))
+	if err != nil || reply.Code != codes.Unimplemented || reply.Text != unknown {
 		t.Errorf("%v, %v", reply, err)
 	}
 	plugin.sees(t)
@@ -236,7 +241,8 @@ func TestNodeCallThatIsGivenUp(t *testing.T) {
 				}
 				cancel()
 			}()
-			if got := front.send(ctx, nodeService+"NodeStageVolume", nil); name == "cancelled" && got.code != codes.Canceled {
+			got := front.send(ctx, nodeService+"NodeStageVolume", nil)
+			if name == "cancelled" && got.code != codes.Canceled {
 				t.Errorf("%v, wanted CANCELLED", got)
 			}
 			if got := <-ended; got != context.Canceled {
@@ -311,7 +317,8 @@ func mute(t *testing.T) string {
 func TestNodePluginThatHangs(t *testing.T) {
 	t.Parallel()
 	silent := mute(t)
-	for name, socket := range map[string]string{"no HTTP/2": silent, "no reply": startNode(t, nodeSocket(t), hangs).socket} {
+	sockets := map[string]string{"no HTTP/2": silent, "no reply": startNode(t, nodeSocket(t), hangs).socket}
+	for name, socket := range sockets {
 		name, socket := name, socket
 		t.Run(name, func(t *testing.T) {
 			t.Parallel()
@@ -331,7 +338,8 @@ func TestNodePluginThatHangs(t *testing.T) {
 		t.Parallel()
 		front := newClient(t, processes.StartFront(t, startFake(t).socket, "--node", silent).Socket)
 		begin := time.Now()
-		if got := front.call(t, nodeService+"NodeGetInfo", ""); got.code != codes.Unavailable || !strings.HasPrefix(got.text, "node plugin: ") {
+		got := front.call(t, nodeService+"NodeGetInfo", "")
+		if got.code != codes.Unavailable || !strings.HasPrefix(got.text, "node plugin: ") {
 			t.Errorf("%v, wanted UNAVAILABLE", got)
 		}
 		if spent := time.Since(begin); spent < 5*time.Second || spent > 10*time.Second {
@@ -340,7 +348,8 @@ func TestNodePluginThatHangs(t *testing.T) {
 	})
 }
 
-// At most 64 calls are at the node plugin at once. One more is refused at once; csid and Probe are not held up, nor is their room taken.
+// At most 64 calls are at the node plugin at once. One more is refused at once; csid and Probe are
+// not held up, nor is their room taken.
 func TestTooManyNodeCalls(t *testing.T) {
 	t.Parallel()
 	const most = 64
@@ -381,7 +390,8 @@ func TestNodeMessagesThatAreTooLong(t *testing.T) {
 	front.wants(t, nodeService+"NodeStageVolume", strings.Repeat("00", 1<<20+1), tooLong)
 	plugin.sees(t)
 	_, _, front = startBoth(t, replies(t, ok(strings.Repeat("00", 4<<20+1))))
-	front.wants(t, nodeService+"NodeGetInfo", "", refused(codes.ResourceExhausted, "grpc: received message larger than max (4194305 vs. 4194304)"))
+	front.wants(t, nodeService+"NodeGetInfo", "",
+		refused(codes.ResourceExhausted, "grpc: received message larger than max (4194305 vs. 4194304)"))
 }
 
 // Probe is answered as csid does, but where csid is ready and the node plugin is not.
@@ -415,7 +425,8 @@ func TestProbeOfBoth(t *testing.T) {
 			}
 			csid := startFake(t, step{write: reply})
 			plugin := startNode(t, nodeSocket(t), replies(t, row.node))
-			newClient(t, processes.StartFront(t, csid.socket, "--node", plugin.socket).Socket).wants(t, probe, "", row.want)
+			front := newClient(t, processes.StartFront(t, csid.socket, "--node", plugin.socket).Socket)
+			front.wants(t, probe, "", row.want)
 		})
 	}
 }
@@ -431,16 +442,22 @@ func TestProbeOfOneThatIsAway(t *testing.T) {
 		{"both", absent, absent + ".node", "csid: "},
 	} {
 		got := newClient(t, processes.StartFront(t, row.csid, "--node", row.node).Socket).call(t, probe, "")
-		if got.code != codes.Unavailable || !strings.HasPrefix(got.text, row.want) || !strings.Contains(got.text, absent) {
+		isNamed := strings.HasPrefix(got.text, row.want) && strings.Contains(got.text, absent)
+		if got.code != codes.Unavailable || !isNamed {
 			t.Errorf("%s: %v", row.name, got)
 		}
 	}
 }
 
-// Health of all of the plugin is that of both, and of a service that of the program that answers it.
+// The health of the whole plugin is both programs', and a service's the health of the program that
+// answers it.
 func TestHealthOfBoth(t *testing.T) {
 	t.Parallel()
-	const serving, notServing = grpc_health_v1.HealthCheckResponse_SERVING, grpc_health_v1.HealthCheckResponse_NOT_SERVING
+	const (
+		serving    = grpc_health_v1.HealthCheckResponse_SERVING
+		notServing = grpc_health_v1.HealthCheckResponse_NOT_SERVING
+	)
+	type statuses = map[string]grpc_health_v1.HealthCheckResponse_ServingStatus
 	const all, ofIdentity, ofController, ofNode = "", "csi.v1.Identity", "csi.v1.Controller", "csi.v1.Node"
 	absent := nodeSocket(t)
 	csid, plugin := startFake(t), startNode(t, nodeSocket(t), replies(t, ok(ready)))
@@ -450,11 +467,11 @@ func TestHealthOfBoth(t *testing.T) {
 		serves           map[string]grpc_health_v1.HealthCheckResponse_ServingStatus
 	}{
 		{"both", csid.socket, plugin.socket, "1", "200",
-			map[string]grpc_health_v1.HealthCheckResponse_ServingStatus{all: serving, ofIdentity: serving, ofController: serving, ofNode: serving}},
+			statuses{all: serving, ofIdentity: serving, ofController: serving, ofNode: serving}},
 		{"csid alone", csid.socket, absent, "0", "503",
-			map[string]grpc_health_v1.HealthCheckResponse_ServingStatus{all: notServing, ofIdentity: notServing, ofController: serving, ofNode: notServing}},
+			statuses{all: notServing, ofIdentity: notServing, ofController: serving, ofNode: notServing}},
 		{"the node plugin alone", absent, plugin.socket, "1", "503",
-			map[string]grpc_health_v1.HealthCheckResponse_ServingStatus{all: notServing, ofIdentity: notServing, ofController: notServing, ofNode: serving}},
+			statuses{all: notServing, ofIdentity: notServing, ofController: notServing, ofNode: serving}},
 	}
 	for _, row := range rows {
 		row := row
@@ -467,12 +484,14 @@ func TestHealthOfBoth(t *testing.T) {
 			if code, text := get(t, monitor+"/healthz"); fmt.Sprint(code) != row.status {
 				t.Errorf("/healthz: %d, %q", code, text)
 			}
-			wantsSeries(t, series(t, monitor), "csid_front_node_plugin_up", map[string]string{"csid_front_node_plugin_up": row.up})
+			up := map[string]string{"csid_front_node_plugin_up": row.up}
+			wantsSeries(t, series(t, monitor), "csid_front_node_plugin_up", up)
 		})
 	}
 }
 
-// Calls of the Node service are counted and logged as the others are. Without --node they have no series.
+// Calls of the Node service are counted and logged as other calls. Without --node they have no
+// series.
 func TestMetricsOfNodeCalls(t *testing.T) {
 	t.Parallel()
 	const stage, info = nodeService + "NodeStageVolume", nodeService + "NodeGetInfo"
@@ -487,7 +506,8 @@ func TestMetricsOfNodeCalls(t *testing.T) {
 		`csid_front_calls_total{code="Internal",method="` + stage + `"}`: "2",
 		`csid_front_calls_total{code="Internal",method="other"}`:         "1",
 	})
-	wantsSeries(t, got, `csid_front_calls_total{code="OK",method="`+info, map[string]string{`csid_front_calls_total{code="OK",method="` + info + `"}`: "0"})
+	const okInfo = `csid_front_calls_total{code="OK",method="` + info
+	wantsSeries(t, got, okInfo, map[string]string{okInfo + `"}`: "0"})
 	wantsSeries(t, got, "csid_front_call_duration_seconds_count", map[string]string{
 		`csid_front_call_duration_seconds_count{method="` + stage + `"}`: "2",
 		`csid_front_call_duration_seconds_count{method="other"}`:         "1",
@@ -503,7 +523,8 @@ func TestMetricsOfNodeCalls(t *testing.T) {
 	}
 }
 
-// A front that stands by serves the Node service from its start, whether csid serves or not, and does not end where csid falls silent.
+// A standby front serves the Node service from its start, whether csid serves or not, and does not
+// end when csid falls silent.
 func TestNodeWhileTheFrontStandsBy(t *testing.T) {
 	t.Parallel()
 	path := filepath.Join(processes.Folder(t), "csid.sock")
@@ -514,7 +535,8 @@ func TestNodeWhileTheFrontStandsBy(t *testing.T) {
 		t.Helper()
 		front.wants(t, nodeService+"NodeGetInfo", "", ok(ready))
 		standing := map[bool]string{true: "0", false: "1"}[isReady]
-		wantsSeries(t, series(t, monitor), "csid_front_standing_by", map[string]string{"csid_front_standing_by": standing})
+		wanted := map[string]string{"csid_front_standing_by": standing}
+		wantsSeries(t, series(t, monitor), "csid_front_standing_by", wanted)
 		if isReady {
 			front.wants(t, probe, "", ok(ready))
 		} else {
@@ -524,7 +546,8 @@ func TestNodeWhileTheFrontStandsBy(t *testing.T) {
 	}
 	says(t, process, fmt.Sprintf("front: waits for csid: dial unix %s: connect: no such file or directory", path))
 	serves(false)
-	server := exec.Command(processes.CsidProgram(t), "serve", "--socket", path, "--tables", filepath.Join(filepath.Dir(path), "volumes.db"))
+	tables := filepath.Join(filepath.Dir(path), "volumes.db")
+	server := exec.Command(processes.CsidProgram(t), "serve", "--socket", path, "--tables", tables)
 	csid := processes.Start(t, path, server).Answers(t)
 	says(t, process, "front: csid is ready")
 	serves(true)
