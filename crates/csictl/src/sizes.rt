@@ -68,7 +68,7 @@ const UNITS: [Unit; 13] = [
     },
 ];
 
-// So many units, in bytes, where an `int64` holds them.
+// A number of units in bytes, where an `int64` holds it.
 fn product(number: u64, unit: u64) -> Option<i64>
     ensures exact { IfSome result (λ bytes. bytes ≡ pos (number * unit)) }
 {
@@ -109,20 +109,24 @@ fn units_of(number: &str, unit: u64) -> Option<i64> {
     i64::try_from(tenths / 10).ok()
 }
 
+// The bytes of a size, where a binary unit has no `B` after it.
+fn bytes_of_plain(text: &str) -> Option<i64> {
+    for unit in &UNITS {
+        if let Some(number) = text.strip_suffix(unit.name) {
+            return units_of(number, unit.bytes);
+        }
+    }
+    units_of(text.strip_suffix('B').unwrap_or(text), 1)
+}
+
 /// The bytes of a size: a number and at most one unit, as `1Gi`, `500M`, `1048576` or, as listings show it,
 /// `1.5 GiB`; `None` where the text is no size, it is no whole number of bytes, or an `int64` does not hold
 /// it.
 pub(crate) fn bytes_of(text: &str) -> Option<i64> {
-    let plain = match text.strip_suffix('B') {
-        Some(rest) if rest.ends_with('i') => rest,
-        _ => text,
-    };
-    for unit in &UNITS {
-        if let Some(number) = plain.strip_suffix(unit.name) {
-            return units_of(number, unit.bytes);
-        }
+    match text.strip_suffix('B') {
+        Some(rest) if rest.ends_with('i') => bytes_of_plain(rest),
+        _ => bytes_of_plain(text),
     }
-    units_of(plain.strip_suffix('B').unwrap_or(plain), 1)
 }
 
 /// A size as [`command_line::size_text`] shows it; one below 0 in bytes.

@@ -10,6 +10,8 @@ use crate::memory::{files_of, memory_failure, open};
 use csi_config::Config;
 use csid_console::Console;
 use csid_settings::Failure;
+use sqlite::{Connection, Error, FileStore, Files};
+use sqlite_disk::Disk;
 use std::fs::{self, File, OpenOptions};
 use std::io::{self, ErrorKind, Write};
 use std::os::unix::fs::OpenOptionsExt;
@@ -19,6 +21,17 @@ const OWNER: u32 = 0o600;
 
 const EXISTS: &str = "it exists already, and is not replaced";
 
+// The files of a database that is closed: the database file has all of it.
+fn closed<D: Disk + Drop>(conn: Connection<FileStore<D>>) -> Result<Files<D>, Error> {
+    match conn.close_files() {
+        Ok(files) => Ok(files),
+        Err((error, store)) => {
+            drop(store.close());
+            Err(error)
+        }
+    }
+}
+
 // The bytes of one file that has the tables in a file and its WAL.
 fn whole_bytes(rt: &HostRuntime, path: &str) -> Result<Vec<u8>, Failure>
     ensures { IfErr result (λ failure. IsOrNoMemory 4 failure) }
@@ -27,9 +40,9 @@ fn whole_bytes(rt: &HostRuntime, path: &str) -> Result<Vec<u8>, Failure>
     if conn.schema().tables.is_empty() {
         return Err(Failure::of_tables(rt.alloc(), path, &NO_TABLES));
     }
-    match conn.close_files() {
+    match closed(conn) {
         Ok(files) => Ok(Vec::from_slice(rt.alloc(), files.db.bytes())?),
-        Err((error, _)) => Err(memory_failure(rt.alloc(), path, &error)),
+        Err(error) => Err(memory_failure(rt.alloc(), path, &error)),
     }
 }
 
