@@ -119,17 +119,15 @@ func TestOutcomes(t *testing.T) {
 		{"no space, and not made", errorAnswers(rpctypes.ErrGRPCNoSpace), 99, codes.ResourceExhausted,
 			"etcdserver: mvcc: database space exceeded", false, false},
 		{"no space, and made", errorAnswers(rpctypes.ErrGRPCNoSpace), 101, codes.Unknown, "", false, false},
-		{"denied", errorAnswers(rpctypes.ErrGRPCPermissionDenied), 0, codes.Internal, "etcdserver: permission denied",
-			false,
-			false},
+		{"denied", errorAnswers(rpctypes.ErrGRPCPermissionDenied), 0, codes.Internal,
+			"etcdserver: permission denied", false, false},
 		{"too large", errorAnswers(rpctypes.ErrGRPCRequestTooLarge), 0, codes.ResourceExhausted,
 			"etcdserver: request is too large", false, false},
 		{"no leader, then made", append(errorAnswers(rpctypes.ErrGRPCNoLeader), made), 0, codes.OK, "", false, false},
 		{"no leader at all", errorAnswers(rpctypes.ErrGRPCNoLeader, rpctypes.ErrGRPCNoLeader), 0, codes.Internal,
 			"etcdserver: no leader", false, false},
 		{"no leader, then unknown", errorAnswers(rpctypes.ErrGRPCNoLeader, rpctypes.ErrGRPCLeaderChanged), 0,
-			codes.Unknown,
-			"", true, false},
+			codes.Unknown, "", true, false},
 		{"another leader", errorAnswers(rpctypes.ErrGRPCLeaderChanged), 0, codes.Unknown, "", true, false},
 		{"late", errorAnswers(rpctypes.ErrGRPCTimeout), 0, codes.Unknown, "", true, false},
 		{"canceled", errorAnswers(status.Error(codes.Canceled, "any")), 0, codes.Unknown, "", true, false},
@@ -229,8 +227,8 @@ func TestFence(t *testing.T) {
 		t.Errorf("got error %v, needsFence %v, put at %d, answered %d, want none, false, 150, 151",
 			err, term.needsFence, term.put, term.revisions.least())
 	}
-	if want := []string{"put at 10", "made at 10", "made at 10", "made at 10",
-		"put at 150"}; !reflect.DeepEqual(server.compared, want) {
+	want := []string{"put at 10", "made at 10", "made at 10", "made at 10", "put at 150"}
+	if !reflect.DeepEqual(server.compared, want) {
 		t.Errorf("got the comparisons %q, want %q", server.compared, want)
 	}
 	lost := &scriptedServer{answers: []answer{{err: rpctypes.ErrGRPCTimeout}, {succeeded: false, revision: 150}}}
@@ -250,16 +248,15 @@ func TestOlder(t *testing.T) {
 	if err := term.commit(context.Background(), change); err != nil {
 		t.Fatal(err)
 	}
-	var endReason refusal
-	if err := term.commit(context.Background(), change); err == nil || errors.As(err, &endReason) ||
-		term.ctx.Err() == nil {
+	err := term.commit(context.Background(), change)
+	if code, _ := outcome(err); code != codes.Unknown || term.ctx.Err() == nil {
 		t.Errorf("got error %v, term %v, want an unknown outcome and the end of the term", err, term.ctx.Err())
 	}
 }
 
 // A walk starts with a locked read, after a fence if one is due: so it does not read the changes of
 // another leading program.
-func TestLook(t *testing.T) {
+func TestWalkStartsLocked(t *testing.T) {
 	server := &scriptedServer{answers: []answer{{err: rpctypes.ErrGRPCTimeout}, {succeeded: true, revision: 150},
 		{revision: 151, read: []*mvccpb.KeyValue{nil}}}}
 	term := server.newTerm(t)

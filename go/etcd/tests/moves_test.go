@@ -381,8 +381,8 @@ func TestImportLongRows(t *testing.T) {
 		t.Errorf("got status %d, %d bytes, %s, want all rows", got.status, len(got.stdout), got.stderr)
 	}
 	cluster.Ctl(t, "del", "--prefix", name+"/")
-	runOnce(t, firstRow+long(2, 400000)+metaRow, "--import", cluster.Endpoints()).check(t, "a row that is too long", 1,
-		"",
-		"csid-etcd: --import: volumes/00000000000000000002: etcdserver: request is too large; 1 of 3 rows were "+
-			"written: remove them, and start again ("+cluster.Endpoints()+")\n")
+	runOnce(t, firstRow+long(2, 400000)+metaRow, "--import", cluster.Endpoints()).
+		check(t, "a row that is too long", 1, "",
+			"csid-etcd: --import: volumes/00000000000000000002: etcdserver: request is too large; 1 of 3 rows were "+
+				"written: remove them, and start again ("+cluster.Endpoints()+")\n")
 }

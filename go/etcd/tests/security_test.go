@@ -367,8 +367,8 @@ func (u *userCluster) move(t *testing.T) {
 	u.Ctl(t, "del", "--prefix", name+"/")
 	u.Ctl(t, "role", "revoke-permission", "csid", name+"/", "--prefix")
 	u.Ctl(t, "role", "grant-permission", "csid", "read", name+"/", "--prefix")
-	runOnce(t, threeRows, "--import", u.Endpoints(), u.args()...).check(t, "an import by a user who may only read", 1,
-		"",
-		"csid-etcd: --import: volumes/00000000000000000001: etcdserver: permission denied; nothing was written ("+
-			u.Endpoints()+")\n")
+	runOnce(t, threeRows, "--import", u.Endpoints(), u.args()...).
+		check(t, "an import by a user who may only read", 1, "",
+			"csid-etcd: --import: volumes/00000000000000000001: etcdserver: permission denied; nothing was written ("+
+				u.Endpoints()+")\n")
 }
