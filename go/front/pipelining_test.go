@@ -813,7 +813,10 @@ func endsAtRandom(t *testing.T, made *table, seed int64) string {
 			if source.Intn(200) == 0 {
 				time.Sleep(time.Duration(source.Intn(4)) * time.Millisecond)
 			}
-			conn.Write(okReply(number))
+			// As csid, it looks at no further call once a reply cannot be written.
+			if _, err := conn.Write(okReply(number)); err != nil {
+				return
+			}
 		}
 	})
 	return path
