@@ -1,9 +1,23 @@
 """The commands of csictl for people, over csid, and over peers that are played."""
 
+import json
 import os
 import time
 
-from tests.support.csictl import CONTROLLER, CREATE, Line, Server, VOL_1, call, ok, refusal, run, text
+from tests.support.csictl import (
+    CONTROLLER,
+    CREATE,
+    IDENTITY,
+    READY,
+    Line,
+    Server,
+    VOL_1,
+    call,
+    ok,
+    refusal,
+    run,
+    text,
+)
 from tests.support.peers import CLOSED, Pages, Peer, next_call
 from tests.support.rows import CsictlTest
 
@@ -953,6 +967,86 @@ class PeopleTest(AskTest):
         ]:
             self.check("over csid: " + " ".join(words), self.ask(server.path, *words), (out, "", status))
         server.kill()
+
+
+# Each row: what it shows, words, the replies of the server, standard output, status.
+PLUGIN = ok((part(1, b"demo") + part(2, b"1.2")).hex())
+STATUSES = [
+    (
+        "two volumes",
+        [],
+        [PLUGIN, READY, ok(THREE[0] + THREE[1])],
+        "PLUGIN       demo 1.2\n"
+        "READY        true\n"
+        "VOLUMES      2\n"
+        "SIZE         1029 MiB\n"
+        "ATTACHMENTS  3\n",
+        0,
+    ),
+    (
+        "two volumes in JSON",
+        ["--json"],
+        [PLUGIN, READY, ok(THREE[0] + THREE[1])],
+        '{"attachments":3,"bytes":1078984704,"name":"demo","ready":true,"vendorVersion":"1.2","volumes":2}\n',
+        0,
+    ),
+    (
+        "volumes on two pages",
+        ["--json"],
+        [PLUGIN, READY, ok(THREE[0] + NEXT), ok(THREE[1])],
+        '{"attachments":3,"bytes":1078984704,"name":"demo","ready":true,"vendorVersion":"1.2","volumes":2}\n',
+        0,
+    ),
+    (
+        "a server that is not ready",
+        ["--json"],
+        [PLUGIN, ok("0a00"), ok("")],
+        '{"attachments":0,"bytes":0,"name":"demo","ready":false,"vendorVersion":"1.2","volumes":0}\n',
+        0,
+    ),
+    (
+        "a server that does not say whether it is ready",
+        ["--json"],
+        [PLUGIN, ok(""), ok("")],
+        '{"attachments":0,"bytes":0,"name":"demo","ready":true,"vendorVersion":"1.2","volumes":0}\n',
+        0,
+    ),
+    (
+        "a Probe that is refused",
+        [],
+        [PLUGIN, refusal(9, "store is down")],
+        "9 FAILED_PRECONDITION store is down\n",
+        1,
+    ),
+    (
+        "a listing that is refused",
+        ["--json"],
+        [PLUGIN, READY, refusal(13, "store is down")],
+        '{"code":13,"message":"store is down"}\n',
+        1,
+    ),
+]
+
+
+class StatusTest(AskTest):
+    """`csictl status`."""
+
+    def test_server_and_the_sums_of_its_volumes(self):
+        for name, words, replies, out, status in STATUSES:
+            pages = Pages(self.folder, [replies])
+            self.check(name, self.ask(pages.path, "status", *words), (out, "", status))
+            asked = [call(IDENTITY + "GetPluginInfo", ""), call(IDENTITY + "Probe", "")]
+            asked += [call(CONTROLLER + "ListVolumes", token) for token in ["", NEXT]]
+            self.check("what was asked: " + name, pages.end(), [asked[: len(replies)]])
+
+    def test_status_of_csid(self):
+        server = Server(self.csid, os.path.join(self.folder, "p.sock"))
+        self.ask(server.path, "create", "pvc-7", "--size", "1Mi", "--pool-topology", "zone=a")
+        self.ask(server.path, "publish", "vol-1", "n1")
+        shown = self.ask(server.path, "status", "--json")
+        server.kill()
+        sums = {key: json.loads(shown[0])[key] for key in ["ready", "volumes", "bytes", "attachments"]}
+        self.assertEqual(sums, {"ready": True, "volumes": 1, "bytes": MIB, "attachments": 1})
 
 
 class RemovalTest(AskTest):

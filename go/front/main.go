@@ -13,6 +13,7 @@ import (
 	"net"
 	"os"
 	"os/signal"
+	"path/filepath"
 	"runtime"
 	"syscall"
 	"time"
@@ -67,7 +68,8 @@ func run(asked options, err error, log *logger) int {
 		return badWords
 	}
 	if asked.version {
-		fmt.Println("front", version)
+		// A package installs the program under a longer name.
+		fmt.Println(filepath.Base(os.Args[0]), version)
 		return done
 	}
 	f := &front{asked, log, newHandler(asked, log), nil, make(chan os.Signal, 2), make(chan error, 2),

@@ -50,10 +50,11 @@ ROWS = [
     ("csid unknown --", ""),
     (
         "csictl ",
-        "show frame call vectors volumes nodes pools volume create publish unpublish delete --help --version",
+        "show frame call vectors status volumes nodes pools volume create publish unpublish delete --help --version",
     ),
     ("csictl vol", "volumes volume"),
     ("csictl volumes --", "--node --pool --json --socket --tries --timeout --help"),
+    ("csictl status --", "--json --socket --tries --timeout --help"),
     ("csictl nodes --", "--json --socket --tries --timeout --help"),
     ("csictl pools --so", "--socket"),
     ("csictl pools --socket v", "volumes.db"),

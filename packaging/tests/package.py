@@ -280,7 +280,7 @@ def use_rows(programs, system):
         system.put_libraries(system.path("usr/bin/" + name))
         yield name + " --version", system.inside("/usr/bin/" + name, "--version"), (
             0,
-            "%s %s\n" % (name.replace("csid-front", "front"), version()),
+            "%s %s\n" % (name, version()),
             "",
         )
     yield "the configuration", system.inside("/usr/bin/csid", "pipe", "--config", "/" + CONFIG), (0, "", "")

@@ -227,6 +227,11 @@ static GROUPS: [CommandOption; 1] = [CommandOption {
     ..JSON
 }];
 
+static STATUS: [CommandOption; 1] = [CommandOption {
+    help: "Shows it as one line of JSON",
+    ..JSON
+}];
+
 static VOLUME: [CommandOption; 2] = [
     ID,
     CommandOption {
@@ -337,8 +342,14 @@ fn frame_commands() -> [Subcommand; 4] {
 }
 
 // The commands that show volumes.
-fn listing_commands() -> [Subcommand; 4] {
+fn listing_commands() -> [Subcommand; 5] {
     [
+        Subcommand {
+            name: "status",
+            about: "Shows the server's name and version, whether it is ready, and how many volumes it has",
+            options: &STATUS,
+            shared: &REACHED,
+        },
         Subcommand {
             name: "volumes",
             about: "Lists the volumes: size, topology, nodes and pool",

@@ -23,6 +23,7 @@ mod run;
 mod show;
 mod sizes;
 mod socket;
+mod status;
 mod vectors;
 mod words;
 

@@ -211,6 +211,15 @@ pub(crate) fn frame_of_person(
     framed(alloc, method, &message)
 }
 
+/// The frame of the call of a method with an empty message, as of a method whose request has no fields.
+///
+/// # Errors
+///
+/// Where memory was refused.
+pub(crate) fn call_without_fields(alloc: Global, method: Method) -> Result<Vec<u8>, Failure> {
+    framed(alloc, method, &[])
+}
+
 /// Looks whether the call is of a method that has pages, and its message is made of options.
 ///
 /// # Errors

@@ -3,7 +3,7 @@
 use crate::command::read_arguments;
 use crate::failure::{Ended, Failure};
 use crate::listings::What;
-use crate::{call, changes, frame, listings, show, vectors};
+use crate::{call, changes, frame, listings, show, status, vectors};
 use clap::ArgMatches;
 use command_line::arguments;
 use csi_types::Method;
@@ -23,6 +23,7 @@ fn obey(rt: &HostRuntime, arguments: &ArgMatches<'_>) -> Result<Ended, Failure> 
 // Runs a command for people, or `show`.
 fn obey_person(rt: &HostRuntime, name: &str, arguments: &ArgMatches<'_>) -> Result<Ended, Failure> {
     match name {
+        "status" => status::run(rt, arguments),
         "volumes" => listings::run(rt, What::Volumes, arguments),
         "nodes" => listings::run(rt, What::Nodes, arguments),
         "pools" => listings::run(rt, What::Pools, arguments),
