@@ -50,7 +50,8 @@ ROWS = [
     ("csid unknown --", ""),
     (
         "csictl ",
-        "show frame call vectors status volumes nodes pools volume create publish unpublish delete --help --version",
+        "show frame call vectors status volumes nodes pools volume create publish unpublish delete"
+        " --help --version",
     ),
     ("csictl vol", "volumes volume"),
     ("csictl volumes --", "--node --pool --json --socket --tries --timeout --help"),

@@ -14,8 +14,7 @@ use envelope::Reply;
 /// Shows a reply: as lines, or as one line of JSON.
 ///
 /// # Errors
-///
-/// Where its body is no response of the method, it cannot be written, or memory is refused.
+/// If its body is not a response of the method, it cannot be written, or memory is refused.
 pub(crate) fn show(
     rt: &HostRuntime,
     method: Method,
@@ -28,7 +27,7 @@ pub(crate) fn show(
     show_lines(rt, method, reply)
 }
 
-// Takes the reply that has a page. A refusal is the end, and shown; as JSON a page is shown with all others.
+// Adds the page in a reply, or shows the refusal. Without `--json` the page is shown at once.
 fn add_page(
     rt: &HostRuntime,
     listing: &mut Listing,
@@ -67,12 +66,12 @@ fn walk(
     Err(Failure::NoEnd)
 }
 
-/// Makes a call on a socket, again while it is not answered, and shows its reply; of a listing all pages, if
-/// that is asked for.
+/// Makes the call that the arguments describe, tries it again while it has no reply, and shows the reply.
+/// With `--all` it asks for all pages of a listing.
 ///
 /// # Errors
 ///
-/// Where the arguments ask for no call, it is not answered, its reply is malformed, writing fails, or memory
+/// If the arguments ask for no call, it is not answered, its reply is malformed, writing fails, or memory
 /// is refused.
 pub(crate) fn run(rt: &HostRuntime, arguments: &ArgMatches<'_>) -> Result<Ended, Failure> {
     let (method, frame) = called(rt.alloc(), arguments)?;

@@ -15,7 +15,7 @@ use csi_codec::decode_response;
 use csi_types::{Method, Response, VolumeInfo};
 use std::alloc::{AllocError, Global};
 
-// Whether a method removes something, and answers OK also where nothing is there.
+// Returns true for the methods that remove something. They answer OK also if there is nothing to remove.
 fn is_removal(method: Method) -> bool {
     matches!(
         method,
@@ -23,9 +23,9 @@ fn is_removal(method: Method) -> bool {
     )
 }
 
-// The reply to the call that the arguments ask for. Before a removal the volume is looked up, once and over
-// the same connection: a try of the call that was not answered may have removed it. Where the server refuses
-// to say what is there, that is the reply.
+// Makes the call that the arguments describe, and returns its reply. Before a removal the volume is looked
+// up, once and over the same connection: a try of the call without a reply may have removed it. If the lookup
+// is refused, the refusal is the reply.
 fn asked(
     rt: &HostRuntime,
     method: Method,
@@ -101,13 +101,13 @@ fn line_of_body(
     }
 }
 
-/// Makes the call of a change, again while it is not answered, and shows a line of what was done, or the
-/// refusal; with `--json` the reply as a line of JSON. A removal is made only where there is something to
-/// remove.
+/// Makes the call of a change, tries it again while it has no reply, and shows a line that says what was
+/// done, or the refusal; with `--json` the reply as a line of JSON. A removal is called only if there is
+/// something to remove.
 ///
 /// # Errors
 ///
-/// Where the arguments ask for no call, there is nothing to remove, a call is not answered, its reply is
+/// If the arguments ask for no call, there is nothing to remove, a call is not answered, its reply is
 /// malformed, writing fails, or memory is refused.
 pub(crate) fn run(
     rt: &HostRuntime,

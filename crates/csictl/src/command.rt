@@ -4,7 +4,7 @@ use clap::ArgMatches;
 use command_line::{ArgumentsFault, CommandLine, CommandOption, OPTION, Subcommand, Takes};
 use std::alloc::{AllocError, Global};
 
-// The options of a call: its method, the fields of its message, and the message as bytes.
+// The options of a call: its method, the fields of its message, and the message in hexadecimal digits.
 static CALLED: [CommandOption; 15] = [
     CommandOption {
         is_required: true,
@@ -96,7 +96,7 @@ static CALLED: [CommandOption; 15] = [
     },
 ];
 
-/// The options that are fields of a message: those between the method and the message as it is.
+/// The options that are fields of a message, which come between `--method` and `--message`.
 pub(crate) fn fields() -> &'static [CommandOption] {
     &CALLED[1..CALLED.len() - 1]
 }
@@ -108,13 +108,13 @@ const METHOD: CommandOption = CommandOption {
     ..OPTION
 };
 
-/// The option for how often a call is tried.
+/// The option with the greatest number of tries of a call.
 pub(crate) const TRIES: &str = "tries";
 
-/// A call is tried at most so often.
+/// The greatest number of tries that the option takes.
 pub(crate) const MOST_TRIES: u32 = 10;
 
-/// The option for how long a try may take, in seconds.
+/// The option with the longest time of one try, in seconds.
 pub(crate) const TIMEOUT: &str = "timeout";
 
 static SHOW: [CommandOption; 1] = [METHOD];
@@ -418,8 +418,7 @@ fn commands(alloc: Global) -> Result<Vec<Subcommand>, AllocError> {
 /// The parsed arguments; `None` after the help or the version was printed.
 ///
 /// # Errors
-///
-/// Where the command line does not have them, printing fails, or memory is refused.
+/// If the arguments are not understood, printing fails, or memory is refused.
 pub(crate) fn read_arguments<'a>(
     rt: &HostRuntime,
     arguments: &'a [String],

@@ -9,24 +9,24 @@ use std::net::Shutdown;
 use std::thread;
 use std::time::{Duration, Instant};
 
-// At most so many waits are made for one read or write.
+// The most waits for one read or write.
 const MAX_WAITS: u64 = 1 << 32;
 
-// Where a server has no room for one more connection, it is asked again after so many milliseconds.
+// The milliseconds between two tries to connect to a server that has no room for one more connection.
 const ASK_AGAIN: u64 = 10;
 
-// After so many seconds without a reply a line reports that a try waits.
+// The seconds without a reply after which a line reports that the try waits.
 const LONG_SECONDS: u64 = 3;
 
-// A connection is the one source of its wait.
+// The token of the connection, which is the only source of events.
 const ONLY: Token = Token(0);
 
-// The time until a moment; `None` for ever.
+// The time from now until a moment; `None` if there is no moment.
 fn until(moment: Option<Instant>, now: Instant) -> Option<Duration> {
     moment.map(|moment| moment.saturating_duration_since(now))
 }
 
-// Whether a moment that is so far away is there.
+// Returns true if no time is left.
 fn is_there(left: Option<Duration>) -> bool {
     match left {
         Some(left) => left.is_zero(),
@@ -34,7 +34,7 @@ fn is_there(left: Option<Duration>) -> bool {
     }
 }
 
-// The lesser time of those that are given.
+// The lesser of two times, either of which may be missing.
 fn sooner(first: Option<Duration>, second: Option<Duration>) -> Option<Duration> {
     match (first, second) {
         (Some(first), Some(second)) => Some(first.min(second)),
@@ -43,15 +43,15 @@ fn sooner(first: Option<Duration>, second: Option<Duration>) -> Option<Duration>
     }
 }
 
-/// A try that waits for its reply.
+/// The clock of a try: when it times out, and when it reports that it waits.
 #[derive(Drop)]
 struct Waiting<'a> {
     rt: &'a HostRuntime,
-    // When it is over.
+    // When the try times out; `None` if it has no time limit.
     end: Option<Instant>,
-    // When it reports that it waits; `None` once it did.
+    // When the try reports that it waits; `None` once it has reported.
     report: Option<Instant>,
-    // The line that it writes then.
+    // The line of that report.
     line: String,
 }
 
@@ -70,7 +70,7 @@ impl<'a> Waiting<'a> {
         Ok(waiting)
     }
 
-    // Begins a try. From now on it takes no longer than that.
+    // Starts the clock of a try, which times out after `timeout`.
     fn begin(&mut self, timeout: Option<Duration>) -> io::Result<()> {
         let now = Instant::now(self.rt)?;
         self.end = match timeout {
@@ -81,8 +81,8 @@ impl<'a> Waiting<'a> {
         Ok(())
     }
 
-    // The time of the next wait: until the end, or until the line that reports the wait; `None` if neither
-    // comes. An error once the time is over.
+    // How long the next wait may take: until the try times out or reports that it waits; `None` if neither is
+    // to come. Fails with `TimedOut` once the try has timed out.
     fn left(&mut self) -> io::Result<Option<Duration>> {
         let now = Instant::now(self.rt)?;
         let end = until(self.end, now);
@@ -99,7 +99,7 @@ impl<'a> Waiting<'a> {
     }
 }
 
-/// A connection, for one call after the other.
+/// A connection to a server, for one call at a time.
 #[derive(Drop)]
 pub(crate) struct Connection<'a> {
     waiting: Waiting<'a>,
@@ -108,13 +108,13 @@ pub(crate) struct Connection<'a> {
     events: Events,
     // Whether any byte was read.
     has_begun: bool,
-    /// Whether the first bytes are the beginning of an HTTP/2 server.
+    /// True if the first bytes read are those of an HTTP/2 server.
     pub(crate) is_http2: bool,
-    /// Whether a read or a write gave up since the time was over.
+    /// True if a read or a write of the last call timed out.
     pub(crate) is_late: bool,
 }
 
-// Connects, once the server has room.
+// Connects to a server, and tries again while the server has no room.
 fn connect(waiting: &mut Waiting<'_>, path: &str) -> io::Result<UnixStream> {
     for turn in 0..MAX_WAITS {
         match UnixStream::connect(waiting.rt, path) {
@@ -129,7 +129,7 @@ fn connect(waiting: &mut Waiting<'_>, path: &str) -> io::Result<UnixStream> {
     Err(io::Error::from(ErrorKind::TimedOut))
 }
 
-// A poll of a connection's readiness to be read or written.
+// Registers a connection with a new poll.
 fn watch(rt: &HostRuntime, stream: &mut UnixStream) -> io::Result<Poll> {
     let poll = Poll::new(rt)?;
     let interests = Interest::READABLE | Interest::WRITABLE;
@@ -138,12 +138,11 @@ fn watch(rt: &HostRuntime, stream: &mut UnixStream) -> io::Result<Poll> {
 }
 
 impl<'a> Connection<'a> {
-    /// A new connection to the server of a socket. From now on it takes no longer than that until it
-    /// fails with `TimedOut`.
+    /// Connects to the server of the socket at `path`, for a first call that fails with `TimedOut` after
+    /// `timeout`.
     ///
     /// # Errors
-    ///
-    /// Where the system or memory refuses, or the time is over.
+    /// If connecting fails or times out, or memory is refused.
     pub(crate) fn new(
         rt: &'a HostRuntime,
         path: &str,
@@ -163,22 +162,21 @@ impl<'a> Connection<'a> {
         })
     }
 
-    /// Begins a further call: from now on it takes no longer than that until it fails with `TimedOut`.
+    /// Begins a further call on the connection, which fails with `TimedOut` after `timeout`.
     ///
     /// # Errors
-    ///
-    /// Where there is no clock.
+    /// If the clock cannot be read.
     pub(crate) fn begin(&mut self, timeout: Option<Duration>) -> io::Result<()> {
         self.is_late = false;
         self.waiting.begin(timeout)
     }
 
-    /// Ends the writing: the server sees the end of the calls.
+    /// Shuts down the writing side, so that the server reads the end of the calls.
     pub(crate) fn end_writing(&self) -> io::Result<()> {
         self.stream.shutdown(Shutdown::Write)
     }
 
-    // Waits until the connection may be read or written further.
+    // Waits until the connection is ready to be read or written.
     fn wait(&mut self) -> io::Result<()> {
         let left = match self.waiting.left() {
             Ok(left) => left,
@@ -190,7 +188,7 @@ impl<'a> Connection<'a> {
         self.poll.poll(&mut self.events, left)
     }
 
-    // Looks at so many bytes that were read, if they are the first ones.
+    // Looks whether the `count` bytes of the first read are those of an HTTP/2 server.
     fn look_at(&mut self, bytes: &[u8], count: usize) {
         if !self.has_begun {
             self.has_begun = true;
@@ -199,7 +197,7 @@ impl<'a> Connection<'a> {
     }
 }
 
-// Whether a read or a write must be made again.
+// Returns true if the read or write with this error is to be made again.
 fn is_to_wait(error: &io::Error) -> bool {
     matches!(error.kind(), ErrorKind::WouldBlock | ErrorKind::Interrupted)
 }

@@ -12,7 +12,7 @@ use std::fmt::Display;
 use std::io::{self, ErrorKind};
 use thiserror::Error;
 
-/// The end of the program without a failure.
+/// How the program ends if nothing fails.
 #[derive(Clone, Copy)]
 pub(crate) enum Ended {
     /// All calls were answered OK, or all vectors passed.
@@ -22,7 +22,7 @@ pub(crate) enum Ended {
 }
 
 impl Ended {
-    /// The end of a run over replies or vectors; `is_refused` if one was a refusal, or failed.
+    /// [`Ended::Refused`] if `is_refused`, otherwise [`Ended::Done`].
     pub(crate) fn with(is_refused: bool) -> Ended
         ensures refused { IsTrue is_refused → result ≡ Ended.Refused }
         ensures done { is_refused ≡ false → result ≡ Ended.Done }
@@ -45,10 +45,10 @@ impl Ended {
     }
 }
 
-/// Why the program ends otherwise. Its `Display` is the line that is said.
+/// Why the program fails. Its `Display` is the line on standard error.
 #[derive(Debug, Drop, Error)]
 pub(crate) enum Failure {
-    /// The arguments do not say what to do.
+    /// The arguments are not understood.
     #[error("{0}")]
     Arguments(#[from] ArgumentsFault),
     /// No method has this name.
@@ -60,37 +60,37 @@ pub(crate) enum Failure {
         method: Method,
         option: &'static str,
     },
-    /// The message is given with this option.
+    /// This option cannot be combined with `--message`.
     #[error("--{0} cannot be used with --message")]
     WithMessage(&'static str),
-    /// A method without pages is asked for all of them.
+    /// `--all` was given with a method other than ListVolumes.
     #[error("--all: ListVolumes alone has pages")]
     NotPaged,
     /// The message is not an even number of hexadecimal digits.
     #[error("--message: not an even number of hexadecimal digits")]
     NotHex,
-    /// The value of this option is no number in decimal digits alone.
+    /// The value of this option is not a number in decimal digits.
     #[error("--{0}: not decimal digits alone")]
     NotDecimal(&'static str),
-    /// The socket is not given, and there is none where the units have it.
+    /// No socket was given, and none exists at the paths that the units use.
     #[error("no socket: give --socket PATH, or CSID_SOCKET in the environment; neither /run/csid-front/control.sock nor /run/csid/csid.sock exists")]
     NoSocket,
     /// This variable of the environment is not UTF-8.
     #[error("{0}: no text")]
     NotText(&'static str),
-    /// The value of this option is no size.
+    /// The value of this option is not a size.
     #[error("--{0}: no size: write a number and at most one unit, as 1Gi, 500M or 1.5 GiB, for a whole number of bytes below 2^63; units are k, M, G, T, P, E, and Ki, Mi, Gi, Ti, Pi, Ei with or without a B")]
     NotSize(&'static str),
-    /// The value of this option is no access mode.
+    /// The value of this option is not an access mode.
     #[error("--{0}: no access mode: write single-node-writer, single-node-reader-only, multi-node-reader-only, multi-node-single-writer, multi-node-multi-writer, single-node-single-writer or single-node-multi-writer, the name that Kubernetes has for it, as ReadWriteOnce or RWO, or a number")]
     NotMode(&'static str),
     /// A pair has no `=`.
     #[error("a pair without '=': write KEY=VALUE,KEY=VALUE")]
     NotPair,
-    /// The message has more bytes than a frame holds.
+    /// The message has more than 1,048,576 bytes, the most that a frame holds.
     #[error("the message has more than 1048576 bytes")]
     TooLong,
-    /// A line of a file is no vector.
+    /// A line of a file of vectors is not a vector.
     #[error("{path}: line {line} is no vector")]
     NotVector {
         path: String,
@@ -99,19 +99,20 @@ pub(crate) enum Failure {
     /// A reply is malformed.
     #[error("{0}")]
     Malformed(ReplyFault),
-    /// Something that speaks HTTP/2 is on the socket of this path.
+    /// The server of the socket at this path speaks HTTP/2.
     #[error("{0}: a gRPC socket (HTTP/2): give the socket of csid, or the one that the front has by --control")]
     OtherSocket(String),
-    /// A body is no response of its method.
+    /// The body of a reply is not a response of its method.
     #[error("the body is no response of the method")]
     BadBody,
-    /// A listing goes on and on.
+    /// A page of a listing has the token that it was asked with, or there are more pages than volumes can
+    /// fill.
     #[error("the pages have no end")]
     NoEnd,
     /// No volume has this id.
     #[error("{0}: no volume has this id")]
     NoVolume(String),
-    /// No volume has this id, which is not written as ids are: it may be the name of a volume.
+    /// No volume has this id, and the text does not have the form of an id: it may be the name of a volume.
     #[error("{0}: no volume has this id; ids look like vol-1, and csid --list-tables or csid-etcd --list shows the name of each")]
     NotAnId(String),
     /// The volume is not published to this node.
@@ -123,7 +124,7 @@ pub(crate) enum Failure {
     /// The volume is not published to any node.
     #[error("{0}: not published to any node")]
     NotPublished(String),
-    /// A file, standard output or the socket failed: its name, and why.
+    /// An operation on a file, standard output or the socket failed: its name, and the reason.
     #[error("{0}")]
     System(Cause),
     /// Standard input cannot be read.
@@ -132,7 +133,7 @@ pub(crate) enum Failure {
     /// Standard output cannot be written.
     #[error("a write to standard output failed")]
     WriteFailed,
-    /// There is no memory.
+    /// Memory is refused.
     #[error("out of memory")]
     NoMemory,
 }
@@ -146,7 +147,7 @@ impl From<AllocError> for Failure {
 }
 
 impl Failure {
-    /// Something of the system failed.
+    /// The failure of an operation of the system; [`Failure::NoMemory`] if memory is refused.
     pub(crate) fn system(alloc: Global, name: &str, error: &io::Error) -> Failure {
         match error.kind() {
             ErrorKind::OutOfMemory => Failure::NoMemory,
@@ -154,7 +155,7 @@ impl Failure {
         }
     }
 
-    /// A file or a socket failed.
+    /// The failure of the file or socket with this name.
     pub(crate) fn named<T: Display>(alloc: Global, name: &str, why: &T) -> Failure {
         match cause(alloc, name, why) {
             Ok(cause) => Failure::System(cause),

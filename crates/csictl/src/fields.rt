@@ -15,13 +15,12 @@ use csi_types::{
 };
 use std::alloc::{AllocError, AllocFailed, Global};
 
-/// Why there is no field. It is small, and so is what a function writes out that makes a message of many
-/// fields.
+/// Why an option is not a field. The type is small, which keeps functions small that read many fields.
 #[derive(Clone, Copy)]
 pub(crate) enum FieldFault {
     /// A pair has no `=`.
     NotPair,
-    /// There is no memory.
+    /// Memory is refused.
     NoMemory,
 }
 
@@ -52,7 +51,7 @@ impl From<FieldFault> for Failure {
     }
 }
 
-// The options that a method has fields for.
+// The options that are fields of a method's request.
 fn fields_of(method: Method) -> &'static [&'static str] {
     match method {
         Method::CreateVolume => &[
@@ -79,7 +78,7 @@ fn fields_of(method: Method) -> &'static [&'static str] {
     }
 }
 
-// Whether an option is among the arguments.
+// Returns true if the option is given.
 fn is_given(arguments: &ArgMatches<'_>, name: &str) -> bool {
     if name == "readonly" {
         arguments.get_flag(name)
@@ -88,7 +87,8 @@ fn is_given(arguments: &ArgMatches<'_>, name: &str) -> bool {
     }
 }
 
-// Whether an option takes a number, and is given otherwise than in decimal digits alone: `clap` takes a sign.
+// Returns true if the option takes a number and its value is not decimal digits alone, as `clap` also takes a
+// sign.
 fn is_odd(arguments: &ArgMatches<'_>, field: &CommandOption) -> bool {
     match arguments.get_str(field.name) {
         Some(text) => field.is_number() && !is_decimal(text),
@@ -96,11 +96,10 @@ fn is_odd(arguments: &ArgMatches<'_>, field: &CommandOption) -> bool {
     }
 }
 
-/// Whether the arguments give no field.
+/// Checks that no option is given that is a field of a message.
 ///
 /// # Errors
-///
-/// Where they give one.
+/// [`Failure::WithMessage`] for the first that is given.
 pub(crate) fn give_none(arguments: &ArgMatches<'_>) -> Result<(), Failure> {
     for field in fields() {
         if is_given(arguments, field.name) {
@@ -110,7 +109,7 @@ pub(crate) fn give_none(arguments: &ArgMatches<'_>) -> Result<(), Failure> {
     Ok(())
 }
 
-// A list of an item, or of none.
+// A list with the item, if there is one.
 fn list_of<T: Drop>(alloc: Global, item: Option<T>) -> Result<Items<T>, FieldFault> {
     let mut list = Vec::new(alloc);
     if let Some(item) = item {
@@ -119,7 +118,7 @@ fn list_of<T: Drop>(alloc: Global, item: Option<T>) -> Result<Items<T>, FieldFau
     Ok(Items::from_vec(list))
 }
 
-// The range of sizes, where a bound is given.
+// The range of sizes, if a bound is given.
 fn range_of(required: Option<i64>, limit: Option<i64>) -> Option<CapacityRange> {
     if required.is_none() && limit.is_none() {
         return None;
@@ -130,7 +129,7 @@ fn range_of(required: Option<i64>, limit: Option<i64>) -> Option<CapacityRange> 
     })
 }
 
-// The size that an option gives with a unit.
+// The size in an option, in bytes.
 fn size(arguments: &ArgMatches<'_>, name: &'static str) -> Result<Option<i64>, Failure> {
     let Some(text) = arguments.get_str(name) else {
         return Ok(None);
@@ -141,7 +140,7 @@ fn size(arguments: &ArgMatches<'_>, name: &'static str) -> Result<Option<i64>, F
     }
 }
 
-// The access mode that an option gives by name; without it that of a single node that writes.
+// The access mode in `--mode`; without the option SINGLE_NODE_WRITER.
 fn mode(arguments: &ArgMatches<'_>) -> Result<i32, Failure> {
     let Some(text) = arguments.get_str("mode") else {
         return Ok(SINGLE_NODE_WRITER);
@@ -149,26 +148,25 @@ fn mode(arguments: &ArgMatches<'_>) -> Result<i32, Failure> {
     mode_of(text).ok_or(Failure::NotMode("mode"))
 }
 
-// The access mode where none is given.
+// The number of the access mode SINGLE_NODE_WRITER (CSI specification, 'CreateVolume').
 const SINGLE_NODE_WRITER: i32 = 1;
 
-/// The fields of a message, as the arguments of a command give them.
+/// The fields of a message, from the arguments of a command.
 #[derive(Clone, Copy)]
 pub(crate) struct Fields<'m, 'a> {
     alloc: Global,
     arguments: &'m ArgMatches<'a>,
     range: Option<CapacityRange>,
     mode: Option<i32>,
-    // Whether the arguments are those of a command for people.
+    // True if the command is one for people, whose options have other names.
     is_person: bool,
 }
 
 impl<'m, 'a> Fields<'m, 'a> {
-    /// The fields that the arguments give.
+    /// The fields in the arguments of a command over frames.
     ///
     /// # Errors
-    ///
-    /// Where the method has no field for one of them.
+    /// If the method's request has no field for an option.
     pub(crate) fn new(
         alloc: Global,
         method: Method,
@@ -197,12 +195,10 @@ impl<'m, 'a> Fields<'m, 'a> {
         })
     }
 
-    /// The fields that the arguments of a command for people give: sizes with units, and access modes by
-    /// name.
+    /// The fields in the arguments of a command for people, where sizes have units and access modes names.
     ///
     /// # Errors
-    ///
-    /// Where one is none.
+    /// If a size or an access mode is not understood.
     pub(crate) fn of_person(
         alloc: Global,
         arguments: &'m ArgMatches<'a>,
@@ -219,27 +215,27 @@ impl<'m, 'a> Fields<'m, 'a> {
         })
     }
 
-    /// The text of an option, or the empty text.
+    /// The text of an option; empty if the option is not given.
     pub(crate) fn text(&self, name: &str) -> Result<Text, FieldFault> {
         Ok(Text::from_str(self.alloc, self.arguments.get_str(name).unwrap_or(""))?)
     }
 
-    /// Whether the volume is attached for reading only.
+    /// True if `--readonly` is given.
     pub(crate) fn readonly(&self) -> bool {
         self.arguments.get_flag("readonly")
     }
 
-    /// The most entries of a page.
+    /// The most entries of a page, in `--max`; 0 if it is not given, which leaves the number to the server.
     pub(crate) fn max(&self) -> i32 {
         self.arguments.get_one::<i32>("max").unwrap_or(0)
     }
 
-    /// The range of sizes, where a bound is given.
+    /// The range of sizes, if a bound is given.
     pub(crate) fn range(&self) -> Option<CapacityRange> {
         self.range
     }
 
-    // A mount of the file system that is given, or otherwise a block device.
+    // A mount with the file system in `--fs`; without the option a block device.
     fn access(&self) -> Result<Access, FieldFault> {
         let Some(fs) = self.arguments.get_str("fs") else {
             return Ok(Access::Block);
@@ -252,7 +248,7 @@ impl<'m, 'a> Fields<'m, 'a> {
         Ok(Access::Mount(Boxed::new(self.alloc, mount)?))
     }
 
-    /// The one capability, where a mode is given.
+    /// The capability with the mode in `--mode`; `None` if no mode is given.
     pub(crate) fn capability(&self) -> Result<Option<Capability>, FieldFault> {
         let Some(mode) = self.mode else {
             return Ok(None);
@@ -263,7 +259,7 @@ impl<'m, 'a> Fields<'m, 'a> {
         }))
     }
 
-    /// The one capability as a list; empty if it is not given.
+    /// A list of that capability; empty if no mode is given.
     pub(crate) fn capabilities(&self) -> Result<Items<Capability>, FieldFault> {
         list_of(self.alloc, self.capability()?)
     }
@@ -276,7 +272,7 @@ impl<'m, 'a> Fields<'m, 'a> {
         Ok(map.insert(key, value)?)
     }
 
-    // Adds the pairs between commas; of equal keys the last stays.
+    // Adds pairs that are separated by commas. The last of two pairs with equal keys replaces the first.
     fn insert_pairs(&self, map: &mut Map, text: &str) -> Result<(), FieldFault> {
         for pair in text.split(',') {
             self.insert_pair(map, pair)?;
@@ -284,8 +280,8 @@ impl<'m, 'a> Fields<'m, 'a> {
         Ok(())
     }
 
-    /// The pairs of an option, where it is given: between commas, each cut at its first `=`; of equal
-    /// keys the last.
+    /// The pairs of an option, `None` if it is not given. Commas separate the pairs, and the first `=` of a
+    /// pair ends its key; the last of two pairs with equal keys counts.
     pub(crate) fn pairs(&self, name: &str) -> Result<Option<Map>, FieldFault> {
         let Some(text) = self.arguments.get_str(name) else {
             return Ok(None);
@@ -295,7 +291,7 @@ impl<'m, 'a> Fields<'m, 'a> {
         Ok(Some(map))
     }
 
-    /// The pairs of an option as a map; empty if it is not given.
+    /// The pairs of an option; an empty map if it is not given.
     pub(crate) fn map(&self, name: &str) -> Result<Map, FieldFault> {
         let mut map = Map::new(self.alloc);
         if let Some(text) = self.arguments.get_str(name) {
@@ -304,7 +300,8 @@ impl<'m, 'a> Fields<'m, 'a> {
         Ok(map)
     }
 
-    /// The requirement with the one requisite topology, if a topology is given.
+    /// The requirement with the requisite topology in `--topology` or `--pool-topology`; `None` without the
+    /// option.
     pub(crate) fn requirement(&self) -> Result<Option<Requirement>, FieldFault> {
         let option = if self.is_person {
             "pool-topology"
@@ -320,7 +317,7 @@ impl<'m, 'a> Fields<'m, 'a> {
         }))
     }
 
-    /// No pairs: csictl sends no secrets and no context.
+    /// An empty map, for secrets and contexts, which csictl does not send.
     pub(crate) fn no_map(&self) -> Map {
         Map::new(self.alloc)
     }

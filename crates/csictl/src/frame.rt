@@ -7,11 +7,11 @@ use csi_types::Method;
 use frames_core::send;
 use std::alloc::Global;
 
-/// The method and the frame of the call that the arguments ask for.
+/// The method of the call that the arguments describe, and the frame of the call.
 ///
 /// # Errors
 ///
-/// Where they ask for none, or memory is refused.
+/// If the arguments do not describe a call, or memory is refused.
 pub(crate) fn called(
     alloc: Global,
     arguments: &ArgMatches<'_>,
@@ -26,7 +26,7 @@ pub(crate) fn called(
 ///
 /// # Errors
 ///
-/// Where the arguments ask for no call, it cannot be written, or memory is refused.
+/// If the arguments do not describe a call, the frame cannot be written, or memory is refused.
 pub(crate) fn run(rt: &HostRuntime, arguments: &ArgMatches<'_>) -> Result<Ended, Failure> {
     let (_, frame) = called(rt.alloc(), arguments)?;
     match send(&mut rt.stdout(), &frame) {

@@ -8,7 +8,7 @@ use csi_types::{Entry, VolumeInfo};
 use serde_json::{Value, json};
 use std::alloc::{AllocError, Global};
 
-// Volumes that have a name and a topology in common.
+// The volumes that are published to one node, or are in one pool with one topology.
 #[derive(Drop)]
 struct Group<'e> {
     // The id of the node or the name of the pool; empty if a volume does not say its pool.
@@ -22,7 +22,7 @@ struct Group<'e> {
     ids: Vec<&'e str>,
 }
 
-/// Groups of volumes, in the order in which their first volumes came.
+/// Groups of volumes, in the order of the first volume of each group.
 #[derive(Drop)]
 pub(crate) struct Groups<'e> {
     groups: Vec<Group<'e>>,
@@ -156,11 +156,11 @@ impl<'e> Groups<'e> {
         Ok(())
     }
 
-    /// Groups of the nodes that volumes are published to.
+    /// A group for each node that volumes are published to.
     ///
     /// # Errors
     ///
-    /// Where memory is refused.
+    /// If memory is refused.
     pub(crate) fn of_nodes(alloc: Global, entries: &'e [Entry]) -> Result<Groups<'e>, AllocError> {
         let mut groups = Groups {
             groups: Vec::new(alloc),
@@ -171,12 +171,12 @@ impl<'e> Groups<'e> {
         Ok(groups)
     }
 
-    /// Groups of the pools that volumes are in; for volumes that do not say their pool, a group for each
-    /// topology.
+    /// A group for each pool and topology that volumes have. Volumes whose context names no pool are grouped
+    /// by their topology alone.
     ///
     /// # Errors
     ///
-    /// Where memory is refused.
+    /// If memory is refused.
     pub(crate) fn of_pools(alloc: Global, entries: &'e [Entry]) -> Result<Groups<'e>, AllocError> {
         let mut groups = Groups {
             groups: Vec::new(alloc),
@@ -190,11 +190,11 @@ impl<'e> Groups<'e> {
         Ok(groups)
     }
 
-    /// The nodes, a line each.
+    /// A table of the nodes with a heading, a line for each node.
     ///
     /// # Errors
     ///
-    /// Where memory is refused.
+    /// If memory is refused.
     pub(crate) fn node_rows(&self, alloc: Global) -> Result<String, AllocError> {
         let mut table = Table::with_headings(alloc, &["NODE", "VOLUMES", "IDS"])?;
         for group in &self.groups {
@@ -203,11 +203,11 @@ impl<'e> Groups<'e> {
         table.text(alloc)
     }
 
-    /// The pools, a line each.
+    /// A table of the pools with a heading, a line for each pool.
     ///
     /// # Errors
     ///
-    /// Where memory is refused.
+    /// If memory is refused.
     pub(crate) fn pool_rows(&self, alloc: Global) -> Result<String, AllocError> {
         let mut table = Table::with_headings(alloc, &["POOL", "TOPOLOGY", "VOLUMES", "SIZE"])?;
         for group in &self.groups {
@@ -220,7 +220,7 @@ impl<'e> Groups<'e> {
     ///
     /// # Errors
     ///
-    /// Where memory is refused.
+    /// If memory is refused.
     pub(crate) fn nodes_value(&self, alloc: Global) -> Result<Value, AllocError> {
         let mut array = Vec::new(alloc);
         for group in &self.groups {
@@ -233,7 +233,7 @@ impl<'e> Groups<'e> {
     ///
     /// # Errors
     ///
-    /// Where memory is refused.
+    /// If memory is refused.
     pub(crate) fn pools_value(&self, alloc: Global) -> Result<Value, AllocError> {
         let mut array = Vec::new(alloc);
         for group in &self.groups {

@@ -103,7 +103,7 @@ pub(crate) fn entry(alloc: Global, entry: &Entry) -> Json {
     })
 }
 
-/// A listing of these entries, which ends, or goes on after a token.
+/// A listing of these entries, with the token of the next page; the token is empty after the last page.
 pub(crate) fn listing(alloc: Global, entries: Vec<Value>, token: &str) -> Json {
     json!(in alloc; {"entries": entries, "nextToken": token})
 }

@@ -29,22 +29,22 @@ pub(crate) enum Unanswered {
     Failed(io::Error),
 }
 
-/// Connections to a server.
+/// The socket of a server, and the connection to it that is kept between calls.
 #[derive(Drop)]
 struct Wire<'a> {
     rt: &'a HostRuntime,
     path: &'a str,
     // The longest time of one try; `None` for ever.
     timeout: Option<Duration>,
-    // Whether a connection is kept for the next call, once the server has answered on it.
+    // True if a connection on which the server has answered is kept for the next call.
     is_kept: bool,
     kept: Option<Connection<'a>>,
-    // Whether the last bytes came from a server of HTTP/2.
+    // True if the last connection was to an HTTP/2 server.
     is_http2: bool,
 }
 
 impl<'a> Wire<'a> {
-    // The connection that was kept, or a new one.
+    // Takes the connection that was kept, or makes a new one.
     fn connection(&mut self) -> io::Result<Connection<'a>> {
         match self.kept.take() {
             Some(mut connection) => {
@@ -55,7 +55,7 @@ impl<'a> Wire<'a> {
         }
     }
 
-    // A call on a connection, up to its reply.
+    // Sends a call on a connection and receives its reply.
     fn ask(&self, connection: &mut Connection<'_>, frame: &[u8]) -> io::Result<Received> {
         send(connection, frame)?;
         if !self.is_kept {
@@ -67,7 +67,7 @@ impl<'a> Wire<'a> {
         }
     }
 
-    // Makes one call on a new connection, up to its reply.
+    // Sends a call on a kept or new connection and receives its reply.
     fn converse(&mut self, frame: &[u8]) -> io::Result<Received> {
         let mut connection = self.connection()?;
         let received = self.ask(&mut connection, frame)?;
@@ -81,7 +81,8 @@ impl<'a> Wire<'a> {
     }
 }
 
-/// The way to a server.
+/// A client of the server of a Unix socket, which sends a call again until it has a reply or the tries are
+/// used up.
 #[derive(Drop)]
 pub(crate) struct SocketLine<'a> {
     wire: Wire<'a>,
@@ -92,7 +93,8 @@ pub(crate) struct SocketLine<'a> {
 }
 
 impl<'a> SocketLine<'a> {
-    /// The way to the server of this socket. One connection serves several calls, or each has its own.
+    /// A client of the server of the socket at `path`. If `is_kept`, calls share one connection; otherwise
+    /// each call has its own.
     pub(crate) fn new(
         rt: &'a HostRuntime,
         path: &'a str,
@@ -124,7 +126,7 @@ impl<'a> SocketLine<'a> {
         }
     }
 
-    // The failure for a malformed reply.
+    // The failure for a malformed reply; [`Failure::OtherSocket`] if the server speaks HTTP/2.
     fn malformed(&self, fault: ReplyFault) -> Failure {
         if !self.wire.is_http2 {
             return Failure::Malformed(fault);
@@ -135,7 +137,7 @@ impl<'a> SocketLine<'a> {
         }
     }
 
-    // Forgets the tries of the call before.
+    // Resets the counts of tries before a call.
     fn begin(&mut self)
         ensures { self.new.exchanges.made ≡ 0 }
     {
@@ -143,11 +145,10 @@ impl<'a> SocketLine<'a> {
         self.unanswered = None;
     }
 
-    /// The reply to a call, which is sent again while it is not answered.
+    /// Sends a call, again while it has no reply and tries are left, and returns its reply.
     ///
     /// # Errors
-    ///
-    /// Where no try is answered, the reply is malformed, or memory is refused.
+    /// If no try has a reply, the reply is malformed, or memory is refused.
     pub(crate) fn call(&mut self, frame: &[u8]) -> Result<ReceivedReply, Failure> {
         let tries = self.patience.tries;
         self.begin();
@@ -176,7 +177,7 @@ impl<'a> SocketLine<'a> {
     }
 }
 
-// The reply of an exchange, and the error if it has none.
+// The reply of an exchange, or why it has none.
 fn outcome(exchanged: io::Result<Received>) -> (Received, Option<Unanswered>) {
     let error = match exchanged {
         Ok(Received::Nothing) => return (Received::Nothing, Some(Unanswered::Closed)),

@@ -24,7 +24,7 @@ pub(crate) enum What {
     Volume,
 }
 
-// Takes out of a listing the volumes that are not at the node or in the pool that the arguments may name.
+// Keeps the entries of the volumes at the node in `--node` and in the pool in `--pool`, if these are given.
 fn select(arguments: &ArgMatches<'_>, entries: &mut Vec<Entry>) {
     if let Some(node) = arguments.get_str("node") {
         entries.retain(|entry| is_at(entry, node));
@@ -53,7 +53,7 @@ fn volumes_text(alloc: Global, entries: &[Entry]) -> Result<String, AllocError> 
     table.text(alloc)
 }
 
-// All that an entry says.
+// All fields of an entry, a line for each.
 fn entry_text(alloc: Global, entry: &Entry) -> Result<String, AllocError> {
     let volume = entry.volume.as_ref();
     let mut table = Table::new(alloc);
@@ -95,7 +95,7 @@ fn pools_text(alloc: Global, entries: &[Entry], is_json: bool) -> Result<String,
     groups.pool_rows(alloc)
 }
 
-// The text of the entries.
+// The text that a listing prints for the entries.
 fn text_of(
     alloc: Global,
     what: What,
@@ -123,11 +123,11 @@ fn walked(rt: &HostRuntime, arguments: &ArgMatches<'_>) -> Result<Walked, Failur
     walk(rt.alloc(), &mut line)
 }
 
-/// Asks for all pages of ListVolumes over one connection, and shows what their entries say.
+/// Asks for all pages of ListVolumes over one connection, and prints a listing of their entries.
 ///
 /// # Errors
 ///
-/// Where a call is not answered, a reply is malformed, no volume has the id that is asked for, writing fails,
+/// If a call is not answered, a reply is malformed, no volume has the id that is asked for, writing fails,
 /// or memory is refused.
 pub(crate) fn run(
     rt: &HostRuntime,

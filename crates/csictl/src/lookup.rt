@@ -23,8 +23,8 @@ fn number_of(id: &str) -> Option<u64> {
     digits.parse::<u64>().ok()
 }
 
-// The token of the page that begins with this volume: the number before the volume's own. The page of the
-// empty token begins with the first volume; it also serves a text that is not an id.
+// The token of the page that begins with this volume: the number before the volume's own. For a text that is
+// not an id it is the empty token, whose page begins with the first volume.
 fn token_before(alloc: Global, id: &str) -> Result<Text, AllocError> {
     let before = number_of(id).unwrap_or(0).saturating_sub(1);
     if before == 0 {
@@ -33,8 +33,8 @@ fn token_before(alloc: Global, id: &str) -> Result<Text, AllocError> {
     Ok(Text::from_string(format!(in alloc; "{before}")?))
 }
 
-/// The failure that no volume has this id. Where the text is not an id, it may be the name of a volume, and
-/// the line also says how ids look.
+/// The failure that no volume has this id. If the text does not have the form of an id, the line also says
+/// what ids look like, as the text may be a name.
 pub(crate) fn no_volume(alloc: Global, id: &str) -> Failure {
     let Ok(text) = String::from_str(alloc, id) else {
         return Failure::NoMemory;
@@ -46,7 +46,7 @@ pub(crate) fn no_volume(alloc: Global, id: &str) -> Failure {
     }
 }
 
-/// The entry of the volume with an id.
+/// The entry of the volume with this id.
 pub(crate) fn entry_of<'e>(entries: &'e [Entry], id: &str) -> Option<&'e Entry> {
     for entry in entries {
         if let Some(volume) = &entry.volume {
@@ -58,7 +58,7 @@ pub(crate) fn entry_of<'e>(entries: &'e [Entry], id: &str) -> Option<&'e Entry> 
     None
 }
 
-/// Whether an entry is of a volume in this pool, by its context.
+/// Returns true if the volume's context names this pool.
 pub(crate) fn is_in(entry: &Entry, pool: &str) -> bool {
     match &entry.volume {
         Some(volume) => pool_of(volume) == pool,
@@ -66,7 +66,7 @@ pub(crate) fn is_in(entry: &Entry, pool: &str) -> bool {
     }
 }
 
-/// Whether an entry is of a volume that is published to this node.
+/// Returns true if the volume is published to this node.
 pub(crate) fn is_at(entry: &Entry, node: &str) -> bool {
     let Some(nodes) = &entry.nodes else {
         return false;
@@ -79,7 +79,7 @@ pub(crate) fn is_at(entry: &Entry, node: &str) -> bool {
     false
 }
 
-// Whether an entry is of a volume that is published to some node.
+// Returns true if the volume is published to a node.
 fn is_published(entry: &Entry) -> bool {
     match &entry.nodes {
         Some(nodes) => !nodes.is_empty(),
@@ -87,7 +87,7 @@ fn is_published(entry: &Entry) -> bool {
     }
 }
 
-// Checks that a volume is published to the node, or without one to any.
+// Checks that a volume is published to the node; to any node if `node` is `None`.
 fn check_published(
     alloc: Global,
     entry: &Entry,
@@ -104,7 +104,7 @@ fn check_published(
     }
 }
 
-// Checks that the entries have what the arguments of a method name.
+// Checks that the volume, and the attachment if one is to be removed, is in the entries.
 fn check(
     alloc: Global,
     method: Method,
@@ -127,7 +127,7 @@ fn check(
 ///
 /// # Errors
 ///
-/// Where there is nothing to remove, the call is not answered, the reply is malformed or not a page, or
+/// If there is nothing to remove, the call is not answered, the reply is malformed or not a page, or
 /// memory is refused.
 pub(crate) fn look_up(
     alloc: Global,
@@ -142,7 +142,8 @@ pub(crate) fn look_up(
             check(alloc, method, arguments, entries.as_slice())?;
             Ok(None)
         }
-        // So no volume was given this number yet (docs/MACHINE.md, "A walk over pages").
+        // A token is refused only if no volume was given its number yet (docs/MACHINE.md, "A walk over
+        // pages").
         Walked::Outdated(_) => Err(no_volume(alloc, id)),
         Walked::Refused(reply) => Ok(Some(reply)),
     }

@@ -14,7 +14,7 @@ use envelope::MAX_MESSAGE_BYTES;
 use hex::FromHexError;
 use std::alloc::{AllocError, Global};
 
-/// More pages than there are volumes: a server that has more goes round in a ring.
+/// More pages than volumes can fill: a listing with more pages does not end.
 pub(crate) const MOST_PAGES: u32 = 1_000_000;
 
 fn create(fields: &Fields<'_, '_>) -> Result<CreateVolume, FieldFault> {
@@ -89,12 +89,12 @@ fn validate(fields: &Fields<'_, '_>) -> Result<Validate, FieldFault> {
     })
 }
 
-// A message of which a request is made. Its type is not written out here.
+// A request with the fields of the arguments, without its type written out here.
 fn boxed<M: Drop>(alloc: Global, message: Result<M, FieldFault>) -> Result<Boxed<M>, FieldFault> {
     Ok(Boxed::new(alloc, message?)?)
 }
 
-// The request of a method with these fields.
+// The request of the method with these fields.
 fn request(alloc: Global, method: Method, fields: &Fields<'_, '_>) -> Result<Request, FieldFault> {
     Ok(match method {
         Method::GetPluginInfo => Request::PluginInfo,
@@ -120,7 +120,7 @@ fn encoded(alloc: Global, request: &Request) -> Result<Vec<u8>, AllocError> {
     Ok(bytes)
 }
 
-// The bytes of the message of a method with these fields.
+// The encoded request of the method with these fields.
 fn message_of(
     alloc: Global,
     method: Method,
@@ -130,7 +130,7 @@ fn message_of(
     Ok(encoded(alloc, &request)?)
 }
 
-// The bytes of the message whose fields the arguments give.
+// The encoded request with the fields in the arguments.
 fn message_of_fields(
     alloc: Global,
     method: Method,
@@ -140,7 +140,7 @@ fn message_of_fields(
     Ok(message_of(alloc, method, &fields)?)
 }
 
-// The bytes of a message that is given as it is.
+// The message given in hexadecimal digits.
 fn message_as_it_is(alloc: Global, digits: &str) -> Result<Vec<u8>, Failure> {
     match hex::decode(alloc, digits) {
         Ok(bytes) => Ok(bytes),
@@ -149,7 +149,7 @@ fn message_as_it_is(alloc: Global, digits: &str) -> Result<Vec<u8>, Failure> {
     }
 }
 
-// The bytes of the message.
+// The message of the call, given by `--message` or by options.
 fn message(alloc: Global, method: Method, arguments: &ArgMatches<'_>) -> Result<Vec<u8>, Failure> {
     match arguments.get_str("message") {
         Some(digits) => {
@@ -160,11 +160,10 @@ fn message(alloc: Global, method: Method, arguments: &ArgMatches<'_>) -> Result<
     }
 }
 
-/// The method that the arguments name.
+/// The method with this name.
 ///
 /// # Errors
-///
-/// Where no method has the name, or memory was refused.
+/// [`Failure::NoMethod`] if no method has the name; also if memory is refused.
 pub(crate) fn method(alloc: Global, name: &str) -> Result<Method, Failure> {
     match method_named(alloc, name)? {
         Some(method) => Ok(method),
@@ -172,7 +171,7 @@ pub(crate) fn method(alloc: Global, name: &str) -> Result<Method, Failure> {
     }
 }
 
-// The frame of the call of a method with a message.
+// The frame of a call with this method and message.
 fn framed(alloc: Global, method: Method, message: &[u8]) -> Result<Vec<u8>, Failure> {
     if message.len() > MAX_MESSAGE_BYTES {
         return Err(Failure::TooLong);
@@ -182,11 +181,10 @@ fn framed(alloc: Global, method: Method, message: &[u8]) -> Result<Vec<u8>, Fail
     Ok(frame)
 }
 
-/// The frame of the call of a method that the arguments ask for.
+/// The frame of a call of the method, with the message given by the arguments.
 ///
 /// # Errors
-///
-/// Where they ask for none, or memory was refused.
+/// If the arguments do not describe a message, or memory is refused.
 pub(crate) fn frame(
     alloc: Global,
     method: Method,
@@ -196,11 +194,10 @@ pub(crate) fn frame(
     framed(alloc, method, &message)
 }
 
-/// The frame of the call of a method that the arguments of a command for people ask for.
+/// The frame of a call of the method, with the fields in the arguments of a command for people.
 ///
 /// # Errors
-///
-/// Where they ask for none, or memory was refused.
+/// If the arguments do not describe a message, or memory is refused.
 pub(crate) fn frame_of_person(
     alloc: Global,
     method: Method,
@@ -215,16 +212,15 @@ pub(crate) fn frame_of_person(
 ///
 /// # Errors
 ///
-/// Where memory was refused.
+/// If memory is refused.
 pub(crate) fn call_without_fields(alloc: Global, method: Method) -> Result<Vec<u8>, Failure> {
     framed(alloc, method, &[])
 }
 
-/// Looks whether the call is of a method that has pages, and its message is made of options.
+/// Checks that `--all` can be used: the method is ListVolumes, and `--message` is not given.
 ///
 /// # Errors
-///
-/// Where it is not.
+/// [`Failure::NotPaged`] or [`Failure::WithMessage`] otherwise.
 pub(crate) fn check_paged(method: Method, arguments: &ArgMatches<'_>) -> Result<(), Failure> {
     if method != Method::ListVolumes {
         return Err(Failure::NotPaged);
@@ -235,11 +231,11 @@ pub(crate) fn check_paged(method: Method, arguments: &ArgMatches<'_>) -> Result<
     Ok(())
 }
 
-/// A listing that begins where the arguments say.
+/// An empty listing that begins at the token in `--token`.
 ///
 /// # Errors
 ///
-/// Where memory was refused.
+/// If memory is refused.
 pub(crate) fn first_page(alloc: Global, arguments: &ArgMatches<'_>) -> Result<Listing, AllocError> {
     let token = arguments.get_str("token").unwrap_or("");
     Ok(Listing::new(alloc, copy_text(alloc, token)?))
@@ -258,7 +254,7 @@ fn page_request(alloc: Global, max_entries: i32, token: &Text) -> Result<Request
 ///
 /// # Errors
 ///
-/// Where the token is longer than a message, or memory was refused.
+/// If the token is longer than a message, or memory is refused.
 pub(crate) fn page(alloc: Global, max_entries: i32, token: &Text) -> Result<Vec<u8>, Failure> {
     let request = page_request(alloc, max_entries, token)?;
     let message = encoded(alloc, &request)?;

@@ -2,7 +2,7 @@
 
 use command_line::is_decimal;
 
-// A name of an access mode.
+// A name of an access mode, and the number of the mode.
 #[derive(Clone, Copy)]
 struct Name {
     text: &'static str,
@@ -102,8 +102,8 @@ const NAMES: [Name; 22] = [
     },
 ];
 
-/// The number of an access mode, by one of its names, of either case, or by its number itself; `None` where
-/// the text is neither.
+/// The number of the access mode with this name, in either case, or with this number; `None` if the text is
+/// neither.
 pub(crate) fn mode_of(text: &str) -> Option<i32> {
     for name in &NAMES {
         if text.eq_ignore_ascii_case(name.text) {

@@ -8,35 +8,35 @@ use csi_codec::decode_response;
 use csi_types::{Entry, Items, Method, Response, Text};
 use std::alloc::Global;
 
-// A listing whose token is refused as too old is begun again, but at most so often in all.
+// The most times that a listing is begun, as one whose token is refused as too old is begun again.
 const MOST_WALKS: u32 = 5;
 
-// The status ABORTED: of a listing, that its token is no longer good.
+// The status ABORTED: ListVolumes answers it if the token is no longer valid.
 const ABORTED: u8 = 10;
 
-// Asks for as many entries as the server puts on a page.
+// `max_entries` that leaves the number of entries to the server.
 const FULL_PAGE: i32 = 0;
 
-/// The outcome of a walk over pages.
+/// The outcome of a listing, page by page.
 #[derive(Drop)]
 pub(crate) enum Walked {
-    /// The entries of all pages that were asked for.
+    /// The entries of all pages.
     All(Vec<Entry>),
-    /// A page was refused.
+    /// A page is refused.
     Refused(ReceivedReply),
-    /// A page was refused, since its token is not good (any more).
+    /// A page was refused because its token is not valid, or no longer valid.
     Outdated(ReceivedReply),
 }
 
-// Pages, as they come.
+// The entries of the pages so far.
 #[derive(Drop)]
 struct Pages {
     entries: Vec<Entry>,
-    // Where the next page begins; empty where there is none.
+    // The token of the next page; empty after the last page.
     token: Text,
 }
 
-// The parts of a page. Nothing fails here, since a response is moved.
+// The entries and the next token of a page. Nothing fails here, since a response is moved.
 fn parts(response: Response) -> Option<(Items<Entry>, Text)> {
     match response {
         Response::List { entries, token } => Some((entries, token)),
@@ -45,7 +45,7 @@ fn parts(response: Response) -> Option<(Items<Entry>, Text)> {
 }
 
 impl Pages {
-    // No entries so far. The first page begins at this token.
+    // No entries; the first page begins at this token.
     fn new(alloc: Global, token: Text) -> Pages {
         Pages {
             entries: Vec::new(alloc),
@@ -53,7 +53,7 @@ impl Pages {
         }
     }
 
-    // Takes the entries of a page.
+    // Appends the entries of a page.
     fn push(&mut self, entries: Items<Entry>) -> Result<(), Failure> {
         for entry in entries.into_vec() {
             if self.entries.push(entry).is_err() {
@@ -63,7 +63,8 @@ impl Pages {
         Ok(())
     }
 
-    // Takes the body of a page: an error where it is none, or goes on where it began itself.
+    // Appends the entries in the body of a page. Fails if the body is not a page, or if the token of the next
+    // page is the token of this one.
     fn add(&mut self, alloc: Global, body: &[u8]) -> Result<(), Failure> {
         let response = decode_response(alloc, Method::ListVolumes, body)?;
         let Some((entries, token)) = parts(response) else {
@@ -93,7 +94,7 @@ impl Pages {
     }
 }
 
-// A refusal of the page that begins at a token.
+// The outcome for a refusal of the page that begins at this token.
 fn refused(reply: ReceivedReply, token: &Text) -> Walked {
     if reply.status == ABORTED && !token.is_empty() {
         Walked::Outdated(reply)
@@ -116,12 +117,10 @@ fn walk_once(alloc: Global, line: &mut SocketLine<'_>) -> Result<Walked, Failure
     Err(Failure::NoEnd)
 }
 
-/// Asks for all pages of ListVolumes; again from the first on where a token is no longer good.
+/// Asks for all pages of ListVolumes, and begins again with the first page if a token is no longer valid.
 ///
 /// # Errors
-///
-/// Where a call is not answered, a reply is malformed or no page, the pages have no end, or memory is
-/// refused.
+/// If a call has no reply, a reply is malformed or not a page, the pages have no end, or memory is refused.
 pub(crate) fn walk(alloc: Global, line: &mut SocketLine<'_>) -> Result<Walked, Failure> {
     for _ in 1..MOST_WALKS {
         match walk_once(alloc, line)? {
@@ -132,11 +131,10 @@ pub(crate) fn walk(alloc: Global, line: &mut SocketLine<'_>) -> Result<Walked, F
     walk_once(alloc, line)
 }
 
-/// Asks for the page of at most one entry after a token. `All` is empty where no volume follows.
+/// Asks for a page of at most one entry after a token. [`Walked::All`] is empty if no volume follows.
 ///
 /// # Errors
-///
-/// Where the call is not answered, the reply is malformed or no page, or memory is refused.
+/// If the call has no reply, the reply is malformed or not a page, or memory is refused.
 pub(crate) fn first_entry(
     alloc: Global,
     token: Text,

@@ -8,7 +8,7 @@ use clap::ArgMatches;
 use command_line::is_decimal;
 use std::time::Duration;
 
-/// The most tries of a call, and the longest time of each.
+/// The most tries of a call, and the time limit of each try.
 #[derive(Clone, Copy)]
 pub(crate) struct Patience {
     pub(crate) tries: u32,
@@ -17,7 +17,7 @@ pub(crate) struct Patience {
     ghost most: { tries ≤ 10 },
 }
 
-// The number that an option gives.
+// The number in an option; `None` if the option is not given.
 fn number(arguments: &ArgMatches<'_>, name: &'static str) -> Result<Option<u32>, Failure> {
     match arguments.get_str(name) {
         Some(text) if !is_decimal(text) => Err(Failure::NotDecimal(name)),
@@ -26,11 +26,10 @@ fn number(arguments: &ArgMatches<'_>, name: &'static str) -> Result<Option<u32>,
 }
 
 impl Patience {
-    /// The tries and the time from the arguments. The default is one try without a limit.
+    /// The tries and the time limit in the arguments; by default one try without a time limit.
     ///
     /// # Errors
-    ///
-    /// Where a number is given otherwise than in decimal digits alone.
+    /// If a number is not written in decimal digits alone.
     pub(crate) fn of(arguments: &ArgMatches<'_>) -> Result<Patience, Failure> {
         let tries = number(arguments, TRIES)?.unwrap_or(1).clamp(1, MOST_TRIES);
         let timeout = number(arguments, TIMEOUT)?.map(|seconds| Duration::from_secs(u64::from(

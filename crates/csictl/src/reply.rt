@@ -25,11 +25,11 @@ impl From<DecodeFault> for Failure {
     }
 }
 
-/// Writes all that is shown.
+/// Writes bytes to standard output.
 ///
 /// # Errors
 ///
-/// Where it cannot be written.
+/// If it cannot be written.
 pub(crate) fn write(rt: &HostRuntime, shown: &[u8]) -> Result<(), Failure> {
     match rt.stdout().write_all(shown) {
         Ok(()) => Ok(()),
@@ -37,23 +37,22 @@ pub(crate) fn write(rt: &HostRuntime, shown: &[u8]) -> Result<(), Failure> {
     }
 }
 
-/// A line of JSON.
+/// The value as one line of JSON.
 ///
 /// # Errors
 ///
-/// Where memory is refused.
+/// If memory is refused.
 pub(crate) fn line(alloc: Global, value: &Value) -> Result<String, AllocError> {
     let mut line = value.to_string(alloc)?;
     line.push('\n')?;
     Ok(line)
 }
 
-/// Shows a reply as lines.
+/// Shows a reply as lines: its status and body, and the fields of the body.
 ///
 /// # Errors
-///
-/// Where its body is no response of the method, and then its first line is shown; where it cannot be written,
-/// or memory is refused.
+/// If its body is not a response of the method, after its first line is shown; if it cannot be written, or
+/// memory is refused.
 pub(crate) fn show_lines(
     rt: &HostRuntime,
     method: Method,
@@ -70,7 +69,8 @@ pub(crate) fn show_lines(
     Ok(Ended::with(reply.status != 0))
 }
 
-// A body as a line of JSON. The response is borrowed, so that its owner does nothing else that may fail.
+// The response in a body as a line of JSON. It is borrowed, so that its owner does nothing else that may
+// fail.
 fn body_line(alloc: Global, method: Method, body: &[u8]) -> Result<String, Failure> {
     match decode_response(alloc, method, body) {
         Ok(response) => response_line(alloc, &response),
@@ -91,8 +91,7 @@ fn refusal_line(alloc: Global, reply: &Reply<'_>) -> Result<String, Failure> {
 /// Shows a reply as one line of JSON.
 ///
 /// # Errors
-///
-/// Where its body is no response of the method, it cannot be written, or memory is refused.
+/// If its body is not a response of the method, it cannot be written, or memory is refused.
 pub(crate) fn show_json(
     rt: &HostRuntime,
     method: Method,
@@ -112,7 +111,7 @@ pub(crate) fn show_json(
 ///
 /// # Errors
 ///
-/// Where memory is refused.
+/// If memory is refused.
 pub(crate) fn entries_line(alloc: Global, entries: &[Entry]) -> Result<String, AllocError> {
     let mut values = Vec::new(alloc);
     for entry in entries {
@@ -126,22 +125,22 @@ pub(crate) fn entries_line(alloc: Global, entries: &[Entry]) -> Result<String, A
 ///
 /// # Errors
 ///
-/// Where memory is refused.
+/// If memory is refused.
 pub(crate) fn entry_line(alloc: Global, entry: &Entry) -> Result<String, AllocError> {
     let value = json::entry(alloc, entry)?;
     line(alloc, &value)
 }
 
-/// The entries of a listing, page by page.
+/// A listing as JSON, to which pages are added.
 #[derive(Drop)]
 pub(crate) struct Listing {
     entries: Vec<Value>,
-    /// Where the next page begins; empty where there is none.
+    /// The token of the next page; empty after the last page.
     pub(crate) token: Text,
 }
 
 impl Listing {
-    /// A listing of nothing so far, which begins at a token.
+    /// An empty listing that begins at a token.
     pub(crate) fn new(alloc: Global, token: Text) -> Listing {
         Listing {
             entries: Vec::new(alloc),
@@ -156,11 +155,10 @@ impl Listing {
         Ok(())
     }
 
-    /// Takes the body of a page: its entries, if they are kept, and the token of the next.
+    /// Adds the body of a page: the token of the next page, and the entries if `are_kept`.
     ///
     /// # Errors
-    ///
-    /// Where it is none, or goes on where it began itself, or memory is refused.
+    /// If the body is not a page, the token of the next page is the token of this one, or memory is refused.
     pub(crate) fn add_body(
         &mut self,
         alloc: Global,
@@ -181,11 +179,11 @@ impl Listing {
         Ok(())
     }
 
-    /// Shows all entries as one line of JSON, if they were kept for it.
+    /// Shows all entries as one line of JSON, if `is_json`.
     ///
     /// # Errors
     ///
-    /// Where it cannot be written, or memory is refused.
+    /// If it cannot be written, or memory is refused.
     pub(crate) fn end(self, rt: &HostRuntime, is_json: bool) -> Result<Ended, Failure> {
         if !is_json {
             return Ok(Ended::Done);

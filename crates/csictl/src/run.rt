@@ -9,7 +9,7 @@ use command_line::arguments;
 use csi_types::Method;
 use std::io::IsTerminal;
 
-// Does what the arguments ask.
+// Runs the command that the arguments name; without a command, `show`.
 fn obey(rt: &HostRuntime, arguments: &ArgMatches<'_>) -> Result<Ended, Failure> {
     match arguments.subcommand() {
         Some(("frame", arguments)) => frame::run(rt, arguments),
@@ -36,11 +36,10 @@ fn obey_person(rt: &HostRuntime, name: &str, arguments: &ArgMatches<'_>) -> Resu
     }
 }
 
-/// Does what the command line asks. Without arguments, a terminal as standard input gets the help.
+/// Runs the program. Without arguments, it prints the help if standard input is a terminal.
 ///
 /// # Errors
-///
-/// Why the program ends otherwise than well. It is not said yet.
+/// Why the program fails. The caller reports it.
 pub(crate) fn run(rt: &HostRuntime) -> Result<Ended, Failure> {
     let mut arguments = arguments(rt)?;
     if arguments.len() == 1 && rt.stdin().is_terminal() {

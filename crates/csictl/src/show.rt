@@ -6,7 +6,7 @@ use clap::ArgMatches;
 use csi_client::{ShowEnd, show_all};
 use csi_types::Method;
 
-// The end of the program after a run that showed replies.
+// How the program ends after it showed replies.
 fn outcome(end: ShowEnd) -> Result<Ended, Failure> {
     match end {
         ShowEnd::Done(is_refused) => Ok(Ended::with(is_refused)),
@@ -23,11 +23,10 @@ fn show(rt: &HostRuntime, method: Option<Method>) -> Result<Ended, Failure> {
     outcome(show_all(rt.alloc(), method, &mut rt.stdin(), &mut rt.stdout()))
 }
 
-/// Shows the replies of standard input, to calls of the method that the arguments may name.
+/// Shows the replies on standard input, as replies of the method in `--method` if it is given.
 ///
 /// # Errors
-///
-/// Where they name none, a reply is malformed, reading or writing fails, or memory is refused.
+/// If no method has the name, a reply is malformed, reading or writing fails, or memory is refused.
 pub(crate) fn run(rt: &HostRuntime, arguments: &ArgMatches<'_>) -> Result<Ended, Failure> {
     match arguments.get_str("method") {
         Some(name) => show(rt, Some(message::method(rt.alloc(), name)?)),
@@ -35,7 +34,7 @@ pub(crate) fn run(rt: &HostRuntime, arguments: &ArgMatches<'_>) -> Result<Ended,
     }
 }
 
-/// Shows standard input, without arguments.
+/// Shows the replies on standard input, without a method.
 pub(crate) fn run_plain(rt: &HostRuntime) -> Result<Ended, Failure> {
     show(rt, None)
 }

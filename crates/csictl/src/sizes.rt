@@ -12,7 +12,7 @@ struct Unit {
     bytes: u64,
 }
 
-// The units of a size, as for kubectl. No unit ends in an earlier one.
+// The units of a size, as kubectl has them. No unit ends with an earlier one.
 const UNITS: [Unit; 13] = [
     Unit {
         name: "Ki",
@@ -68,7 +68,7 @@ const UNITS: [Unit; 13] = [
     },
 ];
 
-// A number of units in bytes, where an `int64` holds it.
+// A number of units in bytes; `None` if an `int64` does not hold it.
 fn product(number: u64, unit: u64) -> Option<i64>
     ensures exact { IfSome result (λ bytes. bytes ≡ pos (number * unit)) }
 {
@@ -96,7 +96,7 @@ fn tenths_of(number: &str) -> Option<u64> {
         .checked_add(number_of(tenth)?)
 }
 
-// The bytes of a number of units, if they are a whole number of bytes.
+// A number of units in bytes; `None` if it is not a whole number of bytes.
 fn units_of(number: &str, unit: u64) -> Option<i64> {
     let number = number.strip_suffix(' ').unwrap_or(number);
     if let Some(units) = number_of(number) {
@@ -109,7 +109,7 @@ fn units_of(number: &str, unit: u64) -> Option<i64> {
     i64::try_from(tenths / 10).ok()
 }
 
-// The bytes of a size, where a binary unit has no `B` after it.
+// The bytes of a size whose binary unit has no `B` after it.
 fn bytes_of_plain(text: &str) -> Option<i64> {
     for unit in &UNITS {
         if let Some(number) = text.strip_suffix(unit.name) {
@@ -120,8 +120,8 @@ fn bytes_of_plain(text: &str) -> Option<i64> {
 }
 
 /// The bytes of a size: a number and at most one unit, as `1Gi`, `500M`, `1048576` or, as listings show it,
-/// `1.5 GiB`; `None` where the text is no size, it is no whole number of bytes, or an `int64` does not hold
-/// it.
+/// `1.5 GiB`; `None` if the text is not a size, the size is not a whole number of bytes, or an `int64` does
+/// not hold it.
 pub(crate) fn bytes_of(text: &str) -> Option<i64> {
     match text.strip_suffix('B') {
         Some(rest) if rest.ends_with('i') => bytes_of_plain(rest),
@@ -129,7 +129,7 @@ pub(crate) fn bytes_of(text: &str) -> Option<i64> {
     }
 }
 
-/// A size as [`command_line::size_text`] shows it; one below 0 in bytes.
+/// A size as [`command_line::size_text`] shows it; a size below 0 in bytes.
 pub(crate) fn size_text(alloc: Global, bytes: i64) -> Result<String, AllocError> {
     match u64::try_from(bytes) {
         Ok(count) => command_line::size_text(alloc, count),

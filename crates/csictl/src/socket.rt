@@ -8,10 +8,10 @@ use std::fs;
 // The variable of the environment that names the socket.
 const VARIABLE: &str = "CSID_SOCKET";
 
-// Where the units of deploy/ have the control socket of the front, and the socket of csid.
+// The paths of the control socket of the front and of the socket of csid in the units of deploy/.
 const PLACES: [&str; 2] = ["/run/csid-front/control.sock", "/run/csid/csid.sock"];
 
-// The socket of the environment variable; an empty text without one.
+// The path in the environment variable; empty without it.
 fn from_environment(rt: &HostRuntime) -> Result<String, Failure> {
     match env::var(rt, VARIABLE) {
         Ok(path) => Ok(path),
@@ -21,7 +21,8 @@ fn from_environment(rt: &HostRuntime) -> Result<String, Failure> {
     }
 }
 
-// The first place that exists. One that this user may not look into is taken, so that connecting says why.
+// The first path that exists. A path that this user may not look into is taken too, so that connecting
+// reports why it fails.
 fn existing(rt: &HostRuntime) -> Option<&'static str> {
     for path in PLACES {
         if !matches!(fs::exists(rt, path), Ok(false)) {
@@ -31,12 +32,11 @@ fn existing(rt: &HostRuntime) -> Option<&'static str> {
     None
 }
 
-/// The socket of the server: `--socket`; without it what the environment says; without that the first that
-/// exists of the control socket of the front and the socket of csid.
+/// The path of the server's socket: the option `--socket`, else the environment variable CSID_SOCKET, else
+/// the first that exists of the control socket of the front and the socket of csid in the units of deploy/.
 ///
 /// # Errors
-///
-/// Where none of them is there, or memory is refused.
+/// If there is none of these, or memory is refused.
 pub(crate) fn find(rt: &HostRuntime, arguments: &ArgMatches<'_>) -> Result<String, Failure> {
     if let Some(path) = arguments.get_str("socket") {
         return Ok(String::from_str(rt.alloc(), path)?);

@@ -150,7 +150,7 @@ fn ask(alloc: Global, line: &mut SocketLine<'_>) -> Result<Outcome, Failure> {
 ///
 /// # Errors
 ///
-/// Where a call is not answered, a reply is malformed, writing fails, or memory is refused.
+/// If a call is not answered, a reply is malformed, writing fails, or memory is refused.
 pub(crate) fn run(rt: &HostRuntime, arguments: &ArgMatches<'_>) -> Result<Ended, Failure> {
     let patience = Patience::of(arguments)?;
     let path = socket::find(rt, arguments)?;

@@ -25,7 +25,7 @@ fn outcome(alloc: Global, path: &str, end: VectorsEnd) -> Result<Ended, Failure>
 ///
 /// # Errors
 ///
-/// Where the file cannot be read, a line is no vector, writing fails, or memory is refused.
+/// If the file cannot be read, a line is no vector, writing fails, or memory is refused.
 pub(crate) fn run(rt: &HostRuntime, arguments: &ArgMatches<'_>) -> Result<Ended, Failure> {
     let path = arguments.get_str("file").unwrap_or("");
     match File::open(rt, path) {

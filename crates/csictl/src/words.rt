@@ -5,14 +5,14 @@ use command_line::{or_dash, put_next, put_word, word};
 use csi_types::{Items, Map, Text, VolumeInfo};
 use std::alloc::{AllocError, Global};
 
-// The key of a volume's context that has its pool (csid sets it in each volume).
+// The key in a volume's context whose value is the name of its pool, which csid sets.
 const POOL: &str = "pool";
 
-/// The pairs of a map, with commas between them.
+/// The pairs of a map as one word, with commas between them; `-` if the map is empty.
 ///
 /// # Errors
 ///
-/// Where memory is refused.
+/// If memory is refused.
 pub(crate) fn pairs_word(alloc: Global, pairs: &Map) -> Result<String, AllocError> {
     let mut out = String::new(alloc);
     for (key, value) in pairs {
@@ -34,11 +34,12 @@ fn topologies_word(alloc: Global, topologies: &Items<Map>) -> Result<String, All
     or_dash(out)
 }
 
-/// The nodes that a volume is published to, with commas between them.
+/// The ids of the nodes that a volume is published to as one word, with commas between them; `-` if there are
+/// none.
 ///
 /// # Errors
 ///
-/// Where memory is refused.
+/// If memory is refused.
 pub(crate) fn nodes_word(alloc: Global, nodes: Option<&Items<Text>>) -> Result<String, AllocError> {
     let mut out = String::new(alloc);
     let Some(nodes) = nodes else {
@@ -51,11 +52,11 @@ pub(crate) fn nodes_word(alloc: Global, nodes: Option<&Items<Text>>) -> Result<S
     or_dash(out)
 }
 
-/// The id of a volume.
+/// The id of a volume as a word; `-` without a volume.
 ///
 /// # Errors
 ///
-/// Where memory is refused.
+/// If memory is refused.
 pub(crate) fn id_word(alloc: Global, volume: Option<&VolumeInfo>) -> Result<String, AllocError> {
     match volume {
         Some(volume) => word(alloc, volume.id.as_str()),
@@ -63,11 +64,11 @@ pub(crate) fn id_word(alloc: Global, volume: Option<&VolumeInfo>) -> Result<Stri
     }
 }
 
-/// The size of a volume.
+/// The size of a volume in the greatest unit that shows it; `-` without a volume.
 ///
 /// # Errors
 ///
-/// Where memory is refused.
+/// If memory is refused.
 pub(crate) fn size_word(alloc: Global, volume: Option<&VolumeInfo>) -> Result<String, AllocError> {
     match volume {
         Some(volume) => size_text(alloc, volume.bytes),
@@ -75,11 +76,11 @@ pub(crate) fn size_word(alloc: Global, volume: Option<&VolumeInfo>) -> Result<St
     }
 }
 
-/// The topologies of a volume.
+/// The topologies of a volume as one word, with semicolons between them; `-` if there are none.
 ///
 /// # Errors
 ///
-/// Where memory is refused.
+/// If memory is refused.
 pub(crate) fn topology_word(
     alloc: Global,
     volume: Option<&VolumeInfo>,
@@ -100,16 +101,16 @@ fn value_of<'m>(pairs: &'m Map, wanted: &str) -> &'m str {
     ""
 }
 
-/// The name of a volume's pool, or an empty text if its context does not say it.
+/// The name of a volume's pool in its context; empty if the context does not name it.
 pub(crate) fn pool_of(volume: &VolumeInfo) -> &str {
     value_of(&volume.context, POOL)
 }
 
-/// The pool of a volume, if its context says it.
+/// The pool that the volume's context names, as a word; `-` if it names none or there is no volume.
 ///
 /// # Errors
 ///
-/// Where memory is refused.
+/// If memory is refused.
 pub(crate) fn pool_word(alloc: Global, volume: Option<&VolumeInfo>) -> Result<String, AllocError> {
     match volume {
         Some(volume) => word(alloc, pool_of(volume)),
@@ -117,11 +118,11 @@ pub(crate) fn pool_word(alloc: Global, volume: Option<&VolumeInfo>) -> Result<St
     }
 }
 
-/// The context of a volume.
+/// The context of a volume as one word, with commas between its pairs; `-` if there is none.
 ///
 /// # Errors
 ///
-/// Where memory is refused.
+/// If memory is refused.
 pub(crate) fn context_word(
     alloc: Global,
     volume: Option<&VolumeInfo>,
