@@ -14,6 +14,7 @@ use envelope::Reply;
 /// Shows a reply: as lines, or as one line of JSON.
 ///
 /// # Errors
+///
 /// If its body is not a response of the method, it cannot be written, or memory is refused.
 pub(crate) fn show(
     rt: &HostRuntime,

@@ -418,6 +418,7 @@ fn commands(alloc: Global) -> Result<Vec<Subcommand>, AllocError> {
 /// The parsed arguments; `None` after the help or the version was printed.
 ///
 /// # Errors
+///
 /// If the arguments are not understood, printing fails, or memory is refused.
 pub(crate) fn read_arguments<'a>(
     rt: &HostRuntime,

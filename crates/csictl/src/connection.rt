@@ -142,6 +142,7 @@ impl<'a> Connection<'a> {
     /// `timeout`.
     ///
     /// # Errors
+    ///
     /// If connecting fails or times out, or memory is refused.
     pub(crate) fn new(
         rt: &'a HostRuntime,
@@ -165,6 +166,7 @@ impl<'a> Connection<'a> {
     /// Begins a further call on the connection, which fails with `TimedOut` after `timeout`.
     ///
     /// # Errors
+    ///
     /// If the clock cannot be read.
     pub(crate) fn begin(&mut self, timeout: Option<Duration>) -> io::Result<()> {
         self.is_late = false;

@@ -99,6 +99,7 @@ fn is_odd(arguments: &ArgMatches<'_>, field: &CommandOption) -> bool {
 /// Checks that no option is given that is a field of a message.
 ///
 /// # Errors
+///
 /// [`Failure::WithMessage`] for the first that is given.
 pub(crate) fn give_none(arguments: &ArgMatches<'_>) -> Result<(), Failure> {
     for field in fields() {
@@ -166,6 +167,7 @@ impl<'m, 'a> Fields<'m, 'a> {
     /// The fields in the arguments of a command over frames.
     ///
     /// # Errors
+    ///
     /// If the method's request has no field for an option.
     pub(crate) fn new(
         alloc: Global,
@@ -198,6 +200,7 @@ impl<'m, 'a> Fields<'m, 'a> {
     /// The fields in the arguments of a command for people, where sizes have units and access modes names.
     ///
     /// # Errors
+    ///
     /// If a size or an access mode is not understood.
     pub(crate) fn of_person(
         alloc: Global,

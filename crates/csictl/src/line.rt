@@ -148,6 +148,7 @@ impl<'a> SocketLine<'a> {
     /// Sends a call, again while it has no reply and tries are left, and returns its reply.
     ///
     /// # Errors
+    ///
     /// If no try has a reply, the reply is malformed, or memory is refused.
     pub(crate) fn call(&mut self, frame: &[u8]) -> Result<ReceivedReply, Failure> {
         let tries = self.patience.tries;

@@ -163,6 +163,7 @@ fn message(alloc: Global, method: Method, arguments: &ArgMatches<'_>) -> Result<
 /// The method with this name.
 ///
 /// # Errors
+///
 /// [`Failure::NoMethod`] if no method has the name; also if memory is refused.
 pub(crate) fn method(alloc: Global, name: &str) -> Result<Method, Failure> {
     match method_named(alloc, name)? {
@@ -184,6 +185,7 @@ fn framed(alloc: Global, method: Method, message: &[u8]) -> Result<Vec<u8>, Fail
 /// The frame of a call of the method, with the message given by the arguments.
 ///
 /// # Errors
+///
 /// If the arguments do not describe a message, or memory is refused.
 pub(crate) fn frame(
     alloc: Global,
@@ -197,6 +199,7 @@ pub(crate) fn frame(
 /// The frame of a call of the method, with the fields in the arguments of a command for people.
 ///
 /// # Errors
+///
 /// If the arguments do not describe a message, or memory is refused.
 pub(crate) fn frame_of_person(
     alloc: Global,
@@ -220,6 +223,7 @@ pub(crate) fn call_without_fields(alloc: Global, method: Method) -> Result<Vec<u
 /// Checks that `--all` can be used: the method is ListVolumes, and `--message` is not given.
 ///
 /// # Errors
+///
 /// [`Failure::NotPaged`] or [`Failure::WithMessage`] otherwise.
 pub(crate) fn check_paged(method: Method, arguments: &ArgMatches<'_>) -> Result<(), Failure> {
     if method != Method::ListVolumes {

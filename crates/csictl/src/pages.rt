@@ -120,6 +120,7 @@ fn walk_once(alloc: Global, line: &mut SocketLine<'_>) -> Result<Walked, Failure
 /// Asks for all pages of ListVolumes, and begins again with the first page if a token is no longer valid.
 ///
 /// # Errors
+///
 /// If a call has no reply, a reply is malformed or not a page, the pages have no end, or memory is refused.
 pub(crate) fn walk(alloc: Global, line: &mut SocketLine<'_>) -> Result<Walked, Failure> {
     for _ in 1..MOST_WALKS {
@@ -134,6 +135,7 @@ pub(crate) fn walk(alloc: Global, line: &mut SocketLine<'_>) -> Result<Walked, F
 /// Asks for a page of at most one entry after a token. [`Walked::All`] is empty if no volume follows.
 ///
 /// # Errors
+///
 /// If the call has no reply, the reply is malformed or not a page, or memory is refused.
 pub(crate) fn first_entry(
     alloc: Global,

@@ -29,6 +29,7 @@ impl Patience {
     /// The tries and the time limit in the arguments; by default one try without a time limit.
     ///
     /// # Errors
+    ///
     /// If a number is not written in decimal digits alone.
     pub(crate) fn of(arguments: &ArgMatches<'_>) -> Result<Patience, Failure> {
         let tries = number(arguments, TRIES)?.unwrap_or(1).clamp(1, MOST_TRIES);

@@ -51,6 +51,7 @@ pub(crate) fn line(alloc: Global, value: &Value) -> Result<String, AllocError> {
 /// Shows a reply as lines: its status and body, and the fields of the body.
 ///
 /// # Errors
+///
 /// If its body is not a response of the method, after its first line is shown; if it cannot be written, or
 /// memory is refused.
 pub(crate) fn show_lines(
@@ -91,6 +92,7 @@ fn refusal_line(alloc: Global, reply: &Reply<'_>) -> Result<String, Failure> {
 /// Shows a reply as one line of JSON.
 ///
 /// # Errors
+///
 /// If its body is not a response of the method, it cannot be written, or memory is refused.
 pub(crate) fn show_json(
     rt: &HostRuntime,
@@ -158,6 +160,7 @@ impl Listing {
     /// Adds the body of a page: the token of the next page, and the entries if `are_kept`.
     ///
     /// # Errors
+    ///
     /// If the body is not a page, the token of the next page is the token of this one, or memory is refused.
     pub(crate) fn add_body(
         &mut self,

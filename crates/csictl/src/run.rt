@@ -39,6 +39,7 @@ fn obey_person(rt: &HostRuntime, name: &str, arguments: &ArgMatches<'_>) -> Resu
 /// Runs the program. Without arguments, it prints the help if standard input is a terminal.
 ///
 /// # Errors
+///
 /// Why the program fails. The caller reports it.
 pub(crate) fn run(rt: &HostRuntime) -> Result<Ended, Failure> {
     let mut arguments = arguments(rt)?;

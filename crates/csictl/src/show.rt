@@ -26,6 +26,7 @@ fn show(rt: &HostRuntime, method: Option<Method>) -> Result<Ended, Failure> {
 /// Shows the replies on standard input, as replies of the method in `--method` if it is given.
 ///
 /// # Errors
+///
 /// If no method has the name, a reply is malformed, reading or writing fails, or memory is refused.
 pub(crate) fn run(rt: &HostRuntime, arguments: &ArgMatches<'_>) -> Result<Ended, Failure> {
     match arguments.get_str("method") {

@@ -36,6 +36,7 @@ fn existing(rt: &HostRuntime) -> Option<&'static str> {
 /// the first that exists of the control socket of the front and the socket of csid in the units of deploy/.
 ///
 /// # Errors
+///
 /// If there is none of these, or memory is refused.
 pub(crate) fn find(rt: &HostRuntime, arguments: &ArgMatches<'_>) -> Result<String, Failure> {
     if let Some(path) = arguments.get_str("socket") {

@@ -32,12 +32,12 @@ use std::cell::Cell;
 use std::rc::Rc;
 use std::{io, str};
 
-/// A peer whose exchanges have a deadline, and that notes that it was asked. It passes frames and replies on
-/// as they are.
+/// A peer that gives each exchange a deadline and records that an exchange was made. It passes frames and
+/// replies on unchanged.
 pub(crate) struct TrackedPeer<P> {
     peer: P,
     deadline: Rc<Deadline>,
-    // Set by each exchange, and cleared by the writer of a reply.
+    // Set by each exchange, and cleared after a reply is written.
     is_asked: Rc<Cell<bool>>,
 }
 
@@ -70,15 +70,15 @@ pub(crate) type ChangeStorePeer = TrackedPeer<Channel<TimedStream, TimedStream>>
 /// change first.
 pub(crate) type Remote = Through<MemKeeper, RemoteChangeStore<ChangeStorePeer>>;
 
-/// A change store whose volumes were read.
+/// An open change store: its volumes were read into memory.
 pub(crate) struct OpenChangeStore {
-    /// Answers calls from the copy in memory.
+    /// The keeper that calls are answered over.
     pub(crate) keeper: Remote,
     /// The connection to the change store, to ask whether it leads.
     pub(crate) stream: TimedStream,
-    /// Whether the change store was asked for a change since the last reply.
+    /// True if a frame was sent to the change store since the last reply.
     pub(crate) is_asked: Rc<Cell<bool>>,
-    /// Whether a reply was held back because the change store did not lead: its volumes are read again then.
+    /// True if a reply was held back because the change store did not lead. The volumes are then read again.
     pub(crate) is_cut: bool,
 }
 
@@ -121,8 +121,8 @@ fn is_leading<P: Peer>(alloc: Global, change_store: &mut P) -> bool
     is_agreed(change_store.exchange(alloc, frame.as_slice()))
 }
 
-/// Returns true if the change store at the other end of a connection answers that it leads. The copy of its
-/// volumes is then still what it has.
+/// Returns true if the change store at the other end of a connection answers that it leads. The copy in
+/// memory then still equals its volumes.
 pub(crate) fn leads(alloc: Global, stream: &TimedStream) -> bool {
     stream.deadline().begin_exchange();
     is_leading(alloc, &mut Channel::new(stream, stream))
@@ -132,14 +132,15 @@ pub(crate) fn leads(alloc: Global, stream: &TimedStream) -> bool {
 #[derive(Clone, Copy, Drop)]
 pub(crate) struct ChangeStoreLeadership<'a> {
     pub(crate) stream: &'a TimedStream,
-    /// Whether a change was asked for since the last reply.
+    /// True if a frame was sent to the change store since the last reply.
     pub(crate) is_asked: &'a Rc<Cell<bool>>,
     pub(crate) alloc: Global,
 }
 
 impl Leadership for ChangeStoreLeadership<'_> {
-    // An answer to a change shows it too, since the change store makes a change only while it leads.
-    // Otherwise another change store may have led since, and made changes that the copy lacks.
+    // A change store makes a change only while it leads, so an answer to a change since the last reply shows
+    // that it leads. Without such an answer it is asked: another change store may have led since, and made
+    // changes that the copy lacks.
     fn holds(&mut self) -> bool {
         self.is_asked.replace(false) || leads(self.alloc, self.stream)
     }
@@ -178,7 +179,7 @@ fn refusal_failure(alloc: Global, path: &str, reply: &ReceivedReply) -> Failure
     }
 }
 
-// The failure of the program for anything but a reply that says OK.
+// The failure of the program for anything other than a reply with status OK.
 fn received_failure(alloc: Global, path: &str, received: &Received) -> Failure
     ensures { IsOrNoMemory 4 result }
 {
@@ -215,7 +216,7 @@ fn agreed(alloc: Global, path: &str, received: Received) -> Result<(), Failure>
     }
 }
 
-// Makes a change store that has no row add the row of meta that new tables have.
+// Asks a change store without rows to add the row of meta that new tables have.
 fn make_meta<P: Peer>(alloc: Global, path: &str, change_store: &mut P) -> Result<(), Failure>
     ensures made { OnOk result (MakesMeta P.exchanged change_store.old change_store.new) }
     ensures failure { IfErr result (λ failure. IsOrNoMemory 4 failure) }
@@ -328,7 +329,7 @@ fn read_over_memory<P: Peer + Drop>(
     read_change_store(console, config, path, change_store, conn)
 }
 
-// Connects to a change store. The peer uses the same connection, and notes that it was asked.
+// Connects to a change store. Returns the connection and a peer over it that records its exchanges.
 fn reach(
     rt: &HostRuntime,
     path: &str,
@@ -348,7 +349,7 @@ fn reach(
 ///
 /// # Errors
 ///
-/// If the change store cannot be reached or does not reply, if its rows are refused, or for want of memory.
+/// If the change store cannot be reached or does not reply, its rows are refused, or memory is refused.
 pub(crate) fn open_change_store(
     console: &Console<'_>,
     config: &Config,

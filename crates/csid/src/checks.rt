@@ -8,7 +8,7 @@ use crate::tables::{check_existing, check_path};
 use csid_console::Console;
 use csid_settings::{Chosen, Failure, configuration};
 
-// Looks whether a file that is to be read has tables, as far as its path and its first bytes show it.
+// Checks that a file that is to be read has tables, as far as its path and its first bytes show that.
 fn check_readable(rt: &HostRuntime, path: &str) -> Result<(), Failure>
     ensures { IfErr result (λ failure. IsOrNoMemory 4 failure) }
 {
@@ -20,7 +20,7 @@ fn check_readable(rt: &HostRuntime, path: &str) -> Result<(), Failure>
 ///
 /// # Errors
 ///
-/// Where the configuration or the tables are refused, the line cannot be written, or memory is refused.
+/// If the configuration or the tables are refused, the line cannot be written, or memory is refused.
 pub(crate) fn check_tables(
     console: &Console<'_>,
     path: &str,
@@ -35,7 +35,7 @@ pub(crate) fn check_tables(
 ///
 /// # Errors
 ///
-/// If the tables cannot be read, if the list cannot be written, or for want of memory.
+/// If the tables cannot be read, the list cannot be written, or memory is refused.
 pub(crate) fn list_tables(
     console: &Console<'_>,
     path: &str,
@@ -51,7 +51,7 @@ pub(crate) fn list_tables(
 ///
 /// # Errors
 ///
-/// Where the configuration or the tables are refused, there is a file at `to`, the copy or the line cannot be
+/// If the configuration or the tables are refused, there is a file at `to`, the copy or the line cannot be
 /// written, or memory is refused.
 pub(crate) fn copy_tables(
     console: &Console<'_>,

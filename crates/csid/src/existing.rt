@@ -16,23 +16,23 @@ const CELLS_AT: usize = 103;
 
 const LEAF: u8 = 13;
 
-// The most bytes of memory that a byte of a row in the file takes.
+// The most bytes of memory that one byte of a row in the file takes.
 const OPENING_FACTOR: u64 = 6;
 
 // The fewest pages that an opening may keep in memory.
 const LEAST_CACHE_PAGES: u64 = 2000;
 
-// An opening may keep one of so many pages of a file. The index of names, which it reads in no order, has a
-// third of the pages. Each page that is kept counts in `OPENING_FACTOR`.
+// An opening may keep half of the pages of a file. The index of names, whose pages it reads in no order, has
+// a third of the pages. `OPENING_FACTOR` counts the pages that are kept.
 const CACHE_SHARE: u64 = 2;
 
-/// Why a file is refused.
+/// Why `csid` refuses the file at the path given for its tables.
 #[derive(Clone, Copy, Debug, Error)]
 pub(crate) enum FileFault {
-    /// SQLite does not take the path for a file.
+    /// SQLite takes the path for something other than a file: it is `:memory:` or begins with `file:`.
     #[error("csid needs the path of a file, and this is none for SQLite")]
     NoPath,
-    /// It is a named pipe, a socket or a device: opening one may block for ever.
+    /// The file is a named pipe, a socket or a device: opening one may block for ever.
     #[error("it is no regular file")]
     NotRegular,
     /// The file does not exist.
@@ -41,17 +41,19 @@ pub(crate) enum FileFault {
     /// The file has no tables.
     #[error("it has no tables, and none are made")]
     Blank,
-    /// The file lost its content: it has no byte, and its WAL has changes.
+    /// The file is empty or missing, and its WAL has changes: the file lost its content.
     #[error("it is empty or missing, but its WAL, '-wal', has changes: put back the copy of the file that this WAL belongs to, or move the WAL away to begin with no volumes")]
     Emptied,
 }
 
-// Returns true if the first bytes of a file show no tables: its first page is a leaf without cells.
+// Returns true if the first bytes of a file show that it has no tables: its first page is a leaf without
+// cells.
 fn is_blank(head: &[u8; HEADER_BYTES]) -> bool {
     head[KIND_AT] == LEAF && head[CELLS_AT] == 0 && head[CELLS_AT + 1] == 0
 }
 
-// The path of a file's WAL. It is next to the file that links lead to, or where that file would be made.
+// The path of a file's WAL, which is next to the file that the links at `path` lead to, or would be if the
+// file existed.
 fn wal_path(rt: &HostRuntime, path: &str) -> io::Result<String> {
     match fs::canonicalize(rt, path) {
         Ok(real) => Ok(format!(in rt.alloc(); "{}-wal", real.as_str())?),
@@ -62,7 +64,7 @@ fn wal_path(rt: &HostRuntime, path: &str) -> io::Result<String> {
     }
 }
 
-// Returns true if a file's WAL has a change.
+// Returns true if a file's WAL has changes.
 fn has_frames(rt: &HostRuntime, path: &str) -> io::Result<bool> {
     let wal = wal_path(rt, path)?;
     Ok(fs::metadata(rt, wal.as_str()).is_ok_and(|found| found.len() >= WAL_WITH_FRAME_BYTES as u64))
@@ -73,8 +75,8 @@ fn is_special(rt: &HostRuntime, path: &str) -> bool {
     fs::metadata(rt, path).is_ok_and(|found| !found.is_file() && !found.is_dir())
 }
 
-/// The fault of a file or a WAL that is no regular file. A folder is left to the opening, which refuses it at
-/// once.
+/// The fault if the file or its WAL exists and is not a regular file; `None` for a folder, which the opening
+/// refuses at once.
 pub(crate) fn fault_of_kind(rt: &HostRuntime, path: &str) -> Option<FileFault> {
     let is_special_wal = wal_path(rt, path).is_ok_and(|wal| is_special(rt, wal.as_str()));
     if is_special_wal || is_special(rt, path) {
@@ -92,7 +94,7 @@ fn is_empty(rt: &HostRuntime, path: &str) -> io::Result<bool> {
     }
 }
 
-// The pages of a file by its header: the bytes of one, and the number of free ones.
+// The size of a file's pages in bytes, and the number of its free pages, as its header has them.
 #[derive(Clone, Copy)]
 struct Pages {
     bytes: u64,
@@ -125,13 +127,13 @@ fn bytes_of(rt: &HostRuntime, path: &str, pages: Pages) -> io::Result<u64> {
     Ok(of_file.saturating_sub(free).saturating_add(wal_bytes))
 }
 
-/// Limits of an opening of a file.
+/// Limits of the memory that an opening of a file may take.
 #[derive(Clone, Copy)]
 pub(crate) struct OpeningLimits {
-    /// The most bytes of memory that it takes. The shortest rows, of some 45 bytes in the file, take less
-    /// than six times as many; a long row takes less than twice its bytes.
+    /// The most bytes of memory that the opening takes. The shortest rows, about 45 bytes long in the file,
+    /// take less than six times their length; a long row takes less than twice its length.
     pub(crate) bytes: usize,
-    /// The most pages of the file that it keeps in memory.
+    /// The most pages of the file that the opening keeps in memory.
     pub(crate) cache_pages: usize,
 }
 
@@ -156,7 +158,7 @@ pub(crate) fn fault_of_wal(rt: &HostRuntime, path: &str) -> Option<FileFault> {
     }
 }
 
-// Returns true if the file has no tables, and its WAL no changes.
+// Returns true if the file has no tables and its WAL has no changes.
 fn has_nothing(rt: &HostRuntime, path: &str) -> io::Result<bool> {
     let mut file = File::open(rt, path)?;
     if has_frames(rt, path)? {
@@ -170,8 +172,8 @@ fn has_nothing(rt: &HostRuntime, path: &str) -> io::Result<bool> {
     }
 }
 
-/// The fault of a file without tables, as far as a read of its header shows. A file that cannot be read is
-/// left to the opening.
+/// The fault if the file does not exist or has no tables, as far as its header shows. `None` if the file
+/// cannot be read: the opening then reports why.
 pub(crate) fn fault_of_existing(rt: &HostRuntime, path: &str) -> Option<FileFault> {
     if let Some(fault) = fault_of_wal(rt, path) {
         return Some(fault);

@@ -11,20 +11,20 @@ const MEMORY_GROUPS: &str = "/sys/fs/cgroup/memory";
 // The bytes of a page of memory in `/proc/self/statm`.
 const PAGE_BYTES: u64 = 4096;
 
-// The bytes that are left for calls, next to an eighth of a control group's limit.
+// The bytes of a control group's limit that are left for calls, in addition to an eighth of the limit.
 const CALL_BYTES: u64 = 8 << 20;
 
-// The bytes of the address space that are left for calls. A call that needs more is refused, and does not end
+// The bytes of the address space that are left for calls. A call that needs more is refused; it does not end
 // the process.
 const CALL_SPACE_BYTES: u64 = 4 << 20;
 
 // A limited resource: the use of this process, and the limit.
 struct Limit {
-    // The most bytes.
+    // The limit in bytes.
     most: u64,
     // The bytes in use at the start.
     base: u64,
-    // The bytes in use when it was looked last.
+    // The bytes in use at the last look.
     last: Cell<u64>,
 }
 
@@ -63,7 +63,7 @@ struct Usage {
     resident: u64,
 }
 
-// The bytes in a word of pages.
+// The bytes of the number of pages in a word; `None` if the word is missing or not a number.
 fn pages(word: Option<&str>) -> Option<u64> {
     let pages: u64 = word?.parse().ok()?;
     Some(pages.saturating_mul(PAGE_BYTES))
@@ -87,7 +87,7 @@ fn limit_in(rt: &HostRuntime, root: &str, group: &str, file: &str) -> Option<u64
     text.as_str().trim().parse().ok()
 }
 
-// The lower one of two limits.
+// The lower of two limits, either of which may be missing.
 fn lower(one: Option<u64>, other: Option<u64>) -> Option<u64> {
     match (one, other) {
         (Some(one), Some(other)) if other < one => Some(other),
@@ -96,7 +96,7 @@ fn lower(one: Option<u64>, other: Option<u64>) -> Option<u64> {
     }
 }
 
-// The lowest limit of a group and of those that it is in, up to the root.
+// The lowest of the limits of a group and of the groups above it, up to the root.
 fn lowest_limit(rt: &HostRuntime, root: &str, group: &str, file: &str) -> Option<u64> {
     let mut lowest = limit_in(rt, root, "", file);
     let mut rest = group;
@@ -113,7 +113,8 @@ fn lowest_limit(rt: &HostRuntime, root: &str, group: &str, file: &str) -> Option
     lowest
 }
 
-// The limit of the groups in a line `NUMBER:CONTROLLERS:GROUP`, if it is the line of memory.
+// The limit of the group in a line `NUMBER:CONTROLLERS:GROUP`; `None` if the line's controllers do not limit
+// memory.
 fn limit_of_line(rt: &HostRuntime, line: &str) -> Option<u64> {
     let (number, rest) = line.split_once(':')?;
     let (controllers, group) = rest.split_once(':')?;
@@ -147,12 +148,12 @@ fn address_space_limit(rt: &HostRuntime) -> Option<u64> {
     None
 }
 
-// The part of a control group's limit that calls leave for the volumes.
+// The bytes of a control group's limit that the volumes may take: all but the bytes left for calls.
 fn group_room(limit: u64) -> u64 {
     limit.saturating_sub(limit / 8).saturating_sub(CALL_BYTES)
 }
 
-/// The memory that the process uses, and the limits that end it or refuse it more.
+/// The memory that the process uses, and the limits at which it is killed or an allocation fails.
 pub(crate) struct MemoryGauge {
     rt: HostRuntime,
     address_space: Option<Limit>,

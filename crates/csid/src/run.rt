@@ -32,14 +32,14 @@ fn pipe_over_memory(rt: &HostRuntime, config: &Config) -> Result<(), Failure> {
     let mut reader = rt.stdin();
     let mut writer = rt.stdout();
     let end = serve(rt.alloc(), config, &mut keeper, &mut reader, &mut writer);
-    // The program ends, and gives its memory back whole: volume by volume 100,000 of them would take a
-    // twentieth of a second.
+    // The program ends here and its memory is released at once. To release 100,000 volumes one by one would
+    // take a twentieth of a second.
     forget(keeper);
     outcome(Endpoint::Pipe, end)
 }
 
-// The outcome of the calls of standard input. If their file was not closed, both are reported, and the
-// status is the file's.
+// The outcome of the calls of standard input. If the file was not closed, the end of the calls and this
+// failure are reported, and the status is that of the failure.
 fn pipe_outcome(
     console: &Console<'_>,
     ended: Result<RunReport, TablesFailure>,
@@ -78,7 +78,7 @@ fn pipe_over_tables(
     )
 }
 
-// Answers the calls of standard input, and keeps the volumes in a file if there is to be one.
+// Answers the calls of standard input, and keeps the volumes in a file if one is given.
 fn answer_pipe(console: &Console<'_>, pipe: &Piped<'_>) -> Result<(), Failure> {
     let config = configuration(console, pipe.config, false)?;
     match pipe.tables {
@@ -87,7 +87,7 @@ fn answer_pipe(console: &Console<'_>, pipe: &Piped<'_>) -> Result<(), Failure> {
     }
 }
 
-// The number of an option that is no number in decimal digits.
+// The failure for an option whose value is not a number in decimal digits.
 fn refused_number(alloc: Global, option: &str, number: &str) -> Failure
     ensures { IsOrNoMemory 2 result }
 {
@@ -97,14 +97,15 @@ fn refused_number(alloc: Global, option: &str, number: &str) -> Failure
     Failure::Arguments(ArgumentsFault::refused(line))
 }
 
-// Two options that exclude each other, or a server that is not given a place for its volumes.
+// The failure for two options that exclude each other, or a server without an option that says where its
+// volumes are kept.
 fn refused_options(alloc: Global, why: &str) -> Failure
     ensures { IsOrNoMemory 2 result }
 {
     Failure::Arguments(ArgumentsFault::refused(format!(in alloc; "{why}")))
 }
 
-// The task of the arguments.
+// The task that the arguments describe.
 fn task<'a>(alloc: Global, arguments: &ArgMatches<'a>) -> Result<Task<'a>, Failure> {
     if let Some((option, number)) = odd_number(arguments) {
         return Err(refused_number(alloc, option, number));
@@ -115,11 +116,11 @@ fn task<'a>(alloc: Global, arguments: &ArgMatches<'a>) -> Result<Task<'a>, Failu
     }
 }
 
-/// Does what the command line asks.
+/// Runs the program.
 ///
 /// # Errors
 ///
-/// Why the program ends with a status other than 0. It is not said yet.
+/// Why the program ends with a status other than 0. The caller reports it.
 pub(crate) fn run(console: &Console<'_>) -> Result<(), Failure> {
     let arguments = arguments(console.rt)?;
     let Some(matches) = read_arguments(console.rt, arguments.as_slice())? else {

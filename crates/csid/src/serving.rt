@@ -24,8 +24,8 @@ use std::io::{Read, Write};
 pub(crate) struct TablesFailure {
     /// Why the tables cannot be opened, or why their file was not closed.
     pub(crate) cause: Failure,
-    /// The report of the calls, if the file was not closed after them. The committed changes are then in the
-    /// WAL next to the file.
+    /// The report of the calls, if they were served and the file was not closed after them. The committed
+    /// changes are then in the WAL next to the file.
     pub(crate) report: Option<RunReport>,
 }
 
@@ -93,13 +93,13 @@ pub(crate) struct TablesRun<'a, O> {
 }
 
 impl<O: Observer> TablesRun<'_, O> {
-    /// Serves the calls in `sent` and those that the reader gives after them. A missing file is made, unless
-    /// the file must exist. `start` is the content of the file and its WAL: the clause holds for any.
+    /// Serves the calls in `sent`, and then the calls from the reader. A missing file is made, unless the
+    /// file must exist. `start` is the content of the file and its WAL; the contract holds for any content.
     ///
     /// # Errors
     ///
-    /// If the tables cannot be opened, or for want of memory: no call was served. If the file was not closed:
-    /// the report of the calls is in the failure.
+    /// If the tables cannot be opened or memory is refused, and then no call was served; or if the file
+    /// cannot be closed, and then the failure has the report of the calls.
     pub(crate) fn serve_file<S: Start, R: Read, W: Write>(
         &self,
         start: S,
@@ -141,7 +141,7 @@ impl<O: Observer> TablesRun<'_, O> {
     }
 }
 
-/// An observer that reports nothing. The replies are the same.
+/// An observer that reports nothing. It does not change the replies.
 #[derive(Clone, Copy)]
 pub(crate) struct SilentObserver<'a> {
     /// The limits of this process's memory.

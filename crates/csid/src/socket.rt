@@ -46,7 +46,7 @@ fn of_socket(alloc: Global, path: &str, error: &io::Error) -> Failure
     }
 }
 
-// Sets the mode of the socket's file, independent of the umask. The group gets its rights last.
+// Sets the mode and the group of the socket's file, independent of the umask. The group gets its rights last.
 fn restrict(rt: &HostRuntime, path: &str, group: Option<u32>) -> io::Result<()> {
     fs::set_permissions(rt, path, Permissions::from_mode(OWNER))?;
     if group.is_none() {
@@ -73,7 +73,7 @@ fn listen(rt: &HostRuntime, path: &str, group: Option<&str>) -> Result<UnixListe
     ensures { IfErr result (λ failure. IsOrNoMemory 7 failure) }
 {
     if path.is_empty() {
-        // The system would choose an address of its own.
+        // For an empty path the system would choose an address itself.
         return Err(Failure::NoSocketPath);
     }
     let group = match group {
@@ -93,7 +93,8 @@ fn report_outcome(console: &Console<'_>, ending: Ending, now: Instant, end: RunE
     }
 }
 
-// Reports how a connection ended. `ending` is why its turn ended, `is_cut` is true if a reply was held back.
+// Reports how a connection ended: `ending` is why its turn ended, if it was ended, and `is_cut` is true if a
+// reply was held back.
 fn report_end(console: &Console<'_>, ending: Option<Ending>, is_cut: bool, end: RunEnd) {
     let Ok(now) = Instant::now(console.rt) else {
         return;
@@ -157,7 +158,7 @@ fn serve_one<K: Keeper, L: Leadership + Drop>(
     writer.is_cut()
 }
 
-// Refuses the bytes of a connection whose first frame is malformed. The tables are not opened for it.
+// Refuses the bytes of a connection whose first frame is malformed, without opening the tables.
 fn refuse_peer(service: &Service<'_>, waiting: &mut Waiting, peer: &Pending) {
     match MemKeeper::new(service.console.rt.alloc(), FIRST_NUMBER) {
         Ok(mut keeper) => {
@@ -273,7 +274,7 @@ fn report_unavailable(console: &Console<'_>, reported: &mut String, failure: &Fa
     }
 }
 
-// The open change store if calls may be answered over it; otherwise it is opened again.
+// Returns the open change store if calls may be answered over it; otherwise opens it again.
 fn existing_change_store(
     console: &Console<'_>,
     config: &Config,
@@ -300,7 +301,7 @@ fn serve_open(
 ) -> OpenChangeStore
     requires { IsUsable store }
 {
-    // A reply needs an answer that came after this connection's call.
+    // Before a reply the change store must have answered a frame of this connection, not of an earlier one.
     store.is_asked.set(false);
     let leading = ChangeStoreLeadership {
         stream: &store.stream,
@@ -348,8 +349,8 @@ fn report_gone(console: &Console<'_>, peer: &Pending) {
     }
 }
 
-// Opens the tables of a server and serves the calls of a connection over them: those in `sent`, and those
-// that the reader gives after them. Errors that no reply shows are reported.
+// Opens the tables of a server and serves the calls of a connection over them: the calls in `sent`, and then
+// the calls from the reader. Reports errors that no reply shows.
 fn serve_tables<R: Read, W: Write>(
     service: &Service<'_>,
     sent: &[u8],
@@ -381,8 +382,8 @@ fn serve_tables<R: Read, W: Write>(
     report_run(console, file.path, ending.get(), ended);
 }
 
-// Answers the calls of one connection. The tables are not opened for a peer that has gone, as after a call
-// that was given up while another connection was served.
+// Answers the calls of one connection. The tables are not opened for a peer that has gone: it may have given
+// up its call while another connection was served.
 fn serve_peer<'a>(
     service: &'a Service<'a>,
     waiting: &'a mut Waiting,
@@ -475,8 +476,8 @@ fn next_peer(service: &Service<'_>, waiting: &mut Waiting) -> Result<Option<Pend
 ///
 /// # Errors
 ///
-/// If the path of the tables is refused, if the socket cannot be bound or accepts no connection, or for want
-/// of memory.
+/// If the path of the tables is refused, the socket cannot be bound or accepts no connection, or memory is
+/// refused.
 pub(crate) fn serve_socket<'a>(
     console: &'a Console<'a>,
     config: &'a Config,

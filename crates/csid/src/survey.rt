@@ -36,7 +36,7 @@ impl Observer for Surveyor<'_> {
 
     fn refused(&self, _cause: &Error) {}
 
-    // No call is served that would need memory.
+    // There is always room, as no call is served.
     fn has_room(&self, _opening: usize) -> bool {
         true
     }
@@ -76,8 +76,8 @@ fn run_without_calls<'a, S: Start>(
     ended
 }
 
-/// Opens and judges the tables in a file once, by a run without calls, and reports their counts, or why they
-/// cannot be opened or their file was not closed.
+/// Opens and judges the tables in a file by a run without calls. Reports their counts, or why they cannot be
+/// opened or their file cannot be closed.
 pub(crate) fn survey<'a>(console: &'a Console<'a>, config: &'a Config, file: &TablesFile<'a>) {
     let _ = run_without_calls(console, config, file, Unknown);
 }

@@ -30,7 +30,7 @@ fn names_no_file(path: &str) -> bool {
 ///
 /// # Errors
 ///
-/// If it is empty, if SQLite does not take it for a file, or for want of memory.
+/// If the path is empty, SQLite does not take it for a file, or memory is refused.
 pub(crate) fn check_path(rt: &HostRuntime, path: &str) -> Result<(), Failure>
     ensures { IfErr result (λ failure. IsOrNoMemory 4 failure) }
 {
@@ -51,20 +51,19 @@ fn check_kind(rt: &HostRuntime, path: &str) -> Result<(), Failure>
     existing_failure(rt.alloc(), path, fault_of_kind(rt, path))
 }
 
-/// Checks that a file that must have tables has some, as far as a read of its header shows. Nothing is
-/// changed.
+/// Checks that a file has tables, as far as its header shows, and changes nothing.
 ///
 /// # Errors
 ///
-/// If it has none, or for want of memory.
+/// If the file has no tables, or memory is refused.
 pub(crate) fn check_existing(rt: &HostRuntime, path: &str) -> Result<(), Failure>
     ensures { IfErr result (λ failure. IsOrNoMemory 4 failure) }
 {
     existing_failure(rt.alloc(), path, fault_of_existing(rt, path))
 }
 
-// Checks whether new tables may be made in a file without tables, without opening it: not in an empty file
-// whose WAL has changes. Nothing is changed.
+// Checks that a file is not an empty or missing one whose WAL has changes, in which no new tables may be
+// made. Changes nothing.
 fn check_wal(rt: &HostRuntime, path: &str) -> Result<(), Failure>
     ensures { IfErr result (λ failure. IsOrNoMemory 4 failure) }
 {
@@ -72,11 +71,11 @@ fn check_wal(rt: &HostRuntime, path: &str) -> Result<(), Failure>
 }
 
 /// Checks the path and the kind of a file, and that it has tables or may get new ones, as far as its header
-/// and its WAL show. Nothing is changed.
+/// and its WAL show. Changes nothing.
 ///
 /// # Errors
 ///
-/// Why the file may not be opened, or want of memory.
+/// If the file may not be opened, or memory is refused.
 pub(crate) fn check_file(rt: &HostRuntime, file: &TablesFile<'_>) -> Result<(), Failure>
     ensures { IfErr result (λ failure. IsOrNoMemory 4 failure) }
 {
@@ -93,7 +92,7 @@ pub(crate) fn check_file(rt: &HostRuntime, file: &TablesFile<'_>) -> Result<(), 
 ///
 /// # Errors
 ///
-/// As of [`check_file`].
+/// As for [`check_file`].
 pub(crate) fn prepare(rt: &HostRuntime, file: &TablesFile<'_>) -> Result<(), Failure>
     ensures { IfErr result (λ failure. IsOrNoMemory 4 failure) }
 {

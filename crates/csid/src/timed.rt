@@ -12,12 +12,12 @@ const EXCHANGE_SECONDS: u64 = 30;
 // The seconds that all rows may take at an opening.
 const ROWS_SECONDS: u64 = 300;
 
-/// Until when a change store may take.
+/// The deadlines of a change store: of the current exchange, and of an opening.
 pub(crate) struct Deadline {
     rt: HostRuntime,
-    // The end of the exchange.
+    // The deadline of the current exchange.
     exchange: Cell<Option<Instant>>,
-    // The end of the opening, while its rows are read.
+    // The deadline of the opening; `None` after all rows were read.
     rows: Cell<Option<Instant>>,
 }
 
@@ -38,11 +38,11 @@ fn after(rt: &HostRuntime, seconds: u64) -> io::Result<Instant> {
 }
 
 impl Deadline {
-    /// The deadline of an opening, which begins now.
+    /// The deadline of an opening that begins now: 300 seconds for all rows.
     ///
     /// # Errors
     ///
-    /// Where the clock cannot be read.
+    /// If the clock cannot be read.
     pub(crate) fn new(rt: &HostRuntime) -> io::Result<Deadline> {
         Ok(Deadline {
             rt: *rt,
@@ -51,17 +51,17 @@ impl Deadline {
         })
     }
 
-    /// Begins an exchange, which may take 30 seconds.
+    /// Begins an exchange, whose deadline is 30 seconds from now.
     pub(crate) fn begin_exchange(&self) {
         self.exchange.set(after(&self.rt, EXCHANGE_SECONDS).ok());
     }
 
-    /// All rows were read: what remains is the time of each exchange.
+    /// Ends the deadline of the opening, after all rows were read. The deadline of each exchange remains.
     pub(crate) fn end_rows(&self) {
         self.rows.set(None);
     }
 
-    // The time that a read or a write may still wait, at least a microsecond.
+    // How long a read or a write may wait before the next deadline, at least a microsecond.
     fn left(&self) -> io::Result<Duration> {
         let now = Instant::now(&self.rt)?;
         let Some(exchange) = self.exchange.get() else {
@@ -95,11 +95,11 @@ impl Drop for TimedStream {
 }
 
 impl TimedStream {
-    /// A connection to a socket under a deadline.
+    /// Connects to a socket. Reads and writes of the connection fail after the deadline.
     ///
     /// # Errors
     ///
-    /// Where the system gives none.
+    /// If connecting fails.
     pub(crate) fn connect(
         rt: &HostRuntime,
         path: &str,
@@ -115,7 +115,7 @@ impl TimedStream {
     ///
     /// # Errors
     ///
-    /// Where the system refuses, or memory is refused.
+    /// If the system or memory refuses it.
     pub(crate) fn try_clone(&self) -> io::Result<TimedStream> {
         Ok(TimedStream {
             stream: self.stream.try_clone()?,

@@ -21,7 +21,7 @@ const OWNER: u32 = 0o600;
 
 const EXISTS: &str = "it exists already, and is not replaced";
 
-// The files of a database that is closed: the database file has all of it.
+// Closes a database and returns its files. The database file then has all of its pages.
 fn closed<D: Disk + Drop>(conn: Connection<FileStore<D>>) -> Result<Files<D>, Error> {
     match conn.close_files() {
         Ok(files) => Ok(files),
@@ -78,7 +78,7 @@ fn folder_of(path: &str) -> &str {
     }
 }
 
-// Gives a file its name, and waits until the disk has the name.
+// Renames a file, and waits until the disk has its new name.
 fn put_in_place(rt: &HostRuntime, from: &str, to: &str) -> io::Result<()> {
     fs::rename(rt, from, to)?;
     File::open(rt, folder_of(to))?.sync_all()
@@ -94,8 +94,7 @@ fn write_failure(rt: &HostRuntime, path: &str, error: &io::Error) -> Failure
     }
 }
 
-// Writes a copy under a name of its own, `TO.new`, and then gives it its name. What a failure left is
-// removed.
+// Writes a copy as `TO.new` and then renames it to `TO`. After a failed write `TO.new` is removed.
 fn write_copy(rt: &HostRuntime, to: &str, bytes: &[u8]) -> Result<(), Failure>
     ensures { IfErr result (λ failure. IsOrNoMemory 4 failure) }
 {
@@ -112,13 +111,13 @@ fn write_copy(rt: &HostRuntime, to: &str, bytes: &[u8]) -> Result<(), Failure>
     }
 }
 
-/// Copies the tables in the file at `path` into a new file at `to`, as they were committed at one moment, and
-/// writes how much they have on standard output. The copy needs no WAL, and was judged by the configuration
-/// before it got its name. The file at `path` is only read, also while a server has it open.
+/// Copies the tables in the file at `path`, as they were committed at one moment, into a new file at `to`,
+/// and writes their counts on standard output. The copy needs no WAL, and is judged by the configuration
+/// before it gets its name. The file at `path` is only read; a server may have it open.
 ///
 /// # Errors
 ///
-/// Where there is a file at `to`, the tables cannot be read or are refused, the copy or the line cannot be
+/// If a file at `to` exists, the tables cannot be read or are refused, the copy or the line cannot be
 /// written, or memory is refused.
 pub fn copy_tables(
     console: &Console<'_>,

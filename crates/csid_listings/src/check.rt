@@ -34,7 +34,7 @@ impl Display for Summary<'_> {
 ///
 /// # Errors
 ///
-/// Where the line cannot be written, or memory is refused.
+/// If the line cannot be written, or memory is refused.
 pub(crate) fn report<T: Display>(rt: &HostRuntime, what: &T) -> Result<(), Failure> {
     let line = format!(in rt.alloc(); "{what}\n")?;
     let mut out = rt.stdout();
@@ -44,23 +44,23 @@ pub(crate) fn report<T: Display>(rt: &HostRuntime, what: &T) -> Result<(), Failu
     }
 }
 
-/// Reads the configuration in the file at `path` as `csid serve` does, and writes what it has on standard
-/// output. All of its faults are said.
+/// Reads the configuration in the file at `path` as `csid serve` does, and writes its counts on standard
+/// output. All of its faults are reported.
 ///
 /// # Errors
 ///
-/// Where it is refused, the line cannot be written, or memory is refused.
+/// If the configuration is refused, the line cannot be written, or memory is refused.
 pub fn check_config(console: &Console<'_>, path: &str) -> Result<(), Failure> {
     let config = checked_configuration(console, path)?;
     report(console.rt, &Summary { config: &config })
 }
 
-/// The counts of tables in memory that are adopted. The tables are counted first, since an adoption upgrades
-/// them to the latest format. If they are refused for a row, more is reported of that row.
+/// Adopts tables in memory, and returns their counts from before the adoption, which upgrades them to the
+/// latest format. If the tables are refused for a row, details of that row are reported.
 ///
 /// # Errors
 ///
-/// Where the tables are refused, or memory is.
+/// If the tables or memory are refused.
 pub(crate) fn adopted<S: Alter + Drop>(
     console: &Console<'_>,
     path: &str,
@@ -82,20 +82,20 @@ pub(crate) fn adopted<S: Alter + Drop>(
 }
 
 /// Judges the tables in the file at `path` by a configuration, as an opening does, over a copy in memory, and
-/// writes how much they have on standard output. The file is only read.
+/// writes their counts on standard output. The file is only read.
 ///
 /// # Errors
 ///
-/// Where the tables cannot be read or are refused, the line cannot be written, or memory is refused.
+/// If the tables cannot be read or are refused, the line cannot be written, or memory is refused.
 pub fn check_tables(console: &Console<'_>, path: &str, config: &Config) -> Result<(), Failure> {
     over_tables_copy(console, path, CopyTask::Check(config))?
 }
 
-/// Judges the tables on a connection, and says what they have.
+/// Adopts the tables on a connection under a configuration, and writes their counts on standard output.
 ///
 /// # Errors
 ///
-/// Where they are refused, the line cannot be written, or memory is refused.
+/// If the tables are refused, the line cannot be written, or memory is refused.
 pub(crate) fn check_over<S: Alter + Drop>(
     console: &Console<'_>,
     path: &str,

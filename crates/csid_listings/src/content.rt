@@ -18,13 +18,13 @@ pub struct Content {
     format: i64,
 }
 
-// A count as SQLite shows it, up to the greatest `i64`.
+// A count as an `i64`, as SQLite has numbers; the greatest `i64` for a greater count.
 fn shown(count: u64) -> i64 {
     i64::try_from(count).unwrap_or(i64::MAX)
 }
 
 impl Content {
-    /// The content of tables that were adopted, which are of the latest format.
+    /// The counts of adopted tables, which have the latest format.
     pub fn of_adopted(content: &AdoptedContent) -> Content {
         Content {
             volumes: shown(content.volumes),
@@ -50,7 +50,7 @@ impl fmt::Display for Content {
     }
 }
 
-// The number that a query shows.
+// The number that a query returns.
 fn number<S: Alter>(conn: &mut Connection<S>, sql: &str) -> Result<i64, Error>
     requires { conn.old.in_transaction ≡ false }
     ensures { conn.new.in_transaction ≡ false }
@@ -58,11 +58,11 @@ fn number<S: Alter>(conn: &mut Connection<S>, sql: &str) -> Result<i64, Error>
     conn.query_row(sql, &[])?.get(0)
 }
 
-/// The counts of the tables on a connection. Nothing is changed.
+/// The counts of the tables on a connection. The tables are only read.
 ///
 /// # Errors
 ///
-/// Where the database fails, or memory is refused.
+/// If the database fails, or memory is refused.
 pub fn read_content<S: Alter>(conn: &mut Connection<S>) -> Result<Content, Error>
     requires { conn.old.in_transaction ≡ false }
     ensures { conn.new.in_transaction ≡ false }
@@ -75,7 +75,7 @@ pub fn read_content<S: Alter>(conn: &mut Connection<S>) -> Result<Content, Error
     })
 }
 
-/// Says how much the tables in the file at `path` have, or why that was not read.
+/// Reports the counts of the tables in the file at `path`, or why they were not read.
 pub fn report_content(console: &Console<'_>, path: &str, content: Result<Content, Error>) {
     match content {
         Ok(content) => console.say_of(path, &content),

@@ -66,7 +66,7 @@ fn header_of(rt: &HostRuntime, path: &str) -> Result<Vec<u8>, Failure>
     }
 }
 
-// The file that links lead to: SQLite keeps its WAL and its journal next to that one.
+// The path of the file that links lead to. SQLite keeps the WAL and the journal next to that file.
 fn real_path(rt: &HostRuntime, path: &str) -> Result<String, Failure>
     ensures { IfErr result (λ failure. IsOrNoMemory 4 failure) }
 {
@@ -76,7 +76,7 @@ fn real_path(rt: &HostRuntime, path: &str) -> Result<String, Failure>
     }
 }
 
-// The path of what SQLite keeps next to a file, which has this end.
+// The path of a file that SQLite keeps next to a database file, with this end.
 fn path_with(alloc: Global, real: &str, end: &str) -> Result<String, Failure>
     ensures { IfErr result (λ failure. IsOrNoMemory 4 failure) }
 {
@@ -85,11 +85,11 @@ fn path_with(alloc: Global, real: &str, end: &str) -> Result<String, Failure>
 
 /// A database file and its WAL, as a copy reads them while another process may write them.
 trait DatabaseReads {
-    // The database file was read whole, and gave these bytes.
+    // The whole database file was read and had these bytes.
     ghost database: { Self → Self → List ℕ → Type 0 } = { λ _ _ _. ⊤ };
-    // So was the WAL.
+    // The whole WAL was read and had these bytes.
     ghost wal: { Self → Self → List ℕ → Type 0 } = { λ _ _ _. ⊤ };
-    // The header of the WAL alone was read, and gave these bytes.
+    // The header of the WAL was read and had these bytes.
     ghost wal_header: { Self → Self → List ℕ → Type 0 } = { λ _ _ _. ⊤ };
 
     /// The bytes of the database file; none if there is no such file.
@@ -130,7 +130,7 @@ impl DatabaseReads for PathReads<'_> {
     }
 }
 
-// Whether a WAL begins with this header.
+// Returns true if a WAL begins with this header.
 fn has_header(wal: &[u8], header: &[u8]) -> bool
     ensures { IsTrue result ↔ (header.now ≡ header_in wal.now) }
 {
@@ -185,8 +185,8 @@ fn copied<F: DatabaseReads>(
     Err(Failure::of_tables(alloc, path, &IS_WRITTEN))
 }
 
-// Whether a journal has something to play back, which SQLite alone can do. The opening of the file itself
-// refuses it too.
+// Returns true if a journal has changes to roll back, which only SQLite can do. The opening of the file
+// itself refuses such a journal too.
 fn is_hot(journal: &[u8]) -> bool {
     journal.first().is_some_and(|first| *first != 0)
 }
@@ -195,8 +195,8 @@ fn is_hot(journal: &[u8]) -> bool {
 ///
 /// # Errors
 ///
-/// If the file does not exist, cannot be read, is written all the time or is no database; if a journal is
-/// next to it; or for want of memory.
+/// If the file does not exist, cannot be read, is written all the time or is not a database, if a journal is
+/// next to it, or if memory is refused.
 pub(crate) fn open_copy(
     rt: &HostRuntime,
     path: &str,
@@ -223,13 +223,14 @@ pub(crate) fn open_copy(
 /// A task over a copy of tables.
 #[derive(Clone, Copy)]
 pub(crate) enum CopyTask<'a> {
-    /// They are judged by a configuration.
+    /// Judge the tables by a configuration.
     Check(&'a Config),
-    /// They are listed, these of them, and in JSON or not.
+    /// List the chosen volumes, in JSON if the flag is true.
     List(&'a Chosen<'a>, bool),
 }
 
-// Does a task over the tables on a connection, if it has some. It does not know how they are stored.
+// Does a task over the tables on a connection; fails if there are no tables. The code is independent of the
+// store.
 fn over_tables<S: Alter + Drop>(
     console: &Console<'_>,
     path: &str,
@@ -248,13 +249,13 @@ fn over_tables<S: Alter + Drop>(
     })
 }
 
-/// Does a task over a copy of the tables in a file and its WAL, by reads alone: no lock is taken, and no file
-/// is made or changed. The result of the task is the value.
+/// Does a task over a copy of the tables in a file and its WAL. The files are only read: no lock is taken,
+/// and no file is made or changed. Returns the result of the task.
 ///
 /// # Errors
 ///
-/// If the file does not exist, cannot be read, is written all the time, is no database or has no tables; if a
-/// journal is next to it; or for want of memory.
+/// If the file does not exist, cannot be read, is written all the time, is not a database or has no tables,
+/// if a journal is next to it, or if memory is refused.
 pub(crate) fn over_tables_copy(
     console: &Console<'_>,
     path: &str,

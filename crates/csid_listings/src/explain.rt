@@ -10,9 +10,9 @@ use sqlite::types::ValueRef;
 use sqlite::{Alter, Connection, Error, ErrorCode};
 use std::alloc::{AllocError, Global};
 
-// Why no more is reported.
+// Why no details are reported.
 enum Silence {
-    // A row has no such value, or the database fails.
+    // A row lacks a value, or the database fails.
     Unread,
     NoMemory,
 }
@@ -121,7 +121,7 @@ fn line<S: Alter>(
     }
 }
 
-/// Reports more about the row that made csid refuse tables, if there is more to report.
+/// Reports details of the row for which tables are refused, if the fault is of a row.
 pub(crate) fn explain<S: Alter>(
     console: &Console<'_>,
     path: &str,

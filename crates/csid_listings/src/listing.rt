@@ -22,7 +22,7 @@ use std::alloc::Global;
 // The number of volumes that are read at once.
 const PAGE: u32 = 1000;
 
-// No number of a volume is as great: a column has no greater one.
+// Greater than the number of any volume, as an integer of SQLite is below 2^63.
 const NUMBERS: u64 = 1 << 63;
 
 const NONE_READ: &str =
@@ -35,12 +35,12 @@ fn is_wanted(wanted: Option<&str>, text: &Text) -> bool {
     }
 }
 
-// Whether a volume at these nodes is wanted: it is at the wanted node, or none was named.
+// Returns true if `wanted` is `None` or among the nodes.
 fn is_at(wanted: Option<&str>, nodes: &Items<Text>) -> bool {
     wanted.is_none() || nodes.as_slice().iter().any(|node| is_wanted(wanted, node))
 }
 
-// Whether a volume that is published at these nodes is listed.
+// Returns true if a volume that is published to these nodes is listed.
 fn has(chosen: &Chosen<'_>, volume: &Volume, nodes: &Items<Text>) -> bool {
     is_wanted(chosen.name, &volume.name)
         && is_wanted(chosen.pool, &volume.pool)
@@ -65,7 +65,7 @@ fn visit_page<V: Visit>(
     Ok(())
 }
 
-/// A copy of tables in memory.
+/// A copy of tables in memory, whose volumes are listed.
 #[derive(Drop)]
 struct TablesCopy<'a, S: Alter + Drop> {
     alloc: Global,
@@ -74,7 +74,7 @@ struct TablesCopy<'a, S: Alter + Drop> {
 }
 
 impl<S: Alter + Drop> TablesCopy<'_, S> {
-    // Why a page cannot be read.
+    // The failure for a page of volumes that cannot be read.
     fn page_failure(&self, after: u64, error: &TablesError) -> Failure {
         let alloc = self.alloc;
         if let TablesFault::NoMemory = error.fault {
@@ -120,13 +120,13 @@ impl<S: Alter + Drop> TablesCopy<'_, S> {
     }
 }
 
-/// Writes the volumes of the tables in the file at `path` on standard output, as they were committed at one
-/// moment, and what pools and nodes have of them: in columns, or in JSON with a volume a line. The file is
-/// only read.
+/// Writes the volumes of the tables in the file at `path`, as they were committed at one moment, and their
+/// sums by pool and by node on standard output: in columns, or in JSON with a line for each volume. The file
+/// is only read.
 ///
 /// # Errors
 ///
-/// If the tables cannot be read, if the list cannot be written, or for want of memory.
+/// If the tables cannot be read, the list cannot be written, or memory is refused.
 pub fn list_tables(
     console: &Console<'_>,
     path: &str,
@@ -136,7 +136,7 @@ pub fn list_tables(
     over_tables_copy(console, path, CopyTask::List(chosen, is_json))?
 }
 
-// Lists over a connection to the tables, which does not know how they are stored.
+// Lists the volumes of the tables on a connection. The code is independent of the store.
 pub(crate) fn list_over<S: Alter + Drop>(
     console: &Console<'_>,
     path: &str,

@@ -29,11 +29,11 @@ fn in_memory(alloc: Global, bytes: &[u8]) -> Result<Memory, Failure>
     }
 }
 
-/// A database file in memory with these bytes, `db`, and its WAL with these, `wal`.
+/// A database file in memory with the bytes `db`, and its WAL with the bytes `wal`.
 ///
 /// # Errors
 ///
-/// Where memory is refused.
+/// If memory is refused.
 pub fn files_of(alloc: Global, wal: &[u8], db: &[u8]) -> Result<Files<Memory>, Failure>
     ensures usable { IfOk result (λ files. IsTrue (memory_is_usable files.log)
         × IsTrue (memory_is_usable files.db)) }
@@ -74,12 +74,12 @@ pub(crate) fn memory_adoption_failure(alloc: Global, path: &str, fault: &AdoptFa
     }
 }
 
-/// A connection to the database in a file and its WAL; to an empty database if both are empty. An error names
-/// the path.
+/// A connection to the database in a file and its WAL; to an empty database if both files are empty. An error
+/// names the path.
 ///
 /// # Errors
 ///
-/// Where they hold no database, or memory is refused.
+/// If the files are not a database, or memory is refused.
 pub fn open(
     alloc: Global,
     path: &str,

@@ -32,7 +32,7 @@ pub fn adoption_failure(alloc: Global, path: &str, fault: &AdoptFault) -> Failur
     }
 }
 
-/// Why what the tables at `path` have was not read into memory.
+/// Why the volumes of the tables at `path` were not read into memory.
 pub fn store_failure(alloc: Global, path: &str, fault: StoreFault) -> Failure
     ensures { IsOrNoMemory 4 result }
 {
@@ -42,11 +42,12 @@ pub fn store_failure(alloc: Global, path: &str, fault: StoreFault) -> Failure
     }
 }
 
-/// A keeper over the tables on a connection, which are made where there are none. A failure names `path`.
+/// A keeper over the tables on a connection. If there are no tables, new ones are made. A failure names
+/// `path`.
 ///
 /// # Errors
 ///
-/// Where the tables are refused, or memory is.
+/// If the tables or memory are refused.
 pub fn keeper_over<S: Alter + Drop>(
     rt: &HostRuntime,
     path: &str,

@@ -5,7 +5,8 @@ use csi_keeper::{CapKey, Kind, Volume};
 use csi_types::{Items, Map, Text};
 use std::alloc::{AllocError, Global};
 
-/// The name of an access mode.
+/// The name of the access mode with this number (CSI specification, 'CreateVolume'); `UNKNOWN` for any other
+/// number.
 pub(crate) fn mode_name(mode: u8) -> &'static str {
     match MODE_NAMES.get(usize::from(mode)) {
         Some(name) => name,

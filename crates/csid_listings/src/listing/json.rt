@@ -99,7 +99,7 @@ impl Visit for Lines<'_> {
     }
 }
 
-/// Writes an object of three lists: `volumes`, and the sums of `pools` and `nodes` that have some.
+/// Writes an object of three lists: `volumes`, and the sums of the `pools` and the `nodes` that have volumes.
 pub(crate) fn write<S: Alter + Drop>(
     rt: &HostRuntime,
     tables: &mut TablesCopy<'_, S>,

@@ -34,7 +34,7 @@ impl<'a> Output<'a> {
         }
     }
 
-    /// Appends a text, and writes the buffer once it is long.
+    /// Appends a text, and writes the buffer if it has 64 KiB or more.
     pub(crate) fn push(&mut self, text: &str) -> Result<(), Failure> {
         self.text.push_str(text)?;
         if self.text.len() < FULL {

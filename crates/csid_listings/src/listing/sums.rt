@@ -24,7 +24,7 @@ impl Sum {
 /// The sums of pools or of nodes, by their names.
 pub(crate) type Sums = BTreeMap<Text, Sum>;
 
-// Counts a volume of this many bytes.
+// Adds a volume with this size to the sum with this name.
 fn count(alloc: Global, sums: &mut Sums, name: &Text, bytes: u64) -> Result<(), AllocError> {
     let sum = match sums.get(name) {
         Some(sum) => *sum,

@@ -41,7 +41,7 @@ fn sums_text(alloc: Global, heading: &'static str, sums: &Sums) -> Result<String
     format!(in alloc; "\n{text}")
 }
 
-/// Writes a row for each volume, and then one for each pool and each node that has some.
+/// Writes a row for each volume, and then a row for each pool and each node that has volumes.
 pub(crate) fn write<S: Alter + Drop>(
     rt: &HostRuntime,
     tables: &mut TablesCopy<'_, S>,
