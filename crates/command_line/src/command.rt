@@ -12,7 +12,7 @@ use std::env;
 use std::io::{self, ErrorKind};
 use thiserror::Error;
 
-/// Why the arguments do not say what to do. Its `Display` is the line that is printed.
+/// Why the arguments are refused. Its `Display` is the line on standard error.
 #[derive(Debug, Drop, Error)]
 pub enum ArgumentsFault {
     /// An argument is not UTF-8.
@@ -30,7 +30,8 @@ pub enum ArgumentsFault {
 }
 
 impl ArgumentsFault {
-    /// Arguments that are refused, with this line; want of memory, where there was none for it.
+    /// The fault of refused arguments with this line; [`ArgumentsFault::NoMemory`] if memory for the line was
+    /// refused.
     pub fn refused(line: Result<String, AllocError>) -> ArgumentsFault
         ensures refused { IfOk line (λ text. result ≡ Refused text) }
         ensures memory { IfErr line (λ _. result ≡ NoMemory) }
@@ -41,7 +42,8 @@ impl ArgumentsFault {
         }
     }
 
-    /// The exit status: docs/CLI.md lists them.
+    /// The exit status of the program for this fault: 2 if the arguments are refused, 5 if help or the
+    /// version cannot be written, 6 without memory.
     pub fn status(&self) -> u8
         ensures { result ≡ arguments_status self.now }
     {
@@ -58,11 +60,11 @@ fn collected(rt: &HostRuntime) -> io::Result<Vec<String>> {
     Ok(arguments)
 }
 
-/// The arguments of the program, with its name before them.
+/// The words of the command line, the name of the program first.
 ///
 /// # Errors
 ///
-/// Where one is not UTF-8, or memory was refused.
+/// If a word is not UTF-8, or memory is refused.
 pub fn arguments(rt: &HostRuntime) -> Result<Vec<String>, ArgumentsFault> {
     match collected(rt) {
         Ok(arguments) => Ok(arguments),
@@ -71,7 +73,7 @@ pub fn arguments(rt: &HostRuntime) -> Result<Vec<String>, ArgumentsFault> {
     }
 }
 
-// Appends the first paragraph of what `clap` says, as one line and without the word `error` before it.
+// Appends the first paragraph of an error text of `clap`, as one line and without the word `error` before it.
 fn push_first_paragraph(line: &mut String, text: &str) -> Result<(), AllocError> {
     for part in text.lines() {
         if part.is_empty() {
@@ -86,7 +88,7 @@ fn push_first_paragraph(line: &mut String, text: &str) -> Result<(), AllocError>
     Ok(())
 }
 
-// Appends what `clap` proposes instead of a misspelt word, if it proposes a similar one.
+// Appends the similar word that `clap` proposes for a misspelt word, if it proposes one.
 fn push_similar(line: &mut String, text: &str) -> Result<(), AllocError> {
     for part in text.lines() {
         let tip = part.trim().strip_prefix("tip: ").unwrap_or("");
@@ -107,7 +109,7 @@ fn refusal_line(alloc: Global, error: &ClapError) -> Result<String, AllocError> 
     Ok(line)
 }
 
-// Prints help or the version, if the arguments ask for that; otherwise they are refused.
+// Prints help or the version if the arguments ask for it; otherwise returns why the arguments are refused.
 fn end(rt: &HostRuntime, error: &ClapError) -> Result<(), ArgumentsFault> {
     match error.kind() {
         ClapKind::OutOfMemory => Err(ArgumentsFault::NoMemory),
@@ -123,7 +125,7 @@ fn end(rt: &HostRuntime, error: &ClapError) -> Result<(), ArgumentsFault> {
 ///
 /// # Errors
 ///
-/// Where the command line does not have them, printing fails, or memory was refused.
+/// If the arguments do not fit the command line, printing fails, or memory is refused.
 pub fn matches<'a>(
     rt: &HostRuntime,
     line: &CommandLine<'_>,

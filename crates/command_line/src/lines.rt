@@ -24,9 +24,9 @@ fn push_shown(line: &mut String, character: char) -> Result<(), AllocError>
     Ok(())
 }
 
-// What a program says, as one line with its end: the program's name, a colon and the text. Paths, names and
-// ids in the text may come from files or from the command line, so what would end the line, and every other
-// control, is escaped, as `\n` or `\u{1b}`.
+// A line for standard error: the program's name, a colon, the text and the end of the line. Paths, names and
+// ids in the text may come from files or from the command line, so each end of line and each other control
+// character is escaped, as `\n` or `\u{1b}`.
 fn line(alloc: Global, program: &str, text: &str) -> Result<String, AllocError>
     ensures ok { IfOk result (λ said. string_bytes said ≡ line_of program.now text.now) }
 {
@@ -40,13 +40,12 @@ fn line(alloc: Global, program: &str, text: &str) -> Result<String, AllocError>
     Ok(line)
 }
 
-/// A line for standard error, with its end: the program's name, a colon and a text, which is what is
-/// displayed where its type says that. What in the text would end the line, and every other control, is
-/// escaped.
+/// A line for standard error: the program's name, a colon, the text of `what` and the end of the line. Each
+/// end of line and each other control character in the text is escaped, as `\n` or `\u{1b}`.
 ///
 /// # Errors
 ///
-/// Where memory was refused.
+/// If memory is refused.
 pub fn error_line<T: Display>(alloc: Global, program: &str, what: &T) -> Result<String, AllocError>
     ensures ok { IfOk result (λ said. (text : List ℕ) × (string_bytes said ≡ line_of program.now text)
         × IfSome (T.output what.now) (λ displayed. text ≡ displayed)) }
@@ -55,15 +54,15 @@ pub fn error_line<T: Display>(alloc: Global, program: &str, what: &T) -> Result<
     line(alloc, program, text.as_str())
 }
 
-// The line without memory.
+// Writes a line that says that memory is refused, without taking memory.
 fn say_no_memory(rt: &HostRuntime, program: &str) -> io::Result<()> {
     let mut stderr = rt.stderr();
     stderr.write_all(program.as_bytes())?;
     stderr.write_all(b": out of memory\n")
 }
 
-/// Says one line on standard error, after the program's name. What in it would end the line, and every
-/// other control, is escaped. That it cannot be written changes no status.
+/// Writes one line to standard error, after the program's name, with control characters escaped as by
+/// [`error_line`]. A failed write is ignored.
 pub fn say<T: Display>(rt: &HostRuntime, program: &str, what: &T) {
     let _ = match error_line(rt.alloc(), program, what) {
         Ok(line) => rt.stderr().write_all(line.as_bytes()),
@@ -77,7 +76,7 @@ fn are_digits(bytes: &[u8]) -> bool
     bytes.iter().all(|byte| byte.is_ascii_digit())
 }
 
-/// Whether a text is a number in decimal digits alone: no sign, no space.
+/// Returns true if the text is one or more decimal digits and nothing else.
 pub fn is_decimal(text: &str) -> bool
     ensures { result ≡ (nat_lt 0 (length text.now) && list_all is_ascii_digit text.now) }
 {

@@ -1,7 +1,7 @@
 //! Access modes as both programs write them.
 
 /// The names of access modes by their numbers (CSI specification, 'CreateVolume',
-/// `VolumeCapability.AccessMode.Mode`). The first one is that of no mode.
+/// `VolumeCapability.AccessMode.Mode`). The first, `UNKNOWN`, is not a mode.
 pub const MODE_NAMES: [&str; 8] = [
     "UNKNOWN",
     "SINGLE_NODE_WRITER",

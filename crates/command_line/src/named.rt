@@ -3,7 +3,7 @@
 use std::alloc::{AllocError, Global};
 use std::fmt::{self, Display};
 
-/// A file or another named thing, and a statement about it. Its `Display` is `NAME: WHAT`.
+/// A name, as of a file, and a statement about the named thing. Its `Display` is `NAME: WHAT`.
 #[derive(Debug, Drop)]
 pub struct Named<N, W> {
     /// The name, as a path.
@@ -18,14 +18,14 @@ impl<N: Display, W: Display> Display for Named<N, W> {
     }
 }
 
-/// A failed thing and the reason, each an owned text.
+/// The name of something that failed and the reason, as owned texts.
 pub type Cause = Named<String, String>;
 
-/// Copies a name, and writes why it failed.
+/// A [`Cause`] with a copy of `name` and the text of `why`.
 ///
 /// # Errors
 ///
-/// Where memory was refused.
+/// If memory is refused.
 pub fn cause<W: Display>(alloc: Global, name: &str, why: &W) -> Result<Cause, AllocError> {
     Ok(Named {
         name: String::from_str(alloc, name)?,

@@ -6,10 +6,10 @@ use std::alloc::{AllocError, Global};
 /// The kind of value that an option takes, and the value's name in the help.
 #[derive(Clone, Copy)]
 pub enum Takes {
-    /// Nothing: it is there or not.
+    /// No value: the option is a flag.
     Nothing,
     Text(&'static str),
-    /// A text without an option before it.
+    /// A text that is given by its place, without the option's name.
     Place(&'static str),
     /// A number of `i32`, 0 or more.
     Number(&'static str),
@@ -22,13 +22,13 @@ pub enum Takes {
 /// An option of a command.
 #[derive(Clone, Copy)]
 pub struct CommandOption {
-    /// Its name, without the dashes.
+    /// The name of the option, without the dashes.
     pub name: &'static str,
     pub takes: Takes,
     pub is_required: bool,
-    /// The option that must be given with it.
+    /// Another option that must be given with this one; `None` if no other is needed.
     pub needs: Option<&'static str>,
-    /// Nothing else may be given with it.
+    /// True if no other option may be given with this one.
     pub is_alone: bool,
     /// The default value, as the help shows it; `None` if the option has none.
     pub standard: Option<&'static str>,
@@ -36,7 +36,7 @@ pub struct CommandOption {
 }
 
 impl CommandOption {
-    /// Whether it takes a number.
+    /// Returns true if the option takes a number.
     pub fn is_number(&self) -> bool {
         matches!(
             self.takes,
@@ -45,7 +45,7 @@ impl CommandOption {
     }
 }
 
-/// An option of which nothing is said yet.
+/// A flag without a name and a help text, from which other options are made with `..OPTION`.
 pub const OPTION: CommandOption = CommandOption {
     name: "",
     takes: Takes::Nothing,
@@ -113,7 +113,7 @@ pub struct Subcommand {
     pub name: &'static str,
     pub about: &'static str,
     pub options: &'static [CommandOption],
-    /// Options after those, as commands share them.
+    /// Further options, which several commands share.
     pub shared: &'static [CommandOption],
 }
 
@@ -124,7 +124,7 @@ pub struct CommandLine<'l> {
     pub name: &'static str,
     pub version: &'static str,
     pub about: &'static str,
-    /// Options that are given without a command, and never with one.
+    /// The options that are given without a command.
     pub options: &'static [CommandOption],
     pub subcommands: &'l [Subcommand],
 }
@@ -144,11 +144,11 @@ fn commands_of<'a>(alloc: Global, subcommands: &[Subcommand]) -> Result<Vec<Comm
     Ok(commands)
 }
 
-/// The command that reads a command line.
+/// The command of `clap` that parses a command line.
 ///
 /// # Errors
 ///
-/// Where memory was refused.
+/// If memory is refused.
 pub(crate) fn root_command<'a>(
     alloc: Global,
     line: &CommandLine<'_>,

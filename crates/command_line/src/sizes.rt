@@ -6,7 +6,7 @@ ghost use Rattle.command_line.specs.Sizes.{binary_size, half, halves_or_none, ha
 
 use std::alloc::{AllocError, Global};
 
-// A unit: its name, and half of its bytes.
+// A unit: its name, and half the number of its bytes.
 #[derive(Clone, Copy)]
 struct Unit {
     name: &'static str,
@@ -41,7 +41,7 @@ const SHOWN: [Unit; 6] = [
     },
 ];
 
-// A size in halves of a unit, where it is at least one unit, and no byte is left.
+// A size in halves of a unit; `None` if it is less than a unit or not a whole number of halves.
 fn halves_of(bytes: u64, half: u64) -> Option<u64>
     ensures { result ≡ halves_or_none bytes half }
 {
@@ -53,7 +53,7 @@ fn halves_of(bytes: u64, half: u64) -> Option<u64>
     }
 }
 
-// The decimal of a number of halves.
+// The decimal digits after the number of whole units: `.5` for an odd number of halves, otherwise empty.
 fn half_of(halves: u64) -> &'static str
     ensures { result.now ≡ half halves }
 {
@@ -68,7 +68,7 @@ fn in_halves(alloc: Global, halves: u64, unit: &str) -> Result<String, AllocErro
     format!(in alloc; "{whole}{half} {unit}")
 }
 
-// A size in the first of these units in which it is exact to one decimal, otherwise in bytes.
+// A size in the first of these units that shows it exactly with one decimal, otherwise in bytes.
 fn text_in(alloc: Global, units: &[Unit], bytes: u64) -> Result<String, AllocError>
     ensures { IfOk result (λ text. string_bytes text ≡ size_text units.now bytes) }
 {
@@ -80,12 +80,12 @@ fn text_in(alloc: Global, units: &[Unit], bytes: u64) -> Result<String, AllocErr
     format!(in alloc; "{bytes} B")
 }
 
-/// A size in the greatest binary unit in which it is exact to one decimal, as `1 GiB` or `1.5 MiB`; otherwise
-/// in bytes, as `1000 B`.
+/// A size in the greatest binary unit that shows it exactly with at most one decimal, as `1 GiB` or `1.5
+/// MiB`; otherwise in bytes, as `1000 B`.
 ///
 /// # Errors
 ///
-/// Where memory was refused.
+/// If memory is refused.
 pub fn size_text(alloc: Global, bytes: u64) -> Result<String, AllocError>
     ensures ok { IfOk result (λ text. string_bytes text ≡ binary_size bytes) }
 {

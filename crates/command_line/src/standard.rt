@@ -6,11 +6,11 @@ ghost use Rattle.std.specs.Fd.{file_raw_fd};
 use std::fs::File;
 use std::os::fd::AsRawFd;
 
-// The numbers of the three are those below.
+// The first file descriptor after standard input, output and error, which are 0, 1 and 2.
 const NEXT: i32 = 3;
 
-// A folder instead of the first of the three that is closed: nothing can be read from it or
-// written to it, as it is of what is closed.
+// Opens a folder, which gets the lowest closed descriptor. A folder can be neither read nor written as a
+// file, like a closed descriptor.
 fn in_place(rt: &HostRuntime) -> Option<File>
     ensures { IfSome result (λ file. file_raw_fd file <ℤ pos 3) }
 {
@@ -18,9 +18,10 @@ fn in_place(rt: &HostRuntime) -> Option<File>
     (folder.as_raw_fd() < NEXT).then_some(folder)
 }
 
-/// Takes the places of those of the three that are closed, so that no file or connection that is opened
-/// later gets one of them, and with it what is meant for standard output or standard error. Reading and
-/// writing them fails as before. A program calls it first, and keeps what it is given to its end.
+/// Opens folders in the places of standard input, output and error that are closed. A file or connection that
+/// is opened later then does not get one of these descriptors, and with it the text for standard output or
+/// standard error. Reads and writes of the folders fail, as of closed descriptors. A program calls this
+/// first, and keeps the result until it ends.
 pub fn occupy_closed(rt: &HostRuntime) -> [Option<File>; 3]
     ensures { All (λ place. IfSome place (λ file. file_raw_fd file <ℤ pos 3)) result }
 {

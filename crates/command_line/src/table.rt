@@ -2,13 +2,13 @@
 
 use std::alloc::{AllocError, Global};
 
-// So many spaces are between the longest word of a column and the next column.
+// The spaces between the longest word of a column and the next column.
 const GAP: usize = 2;
 
 // A longer word than this makes no column wider, so that one long word costs no space in each other row.
 const WIDEST: usize = 80;
 
-/// Rows of words, which are shown in columns: each is as wide as its longest word of at most 80 bytes. A
+/// Rows of words that are shown in columns. A column is as wide as its longest word of at most 80 bytes; a
 /// longer word moves the rest of its own row to the right.
 #[derive(Drop)]
 pub struct Table {
@@ -39,7 +39,7 @@ fn width_of(word: &str) -> usize {
     if word.len() <= WIDEST { word.len() } else { 0 }
 }
 
-// Makes columns as wide as the words of a row.
+// Widens columns to the words of a row.
 fn widen(widths: &mut Vec<usize>, row: &[String]) -> Result<(), AllocError> {
     for (at, word) in row.iter().enumerate() {
         let wanted = width_of(word.as_str());
@@ -64,7 +64,7 @@ impl Table {
     ///
     /// # Errors
     ///
-    /// Where memory was refused.
+    /// If memory is refused.
     pub fn with_headings(alloc: Global, headings: &[&'static str]) -> Result<Table, AllocError> {
         let mut row = Vec::new(alloc);
         for heading in headings {
@@ -79,18 +79,18 @@ impl Table {
     ///
     /// # Errors
     ///
-    /// Where memory was refused.
+    /// If memory is refused.
     pub fn add(&mut self, row: Vec<String>) -> Result<(), AllocError> {
         widen(&mut self.widths, row.as_slice())?;
         self.rows.push(row)?;
         Ok(())
     }
 
-    /// Adds a row of a heading and what it is of.
+    /// Adds a row with a heading and a value.
     ///
     /// # Errors
     ///
-    /// Where memory was refused.
+    /// If memory is refused.
     pub fn add_pair(
         &mut self,
         alloc: Global,
@@ -107,7 +107,7 @@ impl Table {
     ///
     /// # Errors
     ///
-    /// Where memory was refused.
+    /// If memory is refused.
     pub fn text(&self, alloc: Global) -> Result<String, AllocError> {
         let mut out = String::new(alloc);
         for row in &self.rows {

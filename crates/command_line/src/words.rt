@@ -8,15 +8,15 @@ ghost use Rattle.command_line.specs.Words.{after_mark, or_dash};
 use percent_encoding::{AsciiSet, CONTROLS, ascii_set, utf8_percent_encode};
 use std::alloc::{AllocError, Global};
 
-// The characters of ASCII that would end a word, and the one that begins an escape.
+// The ASCII characters that would end a word, and `%`, which begins an escape.
 const ESCAPED: AsciiSet = ascii_set!(CONTROLS.add(b' ').add(b'%'));
 
-/// Appends a text as a part of a word: a byte outside 0x21 to 0x7E, and `%`, as `%` and two hexadecimal
-/// digits (URL Standard, section 1.3).
+/// Appends a text to a word. Each byte outside 0x21 to 0x7E, and each `%`, is written as `%` and two
+/// hexadecimal digits (URL Standard, section 1.3).
 ///
 /// # Errors
 ///
-/// Where memory was refused.
+/// If memory is refused.
 pub fn put_word(out: &mut String, text: &str) -> Result<(), AllocError>
     ensures ok { OnOk result
         (string_bytes out.new ≡ string_bytes out.old ++ percent_encode ESCAPED text.now) }
@@ -24,11 +24,11 @@ pub fn put_word(out: &mut String, text: &str) -> Result<(), AllocError>
     utf8_percent_encode(text, ESCAPED).append_to(out)
 }
 
-/// Appends a part of a list, after this mark where it is not the first one.
+/// Appends a part of a list; before it `mark`, if `out` is not empty.
 ///
 /// # Errors
 ///
-/// Where memory was refused.
+/// If memory is refused.
 pub fn put_next(out: &mut String, mark: &str, part: &str) -> Result<(), AllocError>
     ensures ok { OnOk result (string_bytes out.new ≡ after_mark (string_bytes out.old) mark.now ++ part.now) }
 {
@@ -38,11 +38,11 @@ pub fn put_next(out: &mut String, mark: &str, part: &str) -> Result<(), AllocErr
     out.push_str(part)
 }
 
-/// A text as a word.
+/// A text as one word, escaped as by [`put_word`]; `-` if the text is empty.
 ///
 /// # Errors
 ///
-/// Where memory was refused.
+/// If memory is refused.
 pub fn word(alloc: Global, text: &str) -> Result<String, AllocError>
     ensures ok { IfOk result (λ word. string_bytes word ≡ or_dash (percent_encode ESCAPED text.now)) }
 {
@@ -51,11 +51,11 @@ pub fn word(alloc: Global, text: &str) -> Result<String, AllocError>
     or_dash(out)
 }
 
-/// A word, or a dash where it is empty.
+/// The word itself, or `-` if it is empty.
 ///
 /// # Errors
 ///
-/// Where memory was refused.
+/// If memory is refused.
 pub fn or_dash(text: String) -> Result<String, AllocError>
     ensures ok { IfOk result (λ word. string_bytes word ≡ or_dash (string_bytes text)) }
 {

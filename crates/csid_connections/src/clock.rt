@@ -11,19 +11,19 @@ use crate::limits::{CALL_SECONDS, SHORTEST_MILLIS, WANTED_SECONDS, left_of};
 use csid_console::Ending;
 use std::time::{Duration, Instant};
 
-/// The beginning of a time that counts from the first wait for it.
+/// When a period began that counts from the first wait for it.
 #[derive(Clone, Copy)]
 pub(crate) enum Since {
-    /// Nothing has begun.
+    /// The period has not begun.
     Never,
-    /// It has begun, and has not been waited for yet.
+    /// The period has begun, and was not waited for yet.
     Now,
-    /// It was waited for first at this time.
+    /// The period was first waited for at this time.
     Then(Instant),
 }
 
 impl Since {
-    // When it began: `now` at the first wait. `None` if it has not begun.
+    // When the period began: `now` at the first wait; `None` if it has not begun.
     fn start(&mut self, now: Instant) -> Option<Instant>
         ensures { SharesTime now self.old self.new result }
     {
@@ -50,7 +50,7 @@ pub(crate) struct CallClock {
     allowed: Duration,
     // When this call or reply first delayed another connection that was ready.
     delayed: Option<Instant>,
-    // Whether a reply is being written, and not a call read.
+    // True while a reply is written, false while a call is read.
     is_reply: bool,
 }
 
@@ -194,7 +194,7 @@ impl CallClock {
     }
 }
 
-// The longer of two times; `None` is over.
+// The longer of two times; `None` is a time that is over.
 fn longer(one: Option<Duration>, other: Option<Duration>) -> Option<Duration>
     ensures { IsLonger one other result }
 {

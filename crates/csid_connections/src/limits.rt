@@ -28,7 +28,7 @@ pub(crate) fn left_of(longest: Duration, begun: Instant, now: Instant) -> Option
     if left.is_zero() { None } else { Some(left) }
 }
 
-/// The shorter of two times; `None` has no end.
+/// The shorter of two times; `None` is a time without an end.
 pub(crate) fn least(one: Option<Duration>, other: Option<Duration>) -> Option<Duration>
     ensures { IsLeast one other result }
 {

@@ -8,25 +8,25 @@ ghost use Rattle.csid_connections.specs.Replying.{after_reply, begun, is_cut, is
 use std::io::{self, ErrorKind, Write};
 use std::os::unix::net::UnixStream;
 
-/// Whether the peer of a connection has closed its end. A write of no bytes shows that: it fails then. A peer
-/// that has closed only its sending half is there: it waits for replies.
+/// Returns true if the peer has closed the connection: a write of no bytes then fails. A peer that has closed
+/// only its sending half still waits for replies, and has not gone.
 pub fn has_gone(stream: &UnixStream) -> bool {
     let mut writer = stream;
     writer.write(&[]).is_err()
 }
 
-/// An answer to whether the replies hold that were made from the volumes in memory: they do while no other
-/// program may have changed the volumes.
+/// Answers whether a reply made from the volumes in memory holds. It holds while no other program can have
+/// changed the volumes.
 pub trait Leadership {
     // A question whether replies hold, and its answer.
     ghost asked: { Self → Self → Bool → Type 0 } = { λ _ _ _. ⊤ };
 
-    /// Whether replies still hold. It is asked before the first byte of each reply.
+    /// Returns true if replies still hold. It is called before the first byte of each reply.
     fn holds(&mut self) -> bool
         ensures { asked self.old self.new result };
 }
 
-/// Replies that always hold.
+/// The leadership of a server whose volumes no other program changes: replies always hold.
 #[derive(Clone, Copy, Drop)]
 pub struct Always;
 
@@ -43,16 +43,16 @@ impl Leadership for Always {
 /// The state of the reply that is being written.
 #[derive(Clone, Copy)]
 pub enum Reply {
-    /// No byte of it was written. It is asked first whether it holds.
+    /// No byte of the next reply was written. Whether the reply holds is asked first.
     Between,
-    /// The reply holds, and is written.
+    /// The reply holds, and is being written.
     Open,
-    /// The reply did not hold. No further byte is written, of this reply or of a later one.
+    /// A reply did not hold. No further byte is written.
     Cut,
 }
 
-/// A writer of replies that asks before the first byte of each reply whether it holds, and writes none after
-/// one that did not hold.
+/// A writer of replies that asks before the first byte of each reply whether the reply holds, and writes
+/// nothing after a reply that did not hold.
 #[derive(Drop)]
 pub struct GuardedWriter<L, W> {
     lead: L,
@@ -72,14 +72,15 @@ impl<L: Leadership, W: Write> GuardedWriter<L, W> {
         }
     }
 
-    /// Whether a reply did not hold, so that no byte is written any more.
+    /// Returns true if a reply did not hold, so that nothing more is written.
     pub fn is_cut(&self) -> bool
         ensures { result ≡ is_cut self.now.reply }
     {
         matches!(self.reply, Reply::Cut)
     }
 
-    // Whether a reply may be written, which begins here where none has begun.
+    // Returns true if bytes of a reply may be written. At the first byte of a reply it asks whether the reply
+    // holds.
     fn may_write(&mut self) -> bool
         ensures writer { self.new.writer ≡ self.old.writer }
         ensures open { self.old.reply ≡ Reply.Open → (result ≡ true) × (self.new ≡ self.old) }

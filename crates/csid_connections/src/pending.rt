@@ -46,7 +46,7 @@ pub struct FirstBytes {
     pub sent: Vec<u8>,
     /// The kind of the bytes; `None` before the first read.
     pub start: Option<Start>,
-    // When the last byte came, or the connection itself.
+    // When the last byte came; before the first byte, when the connection came.
     since: Instant,
     // When the first byte came.
     begun: Option<Instant>,

@@ -94,12 +94,12 @@ pub fn report_ending(console: &Console<'_>, ending: Ending, now: Instant) {
 }
 
 impl Waiting {
-    /// An empty queue on `listener`. It accepts `connections` in all; each is closed after `idle` seconds of
-    /// silence.
+    /// An empty queue of the connections to `listener`. It accepts `connections` in all, and closes a
+    /// connection after `idle` seconds without bytes.
     ///
     /// # Errors
     ///
-    /// If the system refuses to poll the socket, or for want of memory.
+    /// If the system refuses to poll the socket, or memory is refused.
     pub fn new(
         rt: &HostRuntime,
         listener: UnixListener,

@@ -13,10 +13,10 @@ use std::io::Write;
 use std::os::fd::AsRawFd;
 use std::time::{Duration, Instant};
 
-// A pipe with room for any bytes has room for so many (`PIPE_BUF` of pipe(7)).
+// A pipe that is ready for a write has room for this number of bytes (`PIPE_BUF` of pipe(7)).
 const PART: usize = 4096;
 
-// So many lines about connections that ended are written in a second. The others are counted.
+// The most lines about ended connections that are written in a second. Further connections are counted.
 const FEW: u32 = 10;
 
 const SECOND_MILLIS: u64 = 1000;
@@ -27,19 +27,19 @@ const WAYS: usize = 7;
 /// The way in which a connection ended before all its calls were read and answered.
 #[derive(Clone, Copy, PartialEq, Eq)]
 pub enum Ending {
-    /// Its peer sent nothing for too long.
+    /// The peer sent nothing for too long.
     Idle,
-    /// Its peer began a call, and did not end it in time.
+    /// The peer began a call and did not complete it in time.
     Slow,
-    /// Its peer had gone before it was served.
+    /// The peer had gone before the connection was served.
     Gone,
-    /// It had sent no call, and too many waited.
+    /// The connection had sent no call, and too many connections waited.
     Crowded,
     /// A frame was malformed.
     Malformed,
-    /// It kept another connection waiting.
+    /// The connection kept another one waiting.
     Preempted,
-    /// It could not be read or written.
+    /// The connection could not be read or written.
     Failed,
 }
 
@@ -54,7 +54,7 @@ const ENDINGS: [Ending; WAYS] = [
 ];
 
 impl Ending {
-    // The words for a count of this way.
+    // The words for a count of connections that ended in this way.
     fn words(self) -> &'static str {
         match self {
             Ending::Idle => "sent nothing in time",
@@ -83,7 +83,7 @@ impl Ending {
     }
 }
 
-// The connections that ended without a line of their own.
+// The counts of connections that ended without a line.
 #[derive(Clone, Copy)]
 struct Tally {
     counts: [u64; WAYS],
@@ -114,21 +114,21 @@ impl Display for Tally {
     }
 }
 
-/// Standard error, as the program writes to it.
+/// The writer of lines to standard error, which never waits.
 #[derive(Drop)]
 pub struct Console<'a> {
     /// The runtime of the program.
     pub rt: &'a HostRuntime,
-    // The lines that were dropped since one was written.
+    // The number of lines dropped since the last written one.
     dropped: Cell<u64>,
-    // When the second began in which lines about connections are counted, and how many there were.
+    // The beginning of the second in which lines about connections are counted.
     second: Cell<Option<Instant>>,
     shown: Cell<u32>,
     tally: Cell<Tally>,
 }
 
 impl<'a> Console<'a> {
-    /// Standard error before the first line: no line was dropped, and no connection has ended.
+    /// A console that has written and dropped no line and counted no connection.
     pub fn new(rt: &'a HostRuntime) -> Console<'a>
         ensures { result.rt.now ≡ rt.now }
     {
@@ -141,7 +141,7 @@ impl<'a> Console<'a> {
         }
     }
 
-    // Writes bytes where that makes the program wait for nobody. Whether all were written.
+    // Writes bytes if standard error takes them without waiting. Returns true if all were written.
     fn write(&self, line: &[u8]) -> bool {
         let mut stderr = self.rt.stderr();
         for part in line.chunks(PART) {
@@ -152,7 +152,7 @@ impl<'a> Console<'a> {
         true
     }
 
-    // Writes a line. Whether it was written.
+    // Writes a line if standard error takes it without waiting. Returns true if it was written.
     fn put<T: Display>(&self, what: &T) -> bool {
         match error_line(self.rt.alloc(), "csid", what) {
             Ok(line) => self.write(line.as_bytes()),
@@ -160,7 +160,7 @@ impl<'a> Console<'a> {
         }
     }
 
-    // Writes how many lines were dropped, if any were. Whether a line may follow.
+    // Writes how many lines were dropped, if any were. Returns true if a line may follow.
     fn catch_up(&self) -> bool {
         let dropped = self.dropped.get();
         if dropped == 0 {
@@ -192,7 +192,7 @@ impl<'a> Console<'a> {
         self.say(&Named { name: path, what });
     }
 
-    // The time until the count is written; `None` if there is none, or its time has come.
+    // The time until the count is written; `None` if there is no count, or its time has come.
     fn left(&self, now: Instant) -> Option<Duration>
         ensures { IfSome result (λ left. as_nanos left ≤ 10 ^ 9) }
     {
@@ -200,7 +200,7 @@ impl<'a> Console<'a> {
         Duration::from_millis(SECOND_MILLIS).checked_sub(now.duration_since(begun))
     }
 
-    /// The time until the count of ended connections is to be written, a second at most; `None` without a
+    /// The time until the count of ended connections is to be written, at most a second; `None` without a
     /// count.
     pub fn patience(&self, now: Instant) -> Option<Duration>
         ensures { IfSome result (λ left. as_nanos left ≤ 10 ^ 9) }

@@ -4,17 +4,17 @@ use libc::net::{POLLIN, POLLOUT, poll};
 use libc::types::pollfd;
 use std::os::fd::RawFd;
 
-/// The readiness that a poll asks for: to read, or to write.
+/// The kind of readiness that a poll asks for.
 #[derive(Clone, Copy)]
 pub enum Way {
-    /// A read: bytes have come, or their end.
+    /// Ready to read: bytes have come, or the end of the stream.
     Read,
-    /// A write: bytes can be taken.
+    /// Ready to write: bytes can be taken.
     Write,
 }
 
-/// Whether a read or a write of a descriptor ends at once, also by a failure. It does not wait. Where the
-/// system does not say, the answer is `false`.
+/// Returns true if a read or a write of a descriptor would end at once, also with an error. The call itself
+/// does not wait. Returns false if the system does not say.
 pub fn is_ready(fd: RawFd, way: Way) -> bool {
     let events = match way {
         Way::Read => POLLIN,

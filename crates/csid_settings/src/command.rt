@@ -8,22 +8,22 @@ use command_line::{
 /// The filter of a listing: volumes must meet each given condition.
 #[derive(Clone, Copy)]
 pub struct Chosen<'a> {
-    /// The name of the volume.
+    /// Only the volume created under this name; `None` for any name.
     pub name: Option<&'a str>,
-    /// The name of its pool.
+    /// Only volumes in the pool with this name; `None` for any pool.
     pub pool: Option<&'a str>,
-    /// The id of a node at which it is published.
+    /// Only volumes that are published to the node with this id; `None` for any volume, published or not.
     pub node: Option<&'a str>,
 }
 
 /// The task of a command line.
 #[derive(Clone, Copy)]
 pub enum Task<'a> {
-    /// Calls on standard input, replies on standard output.
+    /// Answer calls from standard input on standard output.
     Pipe(Piped<'a>),
-    /// Connections to a socket, one by one.
+    /// Answer the calls of connections to a socket, one connection at a time.
     Serve(Serving<'a>),
-    /// A configuration is judged: its file.
+    /// Judge the configuration in the file at this path.
     CheckConfig(&'a str),
     /// Judge the tables of a file.
     CheckTables {
@@ -47,7 +47,7 @@ pub enum Task<'a> {
         tables: &'a str,
         /// The filter of the volumes.
         chosen: Chosen<'a>,
-        /// In JSON, and not in columns.
+        /// True for a list in JSON; otherwise the list is in columns.
         is_json: bool,
     },
 }
@@ -57,7 +57,7 @@ pub enum Task<'a> {
 pub struct Piped<'a> {
     /// The file of the configuration; without it the sample configuration.
     pub config: Option<&'a str>,
-    /// The tables that have the volumes; without them the volumes are in memory.
+    /// The file of the tables that have the volumes; `None` if the volumes are in memory.
     pub tables: Option<TablesFile<'a>>,
 }
 
@@ -66,13 +66,13 @@ pub struct Piped<'a> {
 pub struct TablesFile<'a> {
     /// The path of the file.
     pub path: &'a str,
-    /// Whether the file must exist and have tables. Otherwise both are made where they are missing.
+    /// True if the file must exist and have tables. Otherwise a missing file and missing tables are made.
     pub is_existing: bool,
-    /// Whether reads are answered from the file, and not from a copy in memory.
+    /// True if reads are answered from the file; otherwise from a copy in memory.
     pub is_low_memory: bool,
 }
 
-/// Where a server has its volumes.
+/// Where a server keeps its volumes.
 #[derive(Clone, Copy)]
 pub enum Volumes<'a> {
     /// The volumes are in the tables of a file.
@@ -84,15 +84,15 @@ pub enum Volumes<'a> {
 /// Options of `csid serve`.
 #[derive(Clone, Copy)]
 pub struct Serving<'a> {
-    /// Where the socket is made.
+    /// The path at which the socket is made.
     pub socket: &'a str,
-    /// Where the volumes are.
+    /// Where the volumes are kept.
     pub volumes: Volumes<'a>,
     /// The file of the configuration; without it the sample configuration.
     pub config: Option<&'a str>,
-    /// The group that may connect too; without it the owner alone.
+    /// The name or number of a group that may connect; `None` if only the owner may.
     pub group: Option<&'a str>,
-    /// The seconds for which a connection may send nothing; without it there is no end to them.
+    /// The seconds for which a connection may send nothing; `None` if there is no limit.
     pub idle: Option<u32>,
     /// The number of connections to serve before the program ends.
     pub connections: u32,
@@ -238,7 +238,7 @@ static SERVE: [CommandOption; 9] = [
 ///
 /// # Errors
 ///
-/// Where the command line does not have them, printing fails, or memory is refused.
+/// If the command line does not have them, printing fails, or memory is refused.
 pub fn read_arguments<'a>(
     rt: &HostRuntime,
     arguments: &'a [String],
@@ -267,14 +267,14 @@ pub fn read_arguments<'a>(
     command_line::matches(rt, &line, arguments)
 }
 
-/// The options that are numbers, each as it is shown.
+/// The options that take numbers: the name of each, and how a line shows it.
 const NUMBERS: [(&str, &str); 2] = [
     ("connections", "--connections <N>"),
     ("idle", "--idle <SECONDS>"),
 ];
 
-/// An option whose number is given otherwise than in decimal digits alone, as it is shown, and that number:
-/// `clap` takes a sign.
+/// The first option whose number is not decimal digits alone, since `clap` accepts a sign: the option as a
+/// line shows it, and the number.
 pub fn odd_number<'a>(matches: &ArgMatches<'a>) -> Option<(&'static str, &'a str)> {
     let (_, arguments) = matches.subcommand()?;
     for (name, shown) in NUMBERS {
@@ -287,7 +287,8 @@ pub fn odd_number<'a>(matches: &ArgMatches<'a>) -> Option<(&'static str, &'a str
     None
 }
 
-/// The fault of a command line with two tasks over tables, or with a configuration for none.
+/// The fault of a command line with two tasks over tables, or with a configuration but without a task; `None`
+/// if there is no such fault.
 pub fn odd_check<'a>(matches: &ArgMatches<'a>) -> Option<&'static str> {
     let is_check = matches.get_str("check-tables").is_some();
     let is_copy = matches.get_str("copy-tables").is_some();
@@ -317,7 +318,7 @@ pub fn odd_check<'a>(matches: &ArgMatches<'a>) -> Option<&'static str> {
     None
 }
 
-/// The fault of a server's place for its volumes: it must be exactly one of two.
+/// The fault if a server has no place for its volumes or two places; `None` if it has exactly one.
 pub fn odd_store<'a>(matches: &ArgMatches<'a>) -> Option<&'static str> {
     let Some(("serve", arguments)) = matches.subcommand() else {
         return None;
@@ -330,7 +331,7 @@ pub fn odd_store<'a>(matches: &ArgMatches<'a>) -> Option<&'static str> {
     }
 }
 
-// The tables at a path, and how the arguments of a subcommand say that they are opened.
+// The file of tables at a path, with the options of a subcommand.
 fn tables_file<'a>(arguments: &ArgMatches<'a>, path: &'a str) -> TablesFile<'a> {
     TablesFile {
         path,
@@ -339,7 +340,7 @@ fn tables_file<'a>(arguments: &ArgMatches<'a>, path: &'a str) -> TablesFile<'a> 
     }
 }
 
-// Where a server has its volumes: `odd_store` refuses arguments that name none or two places.
+// Where a server keeps its volumes. [`odd_store`] refuses arguments without a place or with two.
 fn place_of_volumes<'a>(arguments: &ArgMatches<'a>) -> Volumes<'a> {
     match arguments.get_str("log") {
         Some(socket) => Volumes::ChangeStore(socket),
@@ -347,7 +348,7 @@ fn place_of_volumes<'a>(arguments: &ArgMatches<'a>) -> Volumes<'a> {
     }
 }
 
-// The options after `serve`.
+// The task of `csid serve`.
 fn serve_task<'a>(arguments: &ArgMatches<'a>) -> Serving<'a> {
     Serving {
         socket: arguments.get_str("socket").unwrap_or(""),
@@ -399,7 +400,7 @@ fn plain_task<'a>(arguments: &ArgMatches<'a>) -> Task<'a> {
     }
 }
 
-// The options after `pipe`.
+// The task of `csid pipe`.
 fn pipe_task<'a>(arguments: &ArgMatches<'a>) -> Piped<'a> {
     let tables = match arguments.get_str("tables") {
         Some(path) => Some(tables_file(arguments, path)),

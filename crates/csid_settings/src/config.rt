@@ -22,7 +22,7 @@ fn read_file(rt: &HostRuntime, path: &str) -> Result<Vec<u8>, Failure>
     }
 }
 
-// The configuration that the bytes of a file give.
+// The configuration in the bytes of a file.
 fn config_of(alloc: Global, path: &str, bytes: &[u8]) -> Result<Config, Failure>
     ensures { IfErr result (λ failure. IsOrNoMemory 3 failure) }
 {
@@ -33,7 +33,7 @@ fn config_of(alloc: Global, path: &str, bytes: &[u8]) -> Result<Config, Failure>
     }
 }
 
-// Says each key of a configuration that is not known, a line each: it may be a slip of the pen.
+// Reports each unknown key of a configuration, a line each: it may be misspelt.
 fn report_unknown(console: &Console<'_>, path: &str, bytes: &[u8]) {
     match unknown_keys(console.rt.alloc(), bytes) {
         Ok(keys) => {
@@ -45,8 +45,8 @@ fn report_unknown(console: &Console<'_>, path: &str, bytes: &[u8]) {
     }
 }
 
-// Says the keys that are not known of a configuration that is refused, and then all of its faults but the
-// last one, which is given.
+// Reports the unknown keys of a refused configuration, and all of its faults except the last. Returns the
+// last fault.
 fn report_faults(console: &Console<'_>, path: &str, bytes: &[u8], refused: Failure) -> Failure
     requires { IsOrNoMemory 3 refused }
     ensures { IsOrNoMemory 3 result }
@@ -65,11 +65,12 @@ fn report_faults(console: &Console<'_>, path: &str, bytes: &[u8], refused: Failu
     Failure::configuration(alloc, path, last)
 }
 
-/// The configuration of a file. Its keys that are not known are said, and where it has faults, all of these.
+/// The configuration in a file. Its unknown keys are reported, and all of its faults except the last, which
+/// is the error.
 ///
 /// # Errors
 ///
-/// The last fault of the file, or why it cannot be read.
+/// If the file cannot be read; if it has faults, the last of them.
 pub fn checked_configuration(console: &Console<'_>, path: &str) -> Result<Config, Failure>
     ensures { IfErr result (λ failure. IsOrNoMemory 3 failure) }
 {
@@ -84,12 +85,12 @@ pub fn checked_configuration(console: &Console<'_>, path: &str) -> Result<Config
     }
 }
 
-/// The configuration of a file, or the sample. Keys that are not known are ignored, and said only if that is
-/// asked for.
+/// The configuration in a file; without a file the sample configuration. Unknown keys are ignored, and
+/// reported if `names_unknown` is true.
 ///
 /// # Errors
 ///
-/// Where the file cannot be read or holds no configuration, or memory is refused.
+/// If the file cannot be read or is not a configuration, or memory is refused.
 pub fn configuration(
     console: &Console<'_>,
     path: Option<&str>,

@@ -11,19 +11,19 @@ use std::alloc::{AllocError, Global};
 use std::fmt::Display;
 use thiserror::Error;
 
-/// A resource that may be unavailable, by the name in its line.
+/// A resource that may be unavailable. A line names it by its path or its group.
 #[derive(Clone, Copy, Debug)]
 pub enum Resource {
-    /// The configuration, by its file.
+    /// The configuration, named by its file.
     Configuration,
-    /// The tables, by their file.
+    /// The tables, named by their file.
     Tables,
-    /// The socket, by its path or by its group: it cannot be made, or gives no connection.
+    /// The socket, named by its path or by its group: it cannot be made, or accepts no connection.
     Socket,
 }
 
 impl Resource {
-    // The exit status without it.
+    // The exit status if the resource is unavailable.
     fn status(self) -> u8
         ensures { result ≡ resource_status self }
     {
@@ -35,39 +35,40 @@ impl Resource {
     }
 }
 
-/// Why the program ends with a status other than 0. Its `Display` is the line that is said.
+/// Why the program ends with a status other than 0. Its `Display` is the line on standard error.
 #[derive(Debug, Error)]
 pub enum Failure {
     /// A frame is malformed.
     #[error("{0}")]
     Malformed(FrameFault),
-    /// The arguments do not say what to do.
+    /// The arguments are refused.
     #[error("{0}")]
     Arguments(#[from] ArgumentsFault),
-    /// This cannot be had: its name, and why.
+    /// A resource is unavailable: its name, and why.
     #[error("{1}")]
     Unusable(Resource, Cause),
-    /// The tables have no path.
+    /// The path of the tables is empty.
     #[error("the path of the tables is empty")]
     NoTablesPath,
-    /// This cannot be read.
+    /// The input with this name cannot be read.
     #[error("a read of {0} failed")]
     ReadFailed(&'static str),
-    /// This cannot be written.
+    /// The output with this name cannot be written.
     #[error("a write to {0} failed")]
     WriteFailed(&'static str),
-    /// A run made as many reads as it may.
+    /// A run over calls ended because it made the greatest number of reads.
     #[error("the reads of one run are spent")]
     TurnsSpent,
-    /// There is no memory.
+    /// Memory was refused.
     #[error("out of memory")]
     NoMemory,
-    /// The socket has no path.
+    /// The path of the socket is empty.
     #[error("the socket's path is empty")]
     NoSocketPath,
 }
 
-// Written out, so that what drops one has one call for it, and its proof no branch for each of its parts.
+// Written out, so that a function that drops a failure has one call for it, and its proof no branch for each
+// variant.
 impl Drop for Failure {
     fn drop(self) {
         match self {
@@ -96,7 +97,8 @@ impl From<AllocError> for Failure {
 }
 
 impl Failure {
-    // The failure for an unavailable thing and its cause; want of memory if the cause has no text.
+    // The failure for an unavailable resource and its cause; [`Failure::NoMemory`] if memory for the cause
+    // was refused.
     fn of(thing: Resource, cause: Result<Cause, AllocError>) -> Failure
         ensures unusable { IfOk cause (λ why. result ≡ Unusable thing why) }
         ensures memory { IfErr cause (λ _. result ≡ NoMemory) }
@@ -108,24 +110,24 @@ impl Failure {
         }
     }
 
-    /// The configuration in the file at `path` cannot be had, and why. Without memory for the line it is
-    /// [`Failure::NoMemory`].
+    /// The failure that the configuration in the file at `path` cannot be used, and why;
+    /// [`Failure::NoMemory`] if memory for the line is refused.
     pub fn configuration<T: Display>(alloc: Global, path: &str, why: &T) -> Failure
         ensures { IsOrNoMemory 3 result }
     {
         Failure::of(Resource::Configuration, cause(alloc, path, why))
     }
 
-    /// The tables in the file at `path` cannot be had, and why. Without memory for the line it is
-    /// [`Failure::NoMemory`].
+    /// The failure that the tables in the file at `path` cannot be used, and why; [`Failure::NoMemory`] if
+    /// memory for the line is refused.
     pub fn of_tables<T: Display>(alloc: Global, path: &str, why: &T) -> Failure
         ensures { IsOrNoMemory 4 result }
     {
         Failure::of(Resource::Tables, cause(alloc, path, why))
     }
 
-    /// The socket at a path cannot be made for a group, or fails, and why: `name` is the path or the group.
-    /// Without memory for the line it is [`Failure::NoMemory`].
+    /// The failure that a socket fails or cannot be made for a group, and why: `name` is the path or the
+    /// group. [`Failure::NoMemory`] if memory for the line is refused.
     pub fn of_socket<T: Display>(alloc: Global, name: &str, why: &T) -> Failure
         ensures { IsOrNoMemory 7 result }
     {
@@ -175,12 +177,12 @@ impl Endpoint {
     }
 }
 
-/// The outcome of a run of calls with this end.
+/// The outcome of the program after a run of calls that ended so.
 ///
 /// # Errors
 ///
-/// Where the end was other than [`RunEnd::Done`]: the failure has the status of that end, and its line names
-/// what was read or written.
+/// If the end is not [`RunEnd::Done`]: the failure has the status for that end, and its line names the input
+/// or the output.
 pub fn outcome(peer: Endpoint, end: RunEnd) -> Result<(), Failure>
     ensures done { IfOk result (λ _. status_of end ≡ 0) }
     ensures failed { IfErr result (λ failure. failure_status failure ≡ status_of end) }

@@ -8,15 +8,15 @@ use command_line::is_decimal;
 use std::fs;
 use std::io::ErrorKind;
 
-// The file that has their names.
+// The file with the names and numbers of groups.
 const GROUPS: &str = "/etc/group";
 
 const NO_SUCH: &str = "there is no such group in /etc/group";
 
-// The number that means none.
+// The number that is not a group (chown(2)).
 const NO_GROUP: u32 = u32::MAX;
 
-// The number in a line `NAME:PASSWORD:NUMBER:MEMBERS`, if it is the line of this name.
+// The number in a line `NAME:PASSWORD:NUMBER:MEMBERS`; `None` if the line has another name.
 fn number_in(line: &str, name: &str) -> Option<u32> {
     let mut parts = line.split(':');
     if parts.next()? != name {
@@ -26,7 +26,7 @@ fn number_in(line: &str, name: &str) -> Option<u32> {
     parts.next()?.parse().ok()
 }
 
-// The number of a group by the lines of all.
+// The number of the group with this name in the lines of the file.
 fn number_among(lines: &str, name: &str) -> Option<u32> {
     for line in lines.lines() {
         if let Some(number) = number_in(line, name) {
@@ -36,7 +36,7 @@ fn number_among(lines: &str, name: &str) -> Option<u32> {
     None
 }
 
-// The number that a text is.
+// The number of a group that is given as a decimal number.
 fn number_of(text: &str) -> Option<u32> {
     if is_decimal(text) {
         text.parse().ok()
@@ -45,11 +45,11 @@ fn number_of(text: &str) -> Option<u32> {
     }
 }
 
-/// The number of a group by its name, or otherwise by its number.
+/// The number of the group with this name; if there is none, the number that the text itself is.
 ///
 /// # Errors
 ///
-/// Where there is no such group, or memory is refused.
+/// If no group has the name and the text is not a number, or memory is refused.
 pub fn group_number(rt: &HostRuntime, name: &str) -> Result<u32, Failure>
     ensures { IfErr result (λ failure. IsOrNoMemory 7 failure) }
 {
