@@ -44,12 +44,12 @@ use sqlite::{Alter, Connection, Error};
 use sqlite_schema::schema::Schema;
 use std::alloc::Global;
 
-/// Why tables were not adopted, and the connection that they are on.
+/// Why tables were not adopted, with the connection to their database.
 #[derive(Drop)]
 pub struct AdoptError<S: Alter> {
     /// The first rule that the database breaks, or the failed read.
     pub fault: AdoptFault,
-    /// The connection. No transaction is open on it.
+    /// The connection to the database. No transaction is open on it.
     pub conn: Connection<S>,
 }
 
@@ -87,8 +87,9 @@ fn see_tables<S: Alter>(
     })
 }
 
-// Judges attachments with their volumes and with one another. Each table was judged alone before, so each
-// attachment is at a node of the configuration, and a volume has few attachments.
+// Judges the attachments together with their volumes and with one another. Each table was judged alone
+// before, so each attachment is at a node of the configuration, and a volume has at most one attachment for
+// each node.
 fn judge_joined<S: Alter>(
     alloc: Global,
     conn: &mut IdleConnection<S>,
@@ -117,7 +118,7 @@ fn judge_joined<S: Alter>(
     Ok(())
 }
 
-// Judges the results of the scans, and the joins of the two tables.
+// Judges the results of the scans, and then the joins of the two tables.
 fn judge_seen<S: Alter>(
     alloc: Global,
     conn: &mut IdleConnection<S>,
@@ -195,8 +196,8 @@ fn judge_rows<S: Alter>(
     judge_after(alloc, conn, config, meta, content)
 }
 
-// The laws of the rows in one call: rows that break no constraint are the rows of a State that meets every
-// constraint, and the rows of such a State break none.
+// States the laws of the rows in one call: rows that break no constraint are the rows of a State that meets
+// every constraint, and the rows of such a State break no constraint.
 #[inline(always)]
 fn rows_report(config: &Config)
     ensures found { (db : Trees) (seen : VolumesSeen) → IsSound our_schema db → ArePassed config.now db seen
@@ -221,14 +222,14 @@ fn rows_report(config: &Config)
     first(config);
 }
 
-/// Tables that break no constraint: their format, and the totals of the pools.
+/// The format of tables that break no constraint, and the totals of their pools.
 #[derive(Drop)]
 struct Judged {
     format: u32,
     totals: Totals,
 }
 
-// The format and the totals, where the tables have our schema and their rows break no constraint.
+// Judges the schema and the rows, and returns the format of the tables and the totals of the pools.
 fn judge<S: Alter>(
     alloc: Global,
     conn: &mut IdleConnection<S>,
@@ -265,7 +266,7 @@ fn judge<S: Alter>(
     })
 }
 
-// Makes tables of the first format ones of the latest, by one statement.
+// Upgrades tables of the first format to the latest format, by one statement.
 fn upgrade<S: Alter>(conn: &mut IdleConnection<S>, format: u32) -> Result<(), Error>
     ensures stays { format ≢ FIRST_FORMAT → conn.new ≡ conn.old }
     ensures error_only_if { format ≢ FIRST_FORMAT → OnErr result ⊥ }
@@ -285,8 +286,7 @@ fn upgrade<S: Alter>(conn: &mut IdleConnection<S>, format: u32) -> Result<(), Er
     set_format(conn)
 }
 
-// Takes tables that break no constraint. That they are made ones of the latest format is the last step that
-// can fail.
+// Judges tables and upgrades them to the latest format. The upgrade is the last step that can fail.
 fn judge_and_upgrade<S: Alter>(
     alloc: Global,
     conn: &mut IdleConnection<S>,
@@ -316,7 +316,7 @@ fn judge_and_upgrade<S: Alter>(
     Ok(judged.totals)
 }
 
-// Rolls back, so that reads see the last commit. No transaction is open, so nothing is undone.
+// Rolls back, so that reads see the last commit. No transaction is open, so no change is undone.
 fn roll_back<S: Alter>(conn: &mut Connection<S>)
     requires { conn.old.in_transaction ≡ false }
     ensures idle { conn.new.in_transaction ≡ false }
@@ -327,7 +327,7 @@ fn roll_back<S: Alter>(conn: &mut Connection<S>)
     conn.transaction().rollback();
 }
 
-// As [`adopt`], and counts the rows of tables that the database has.
+// Adopts the tables of a database as [`adopt`] does, and counts their rows.
 fn adopt_into<S: Alter>(
     alloc: Global,
     mut conn: Connection<S>,
@@ -395,15 +395,16 @@ pub fn adopt<S: Alter>(
     adopt_into(alloc, conn, config, &mut content)
 }
 
-/// As [`adopt`], and also returns how many volumes and attachments the tables have. It costs no further read.
+/// Adopts tables as [`adopt`] does, and also returns how many volumes and attachments they have. The counts
+/// cost no further read.
 ///
 /// # Errors
 ///
-/// As of [`adopt`].
+/// As for [`adopt`].
 ///
 /// # Not promised
 ///
-/// The counts. Tests of the line that `csid` prints at its start show them.
+/// That the counts are right, which tests of the line that `csid` prints at its start show.
 pub fn adopt_and_count<S: Alter>(
     alloc: Global,
     conn: Connection<S>,

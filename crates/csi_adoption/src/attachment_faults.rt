@@ -10,7 +10,7 @@ use csi_constraints::{AttachmentConstraint, BrokenConstraint, RowName, TextSum};
 use csi_types::{Text, copy_text};
 use std::alloc::{AllocError, Global};
 
-// The text that a row is named by, and none where it has no text.
+// A copy of the text that names a row; empty if the row has no text.
 fn text_of(alloc: Global, text: &Option<Text>) -> Result<Text, AllocError>
     ensures { IfOk result (λ copy. copy ≡ unwrap_or text.now []) }
 {
@@ -20,11 +20,11 @@ fn text_of(alloc: Global, text: &Option<Text>) -> Result<Text, AllocError>
     }
 }
 
-/// The fault of an attachment that breaks a constraint, where one was found.
+/// Checks that no attachment broke a constraint.
 ///
 /// # Errors
 ///
-/// That fault, which names the attachment, or [`AdoptFault::NoMemory`].
+/// The fault, which names the first such attachment, or [`AdoptFault::NoMemory`].
 pub(crate) fn check_attachment(
     alloc: Global,
     found: &Option<RowName>,
@@ -42,7 +42,7 @@ pub(crate) fn check_attachment(
     }))
 }
 
-// The first node that has more attachments than it can.
+// The first node that has more attachments than its greatest number of volumes.
 fn full_node<'a>(nodes: &'a [Node], volumes: &[TextSum]) -> Option<&'a Node>
     ensures { option_copied result ≡ full_node nodes.now (sums_of volumes.now) }
 {
@@ -54,7 +54,7 @@ fn full_node<'a>(nodes: &'a [Node], volumes: &[TextSum]) -> Option<&'a Node>
     None
 }
 
-/// The fault of a node that has more attachments than it can.
+/// Checks that no node has more attachments than its greatest number of volumes.
 pub(crate) fn check_nodes(
     alloc: Global,
     nodes: &[Node],

@@ -20,14 +20,14 @@ pub fn attachments_pass()
     attachments();
 }
 
-/// A State's attachments with their volumes pass.
+/// The attachments of a State pass the constraints on an attachment and its volume.
 pub fn owners_pass()
     ensures { OwnersDoPass }
 {
     owners();
 }
 
-/// No two of a State's attachments of one volume are apart.
+/// Any two attachments of one volume in a State can coexist.
 pub fn places_pass()
     ensures { PlacesDoPass }
 {

@@ -59,7 +59,7 @@ impl Fold for AttachmentsFold<'_> {
 impl<'a> AttachmentsFold<'a> {
     ghost use Rattle.csi_adoption.specs.Folding.{BeginsAttachments, attachments_seen};
 
-    // Before the first row.
+    // The folds before the first row.
     fn new(alloc: Global, config: &'a Config) -> Result<AttachmentsFold<'a>, AllocError>
         ensures { IfOk result (BeginsAttachments config.now) }
     {
@@ -74,7 +74,7 @@ impl<'a> AttachmentsFold<'a> {
         })
     }
 
-    // The result. It is moved out here, where no call can fail.
+    // The result of the scan. It is moved out in a function of its own, in which no call can fail.
     fn into_seen(self) -> AttachmentsSeen
         ensures { result ≡ attachments_seen self.entry }
     {

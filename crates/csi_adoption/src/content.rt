@@ -6,12 +6,12 @@ use crate::adopting::TablesSeen;
 use crate::meta::Meta;
 use csi_constraints::TextSum;
 
-/// The counts of adopted tables, from the scans that judged their rows.
+/// The counts of adopted tables, which the scans that judged the rows took.
 #[derive(Clone, Copy, Debug)]
 pub struct Content {
     /// The number of volumes.
     pub volumes: u64,
-    /// The number of attachments, up to the greatest `u64`.
+    /// The number of attachments; the greatest `u64` if there are more.
     pub attachments: u64,
     /// The number that the next volume gets.
     pub next_number: u64,
@@ -26,7 +26,7 @@ impl Content {
     };
 }
 
-// The sum over all nodes, up to the greatest `u64`.
+// The sum over all nodes; the greatest `u64` if the sum is greater.
 fn total(sums: &[TextSum]) -> u64 {
     let mut total = 0u64;
     for part in sums {

@@ -9,19 +9,19 @@ use sqlite::{Error as SqlError, ErrorCode};
 use std::alloc::{AllocError, AllocFailed};
 use thiserror::Error;
 
-/// The part of a database that this program did not make.
+/// The part of a database that shows that this program did not make its tables.
 #[derive(Clone, Copy, Debug, Error)]
 pub enum Foreign {
-    /// There are other tables, indexes or views, or other columns.
+    /// The database has other tables, indexes, views or columns.
     #[error("the tables are not those of csid")]
     Schema,
-    /// The one row of meta is not there, or has no number of a format.
+    /// The table meta does not have exactly one row, or the row has no format number.
     #[error("meta has no row with the number of a format")]
     Meta,
     /// A value in a row of volumes is not of its column's kind.
     #[error("volume {number}: a value is not of the kind of its column")]
     Volume {
-        /// The volume's number, as it is in the row.
+        /// The number of the volume in the row.
         number: i64,
     },
     /// A value in a row of attachments is not of its column's kind.
@@ -32,16 +32,16 @@ pub enum Foreign {
     },
 }
 
-/// Why tables are not adopted. Its `Display` names the row where one is to blame.
+/// Why tables are not adopted. Its `Display` names the row, if the fault is in one row.
 #[derive(Debug, Error)]
 pub enum AdoptFault {
     /// The tables are not those that this program makes.
     #[error("{0}")]
     Foreign(Foreign),
-    /// A later program made the tables.
+    /// The tables have a later format than this program knows.
     #[error("the tables have format {format}, and the latest known is 2")]
     Newer {
-        /// The number of their format.
+        /// The number of the format in meta.
         format: i64,
     },
     /// The rows break a constraint.

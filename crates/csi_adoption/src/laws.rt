@@ -6,27 +6,27 @@ ghost use Rattle.csi_adoption.specs.Laws.{FindsTotals, FindsVolumes, HasNoOtherP
 use csi_tables::laws::one_state;
 use sqlite::Alter;
 
-/// Rows of volumes that pass are the rows of a State's volumes.
+/// Rows of volumes that pass every constraint are the rows of the volumes of a State.
 pub fn volumes_found()
     ensures { FindsVolumes }
 {
     csi_constraints::laws::volumes();
 }
 
-/// The rows of a State's volumes pass.
+/// The rows of the volumes of a State pass every constraint of one row.
 pub fn volumes_pass()
     ensures { PassesVolumes }
 {
     csi_constraints::laws::volumes();
 }
 
-/// The row of meta of a State is the one with the format of the tables and its next number.
+/// The row of meta for a State has the format of the tables and the State's next number.
 pub fn meta_pass()
     ensures { PassesMeta }
 {}
 
-/// A count that is reported up to 2^64 - 1 is the count, and a bound below that number holds of a sum
-/// that is reported so exactly where it holds of the sum.
+/// A count below 2^64 is reported exactly. A sum is reported up to 2^64 - 1, and a bound below that holds for
+/// the reported sum exactly if it holds for the sum.
 pub fn sums_reported()
     ensures counts { ReportsCounts }
     ensures rooms { ReportsRooms }
@@ -37,13 +37,12 @@ pub fn pools_reported()
     ensures { ReportsPools }
 {}
 
-/// No volume of the found ones has a pool that the configuration has not.
+/// Each volume found is in a pool of the configuration.
 pub fn pools_elsewhere()
     ensures { HasNoOtherPool }
 {}
 
-/// The totals reported of the pools, by their names, are the counts and the bytes of the volumes found in
-/// each.
+/// The totals reported for the pools are the counts and the bytes of the volumes found in each pool.
 pub fn totals_found()
     ensures { FindsTotals }
 {}

@@ -21,11 +21,11 @@ use sqlite::{Alter, Error, Row};
 pub(crate) struct Meta {
     /// The format of the tables, the first or the latest.
     pub(crate) format: u32,
-    /// The next number, and 0 where it is not 1 to 2^62.
+    /// The next number; 0 if the number in the row is not between 1 and 2^62.
     pub(crate) next: u64,
 }
 
-/// The integers in a row of meta; `None` for a value that is no integer.
+/// The integers in a row of meta; `None` for a value that is not an integer.
 #[derive(Clone, Copy)]
 pub(crate) struct MetaRow {
     pub(crate) key: Option<i64>,
@@ -33,7 +33,7 @@ pub(crate) struct MetaRow {
     pub(crate) next: Option<i64>,
 }
 
-/// The rows of meta.
+/// The result of a scan over meta, which should have one row.
 #[derive(Clone, Copy)]
 pub(crate) enum MetaRows {
     None,
@@ -71,7 +71,7 @@ impl Fold for MetaFold {
     }
 }
 
-// The next number, if it is 1 to 2^62; otherwise 0, below which no number is.
+// The next number if it is between 1 and 2^62; otherwise 0, so that no volume's number is below it.
 fn valid_next(next: i64) -> u64
     ensures { result ≡ valid_next next }
 {
@@ -81,7 +81,7 @@ fn valid_next(next: i64) -> u64
     }
 }
 
-// The format, of the two.
+// The format with this number, of the two formats.
 fn valid_format(format: i64) -> u32
     ensures { result ≡ valid_format format }
 {
@@ -123,7 +123,7 @@ pub(crate) fn judge_meta(rows: MetaRows) -> Result<Meta, AdoptFault>
     }
 }
 
-/// Scans meta, which must have one row with a known format.
+/// Scans the table meta.
 pub(crate) fn see_meta<S: Alter>(conn: &mut IdleConnection<S>) -> Result<MetaRows, Error>
     requires has_schema { HasCleanDisk (state S.Store conn.old) → conn.old.schema ≡ our_schema }
     ensures scans { Scans S.Store conn.old conn.new result }

@@ -2,12 +2,12 @@
 
 use csi_constraints::{RowName, TextSum};
 
-/// The result of a scan over volumes, whose numbers rise. Each name is the name in the first row that breaks
-/// a constraint.
+/// The result of a scan over the rows of volumes in rising order of their numbers. For each constraint it
+/// names the first row that breaks the constraint.
 pub(crate) struct VolumesSeen {
-    /// The format of the tables. The rows were judged by it.
+    /// The format of the tables, by which the rows were judged.
     pub format: u32,
-    /// A value is not of the kind of its column.
+    /// The first row with a value that is not of its column's kind.
     pub kinds: Option<RowName>,
     /// The first row whose number breaks `VolumeConstraint::Number`.
     pub number: Option<RowName>,
@@ -21,15 +21,15 @@ pub(crate) struct VolumesSeen {
     pub caps: Option<RowName>,
     /// The first row whose parameters break `VolumeConstraint::Params`.
     pub params: Option<RowName>,
-    /// The bytes of each pool's volumes, by the pools of the configuration.
+    /// The sum of the sizes of each pool's volumes in bytes, in the order of the configuration.
     pub pool_bytes: Vec<TextSum>,
-    /// The number of each pool's volumes, by the pools of the configuration.
+    /// The number of each pool's volumes, in the order of the configuration.
     pub pool_volumes: Vec<TextSum>,
     /// The number of all volumes.
     pub rows: u64,
 }
 
-// Written out, so that what drops one has one call for it, and its proof no branch for each of its parts.
+// Written out, so that code that drops the value has one call for it, and its proof no branch for each part.
 impl Drop for VolumesSeen {
     fn drop(self) {
         let VolumesSeen {
@@ -48,10 +48,10 @@ impl Drop for VolumesSeen {
     }
 }
 
-/// The result of a scan over attachments, whose rowids rise. Each name is the name in the first row that
-/// breaks a constraint.
+/// The result of a scan over the rows of attachments in rising order of their rowids. For each constraint it
+/// names the first row that breaks the constraint.
 pub(crate) struct AttachmentsSeen {
-    /// A value is not of the kind of its column; the row is named by its rowid.
+    /// The first row with a value that is not of its column's kind, named by its rowid.
     pub kinds: Option<RowName>,
     /// The first row whose capability breaks `AttachmentConstraint::Cap`.
     pub cap: Option<RowName>,
@@ -59,7 +59,7 @@ pub(crate) struct AttachmentsSeen {
     pub readonly: Option<RowName>,
     /// The first row whose node breaks `AttachmentConstraint::Node`.
     pub node: Option<RowName>,
-    /// The number of each node's attachments, by the nodes of the configuration.
+    /// The number of attachments of each node, in the order of the configuration.
     pub node_volumes: Vec<TextSum>,
 }
 

@@ -6,8 +6,8 @@ ghost use Rattle.csi_adoption.specs.Starting.{IsRisingStart, IsUnbroken};
 use csi_constraints::{FirstBroken, InfallibleTest, Rising};
 use std::alloc::Global;
 
-/// A constraint that no row has broken yet. A row that breaks it is named by the integer and the text in
-/// these columns.
+/// A fold that looks for the first row that breaks a constraint, before the first row. It names the row by
+/// the integer in column `number` and the text in column `text`.
 pub(crate) fn unbroken<T>(alloc: Global, test: T, number: usize, text: usize) -> FirstBroken<T>
     ensures test { result.test ≡ test }
     ensures unbroken { IsUnbroken number text result }
@@ -21,7 +21,7 @@ pub(crate) fn unbroken<T>(alloc: Global, test: T, number: usize, text: usize) ->
     }
 }
 
-/// As `text_test`, but for a test that takes no memory.
+/// A fold like [`unbroken`] for a test that takes no memory.
 pub(crate) fn unbroken_test<T>(
     alloc: Global,
     test: T,

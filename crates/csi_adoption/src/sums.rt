@@ -9,7 +9,7 @@ use csi_config::{Node, Pool};
 use csi_constraints::{FoldEach, TextSum, Weight};
 use std::alloc::{AllocError, Global};
 
-// A sum over no row yet.
+// The sum of a weight over the rows with this text in a column, before the first row.
 fn sum_of(alloc: Global, column: usize, text: &[u8], weight: Weight) -> Result<TextSum, AllocError>
     ensures { IfOk result (λ sum. IsBegun column text.now weight sum) }
 {
@@ -23,7 +23,7 @@ fn sum_of(alloc: Global, column: usize, text: &[u8], weight: Weight) -> Result<T
     })
 }
 
-/// A sum for each pool, over rows that have its name in the fourth column.
+/// A sum for each pool over the rows that have the pool's name in the fourth column, before the first row.
 pub(crate) fn pool_sums(
     alloc: Global,
     pools: &[Pool],
@@ -38,7 +38,7 @@ pub(crate) fn pool_sums(
     Ok(FoldEach { parts })
 }
 
-/// The number of rows for each node, of those that have its id in the third column.
+/// A count for each node of the rows that have the node's id in the third column, before the first row.
 pub(crate) fn node_sums(alloc: Global, nodes: &[Node]) -> Result<FoldEach<TextSum>, AllocError>
     ensures { IfOk result (λ each. AllZip (λ m sum. IsBegun 2 m.id Ones sum) nodes.now each.parts.items) }
 {

@@ -42,12 +42,12 @@ fn check_codes(
     check_attachment(alloc, &attachments.node, AttachmentConstraint::Node)
 }
 
-/// The first fault in the results of the scans over each table alone. `next` is the next number in meta, or 0
-/// if it is out of range.
+/// Checks the results of the scans over each table alone. `next` is the next number in meta, or 0 if it is
+/// out of range.
 ///
 /// # Errors
 ///
-/// That fault, or [`AdoptFault::NoMemory`].
+/// The first fault, or [`AdoptFault::NoMemory`].
 pub(crate) fn check_tables(
     alloc: Global,
     config: &Config,
@@ -73,12 +73,12 @@ fn check_count(rows: u64) -> Result<(), AdoptFault>
     Ok(())
 }
 
-/// The first fault of the attachments of a volume and of a node, and of all volumes, where this attachment
-/// was found first that cannot coexist with another.
+/// Checks that no two attachments of a volume exclude each other, and the counts of each node's attachments
+/// and of all volumes. `apart` names the first attachment that cannot coexist with another one.
 ///
 /// # Errors
 ///
-/// That fault, or [`AdoptFault::NoMemory`].
+/// The first fault, or [`AdoptFault::NoMemory`].
 pub(crate) fn check_counts(
     alloc: Global,
     config: &Config,

@@ -12,7 +12,7 @@ use csi_rules::is_overcommitted;
 use csi_types::copy_text;
 use std::alloc::Global;
 
-/// The fault of a volume that breaks a constraint.
+/// Checks that no volume broke a constraint of one row.
 pub(crate) fn check_volume(
     found: &Option<RowName>,
     constraint: VolumeConstraint,
@@ -28,7 +28,7 @@ pub(crate) fn check_volume(
     }
 }
 
-// The first pool that has fewer bytes than its volumes.
+// The first pool whose size is below the sum of the sizes of its volumes.
 fn full_pool<'a>(pools: &'a [Pool], bytes: &[TextSum]) -> Option<&'a Pool>
     ensures { option_copied result ≡ full_pool pools.now (sums_of bytes.now) }
 {
@@ -40,7 +40,7 @@ fn full_pool<'a>(pools: &'a [Pool], bytes: &[TextSum]) -> Option<&'a Pool>
     None
 }
 
-// The fault of a pool that has fewer bytes than its volumes.
+// Checks that the size of each pool is at least the sum of the sizes of its volumes.
 fn check_pools(alloc: Global, pools: &[Pool], bytes: &[TextSum]) -> Result<(), AdoptFault>
     ensures { Says (pool_fault pools.now (sums_of bytes.now)) result }
 {
@@ -52,7 +52,7 @@ fn check_pools(alloc: Global, pools: &[Pool], bytes: &[TextSum]) -> Result<(), A
     }
 }
 
-// The fault of a next number that is 0. A number that is not 1 to 2^62 is read as 0.
+// Checks the next number, which is 0 if the row of meta has a number that is not between 1 and 2^62.
 fn check_next(next: u64) -> Result<(), AdoptFault>
     ensures { Reports (next_fault next) result }
 {
@@ -62,7 +62,7 @@ fn check_next(next: u64) -> Result<(), AdoptFault>
     Ok(())
 }
 
-/// The fault of the next number, or of a volume's number or name.
+/// Checks the next number, and that no volume's number or name broke a constraint.
 pub(crate) fn check_numbers(next: u64, seen: &VolumesSeen) -> Result<(), AdoptFault>
     ensures { Reports (number_faults next (reported_volumes seen.now)) result }
 {
@@ -71,7 +71,7 @@ pub(crate) fn check_numbers(next: u64, seen: &VolumesSeen) -> Result<(), AdoptFa
     check_volume(&seen.name, VolumeConstraint::Name)
 }
 
-/// The fault of a volume's pool or size, or of a pool.
+/// Checks that no volume's pool or size broke a constraint, and that no pool is overcommitted.
 pub(crate) fn check_sizes(
     alloc: Global,
     config: &Config,

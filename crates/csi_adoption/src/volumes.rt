@@ -72,7 +72,7 @@ impl Fold for VolumesFold<'_> {
 impl<'a> VolumesFold<'a> {
     ghost use Rattle.csi_adoption.specs.Folding.{BeginsVolumes, volumes_seen};
 
-    // Before the first row.
+    // The folds before the first row.
     fn new(alloc: Global, config: &'a Config, meta: Meta) -> Result<VolumesFold<'a>, AllocError>
         ensures { IfOk result (BeginsVolumes config.now meta) }
     {
@@ -94,7 +94,7 @@ impl<'a> VolumesFold<'a> {
         })
     }
 
-    // The result. It is moved out here, where no call can fail.
+    // The result of the scan. It is moved out in a function of its own, in which no call can fail.
     fn into_seen(self, format: u32) -> VolumesSeen
         ensures { result ≡ volumes_seen format self.entry }
     {
@@ -114,7 +114,7 @@ impl<'a> VolumesFold<'a> {
     }
 }
 
-/// Scans volumes for broken constraints, and sums the bytes of each pool.
+/// Scans the rows of volumes for broken constraints, and sums the sizes of the volumes of each pool.
 pub(crate) fn see_volumes<S: Alter>(
     alloc: Global,
     conn: &mut IdleConnection<S>,
@@ -139,7 +139,7 @@ pub(crate) fn see_volumes<S: Alter>(
     Ok(seen)
 }
 
-/// The total of each pool. Of pools of one name the first counts, so it is set last.
+/// The total of each pool. If two pools have the same name, the total of the first one counts.
 pub(crate) fn totals_of(
     alloc: Global,
     pools: &[Pool],

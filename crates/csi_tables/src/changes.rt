@@ -31,10 +31,10 @@ use sqlite::Alter;
 use std::alloc::{AllocError, Global};
 use std::slice::from_ref;
 
-/// SQL integers end before it, so no row has such a number.
+/// The first number that no row has: integers of SQLite are below 2^63.
 pub(crate) const NUMBERS: u64 = 1 << 63;
 
-// Makes sure that one volume more can be counted in a pool without memory.
+// Reserves the memory to count one more volume in a pool.
 fn reserve(alloc: Global, totals: &mut Totals, pool: &Text, bytes: u64) -> Result<(), TablesError>
     ensures room { OnOk result (HasRoom (total_of totals.old pool.now) bytes) }
     ensures reserved { OnOk result (IsReserved totals.new pool.now) }
@@ -76,8 +76,8 @@ pub(crate) fn make_volume<S: Alter>(
     Ok(())
 }
 
-// A change that changes nothing, as that of a number that no row has. A read says whether the
-// connection is open, and what a stop leaves is the State then.
+// Makes a change that changes nothing, as for a number that no row has. It reads once, which fails if the
+// connection is shut; after a success a stop leaves the State.
 fn make_nothing<S: Alter>(conn: &mut IdleConnection<S>) -> Result<(), TablesError>
     ensures { ConnStays S.Store conn.old conn.new result }
 {
@@ -86,7 +86,7 @@ fn make_nothing<S: Alter>(conn: &mut IdleConnection<S>) -> Result<(), TablesErro
     Ok(())
 }
 
-// The bytes of an attachment's capability.
+// Encodes the capability of an attachment for the column `cap`.
 fn write_cap(alloc: Global, cap: &CapKey) -> Result<Vec<u8>, AllocError>
     ensures bytes { IfOk result (λ out. out.items ≡ caps_bytes (cap.now ∷ [])) }
     ensures fits { OnOk result (FitCaps (cap.now ∷ [])) }
@@ -94,7 +94,7 @@ fn write_cap(alloc: Global, cap: &CapKey) -> Result<Vec<u8>, AllocError>
     write_caps(alloc, from_ref(cap))
 }
 
-/// Attaches a volume at a node.
+/// Adds the row of an attachment of a volume at a node.
 pub(crate) fn make_attachment<S: Alter>(
     alloc: Global,
     conn: &mut IdleConnection<S>,
@@ -121,7 +121,7 @@ pub(crate) fn make_attachment<S: Alter>(
     Ok(())
 }
 
-/// Detaches a volume at a node.
+/// Deletes the row of a volume's attachment at a node.
 pub(crate) fn unmake_attachment<S: Alter>(
     conn: &mut IdleConnection<S>,
     number: u64,
@@ -138,7 +138,7 @@ pub(crate) fn unmake_attachment<S: Alter>(
     Ok(())
 }
 
-/// Detaches a volume at each node.
+/// Deletes the rows of all attachments of a volume.
 pub(crate) fn unmake_attachments<S: Alter>(
     conn: &mut IdleConnection<S>,
     number: u64,
@@ -154,8 +154,8 @@ pub(crate) fn unmake_attachments<S: Alter>(
     Ok(())
 }
 
-/// Removes a volume. Its pool and its bytes are read first, so that the total takes no memory once
-/// the volume is removed; the rest of its row is not read as values, which takes memory.
+/// Removes a volume. Its pool and its size are read first, so that the pool's total needs no memory after the
+/// volume is removed. The other values of its row are not decoded, which would take memory.
 pub(crate) fn unmake_volume<S: Alter>(
     conn: &mut IdleConnection<S>,
     totals: &mut Totals,
@@ -177,7 +177,7 @@ pub(crate) fn unmake_volume<S: Alter>(
     Ok(())
 }
 
-// The parameters of a volume, which is taken apart here, where nothing fails.
+// The parameters of a volume. The volume is taken apart in a function of its own, in which nothing fails.
 fn params_of(volume: Option<Volume>) -> Option<Map>
     ensures { result ≡ option_map (λ v. v.params) volume }
 {
@@ -187,8 +187,8 @@ fn params_of(volume: Option<Volume>) -> Option<Map>
     }
 }
 
-/// Gives a volume other mutable parameters. The volume is read first, since they are in one column
-/// with its parameters, which stay.
+/// Replaces the mutable parameters of a volume. The volume is read first, since one column has both its
+/// parameters, which are unchanged, and its mutable parameters.
 pub(crate) fn make_mutable<S: Alter>(
     alloc: Global,
     conn: &mut IdleConnection<S>,
@@ -214,7 +214,7 @@ pub(crate) fn make_mutable<S: Alter>(
     Ok(())
 }
 
-/// Makes a change in one transaction, and keeps the totals in step.
+/// Makes a change in one transaction, and updates the totals of the pools.
 pub(crate) fn make<S: Alter>(
     alloc: Global,
     conn: &mut IdleConnection<S>,

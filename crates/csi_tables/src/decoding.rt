@@ -41,7 +41,7 @@ fn keys_of(alloc: Global, capabilities: &[Capability]) -> Result<Items<CapKey>, 
     Ok(keys)
 }
 
-/// The keys whose bytes these are.
+/// Decodes the capability keys in the column `caps`.
 pub(crate) fn read_caps(alloc: Global, bytes: &[u8]) -> Result<Items<CapKey>, TablesError>
     ensures ok { IfOk result (λ keys. (ks : List Key) → FitCaps ks → bytes.now ≡ caps_bytes ks → keys ≡ ks) }
     ensures refused { IsErrOf result Refused → (ks : List Key) → FitCaps ks → AreKnown ks
@@ -54,7 +54,7 @@ pub(crate) fn read_caps(alloc: Global, bytes: &[u8]) -> Result<Items<CapKey>, Ta
     keys_of(alloc, message.capabilities.as_slice())
 }
 
-/// The parameters and the mutable parameters whose bytes these are.
+/// Decodes the parameters and the mutable parameters in the column `params`.
 pub(crate) fn read_params(alloc: Global, bytes: &[u8]) -> Result<(Map, Map), TablesError>
     ensures ok { IfOk result (λ read. (p m : TextMap) → FitParams p m → bytes.now ≡ params_bytes p m
         → read ≡ (p, m)) }

@@ -10,16 +10,16 @@ use sqlite::{Error, ErrorCode};
 use std::alloc::{AllocError, AllocFailed};
 use std::marker::Model;
 
-/// Why a call over the tables failed, of a keeper that is not down.
+/// Why a call over the tables failed, if the keeper was not down.
 #[derive(Clone, Copy)]
 pub enum TablesFault {
     /// Memory was refused.
     NoMemory,
-    /// The database refused the call, or a row is none that was written.
+    /// The database refused the call, or a row has values that this program does not write.
     Refused,
 }
 
-/// A fault, and what the database answered where that is why. A contract sees the fault alone.
+/// A fault, and the database's error if that is its cause. Contracts name only the fault.
 #[derive(Drop)]
 pub struct TablesError {
     /// The fault, without the database's error.
@@ -46,7 +46,7 @@ impl TablesError {
         }
     }
 
-    /// A row is none that was written.
+    /// The error for a row with values that this program does not write.
     pub(crate) fn refused() -> TablesError
         ensures { result ≡ Refused }
     {
@@ -98,7 +98,7 @@ impl From<Error> for TablesError {
     }
 }
 
-/// An answer over the tables as that of a keeper that is not down.
+/// Converts an answer over the tables to the answer of a keeper that is not down.
 pub(crate) fn store_answer<T>(answer: Result<T, TablesError>) -> Result<T, StoreFault>
     ensures { result ≡ answered answer }
 {

@@ -4,19 +4,20 @@ ghost use Rattle.csi_tables.specs.Laws.{HaveKnownModes, LatestHas, OneState};
 
 use csi_columns::laws::read_back;
 
-/// Tables are the rows of one State, whichever format they have.
+/// Tables of either format are the rows of exactly one State.
 pub fn one_state()
     ensures { OneState }
 {
     read_back();
 }
 
-/// Rows of any format, once they have the number of the latest one, are rows of the same State.
+/// Rows of either format represent the same State after the format number is set to the latest format.
 pub fn latest()
     ensures { LatestHas }
 {}
 
-/// A State of the invariant has known modes, which the clause on a call's refusal needs.
+/// In a State that meets the invariant all access modes are known, which the clause on the refusal of a call
+/// needs.
 pub fn known_modes()
     ensures { HaveKnownModes }
 {}

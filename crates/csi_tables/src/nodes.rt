@@ -12,7 +12,8 @@ use csi_types::{Items, Text};
 use sqlite::Row;
 use std::alloc::Global;
 
-// The nodes of a number, and how many places have no greater one. The places rise by number.
+// The nodes of the volume with this number, and how many rows of `places` have no greater number. The rows
+// are in rising order of their numbers.
 fn nodes_of(alloc: Global, places: &[Row], number: u64) -> Result<(Items<Text>, usize), TablesError>
     ensures nodes { IfOk result (λ found. (ps : List AttachmentKey) → IsRisen ps
         → places.now ≡ map place_row ps → found.0 ≡ nodes_at ps number) }
@@ -37,8 +38,8 @@ fn nodes_of(alloc: Global, places: &[Row], number: u64) -> Result<(Items<Text>, 
     Ok((nodes, places.len()))
 }
 
-/// The nodes of each number, in the order of the places. Numbers and places rise, so that each place
-/// is looked at once.
+/// The nodes of the volume with each of these numbers, in the order of the rows. Numbers and rows rise, so
+/// that each row is looked at once.
 pub(crate) fn nodes_of_each(
     alloc: Global,
     numbers: &[u64],

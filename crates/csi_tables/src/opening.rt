@@ -18,32 +18,32 @@ use csi_sql::{IdleConnection, make_tables};
 use sqlite::{Alter, Connection, Error};
 use std::alloc::Global;
 
-/// Why no tables were made, and the connection on which they were to be.
+/// Why no tables were made, with the connection to the database.
 #[derive(Drop)]
 pub struct MakeFault<S: Alter> {
     /// The database's error.
     pub error: Error,
-    /// The connection. No transaction is open on it.
+    /// The connection to the database. No transaction is open on it.
     pub conn: Connection<S>,
 }
 
 impl<S: Alter> Tables<S> {
-    /// Makes the tables in a database that has none, and gives the keeper over them. It has no volume
-    /// and no attachment, and 1 as the next number; all of that is committed, so that a stop leaves
-    /// it. The keeper is not down, and has refused nothing.
+    /// Makes the tables in a database without tables, and returns the keeper over them. It has no volumes and
+    /// no attachments, and its next number is 1. The tables are committed, so that a stop leaves them. The
+    /// keeper is not down and has refused no call.
     ///
-    /// Of a database that has other tables nothing is promised.
+    /// Nothing is promised for a database that has other tables.
     ///
     /// # Errors
     ///
-    /// What the database answers, as where a table of such a name exists, or where memory is refused.
-    /// Nothing is made then, and the connection is given back; a stop leaves what it could leave before,
-    /// or the tables as they were to be made.
+    /// The database's error, for example if a table with such a name exists or memory is refused. Nothing is
+    /// made then, and the connection is returned. A stop leaves what it could leave before, or the new
+    /// tables.
     ///
     /// # Not promised
     ///
-    /// What comes of a database that has other tables, and that the call succeeds where memory is
-    /// there: rows of `test_tables` show it.
+    /// The result for a database that has other tables, and that the call succeeds if memory is available;
+    /// rows of `test_tables` show both.
     pub fn make(alloc: Global, mut conn: Connection<S>) -> Result<Tables<S>, MakeFault<S>>
         requires idle { conn.in_transaction ≡ false }
         ensures made { IfOk result (λ tables. IsNewOver S.Store conn tables) }
@@ -66,9 +66,8 @@ impl<S: Alter> Tables<S> {
         }
     }
 
-    /// A keeper over tables that represent a State, with what the State's pools have used; it is not
-    /// down, and has refused nothing. A caller with a connection from elsewhere must judge its rows
-    /// first, as `csi_adoption::adopt` does.
+    /// A keeper over tables that represent a State, with the totals of the State's pools. It is not down and
+    /// has refused no call. The rows must have been judged first, as by `csi_adoption::adopt`.
     pub fn over(conn: IdleConnection<S>, totals: Totals) -> Tables<S>
         requires stands { conn_doubt S.Store conn ≡ 0 → (s : State) × store_holds S.Store (conn, totals) s }
         ensures value { store_of S.Store result ≡ (conn, totals) }
@@ -77,7 +76,7 @@ impl<S: Alter> Tables<S> {
         Tables::new(conn, totals)
     }
 
-    /// The connection, on which no transaction is open. The rows stay in its database.
+    /// The connection to the database, on which no transaction is open. The rows are unchanged.
     pub fn into_connection(self) -> Connection<S>
         ensures value { result ≡ connection_of S.Store self }
         ensures idle { result.in_transaction ≡ false }

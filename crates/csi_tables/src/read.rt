@@ -29,7 +29,7 @@ pub(crate) fn next_number<S: Alter>(conn: &mut IdleConnection<S>) -> Result<u64,
     number_in(&row, 0)
 }
 
-/// The volume of a number.
+/// The volume with this number; `None` if no volume has it.
 pub(crate) fn by_number<S: Alter>(
     alloc: Global,
     conn: &mut IdleConnection<S>,
@@ -43,7 +43,7 @@ pub(crate) fn by_number<S: Alter>(
     volume_of(alloc, found)
 }
 
-/// Whether a volume has a number. Nothing in its row is read as a value.
+/// Returns true if a volume has this number. The values of its row are not decoded.
 pub(crate) fn has_volume<S: Alter>(
     conn: &mut IdleConnection<S>,
     number: u64,
@@ -57,7 +57,8 @@ pub(crate) fn has_volume<S: Alter>(
     Ok(found.is_some())
 }
 
-/// The pool of the volume of a number, and its bytes.
+/// The pool of the volume with this number, and the size of the volume in bytes; `None` if no volume has the
+/// number.
 pub(crate) fn share<S: Alter>(
     conn: &mut IdleConnection<S>,
     number: u64,
@@ -70,7 +71,7 @@ pub(crate) fn share<S: Alter>(
     share_of(found)
 }
 
-/// The volume of a name.
+/// The volume with this name; `None` if no volume has it.
 pub(crate) fn by_name<S: Alter>(
     alloc: Global,
     conn: &mut IdleConnection<S>,
@@ -83,7 +84,7 @@ pub(crate) fn by_name<S: Alter>(
     volume_of(alloc, found)
 }
 
-/// The attachments of a volume, in byte order of their nodes.
+/// The attachments of the volume with this number, in byte order of their nodes.
 pub(crate) fn attachments<S: Alter>(
     alloc: Global,
     conn: &mut IdleConnection<S>,
@@ -97,7 +98,7 @@ pub(crate) fn attachments<S: Alter>(
     attachments_from(alloc, &rows)
 }
 
-/// The numbers of the volumes that are attached at a node, in rising order.
+/// The numbers of the volumes that are attached at this node, in rising order.
 pub(crate) fn attached_at<S: Alter>(
     alloc: Global,
     conn: &mut IdleConnection<S>,
@@ -110,7 +111,7 @@ pub(crate) fn attached_at<S: Alter>(
     numbers_from(alloc, &rows)
 }
 
-/// The bytes of a pool's volumes, in rising order of their numbers.
+/// The sizes in bytes of the volumes in this pool, in rising order of the volumes' numbers.
 pub(crate) fn sizes_in<S: Alter>(
     alloc: Global,
     conn: &mut IdleConnection<S>,
@@ -123,7 +124,7 @@ pub(crate) fn sizes_in<S: Alter>(
     numbers_from(alloc, &rows)
 }
 
-/// The volumes with a greater number, in rising order, and of these the first `count`.
+/// The first `count` volumes whose number is greater than `after`, in rising order of their numbers.
 pub(crate) fn page<S: Alter>(
     alloc: Global,
     conn: &mut IdleConnection<S>,
@@ -138,12 +139,12 @@ pub(crate) fn page<S: Alter>(
     volumes_from(alloc, &rows)
 }
 
-/// The volumes of a page, and the nodes of each, in byte order of their ids: of tables that nobody judged
-/// too. It is one read of the whole page.
+/// The volumes of a page, each with its nodes in byte order of their ids. The tables need not have been
+/// judged. The whole page is one read.
 ///
 /// # Errors
 ///
-/// Where the database refuses the read, a row is none that was written, or memory is refused.
+/// If the database refuses the read, a row has values that this program does not write, or memory is refused.
 pub fn page_with_nodes<S: Alter>(
     alloc: Global,
     conn: &mut IdleConnection<S>,

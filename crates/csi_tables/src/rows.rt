@@ -24,7 +24,7 @@ use csi_types::{Items, Map, Text};
 use sqlite::Row;
 use std::alloc::{AllocError, Global};
 
-/// The text in a cell.
+/// The text in the cell at this column.
 pub(crate) fn text_in(row: &Row, at: usize) -> Result<Text, TablesError>
     ensures ok { IfOk result (λ text. column row.now at ≡ Words text) }
     ensures refused { IsErrOf result Refused → (text : List ℕ) → IsUtf8 text
@@ -33,7 +33,7 @@ pub(crate) fn text_in(row: &Row, at: usize) -> Result<Text, TablesError>
     Ok(Text::from_string(row.get(at)?))
 }
 
-/// The number in a cell.
+/// The number in the cell at this column.
 pub(crate) fn number_in(row: &Row, at: usize) -> Result<u64, TablesError>
     ensures ok { IfOk result (λ n. column row.now at ≡ number_value n) }
     ensures refused { IsErrOf result Refused → (n : ℕ) → column row.now at ≢ number_value n }
@@ -70,7 +70,7 @@ fn params_in(alloc: Global, row: &Row, at: usize) -> Result<(Map, Map), TablesEr
     }
 }
 
-/// The volume that a row shows.
+/// Decodes the volume in a row.
 pub(crate) fn volume_from(alloc: Global, row: &Row) -> Result<Volume, TablesError>
     ensures ok { IfOk result (λ v. (e : ℕ × Stored) → IsStored e → row.now ≡ volume_entry e → v ≡ e.1) }
     ensures refused { IsErrOf result Refused → (e : ℕ × Stored) → IsReadable e → row.now ≢ volume_entry e }
@@ -93,7 +93,7 @@ pub(crate) fn volume_from(alloc: Global, row: &Row) -> Result<Volume, TablesErro
     })
 }
 
-/// The volume of the row, if there is one.
+/// Decodes the volume in a row that was found; `None` if no row was found.
 pub(crate) fn volume_of(alloc: Global, found: Option<Row>) -> Result<Option<Volume>, TablesError>
     ensures ok { IfOk result (λ v. (o : Option (ℕ × Stored)) → IfSome o IsStored
         → found ≡ option_map volume_entry o → v ≡ option_map (λ e. e.1) o) }
@@ -107,7 +107,7 @@ pub(crate) fn volume_of(alloc: Global, found: Option<Row>) -> Result<Option<Volu
     }
 }
 
-/// The pool of the volume of the row, and its bytes, if there is a row.
+/// The pool and the size in a row that was found; `None` if no row was found.
 pub(crate) fn share_of(found: Option<Row>) -> Result<Option<(Text, u64)>, TablesError>
     ensures ok { IfOk result (λ v. (o : Option (ℕ × Stored)) → found ≡ option_map volume_entry o
         → v ≡ option_map (λ e. share e.1) o) }
@@ -136,7 +136,7 @@ fn cap_in(alloc: Global, row: &Row, at: usize) -> Result<CapKey, TablesError>
     }
 }
 
-/// The attachment that a row of those of its volume shows. A `readonly` that is neither 0 nor 1 is refused.
+/// Decodes the attachment in a row. A `readonly` that is neither 0 nor 1 is refused.
 pub(crate) fn attachment_from(alloc: Global, row: &Row) -> Result<Attachment, TablesError>
     ensures ok { IfOk result (λ a. (e : AttachmentKey × Placed) → IsPlaced e → row.now ≡ node_entry e
         → a ≡ e.1) }
@@ -154,7 +154,7 @@ pub(crate) fn attachment_from(alloc: Global, row: &Row) -> Result<Attachment, Ta
     })
 }
 
-/// The volumes that rows show.
+/// Decodes the volumes in rows.
 pub(crate) fn volumes_from(alloc: Global, rows: &[Row]) -> Result<Items<Volume>, TablesError>
     ensures ok { IfOk result (λ vs. (es : List (ℕ × Stored)) → AllByRecursion IsStored es
         → rows.now ≡ map volume_entry es → vs ≡ map (λ e. e.1) es) }
@@ -169,7 +169,7 @@ pub(crate) fn volumes_from(alloc: Global, rows: &[Row]) -> Result<Items<Volume>,
     Ok(volumes)
 }
 
-/// The attachments that the rows of a volume show.
+/// Decodes the attachments in the rows of one volume.
 pub(crate) fn attachments_from(
     alloc: Global,
     rows: &[Row],

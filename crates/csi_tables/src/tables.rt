@@ -20,33 +20,33 @@ use std::cell::Cell;
 
 /// A keeper over the tables of a database.
 ///
-/// Its State is the one that the rows of the tables say. Each change is one transaction, so that a
-/// stop leaves it whole or not at all: after `Ok` a stop leaves the State, after a refusal what it
-/// could leave before, or the State with the change. After a change that was refused, also for memory,
-/// each further call is answered `Down`; a read that is refused stops nothing. `Refused` has its cause,
-/// as a fault of the disk, and is never want of memory. No call moves the connection's limit on steps, and a
-/// read of a number from 2^63 on, which no row has, asks for no memory.
+/// The rows of the tables represent its State. Each change is one transaction, so that a stop leaves the
+/// whole change or nothing of it: after `Ok` a stop leaves the State; after a refusal it leaves what it could
+/// leave before, or the State with the change. After a change was refused, also for memory, each further call
+/// is answered `Down`; a refused read has no effect on later calls. `Refused` has a cause, such as a fault of
+/// the disk, and never means that memory was refused. No call changes the connection's limit on steps. A read
+/// of a number of 2^63 or more, which no row has, takes no memory.
 ///
-/// All of that is promised while the database has returned what was written to it: while the store's
-/// `HasCleanDisk` holds as the call ends. A call is one transaction, a removal two; what a pool
-/// has used is answered from memory, without one.
+/// All of this is promised as long as the database returns what was written to it, that is, while the store's
+/// `HasCleanDisk` holds at the end of the call. A call is one transaction, a removal two. The totals of a
+/// pool are answered from memory, without a transaction.
 ///
 /// # Not promised
 ///
-/// What the rows hold once a fault of the disk has shut the connection: each State that has the
-/// pools' totals, and that rows can say, may be it. No read of the rows is answered then; what
-/// pools have used still is, and a survivor is as before.
+/// What the rows contain after a fault of the disk has shut the connection: any State that rows can represent
+/// and that has the totals of the pools is possible. Reads of the rows are not answered then; the totals of
+/// the pools still are, and what a stop leaves is as before.
 #[derive(Drop)]
 pub struct Tables<S: Alter> {
     pub(crate) conn: IdleConnection<S>,
     totals: Totals,
     health: Health,
-    // The database's error for the first call that it refused.
+    // The database's error for the first refused call.
     cause: Cell<Option<Error>>,
 }
 
 impl<S: Alter> Tables<S> {
-    // Over a connection whose tables represent a State, with what the State's pools have used.
+    // A keeper over a connection whose tables represent a State, with the totals of the State's pools.
     pub(crate) fn new(conn: IdleConnection<S>, totals: Totals) -> Tables<S>
         ensures over { (result.conn ≡ conn) × (result.totals ≡ totals) }
         ensures fresh { (result.health.is_down ≡ false) × (result.health.refusals ≡ 0) }
@@ -59,7 +59,7 @@ impl<S: Alter> Tables<S> {
         }
     }
 
-    // Keeps what the database answered the first call that it refused.
+    // Stores the database's error of an answer, unless an earlier one is stored.
     fn note<T>(&self, answer: &Result<T, TablesError>) {
         if let Err(error) = answer {
             if self.cause.get().is_none() {
@@ -68,14 +68,14 @@ impl<S: Alter> Tables<S> {
         }
     }
 
-    /// The database's error for the first call that it refused, such as a full disk. `None` if it refused
-    /// no call, if memory was refused, or if a row is none that was written.
+    /// The database's error for the first call that it refused, such as a full disk. `None` if the database
+    /// refused no call: also if memory was refused or a row had values that this program does not write.
     pub fn cause(&self) -> Option<Error> {
         self.cause.get()
     }
 
-    /// Whether every further call is answered `Down`. Only a refused change, also one for memory, makes it
-    /// so.
+    /// Returns true if every further call is answered `Down`, which is so after a change was refused, also
+    /// for memory.
     pub fn is_down(&self) -> bool
         ensures { result ≡ self.now.health.is_down }
     {
@@ -201,7 +201,7 @@ impl<S: Alter> Keeper for Tables<S> {
         self.health.finish_call(store_answer(answer))
     }
 
-    // The numbers are read and counted: tables have no index of nodes, and keep no count.
+    // Reads and counts the numbers, as the tables have no index of nodes and no count.
     fn count_at(&mut self, alloc: Global, node: &Text) -> Result<u64, StoreFault>
         ensures reads { Reads (tables_model S.Store self.old) (tables_model S.Store self.new) result
             (λ s n. n ≡ count_at s node.now) }
