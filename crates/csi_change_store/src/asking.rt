@@ -1,4 +1,4 @@
-//! The calls of a change store, as frames.
+//! Makes the frames of calls to a change store.
 
 ghost use Rattle.std.specs.Prelude.{◌≡◌, ◌≢◌, ◌<◌, ◌≤◌, Err, IfErr, IfOk, IsErrOf, OnOk, length};
 ghost use Rattle.envelope.specs.Envelope.{frame};
@@ -11,22 +11,22 @@ use envelope::{MAX_MESSAGE_BYTES, put_request};
 use pbwire::put_bytes;
 use std::alloc::{AllocError, Global};
 
-// The bytes of a message before a long token: a tag of one byte, and a length of three.
+// The number of bytes of a message before a long token: one for the tag, and three for the length.
 const TOKEN_HEAD_BYTES: usize = 1 + 3;
 
-/// The most bytes of a token that a message holds.
+/// The greatest length in bytes of a token that fits into a message.
 pub(crate) const MAX_TOKEN_BYTES: usize = MAX_MESSAGE_BYTES - TOKEN_HEAD_BYTES;
 
-/// The calls that a change store answers.
+/// The methods of a change store.
 #[derive(Clone, Copy)]
 pub(crate) enum ChangeStoreCall {
-    /// A page of the rows.
+    /// Returns one page of the rows.
     Read,
-    /// The row of `meta`, of a change store that has no row at all.
+    /// Makes the row of `meta` in a change store without any row.
     Make,
-    /// Make a change.
+    /// Makes a change.
     Commit,
-    /// Say whether it still leads.
+    /// Succeeds if the change store is still the leader.
     Lead,
 }
 
@@ -43,11 +43,11 @@ impl ChangeStoreCall {
     }
 }
 
-/// The frame of a call, whose message has at most 1,048,576 bytes.
+/// Makes the frame of a call with a message of at most 1,048,576 bytes.
 ///
 /// # Errors
 ///
-/// Where memory was refused.
+/// If memory is refused.
 #[tactic(auto, using(crate::proofs::Paths::is_call))]
 pub(crate) fn frame_of(
     alloc: Global,
@@ -62,12 +62,12 @@ pub(crate) fn frame_of(
     Ok(frame)
 }
 
-/// The frame that asks for a page of the rows: the first one where the token is empty, otherwise the one
-/// of the token, which the page before has given.
+/// Makes the frame that requests a page of the rows: the first page if the token is empty, otherwise the
+/// page of the token, which the page before contained.
 ///
 /// # Errors
 ///
-/// `NoMemory`; `Refused` if the token is too long for any message.
+/// `NoMemory` if memory is refused; `Refused` if the token is too long for a message.
 #[tactic(auto, using(crate::proofs::Tokens::token_held, crate::proofs::Tokens::token_not_held))]
 pub fn read_frame(alloc: Global, token: &[u8]) -> Result<Vec<u8>, StoreFault>
     ensures frame { IfOk result (λ frame. frame.items ≡ read_frame token.now) }
@@ -84,11 +84,11 @@ pub fn read_frame(alloc: Global, token: &[u8]) -> Result<Vec<u8>, StoreFault>
     Ok(frame_of(alloc, ChangeStoreCall::Read, message.as_slice())?)
 }
 
-/// The frame that asks a change store without any row for its row of `meta`.
+/// Makes the frame that tells a change store without any row to make its row of `meta`.
 ///
 /// # Errors
 ///
-/// `NoMemory`.
+/// `NoMemory` if memory is refused.
 pub fn make_frame(alloc: Global) -> Result<Vec<u8>, StoreFault>
     ensures frame { IfOk result (λ frame. frame.items ≡ make_frame) }
     ensures fault { IfErr result (λ fault. fault ≡ NoMemory) }
@@ -96,11 +96,11 @@ pub fn make_frame(alloc: Global) -> Result<Vec<u8>, StoreFault>
     Ok(frame_of(alloc, ChangeStoreCall::Make, &[])?)
 }
 
-/// The frame that asks whether the change store still leads: status 0 says so.
+/// Makes the frame that asks whether the change store is still the leader. The reply has status 0 if it is.
 ///
 /// # Errors
 ///
-/// `NoMemory`.
+/// `NoMemory` if memory is refused.
 pub fn lead_frame(alloc: Global) -> Result<Vec<u8>, StoreFault>
     ensures frame { IfOk result (λ frame. frame.items ≡ lead_frame) }
     ensures fault { IfErr result (λ fault. fault ≡ NoMemory) }

@@ -1,4 +1,4 @@
-//! The columns of a row, as the fields of a message have them.
+//! Decodes the columns of a row from the fields of a message.
 
 ghost use Rattle.std.specs.Prelude.{◌≡◌, ◌<◌, ◌≤◌, ◌^◌, [], nat_lt, slice_set, ℕ, IfNone, IfSome, IsTrue, get_or, length, map};
 ghost use Rattle.pbwire.specs.Reading.{wire_field_of};
@@ -8,22 +8,22 @@ ghost use Rattle.csi_change_store.specs.Pages.{is_cell};
 use pbwire::laws::{listed, spelled};
 use pbwire::{Field, Fields, Value};
 
-// Field numbers of columns are below it, and from 1 on.
+// Columns have field numbers from 1 to below this number.
 const NUMBERS: usize = 7;
 
-// The numbers in columns are below it.
+// Numbers in columns are below this limit.
 const LIMIT: u64 = 1 << 63;
 
-/// The type of a column.
+/// The type of the values in a column.
 #[derive(Clone, Copy)]
 pub(crate) enum CellKind {
-    /// A field that no column has; its value is skipped.
+    /// No column has this field number; a field with it is ignored.
     Skipped,
     Integer,
     Bytes,
 }
 
-/// The columns of a row, by the numbers of their fields. One without a field is 0, or empty.
+/// The columns of a row, by field number. A column without a field is 0 or empty.
 #[derive(Clone, Copy)]
 pub(crate) struct Cells<'a> {
     numbers: [u64; NUMBERS],
@@ -41,7 +41,8 @@ impl<'a> Cells<'a> {
         }
     }
 
-    // Takes a field, if its column can hold it. A field of no column is skipped.
+    // Stores a field in its column. Returns false if the column cannot hold the value. A field without a
+    // column is ignored.
     fn set_field(&mut self, kinds: &[CellKind], field: Field<'a>) -> bool
         requires { length kinds.now ≤ 7 }
         ensures fits { result ≡ is_cell kinds.now (wire_field_of field.entry) }
@@ -63,7 +64,7 @@ impl<'a> Cells<'a> {
         }
     }
 
-    // Takes a number that a row can have.
+    // Stores a number. Returns false if it is 2^63 or above, which no row can contain.
     fn set_number(&mut self, at: usize, number: u64) -> bool
         requires { at < 7 }
         ensures fits { result ≡ nat_lt number (2 ^ 63) }
@@ -77,7 +78,7 @@ impl<'a> Cells<'a> {
         true
     }
 
-    /// The number in the column of a field.
+    /// Returns the number in the column with field number `at`.
     pub(crate) fn number(&self, at: usize) -> u64
         requires { at < 7 }
         ensures { result ≡ number_of self.now at }
@@ -85,7 +86,7 @@ impl<'a> Cells<'a> {
         self.numbers[at]
     }
 
-    /// The bytes in the column of a field.
+    /// Returns the bytes in the column with field number `at`.
     pub(crate) fn bytes(&self, at: usize) -> &'a [u8]
         requires { at < 7 }
         ensures { result.now ≡ bytes_of self.now at }
@@ -94,7 +95,8 @@ impl<'a> Cells<'a> {
     }
 }
 
-/// The columns of a row, if the payload encodes one: each field of a column fits it.
+/// Decodes the columns of a row; `None` if the payload is malformed or a column cannot hold the value of
+/// its field.
 pub(crate) fn read_cells<'a>(kinds: &[CellKind], payload: &'a [u8]) -> Option<Cells<'a>>
     requires { length kinds.now ≤ 7 }
     ensures read { IfSome result (λ cells. IsReadAs kinds.now payload.now cells) }

@@ -1,4 +1,4 @@
-//! The frame that asks for a change.
+//! Makes the frame that requests a change.
 
 ghost use Rattle.std.specs.Prelude.{◌≡◌, ◌≢◌, ◌++◌, ◌∷◌, ◌<◌, ◌≤◌, [], Err, IfOk, IsErrOf, OnOk, length};
 ghost use Rattle.envelope.specs.Envelope.{frame};
@@ -19,7 +19,7 @@ use pbwire::{put_bytes, put_varint};
 use std::alloc::{AllocError, Global};
 use std::slice;
 
-// The columns of a volume's row.
+// Appends the columns of a volume's row.
 fn put_volume(alloc: Global, out: &mut Vec<u8>, volume: &Volume) -> Result<(), AllocError>
     ensures { OnOk result (out.new.items ≡ out.old.items ++ spellings (volume_fields volume.now)) }
 {
@@ -33,7 +33,7 @@ fn put_volume(alloc: Global, out: &mut Vec<u8>, volume: &Volume) -> Result<(), A
     put_bytes(out, 6, params.as_slice())
 }
 
-// The columns of an attachment's row.
+// Appends the columns of an attachment's row.
 fn put_attachment(
     alloc: Global,
     out: &mut Vec<u8>,
@@ -50,7 +50,7 @@ fn put_attachment(
     put_varint(out, 4, u64::from(attachment.readonly))
 }
 
-// The mutable parameters of the volume of a number.
+// Appends the number of a volume and its mutable parameters.
 fn put_mutable(
     alloc: Global,
     out: &mut Vec<u8>,
@@ -81,7 +81,7 @@ fn put_asked(alloc: Global, out: &mut Vec<u8>, change: &Change) -> Result<(), Al
     }
 }
 
-// The field that says how.
+// Returns the number of the field that encodes this kind of change.
 fn number_of(change: &Change) -> u32
     ensures { result ≡ change_number change.now }
 {
@@ -95,7 +95,7 @@ fn number_of(change: &Change) -> u32
     }
 }
 
-// The message that asks for a change.
+// Makes the message that requests a change.
 fn message_of(alloc: Global, change: &Change) -> Result<Vec<u8>, AllocError>
     ensures { IfOk result (λ message. message.items ≡ change_bytes change.now) }
 {
@@ -106,7 +106,7 @@ fn message_of(alloc: Global, change: &Change) -> Result<Vec<u8>, AllocError>
     Ok(message)
 }
 
-// The frame that asks for the change of a message, where a frame holds it.
+// Makes the frame of a message that requests a change, if the message is short enough.
 fn frame_holding(alloc: Global, message: &[u8]) -> Result<Vec<u8>, StoreFault>
     ensures frame { IfOk result (λ out. out.items ≡ frame (record {
       path = path_of Commit;
@@ -123,12 +123,13 @@ fn frame_holding(alloc: Global, message: &[u8]) -> Result<Vec<u8>, StoreFault>
     Ok(frame_of(alloc, ChangeStoreCall::Commit, message)?)
 }
 
-/// The frame that asks for a change.
+/// Makes the frame that requests a change.
 ///
 /// # Errors
 ///
-/// `NoMemory`; `Refused` if the message would have more than 1,048,576 bytes. Its length is known only after
-/// its columns are made, so a message that is too long may be answered `NoMemory` too.
+/// `NoMemory` if memory is refused; `Refused` if the message would have more than 1,048,576 bytes. The
+/// length of the message is known only after its columns are encoded, so a message that is too long may
+/// fail with `NoMemory` too.
 pub(crate) fn commit_frame(alloc: Global, change: &Change) -> Result<Vec<u8>, StoreFault>
     ensures frame { IfOk result (λ frame. frame.items ≡ commit_frame change.now) }
     ensures fault { result ≢ Err Down }

@@ -1,4 +1,4 @@
-//! Why what a change store gave is not taken.
+//! The faults of rows that a change store returned.
 
 ghost use Rattle.std.specs.Prelude.{◌≡◌};
 ghost use Rattle.csi_change_store.specs.Taking.{IsFaultOf};
@@ -8,30 +8,31 @@ use sqlite::{Error, ErrorCode};
 use std::alloc::AllocError;
 use thiserror::Error as Fault;
 
-/// Why rows that a change store gave are not taken.
+/// Why rows that a change store returned could not be put into the tables.
 #[derive(Debug, Drop, Fault)]
 pub enum RowsFault {
-    /// A page is malformed, or has a number that no row can have.
+    /// A page is malformed, or contains a number of 2^63 or above, which no row can contain.
     #[error("its rows are malformed")]
     Malformed,
-    /// The row of the volume of this number, or of an attachment of it, has a text that is not UTF-8.
+    /// A text in the row of the volume with this number, or in a row of its attachments, is not UTF-8.
     #[error("volume {0}: a value is not of the kind of its column")]
     Untyped(u64),
-    /// An attachment has a number for its flag that is not 0 or 1.
+    /// The value of `readonly` of an attachment is not 0 or 1.
     #[error("volume {number} at node {node}: its readonly is not 0 or 1")]
     Flag {
-        /// The number of the volume.
+        /// The number of the attachment's volume, as it is in the row.
         number: u64,
-        /// The node's id in the row.
+        /// The id of the attachment's node, as it is in the row.
         node: String,
     },
-    /// The database refused the row of `meta`.
+    /// The database refused the row of `meta`, with this error.
     #[error("{0}")]
     Refused(Error),
-    /// The database refused the row of the volume of this number, or of an attachment of it.
+    /// The database refused the row of the volume with this number, or a row of its attachments, with this
+    /// error.
     #[error("volume {0}: {1}")]
     Row(u64, Error),
-    /// Memory was refused.
+    /// Memory for the rows was refused.
     #[error("out of memory")]
     NoMemory,
 }
@@ -44,8 +45,8 @@ impl From<AllocError> for RowsFault {
     }
 }
 
-/// Why the database refused a row: the row of the volume of this number or of one of its attachments, or the
-/// row of `meta`.
+/// Converts an error of the database about a row: the row of the volume with this number or a row of its
+/// attachments, or the row of `meta` if the number is `None`.
 pub(crate) fn fault_of(number: Option<u64>, error: Error) -> RowsFault
     ensures { IsFaultOf number error result }
 {

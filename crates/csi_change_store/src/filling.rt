@@ -1,4 +1,4 @@
-//! All rows of a change store, in new tables.
+//! Puts all rows of a change store into new tables.
 
 ghost use Rattle.std.specs.Prelude.{◌≡◌, false, IfOk};
 ghost use Rattle.csi_change_store.specs.Filling.{Fills, ReadsRows};
@@ -11,8 +11,8 @@ use csi_sql::make_tables;
 use sqlite::{Alter, Connection};
 use std::alloc::Global;
 
-// Puts all rows of a change store into the tables on a connection, in one transaction, so that each page of
-// the tables is written once, in any order of the rows.
+// Puts all rows of a change store into the tables on a connection. It uses one transaction, so that each
+// page of the tables is written once, whatever the order of the rows.
 fn fill<P: Peer, S: Alter>(
     alloc: Global,
     peer: &mut P,
@@ -31,11 +31,11 @@ fn fill<P: Peer, S: Alter>(
     }
 }
 
-/// Makes tables on a connection to a database that has none, and puts all rows of a change store into them.
+/// Creates the tables in a database without tables, and puts all rows of a change store into them.
 ///
 /// # Errors
 ///
-/// Where the rows of a page are not had or not taken, or the database fails.
+/// If a page cannot be read, its rows cannot be put into the tables, or the database fails.
 pub fn read_rows<P: Peer, S: Alter>(
     alloc: Global,
     peer: &mut P,

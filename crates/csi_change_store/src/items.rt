@@ -1,4 +1,4 @@
-//! What one field of a page encodes.
+//! Decodes the fields of a page.
 
 ghost use Rattle.std.specs.Prelude.{◌≡◌, ◌≤◌, IfErr, IfOk, IsUtf8, length};
 ghost use Rattle.pbwire.specs.Reading.{wire_field_of};
@@ -36,7 +36,7 @@ const ATTACHMENT: [CellKind; 5] = [
     CellKind::Integer,
 ];
 
-/// A row of attachments, as a page has it.
+/// A row of attachments, as a page encodes it.
 #[derive(Clone, Copy)]
 pub(crate) struct AttachmentRow<'a> {
     pub(crate) number: u64,
@@ -45,20 +45,20 @@ pub(crate) struct AttachmentRow<'a> {
     pub(crate) readonly: bool,
 }
 
-/// One field of a page, read.
+/// One decoded field of a page.
 #[derive(Clone, Copy)]
 pub(crate) enum Item<'a> {
-    /// The row of `meta`: its format, and the next number.
+    /// The row of `meta` (field 1): the format number and the next number.
     Meta(u64, u64),
     Volume(VolumeRow<'a>),
     Attachment(AttachmentRow<'a>),
-    /// The token of the next page.
+    /// The token of the next page (field 4).
     Token(&'a [u8]),
-    /// A field of another number.
+    /// A field with another number, which is ignored.
     Skipped,
 }
 
-// The columns of a row.
+// Decodes the columns of a row.
 fn cells_of<'a>(kinds: &[CellKind], payload: &'a [u8]) -> Result<Cells<'a>, RowsFault>
     requires { length kinds.now ≤ 7 }
     ensures read { IfOk result (λ cells. IsReadAs kinds.now payload.now cells) }
@@ -70,7 +70,7 @@ fn cells_of<'a>(kinds: &[CellKind], payload: &'a [u8]) -> Result<Cells<'a>, Rows
     }
 }
 
-// A text of the row of a volume.
+// Returns a text of the row of a volume, or of one of its attachments, if the bytes are UTF-8.
 fn text_of<'a>(number: u64, bytes: &'a [u8]) -> Result<&'a str, RowsFault>
     ensures text { IfOk result (λ text. (text.now ≡ bytes.now) × IsUtf8 bytes.now) }
     ensures fault { IfErr result (λ fault. (fault ≡ Untyped number) × (IsUtf8 bytes.now → ⊥)) }
@@ -81,7 +81,7 @@ fn text_of<'a>(number: u64, bytes: &'a [u8]) -> Result<&'a str, RowsFault>
     }
 }
 
-// The flag of an attachment.
+// Decodes the flag `readonly` of an attachment.
 fn flag_of(alloc: Global, number: u64, node: &str, readonly: u64) -> Result<bool, RowsFault>
     ensures flag { IfOk result (λ flag. readonly ≡ flag_number flag) }
     ensures fault { IfErr result (IsFlagFault number node.now readonly) }
@@ -141,7 +141,11 @@ fn meta_of<'a>(payload: &'a [u8]) -> Result<Item<'a>, RowsFault>
     Ok(Item::Meta(cells.number(1), cells.number(2)))
 }
 
-/// Reads a field of a page, if the tables can hold its value.
+/// Decodes a field of a page.
+///
+/// # Errors
+///
+/// `Malformed`, `Untyped` or `Flag` if the tables cannot contain the row; `NoMemory` if memory is refused.
 pub(crate) fn item_of<'a>(alloc: Global, field: Field<'a>) -> Result<Item<'a>, RowsFault>
     ensures item { IfOk result (λ item. IsItem (wire_field_of field.entry) (seen_item item)) }
     ensures typed { IfOk result (λ item. IsTyped (seen_item item)) }

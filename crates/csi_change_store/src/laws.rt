@@ -1,4 +1,4 @@
-//! Laws of pages: each is the contract of a function that does nothing.
+//! Laws of pages. Each law is the contract of a function that does nothing.
 
 ghost use Rattle.csi_change_store.specs.Giving.{GivesRows};
 ghost use Rattle.csi_change_store.specs.Sample.{ReadsSample};
@@ -10,8 +10,8 @@ pub fn gives_rows()
     ensures { GivesRows }
 {}
 
-/// Two pages by their bytes: the reply of a change store whose only row is the row of `meta`, and a reply
-/// with a volume.
+/// The contents of two pages, given by their bytes: the reply of a change store whose only row is the row
+/// of `meta`, and a reply with a volume.
 pub fn reads_sample()
     ensures { ReadsSample }
 {

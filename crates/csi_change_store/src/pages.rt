@@ -1,4 +1,4 @@
-//! Pages of rows, put into the tables of a transaction.
+//! Puts pages of rows into the tables of a transaction.
 
 ghost use Rattle.std.specs.Prelude.{◌≡◌, ◌<◌, ◌^◌, [], false, None, IfErr, OnOk};
 ghost use Rattle.csi_change_store.specs.Items.{attachment_columns, seen_item, seen_notes, volume_columns};
@@ -16,19 +16,19 @@ use pbwire::laws::spelled;
 use sqlite::{Alter, Transaction};
 use std::alloc::Global;
 
-/// The notes of pages in addition to their rows.
+/// What pages contain in addition to the rows that are put into the tables.
 #[derive(Drop)]
 pub struct PagesRead {
-    /// The token of the next page. It is empty after the last one.
+    /// The token of the next page. It is empty after the last page.
     pub token: Vec<u8>,
-    /// The format in the row of `meta`, if there was one.
+    /// The format number in the row of `meta`; `None` while no such row was read.
     pub format: Option<u64>,
-    /// Whether a row of volumes or of attachments has come so far.
+    /// Whether a row of volumes or of attachments was read so far.
     pub has_rows: bool,
 }
 
 impl PagesRead {
-    /// The state before the first page.
+    /// Creates the state before the first page: an empty token, no format and no rows.
     pub fn new(alloc: Global) -> PagesRead
         ensures { (result.token.items ≡ []) × (result.format ≡ None) × (result.has_rows ≡ false) }
     {
@@ -40,7 +40,7 @@ impl PagesRead {
     }
 }
 
-// Sets the next number. The format is noted elsewhere.
+// Sets the next number. The format is stored in [`PagesRead`].
 fn put_meta<S: Alter>(tx: &mut Transaction<'_, S>, format: u64, next: u64) -> Result<(), RowsFault>
     requires { next < 2 ^ 63 }
     ensures same_reference { tx.new.conn.ghost_name ≡ tx.old.conn.ghost_name }
@@ -90,7 +90,7 @@ fn put_attachment<S: Alter>(
     }
 }
 
-// Puts the row of an item into the tables.
+// Puts the row of an item into the tables. An item that is not a row changes nothing.
 fn put_item<S: Alter>(tx: &mut Transaction<'_, S>, item: &Item<'_>) -> Result<(), RowsFault>
     requires { IsSmall (seen_item item.now) }
     ensures same_reference { tx.new.conn.ghost_name ≡ tx.old.conn.ghost_name }
@@ -105,7 +105,7 @@ fn put_item<S: Alter>(tx: &mut Transaction<'_, S>, item: &Item<'_>) -> Result<()
     }
 }
 
-// Notes what an item says in addition to its row.
+// Updates the notes for an item.
 fn note_item(notes: &mut PagesRead, item: &Item<'_>) -> Result<(), RowsFault>
     ensures noted { OnOk result (seen_notes notes.new
         ≡ with_item (seen_item item.now) (seen_notes notes.old)) }
@@ -123,7 +123,7 @@ fn note_item(notes: &mut PagesRead, item: &Item<'_>) -> Result<(), RowsFault>
     Ok(())
 }
 
-// Puts all rows of a page into the tables, and notes the rest.
+// Puts all rows of a page into the tables, and updates the notes.
 fn put_items<S: Alter>(
     alloc: Global,
     tx: &mut Transaction<'_, S>,
@@ -147,11 +147,12 @@ fn put_items<S: Alter>(
     Ok(())
 }
 
-/// Puts the rows of a page into the tables of a transaction, in their order.
+/// Puts the rows of a page into the tables of a transaction, in their order, and sets the token, the format
+/// and `has_rows` of `notes`.
 ///
 /// # Errors
 ///
-/// Where the page is malformed, its rows cannot be in the tables next to those before them, or memory is
+/// If the page is malformed, the tables cannot have its rows in addition to the earlier ones, or memory is
 /// refused.
 pub fn put_page<S: Alter>(
     alloc: Global,

@@ -1,4 +1,4 @@
-//! The other end of a connection.
+//! The other end of a connection, to which frames are sent.
 
 ghost use Rattle.std.specs.Prelude.{◌≡◌, List, ℕ};
 ghost use Rattle.csi_keeper.specs.Model.{Model};
@@ -15,33 +15,35 @@ use std::io::{Read, Write};
 ///
 /// The promises about the State hold while `doubt`, which never falls, is 0.
 pub trait Peer {
-    // The model of a keeper behind this connection, as contracts see it.
+    // The model of the keeper at the other end of the connection, as used by contracts.
     ghost model: { Self → Model State };
 
-    // The effect of one exchange: the peer before and after, the frame and the outcome. No other clause gives
-    // it, so a function that promises it has exchanged that frame.
+    // The effect of one exchange: the peer before and after the exchange, the frame and the outcome. No
+    // other contract provides this relation, so a function that promises it has exchanged that frame.
     ghost exchanged: { Self → Self → List ℕ → Received → Type 0 };
 
-    /// Sends a frame, and waits for the reply.
+    /// Sends a frame and waits for the reply.
     ///
-    /// Where the frame asks for a change, the change is made where the reply has status 0. With another
-    /// status it is not made; where no reply came it may have been, and a stop leaves one or the other.
+    /// If the frame requests a change, the change is made if the reply has status 0, and not made if the
+    /// reply has another status. If no reply is received, the change may have been made; a stop leaves the
+    /// State with or without it.
     fn exchange(&mut self, alloc: Global, frame: &[u8]) -> Received
         ensures answers { Answers (model self.old) (model self.new) frame.now result }
         ensures asked { exchanged self.old self.new frame.now result };
 }
 
-/// The other end of a reader and a writer.
+/// A peer over a reader and a writer: frames are written to the writer, and replies are read from the
+/// reader.
 #[derive(Drop)]
 pub struct Channel<R, W> {
     reader: R,
     writer: W,
-    // The exchanges begun so far, up to the greatest `u64`.
+    // The number of exchanges begun so far, at most 2^64 - 1.
     exchanges: u64,
 }
 
 impl<R: Read, W: Write> Channel<R, W> {
-    /// A channel that has not begun.
+    /// Creates a channel before its first exchange.
     pub fn new(reader: R, writer: W) -> Channel<R, W>
         ensures ends { (result.reader ≡ reader) × (result.writer ≡ writer) }
         ensures begins { result.exchanges ≡ 0 }

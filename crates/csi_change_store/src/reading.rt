@@ -1,4 +1,4 @@
-//! All rows of a change store, page by page.
+//! Reads all rows of a change store, page by page.
 
 ghost use Rattle.std.specs.Prelude.{◌≡◌, IfErr, IfOk, OnOk};
 ghost use Rattle.csi_change_store.specs.Items.{seen_notes};
@@ -15,25 +15,26 @@ use csi_keeper::StoreFault;
 use sqlite::{Alter, Error, Transaction};
 use std::alloc::Global;
 
-// The most pages that are read: more than 100,000 volumes and their attachments take at one row a page.
+// The greatest number of pages that are read. With one row a page, 100,000 volumes with nine attachments
+// each fit.
 const MOST_PAGES: u64 = 1 << 20;
 
-/// Why the rows of a change store were not read.
+/// Why the rows of a change store could not be read.
 #[derive(Debug, Drop)]
 pub enum ReadFault {
-    /// The frame that asks for the page was not made: memory was refused, or the token is too long.
+    /// The frame that requests a page could not be made: memory was refused, or the token is too long.
     Unasked(StoreFault),
-    /// The change store sent something other than a reply with status 0.
+    /// The change store did not send a reply with status 0. The value is what was received.
     Unanswered(Received),
-    /// The rows of a page were not taken.
+    /// The rows of a page could not be put into the tables.
     Rows(RowsFault),
-    /// There are more than 1,048,576 pages.
+    /// The change store has more than 1,048,576 pages.
     Endless,
-    /// The database failed to make the tables, or to commit the rows.
+    /// The database failed to create the tables, or to commit the rows.
     Database(Error),
 }
 
-// The body of a reply that says OK.
+// Returns the body of a reply with status 0 (OK).
 fn body_of(received: Received) -> Result<Vec<u8>, ReadFault>
     ensures body { IfOk result (λ body. IsBodyOf received body.items) }
     ensures fault { IfErr result (λ fault. (fault ≡ Unanswered received) × IsRefused received) }
@@ -44,7 +45,7 @@ fn body_of(received: Received) -> Result<Vec<u8>, ReadFault>
     }
 }
 
-// The body of the page that a token asks for.
+// Requests the page of a token, and returns its body.
 fn next_page<P: Peer>(alloc: Global, peer: &mut P, token: &[u8]) -> Result<Vec<u8>, ReadFault>
     ensures page { IfOk result (λ body. GivesPage P.exchanged peer.old peer.new token.now body.items) }
     ensures fault { IfErr result (IsPageless P.exchanged peer.old peer.new token.now) }
@@ -75,13 +76,13 @@ fn read_page<P: Peer, S: Alter>(
     }
 }
 
-/// Reads all rows of a change store, page by page, and puts them into the tables of a transaction, in their
-/// order.
+/// Reads all rows of a change store, page by page, and puts the rows into the tables of a transaction, in
+/// their order.
 ///
 /// # Errors
 ///
-/// Where a page was not asked for or not answered, its rows were not taken, or there are more than 1,048,576
-/// pages.
+/// If the request for a page cannot be made or gets no reply with status 0, if rows cannot be put into the
+/// tables, or if there are more than 1,048,576 pages.
 pub fn read_pages<P: Peer, S: Alter>(
     alloc: Global,
     peer: &mut P,

@@ -14,7 +14,7 @@ use csi_keeper::{Change, StoreFault};
 use csi_through::ChangeStore;
 use std::alloc::Global;
 
-// The outcome of a change, from the reply.
+// Returns the outcome of a change, by its reply.
 fn answer_of(received: &Received) -> Result<(), StoreFault>
     ensures { result ≡ answer_of received.now }
 {
@@ -25,7 +25,7 @@ fn answer_of(received: &Received) -> Result<(), StoreFault>
     }
 }
 
-// Asks for a change.
+// Sends a change to the peer and waits for its outcome.
 fn ask<P: Peer>(alloc: Global, peer: &mut P, change: &Change) -> Result<(), StoreFault>
     requires { IsBounded change.now }
     ensures changes { Changes (P.model peer.old) (P.model peer.new) change.now result }
@@ -35,10 +35,10 @@ fn ask<P: Peer>(alloc: Global, peer: &mut P, change: &Change) -> Result<(), Stor
     answer_of(&peer.exchange(alloc, frame.as_slice()))
 }
 
-/// A change store that is the other end of a connection.
+/// A change store at the other end of a connection.
 ///
-/// After a change that was refused, whose outcome is not known, or that memory was refused for, each further
-/// change is answered `Down` and not asked for.
+/// After a change fails (refused, outcome unknown, or no memory), each later change fails with `Down` and
+/// is not sent.
 #[derive(Drop)]
 pub struct RemoteChangeStore<P> {
     peer: P,
@@ -46,7 +46,7 @@ pub struct RemoteChangeStore<P> {
 }
 
 impl<P: Peer> RemoteChangeStore<P> {
-    /// The change store that is this peer.
+    /// Makes a change store of a peer. It is not down.
     pub fn new(peer: P) -> RemoteChangeStore<P>
         ensures { (result.peer ≡ peer) × (result.is_down ≡ false) }
     {

@@ -1,4 +1,4 @@
-//! A call, sent again until it is answered.
+//! Sends a call again until it is answered.
 
 ghost use Rattle.std.specs.Prelude.{◌≡◌, ◌≤◌, ◌<◌, ◌+◌, ◌-◌, ◌/◌, ◌^◌, List, ℕ, true};
 ghost use Rattle.csi_client.specs.declared.receiving.Received.{Received};
@@ -7,22 +7,22 @@ ghost use Rattle.csi_client.specs.Again.{is_unanswered, unanswered_count, answer
 use crate::receiving::Received;
 use envelope::ReplyWhy;
 
-/// Connections to a server, one for each exchange.
+/// A client's line to a server: it makes a new connection for each exchange.
 pub trait Line {
-    // The exchanges made so far.
+    // The number of exchanges made so far.
     ghost exchanges: { Self → ℕ };
 
-    // The exchanges without an answer so far.
+    // The number of exchanges without an answer so far.
     ghost unanswered: { Self → ℕ };
 
-    // The effect of one exchange: the line before and after it, the frame and the received reply. Only
-    // this relation mentions the frame, so a line that promises it has sent the frame.
+    // The effect of one exchange: the line before and after the exchange, the frame and the received reply.
+    // Only this relation mentions the frame, so a line for which it holds has sent the frame.
     ghost exchanged: { Self → Self → List ℕ → Received → Type 0 };
 
-    /// Sends the frame of a call on a new connection, and waits for its reply. Where the connection
-    /// cannot be made, or the call not be sent, that is [`Received::Failed`].
+    /// Sends a call's frame on a new connection and waits for the reply; [`Received::Failed`] if it cannot
+    /// connect or send.
     ///
-    /// The line counts its exchanges, and those that are unanswered.
+    /// The line counts its exchanges, and those without an answer.
     fn exchange(&mut self, frame: &[u8]) -> Received
         requires { exchanges self.old < 2 ^ 64 - 1 }
         ensures made { exchanges self.new ≡ exchanges self.old + 1 }
@@ -30,9 +30,9 @@ pub trait Line {
         ensures sent { exchanged self.old self.new frame.now result };
 }
 
-/// Whether it is open if the server took the call: the connection failed, or it ended before the
-/// reply was whole. A reply of any status, and a malformed one, are answers; so is want of memory of
-/// the client, which a further try would not help.
+/// Whether it is unknown if the server executed the call: the connection failed, or ended before the whole
+/// reply was received. A reply with any status is an answer, and so is a malformed reply.
+/// [`Received::NoMemory`] counts as an answer too, since sending the call again would not help.
 pub fn is_unanswered(received: &Received) -> bool
     ensures { result ≡ is_unanswered received.now }
 {
@@ -46,15 +46,15 @@ pub fn is_unanswered(received: &Received) -> bool
 /// The counts of a line's exchanges.
 #[derive(Clone, Copy, Debug)]
 pub struct Exchanges {
-    /// The exchanges made, answered or not.
+    /// The number of exchanges made, answered or not.
     pub made: u64,
-    /// The exchanges that had no answer.
+    /// The number of exchanges without an answer.
     pub unanswered: u64,
     ghost within: { unanswered ≤ made },
 }
 
 impl Exchanges {
-    /// The counts before the first exchange.
+    /// Creates the counts before the first exchange: both are 0.
     pub fn none() -> Exchanges
         ensures made { result.made ≡ 0 }
         ensures unanswered { result.unanswered ≡ 0 }
@@ -65,7 +65,7 @@ impl Exchanges {
         }
     }
 
-    /// Counts one more, which gave this.
+    /// Counts one more exchange, whose outcome is `received`.
     pub fn count(&mut self, received: &Received)
         requires { self.old.made < 2 ^ 64 - 1 }
         ensures made { self.new.made ≡ self.old.made + 1 }
@@ -78,11 +78,11 @@ impl Exchanges {
     }
 }
 
-/// Makes a call: the same frame is sent on a new connection until an exchange is answered, at most
-/// `tries` times, of 1 to 10. What the last exchange gave is the outcome.
+/// Sends a call's frame until an exchange is answered, each time on a new connection, at most `tries`
+/// times. `tries` is 1 to 10. Returns the outcome of the last exchange.
 ///
-/// Each call of the Container Storage Interface may be sent again so: the server takes it once
-/// (CSI specification, 'Timeouts').
+/// Each call of the Container Storage Interface may be sent again: the server executes it once (CSI
+/// specification, 'Timeouts').
 pub fn call_again<L: Line>(line: &mut L, frame: &[u8], tries: u32) -> Received
     requires few { L.exchanges line.old < 2 ^ 63 }
     requires least { 1 ≤ tries }
@@ -103,7 +103,7 @@ pub fn call_again<L: Line>(line: &mut L, frame: &[u8], tries: u32) -> Received
     line.exchange(frame)
 }
 
-// The longest pause where so many tries were made, in milliseconds.
+// Returns the longest pause after `tried` tries, in milliseconds.
 fn longest_pause(tried: u32) -> u64
     ensures { result ≡ longest_pause tried }
 {
@@ -111,9 +111,10 @@ fn longest_pause(tried: u32) -> u64
     doubled.saturating_mul(100).min(2000)
 }
 
-/// How long to wait before a further try, in milliseconds, where so many were made: 100 and twice as
-/// long after each, up to 2,000. Half of it is fixed, and of the other half the number `chance`
-/// chooses, so that clients that failed at once do not come again at once.
+/// Returns the pause in milliseconds after `tried` tries and before the next one. Its upper limit is 100
+/// after the first try and doubles after each further try, up to 2,000. Half of the limit is fixed;
+/// `chance` selects how much of the other half is added, so that clients that failed at the same time do
+/// not try again at the same time.
 pub fn pause_millis(tried: u32, chance: u32) -> u64
     ensures least { longest_pause tried / 2 ≤ result }
     ensures most { result ≤ longest_pause tried }

@@ -1,4 +1,4 @@
-//! Calls, sent.
+//! Makes the frame of a call.
 
 ghost use Rattle.std.specs.Prelude.{◌≡◌, ◌≤◌, ◌++◌, OnOk, OnErr, length};
 ghost use Rattle.envelope.specs.Envelope.{frame};
@@ -9,11 +9,11 @@ use csi_types::Method;
 use envelope::put_request;
 use std::alloc::AllocError;
 
-/// Appends the frame of a call of a method, whose message has at most 1,048,576 bytes.
+/// Appends the frame of a call of `method` with a request message of at most 1,048,576 bytes.
 ///
 /// # Errors
 ///
-/// Where memory was refused: the vector is then as it was.
+/// If memory is refused; the vector is unchanged.
 #[tactic(auto, using(crate::proofs::Paths::is_call))]
 pub fn put_call(out: &mut Vec<u8>, method: Method, message: &[u8]) -> Result<(), AllocError>
     requires { length message.now ≤ MAX_MESSAGE_BYTES }

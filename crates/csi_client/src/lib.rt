@@ -1,13 +1,13 @@
-//! The client: it sends the frames of calls, and says what the replies to them are.
+//! The client: it sends the frames of calls, and shows the replies.
 //!
-//! `replies.rt` shows a reply, `lines.rt` what its body says, and `escape.rt` writes a text as one word;
-//! `specs/Replies.antt`, `specs/Lines.antt` and `specs/Escape.antt` say the same as functions, which the
-//! contracts cite: what is shown is what bytes mean, by the codec's `read_response`. `calling.rt` makes the
-//! frame of a call, which the framer's `send` writes, and `again.rt` sends it again on one connection after
-//! another, until it is answered (`specs/Again.antt` says which outcomes are answers). `receiving.rt` reads
-//! the first reply and `showing.rt` shows all replies of a stream, both over a `ReplyFramer`;
-//! `specs/Receiving.antt` and `specs/Showing.antt` say by each end what was read and written, and
-//! `specs/Live.antt` what holds between two reads.
+//! `replies.rt` writes a reply as a line, `lines.rt` writes its body as lines, and `escape.rt` writes a
+//! text as one word. `specs/Replies.antt`, `specs/Lines.antt` and `specs/Escape.antt` define the same as
+//! functions, which the contracts use: the lines show what the bytes mean, by the codec's `read_response`.
+//! `calling.rt` makes the frame of a call, which the framer's `send` writes, and `again.rt` sends the frame
+//! on one connection after another until the call is answered (`specs/Again.antt` defines which outcomes
+//! are answers). `receiving.rt` reads the first reply and `showing.rt` shows all replies of a stream, both
+//! over a `ReplyFramer`. `specs/Receiving.antt` and `specs/Showing.antt` define for each outcome what was
+//! read and written, and `specs/Live.antt` defines what holds between two reads.
 //!
 //! ```rust
 //! put_call(&mut frame, method, &message)?;
@@ -17,7 +17,7 @@
 //!
 //! # Not promised
 //!
-//! That a read or a write failed, or memory was refused, where an outcome says so. Rows of
+//! That a read or a write failed, or memory was refused, if an outcome is that. Tests in
 //! `tests/test_csictl_*.py` show it.
 #![tactic(auto)]
 

@@ -1,4 +1,4 @@
-//! What a response says, a line a part.
+//! Writes a response as lines, one line for each part.
 
 ghost use Rattle.std.specs.Prelude.{◌≡◌, ◌++◌, OnOk, codes};
 ghost use Rattle.std.specs.Fmt.{signed_decimal};
@@ -205,10 +205,10 @@ fn put_capacity(out: &mut Vec<u8>, available: i64, maximum: Option<i64>) -> Resu
     out.extend_from_slice(b"\n")
 }
 
-// Appends what a response says, a line a part, texts as one word each: its names and ids, its numbers
-// (sizes in bytes), and `-` where a part is absent; nothing for the responses of DeleteVolume,
-// ControllerUnpublishVolume and ControllerModifyVolume, which have no parts. Where memory is refused, the
-// vector may have a part of it.
+// Appends a response as lines, one line for each part, each text as one word: its names and ids, its
+// numbers (sizes in bytes), and `-` for a part that is absent. Appends nothing for the responses of
+// DeleteVolume, ControllerUnpublishVolume and ControllerModifyVolume, which have no parts. If memory is
+// refused, the vector may contain some of the lines.
 pub(crate) fn put_lines(out: &mut Vec<u8>, response: &Response) -> Result<(), AllocError>
     ensures { OnOk result (out.new.items ≡ out.old.items ++ lines response.now) }
 {

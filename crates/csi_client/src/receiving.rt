@@ -1,7 +1,7 @@
-//! The reply to a call.
+//! Receives the reply to a call.
 //!
-//! A reply is one value, [`ReceivedReply`]: its status, text and body are owned together, so that what shows
-//! a reply, or decides about another try, passes one value on.
+//! A reply is one value, [`ReceivedReply`], which owns the status, the text and the body. So code that
+//! shows a reply, or decides whether to try again, passes one value on.
 
 ghost use Rattle.std.specs.Prelude.{◌≡◌, None, false, IfOk, IsTrue};
 ghost use Rattle.envelope.specs.Envelope.{reply_bytes_of};
@@ -14,19 +14,19 @@ use frames_core::ReplyFramer;
 use std::alloc::{AllocError, Global};
 use std::io::{self, Read};
 
-/// The most bytes of one read: a piece.
+/// The greatest number of bytes that one read returns.
 pub(crate) const PIECE_BYTES: usize = 4096;
 
 const _: () = prove!(PIECE_BYTES == 4096);
 
-/// A reply that was received, with its own copy of the text and the body.
+/// A received reply, which owns copies of the text and the body.
 #[derive(Debug, Drop)]
 pub struct ReceivedReply {
-    /// The status code: 0 where the call was done.
+    /// The gRPC status code; 0 (OK) if the call succeeded.
     pub status: u8,
-    /// Why the call was refused: at most 1,024 bytes, each 0x20 to 0x7E.
+    /// The reason why the call was refused: at most 1,024 bytes, each from 0x20 to 0x7E.
     pub text: Vec<u8>,
-    /// The response message, at most 4,194,304 bytes.
+    /// The bytes of the response message, at most 4,194,304.
     pub body: Vec<u8>,
 }
 
@@ -45,7 +45,7 @@ impl ReceivedReply {
         })
     }
 
-    /// The reply, by reference.
+    /// Borrows the reply, without copying the text and the body.
     pub fn as_reply(&self) -> Reply<'_>
         ensures { reply_bytes_of result ≡ reply_of self.now }
     {
@@ -60,19 +60,20 @@ impl ReceivedReply {
 /// The outcome of a wait for the reply to a call.
 #[derive(Debug, Drop)]
 pub enum Received {
-    /// The first reply of the connection.
+    /// The reply was received: the first one on the connection.
     Reply(ReceivedReply),
-    /// The input ended before its first byte.
+    /// The input ended before the first byte of a reply.
     Nothing,
-    /// No reply comes first in the input.
+    /// The input does not begin with a valid reply.
     Malformed(ReplyFault),
-    /// A read failed before the first reply was whole.
+    /// A read failed before the whole reply was received, or a [`Line`](crate::Line) could not connect or
+    /// send.
     Failed,
-    /// Memory was refused: for the buffer, and then nothing was read, or for the reply.
+    /// Memory was refused for the buffer, before anything was read, or for the copy of the reply.
     NoMemory,
 }
 
-// Whether the framer takes no more bytes: a reply is whole, or a fault is known.
+// Whether the framer takes no more bytes: it has a whole reply or a fault.
 fn is_settled(framer: &ReplyFramer) -> bool
     ensures settled { IsTrue result → IsReplySettled framer.now }
     ensures open { (result ≡ false) → (framer.now.fault ≡ None) × IsUnfinished framer.now.held }
@@ -86,7 +87,7 @@ fn gather<R: Read>(framer: &mut ReplyFramer, reader: &mut R) -> io::Result<()>
     ensures { Gathers (R.remaining reader.old) (R.remaining reader.new) framer.new result }
 {
     let mut piece = [0; PIECE_BYTES];
-    // Each read gives at least one byte, and so the longest reply takes no more of them.
+    // Each read returns at least one byte, so the longest reply takes at most this many reads.
     for turn in 0..MAX_REPLY_BYTES {
         let count = reader.read(&mut piece)?;
         if count == 0 {
@@ -102,8 +103,9 @@ fn gather<R: Read>(framer: &mut ReplyFramer, reader: &mut R) -> io::Result<()>
     unreachable!()
 }
 
-/// Reads the first reply of the input, and nothing after the piece, of at most 4,096 bytes, in
-/// which it ends. It makes at most 4,194,312 reads, as many as the longest reply has bytes.
+/// Reads the first reply of the input. Each read takes at most 4,096 bytes, and nothing is read after the
+/// read in which the reply ends. At most 4,194,312 reads are made, which is the number of bytes of the
+/// longest reply.
 pub fn receive<R: Read>(alloc: Global, reader: &mut R) -> Received
     ensures { Receives (R.remaining reader.old) (R.remaining reader.new) result }
 {

@@ -1,4 +1,4 @@
-//! What a reply says, as lines.
+//! Writes a reply as lines.
 
 ghost use Rattle.std.specs.Prelude.{◌≡◌, ◌≢◌, ◌++◌, ℕ, IfErr, IfOk, OnErr, OnOk, Some, Err, codes, decimal};
 ghost use Rattle.pbmessage.specs.declared.message.DecodeFault.TheVariants.{Malformed, NoMemory};
@@ -41,7 +41,7 @@ fn put_content(alloc: Global, out: &mut Vec<u8>, text: &[u8], body: &[u8]) -> Re
     out.extend_from_slice(if text.is_empty() { b"-" } else { text })
 }
 
-// The line of a reply.
+// Makes the line of a reply.
 fn reply_line(alloc: Global, reply: &Reply<'_>) -> Result<Vec<u8>, AllocError>
     ensures { IfOk result (λ line. (code : Code) → reply.now.status ≡ number_of code
         → line.items ≡ first_line code (reply_bytes_of reply.now)) }
@@ -54,13 +54,14 @@ fn reply_line(alloc: Global, reply: &Reply<'_>) -> Result<Vec<u8>, AllocError>
     Ok(line)
 }
 
-/// Appends a line that says a reply: its status as a number, the name of the status, and its body
-/// in lower case hexadecimal digits or its text, `-` where there is neither. This is promised of a
-/// reply whose status is one of the ten codes, as [`take_reply`](envelope::take_reply) gives it.
+/// Appends one line for a reply: its status as a number, the name of the status, and the body in lower-case
+/// hexadecimal digits; the text if the body is empty; `-` if both are empty. The contract is only about
+/// replies whose status is one of the ten codes, which is so for each reply of
+/// [`take_reply`](envelope::take_reply).
 ///
 /// # Errors
 ///
-/// Where memory was refused. The vector is as it was then.
+/// If memory is refused; the vector is unchanged.
 pub fn put_reply_line(alloc: Global, out: &mut Vec<u8>, reply: &Reply<'_>) -> Result<(), AllocError>
     ensures line { OnOk result ((code : Code) → reply.now.status ≡ number_of code
         → out.new.items ≡ out.old.items ++ first_line code (reply_bytes_of reply.now)) }
@@ -70,7 +71,7 @@ pub fn put_reply_line(alloc: Global, out: &mut Vec<u8>, reply: &Reply<'_>) -> Re
     out.extend_from_slice(line.as_slice())
 }
 
-// The lines of a response.
+// Makes the lines of a response.
 fn lines_of(alloc: Global, response: &Response) -> Result<Vec<u8>, AllocError>
     ensures { IfOk result (λ said. said.items ≡ lines response.now) }
 {
@@ -79,7 +80,7 @@ fn lines_of(alloc: Global, response: &Response) -> Result<Vec<u8>, AllocError>
     Ok(said)
 }
 
-// Appends what a response says, or nothing.
+// Appends the lines of a response. If memory is refused, the vector is unchanged.
 fn put_response(alloc: Global, out: &mut Vec<u8>, response: &Response) -> Result<(), AllocError>
     ensures said { OnOk result (out.new.items ≡ out.old.items ++ lines response.now) }
     ensures kept { OnErr result (out.new.items ≡ out.old.items) }
@@ -88,8 +89,8 @@ fn put_response(alloc: Global, out: &mut Vec<u8>, response: &Response) -> Result
     out.extend_from_slice(said.as_slice())
 }
 
-// Appends what a response says that was read. It is borrowed, so that what owns one does nothing else that
-// may fail.
+// Appends the lines of a decoded response. The response is borrowed, so that the code that owns it does
+// nothing else that may fail.
 fn put_decoded(
     alloc: Global,
     out: &mut Vec<u8>,
@@ -108,14 +109,14 @@ fn put_decoded(
     }
 }
 
-/// Appends what the body of a reply says, as [`put_lines`](crate::put_lines) does, where the call
-/// was done (status 0) and its method is given; otherwise nothing.
+/// Appends the body of a reply as lines, as [`put_lines`](crate::put_lines) does, if the call succeeded
+/// (status 0) and its method is given; otherwise appends nothing.
 ///
 /// # Errors
 ///
-/// [`DecodeFault::Malformed`] where the body is no response of the method.
-/// [`DecodeFault::NoMemory`] where memory was refused, and only where the body is one. The vector is
-/// as it was then.
+/// [`DecodeFault::Malformed`] if the body is not a response of the method. [`DecodeFault::NoMemory`] if
+/// memory is refused, and only if the body is a response of the method. The vector is unchanged after an
+/// error.
 pub fn put_body_lines(
     alloc: Global,
     out: &mut Vec<u8>,
@@ -137,7 +138,7 @@ pub fn put_body_lines(
     }
     let decoded = decode_response(alloc, method, reply.body);
     let put = put_decoded(alloc, out, &decoded);
-    // Named, it is dropped by one function, and not by a step for each part of each variant.
+    // Called explicitly, so that one function drops it, and not a step for each part of each variant.
     drop(decoded);
     put
 }

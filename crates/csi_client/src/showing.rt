@@ -1,4 +1,4 @@
-//! Replies of a stream, shown for people.
+//! Shows the replies of a stream to people.
 
 ghost use Rattle.std.specs.Prelude.{◌≡◌, ◌<◌, ◌≤◌, ◌+◌, ◌^◌, ◌++◌, ◌||◌, ⊤, ℕ, List, Option, Err, OnOk, length};
 ghost use Rattle.std.specs.Io.KnownBytes.{Appends};
@@ -21,29 +21,30 @@ use pbmessage::DecodeFault;
 use std::alloc::Global;
 use std::io::{self, Read, Write};
 
-// At most this many reads are made in one run.
+// The greatest number of reads in one run.
 const MAX_READS: u64 = 1 << 32;
 
 /// How a run of [`show_all`] ended.
 #[derive(Clone, Copy, Debug, PartialEq, Eq)]
 pub enum ShowEnd {
-    /// The input ended after a whole reply, and all were shown. Whether one of them was a refusal:
-    /// a status other than 0.
+    /// The input ended after a whole reply, or was empty, and all replies were shown. The value is true if
+    /// one of the replies had a status other than 0.
     Done(bool),
-    /// The stream has this fault. All replies before it were shown.
+    /// The stream has this fault. All replies before the fault were shown.
     Malformed(ReplyFault),
-    /// The body of a reply is no response of the method. Its first line was shown, after all
-    /// replies before it.
+    /// The body of a reply is not a response of the method. All replies before it were shown, and then the
+    /// first line of this reply.
     BadBody,
-    /// A read failed, or 2^32 reads were made. The replies that were read whole were shown.
+    /// A read failed, or 2^32 reads were made. All replies that were read completely were shown.
     ReadFailed,
-    /// A write or a flush failed. All replies before the last one were shown, and of its lines a prefix.
+    /// A write or a flush failed. All replies before the last one were shown, and a prefix of the last
+    /// one's lines.
     WriteFailed,
-    /// Memory was refused: for the buffer of frames, or for lines.
+    /// Memory was refused for the buffer of frames, or for the lines of a reply.
     NoMemory,
 }
 
-// Why no more replies are shown.
+// The reason why no more replies are shown.
 #[derive(Clone, Copy)]
 pub(crate) enum Halt {
     BadBody,
@@ -59,7 +60,7 @@ pub(crate) enum Shown {
     Halted(Halt),
 }
 
-// Shows replies; the lines of one are made in a buffer that is kept from reply to reply.
+// Shows replies. All replies use the same buffer for their lines.
 #[derive(Drop)]
 pub(crate) struct Printer {
     method: Option<Method>,
@@ -68,7 +69,7 @@ pub(crate) struct Printer {
 }
 
 impl Printer {
-    // Makes the lines of a reply.
+    // Makes the lines of a reply in the buffer.
     fn make_lines(&mut self, alloc: Global, reply: &Reply<'_>) -> Result<(), DecodeFault>
         ensures method { self.new.method ≡ self.old.method }
         ensures refused { self.new.refused ≡ self.old.refused }
@@ -87,7 +88,7 @@ impl Printer {
         }
     }
 
-    // Writes the lines that were made.
+    // Writes the lines in the buffer.
     fn write_lines<W: Write>(&self, writer: &mut W) -> io::Result<()>
         ensures all { OnOk result (Appends (W.contents writer.old)
             (W.contents writer.new) self.now.lines.items) }
@@ -126,7 +127,8 @@ impl Printer {
         }
     }
 
-    // Feeds these bytes up to the end of one frame, and shows its reply.
+    // Feeds bytes to the framer, at most up to the end of a frame, and shows the reply if the frame is
+    // whole.
     fn show_next<W: Write>(
         &mut self,
         alloc: Global,
@@ -161,7 +163,7 @@ impl Printer {
         }
     }
 
-    // Feeds the piece and shows all its replies.
+    // Feeds all bytes of one read to the framer and shows each whole reply.
     fn show_piece<W: Write>(
         &mut self,
         alloc: Global,
@@ -192,7 +194,7 @@ impl Printer {
         Shown::Fed(at)
     }
 
-    // The input ended.
+    // Returns how the run ended, once the input has ended.
     fn finish(&self, framer: &mut ReplyFramer) -> ShowEnd
         ensures { (read : List ℕ) (held holds : Option (List ℕ))
             → Live self.now.method read framer.old held holds self.now.refused
@@ -216,13 +218,13 @@ fn halted(halt: Halt) -> ShowEnd
     }
 }
 
-/// Writes what the replies of a reader say: of each the line of
-/// [`put_reply_line`](crate::put_reply_line), and where the method of their calls is given, the lines
-/// of [`put_body_lines`](crate::put_body_lines).
+/// Writes the replies of a reader as lines. For each reply it writes the line of
+/// [`put_reply_line`](crate::put_reply_line) and, if the method of the calls is given, the lines of
+/// [`put_body_lines`](crate::put_body_lines).
 ///
-/// It reads at most 4,096 bytes a read and makes at most 2^32 reads. Each reply is shown in one write
-/// and flushed, by [`send`](crate::send), as soon as its frame is whole. After a fault, a bad body, a
-/// failed write or want of memory nothing more is read.
+/// A read takes at most 4,096 bytes, and at most 2^32 reads are made. Each reply is written at once and
+/// flushed, by [`send`](crate::send), as soon as its frame is whole. Nothing more is read after a fault,
+/// after a body that cannot be decoded, after a failed write, or after memory was refused.
 pub fn show_all<R: Read, W: Write>(
     alloc: Global,
     method: Option<Method>,

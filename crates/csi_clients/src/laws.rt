@@ -1,4 +1,4 @@
-//! Laws of several clients: each is the contract of a function that does nothing.
+//! Laws of several clients. Each law is the contract of a function that does nothing.
 
 ghost use Rattle.std.specs.Prelude.{◌≡◌, ℕ, List, None, Some};
 ghost use Rattle.std.specs.List.{AllByRecursion};
@@ -35,16 +35,17 @@ use csi_machine::laws::{kept, repeat};
 use csi_server::laws::tries;
 use csi_types::laws::{inclusions, overlays};
 
-/// What a request has done stays done while others leave its object alone.
+/// A request that took effect stays in effect, as long as other requests leave its object alone.
 ///
-/// From a State of the invariant, of requests that pass the checks of their arguments: a request is answered
-/// OK, or its change exists already. Then others make any requests that leave its object alone. The same
-/// request again is answered with the same body, and changes nothing. It does not matter whether the first
-/// answer was heard: the reply may be lost, or the call may be refused inside and a stop leave its change.
+/// Start from a State that has the invariant, with requests that pass the checks of their arguments. A
+/// request is answered OK, or its change exists already. Then others make any requests that leave its
+/// object alone. The same request again is answered with the same body and changes nothing. It does not
+/// matter whether the client heard the first answer: the reply may be lost, or the call may be refused and
+/// a stop may leave its change.
 ///
-/// The object of a create is the volume of its name, with the mutable parameters that it gives. The object of
-/// a delete is the id, of a publish or an unpublish the volume at the node, and of a modify the parameters of
-/// the volume that it gives.
+/// The object of a create is the volume with its name, including the mutable parameters that the create
+/// gives. The object of a delete is the volume id; of a publish or an unpublish, the volume at the node;
+/// and of a modify, the parameters of the volume that it sets.
 pub fn stays_done(config: &Config)
     ensures taken { (s : State) (r : Request) (others : List Request) (body : List ℕ)
         → IsInvariant config.now s
@@ -67,8 +68,7 @@ pub fn stays_done(config: &Config)
     inclusions();
 }
 
-/// A create does not leave the object of a delete alone if the delete guessed an id that no volume was given
-/// yet.
+/// A create may change the object of a delete, if the delete guessed an id that no volume was given yet.
 ///
 /// The delete is answered OK at once, since no volume has the id. If a create then gets the number of this
 /// id, the same delete again deletes the new volume.
@@ -79,14 +79,14 @@ pub fn guessed_id(config: &Config)
         × (delete (changed s c) d ≡ make response.Delete (RemoveVolume s.next)) }
 {}
 
-/// A request that was not made yet has later the plan that it would have had before, while others work on
-/// other volumes.
+/// The plan of a request does not depend on requests of others for other volumes made before it, with the
+/// exceptions below.
 ///
-/// From a State of the invariant, after requests of others that pass the checks of their arguments: a delete,
-/// an unpublish, a modify and a question about a volume have the plan of before. So has a publish, unless its
-/// node is full in one of the two States. A create of a new name has the size, the name and the parameters of
-/// before, and takes the room and the next number of the later State. So one of the two may be refused and
-/// the other not.
+/// Start from a State that has the invariant, and let others make requests that pass the checks of their
+/// arguments. A delete, an unpublish, a modify and a question about a volume have the same plan before and
+/// after these requests. So does a publish, unless its node is full in one of the two States. A create with
+/// a new name has the same size, name and parameters, but the room and the next number are those of the
+/// later State. So the create may be refused in one of the two States and not in the other.
 pub fn made_later(config: &Config)
     ensures { (s : State) (r : Request) (others : List Request) → IsInvariant config.now s
         → AllByRecursion (λ q. checked q ≡ None) others → AreOfOtherVolumes config.now s others r
@@ -97,22 +97,25 @@ pub fn made_later(config: &Config)
 
 /// A history of several clients is linearizable if no two of them work on one object at once.
 ///
-/// From a State of the invariant each client tries requests that pass the checks of their arguments, in
-/// order, each until it is answered. A try may be refused inside, or because the store is down; an answer may
-/// be lost; between any two tries a stop may end the session, which leaves the State after its tries or the
-/// change of a refused one. A client may be gone after any try, because its process ends or it gives up.
-/// Others may make requests that change nothing at any time.
+/// Start from a State that has the invariant. Each client tries requests that pass the checks of their
+/// arguments, in order, each until it is answered. A try may be refused for memory or by the store, or
+/// because the store is down; an answer may be lost. Between any two tries a stop may end the session,
+/// which leaves the State after its tries, or the State with the change of a refused try. A client may be
+/// gone after any try, because its process ends or it gives up. Others may make requests that change
+/// nothing at any time.
 ///
-/// The tries are *separate*. A request is unsettled from its first try until it is answered or its client is
-/// gone; if it was refused inside, until it is done or the session ends. While it is unsettled, it and each
-/// request that another client tries leave each other's objects alone. A request that changes nothing need
-/// not be left alone.
+/// The tries are *separate*. A request is unsettled from its first try until it is answered or its client
+/// is gone; if it was refused for memory or by the store, until it is done or the session ends. While a
+/// request is unsettled, it leaves alone the object of each request that another client tries, and each of
+/// those requests leaves its object alone. The object of a request that changes nothing need not be left
+/// alone.
 ///
-/// Then there is an order of the requests, with each request once. In it the requests of each client have the
-/// order of the client. Each client hears the answers that its requests have in this order, and the State in
-/// the end is the State after them. The order keeps the real-time order: a request that was answered is
-/// before each request that was tried only later. It has all requests that were answered and, of each client,
-/// at most one request that was tried and not answered. If all are answered it has all of them.
+/// Then there is an order of the requests, which contains each request once. The requests of each client
+/// are in the client's order. Each client hears the answers that its requests get in this order, and the
+/// final State is the State after all of them. The order keeps the real-time order: a request that was
+/// answered comes before each request that was first tried later. The order contains all requests that were
+/// answered and, for each client, at most one request that was tried and not answered. If all requests are
+/// answered, it contains all of them.
 pub fn linearizable(config: &Config)
     ensures begun { (s t : State) (todo : ℕ → List Request) (sessions : Sessions)
         (heard : ℕ → List Report) → IsInvariant config.now s
@@ -134,21 +137,22 @@ pub fn linearizable(config: &Config)
 
 /// There is a history of two clients, with a stop between the tries of one of them.
 ///
-/// One client makes a request and its answer is lost; another makes its own and is answered; after a stop the
-/// first client tries again, and is answered. The two requests leave each other's objects alone where the
-/// second is tried. So [`linearizable`] does not speak of nothing.
+/// One client makes a request and its answer is lost. Another client makes a request and is answered. After
+/// a stop the first client tries again and is answered. When the second request is tried, the two requests
+/// leave each other's objects alone. So the premises of [`linearizable`] can be met.
 pub fn two_clients(config: &Config)
     ensures { (s : State) (r q : Request) → LeaveEachOtherAlone (step config.now s r).1 q r
         → AreTwo config.now s r q }
 {}
 
-/// There is a history of a client that gives up, and of another client that goes on with the same object.
+/// There is a history in which one client gives up and another client continues with the same object.
 ///
-/// An attacher sends ControllerPublishVolume, hears nothing, gives up and sends ControllerUnpublishVolume for
-/// the same volume and node: they are two clients, and the first is gone. If the first request was done, the
-/// second is taken after it (`lost`). If the first was refused inside and a stop ended the session, the
-/// second is taken in the State that the stop left: the one before the first request or the one after it
-/// (`refused`). The first request never takes effect after the second. Nothing is asked of the two requests.
+/// An attacher sends ControllerPublishVolume, hears nothing, gives up and sends ControllerUnpublishVolume
+/// for the same volume and node. These are two clients, and the first is gone. If the first request was
+/// executed, the second is executed after it (`lost`). If the first was refused for memory or by the store
+/// and a stop ended the session, the second is executed in the State that the stop left: the State before
+/// the first request or the State after it (`refused`). The first request never takes effect after the
+/// second. The law has no premise on the two requests.
 pub fn gives_up(config: &Config)
     ensures lost { (s : State) (r q : Request)
         → IsGivenUp config.now s (step config.now s r).1 r q (given_up r q) }
@@ -157,8 +161,8 @@ pub fn gives_up(config: &Config)
         × IsGivenUp config.now s (step config.now s r).1 r q (given_up_refused r q) }
 {}
 
-/// The law of one client among others that only read, `csi_machine::laws::retry`, is an instance of
-/// [`linearizable`]: a single client, and tries without a client.
+/// The law of one client among others that only read, `csi_machine::laws::retry`, follows from
+/// [`linearizable`], applied to a single client and to tries without a client.
 pub fn retry_alone(config: &Config)
     ensures { (s t : State) (requests : List Request) (sessions : List (List Try)) (reported : List Report)
         → IsInvariant config.now s
@@ -171,16 +175,16 @@ pub fn retry_alone(config: &Config)
 
 /// A history of calls of several clients is linearizable if no two of them work on one object at once.
 ///
-/// As [`linearizable`], of calls, marks and replies in bytes, over any keeper. Each client repeats a call
-/// until it hears the reply. A call may be refused for memory or by the store, a reply may be lost, and a
-/// stop leaves what `csi_server::laws::pending` says. A call that is no request, or is refused for its
-/// arguments, is no try: anyone may make it at any time.
+/// This is [`linearizable`] for calls, marks and replies in bytes, over any keeper. Each client repeats a
+/// call until it hears the reply. A call may be refused for memory or by the store, a reply may be lost,
+/// and a stop leaves what `csi_server::laws::pending` allows. A call that is not a request, or that is
+/// refused for its arguments, does not count as a try: anyone may make it at any time.
 ///
 /// # Not promised
 ///
-/// That a call is ever answered. What two clients hear that work on one object at once. That calls of a
-/// front, a sidecar or a person are separate: that is a premise (docs/DEPLOY.md, "Clients that share a
-/// front").
+/// That a call is ever answered. What two clients hear that work on the same object at once. That the calls
+/// of a front, a sidecar or a person are separate, which is a premise (docs/DEPLOY.md, "Clients that share
+/// a front").
 pub fn linearizable_calls<K: Keeper>(config: &Config)
     ensures begun { (s t : State) (todo : ℕ → List Request) (sessions : List (List ClientExchange))
         (heard : ℕ → List ReplyBytes) → IsInvariant config.now s
@@ -200,11 +204,11 @@ pub fn linearizable_calls<K: Keeper>(config: &Config)
     tries::<K>(config);
 }
 
-/// Runs over two files, with a stop after each, are a linearizable history of calls if no two clients work on
+/// Runs over two files, each ended by a stop, are a linearizable history of calls if no two clients work on
 /// one object at once.
 ///
-/// The tries must be separate for each State that a stop may leave. After the last run the files have the
-/// State after the order of requests. The runs are the runs of `csi_files::laws::lived`.
+/// The tries must be separate for each State that a stop may leave. After the last run, the files contain
+/// the State after the requests in their order. The runs are those of `csi_files::laws::lived`.
 pub fn linearizable_files<K: Keeper>(config: &Config)
     ensures { LivesAreLinearizable config.now }
 {

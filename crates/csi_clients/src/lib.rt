@@ -11,7 +11,8 @@
 //! the answer that its client hears is the response, and the step of the machine is the sequential
 //! specification.
 //!
-//! - `specs/Objects.antt`: which request leaves the object of another request alone
+//! - `specs/Objects.antt`: which request does not change the object of another request (it leaves that
+//!   object alone)
 //! - `specs/Clients.antt`: clients, their tries, and when tries are separate
 //! - `specs/Histories.antt`: sessions of tries, with stops between them, and what each client hears
 //! - `specs/Linearizability.antt`: the order of operations, and that it keeps the real-time order

@@ -1,8 +1,8 @@
-//! Capabilities and parameters as they are in a column: the canonical bytes of a
-//! `CreateVolumeRequest` that has nothing else.
+//! Encodes capabilities and parameters for a column: as the canonical bytes of a `CreateVolumeRequest` that
+//! has no other field set.
 //!
-//! So the format of a column is that of the request's fields, by their numbers, and a change of how
-//! these fields are written is a migration of every file.
+//! So the format of a column depends on the field numbers of the request, and a change of how these fields
+//! are encoded needs a migration of every file.
 
 ghost use Rattle.std.specs.Prelude.{◌≡◌, ◌++◌, IfOk, OnOk};
 ghost use Rattle.pbmessage.specs.Canon.{bytes_of};
@@ -16,13 +16,14 @@ use csi_types::{Map, Text};
 use pbmessage::{Written, put_map, put_message, put_presence, put_text};
 use std::alloc::{AllocError, Global};
 
-// Room for the bytes of one capability: a block has 8, a mount 10 and the name of its file system.
+// The room for one capability in bytes. A block capability takes 8 bytes; a mount takes 10 and the name of
+// its file system.
 const KEY_BYTES: usize = 16;
 
-// The package of messages that are written from borrowed parts, without a copy.
+// The package of messages that are encoded from borrowed parts, without a copy.
 struct Borrowed;
 
-// `VolumeCapability.MountVolume` of a file system's type alone.
+// A `VolumeCapability.MountVolume` that has only a file system type.
 #[derive(Drop)]
 struct BorrowedMount<'a> {
     fs_type: &'a Text,
@@ -41,7 +42,7 @@ impl Written<Borrowed> for BorrowedMount<'_> {
     }
 }
 
-// `VolumeCapability.access_type` of a kind.
+// Appends `VolumeCapability.access_type` for a kind.
 #[tactic(auto, unfolding(pbmessage::specs::Canon::row_fields))]
 fn put_kind(out: &mut Vec<u8>, kind: &Kind) -> Result<(), AllocError>
     ensures ok { OnOk result (out.new.items
@@ -55,7 +56,7 @@ fn put_kind(out: &mut Vec<u8>, kind: &Kind) -> Result<(), AllocError>
     }
 }
 
-// `VolumeCapability` of a key.
+// The `VolumeCapability` with this key.
 #[derive(Drop)]
 struct BorrowedKey<'a> {
     key: &'a CapKey,
@@ -75,7 +76,7 @@ impl Written<Borrowed> for BorrowedKey<'_> {
     }
 }
 
-// The capabilities of keys, each in a field 3.
+// Appends the capability of each key as field 3.
 #[tactic(auto, unfolding(pbmessage::specs::Canon::row_fields))]
 fn put_keys(out: &mut Vec<u8>, keys: &[CapKey]) -> Result<(), AllocError>
     ensures bytes { OnOk result (out.new.items ≡ out.old.items ++ caps_bytes keys.now) }
@@ -87,11 +88,11 @@ fn put_keys(out: &mut Vec<u8>, keys: &[CapKey]) -> Result<(), AllocError>
     Ok(())
 }
 
-/// The canonical bytes of capabilities, as they are in a column.
+/// Encodes the capabilities with these keys into the canonical bytes of the column `caps`.
 ///
 /// # Errors
 ///
-/// Where memory was refused.
+/// If memory is refused.
 pub fn write_caps(alloc: Global, keys: &[CapKey]) -> Result<Vec<u8>, AllocError>
     ensures bytes { IfOk result (λ out. out.items ≡ caps_bytes keys.now) }
     ensures fits { OnOk result (FitCaps keys.now) }
@@ -101,12 +102,12 @@ pub fn write_caps(alloc: Global, keys: &[CapKey]) -> Result<Vec<u8>, AllocError>
     Ok(out)
 }
 
-/// The canonical bytes of parameters and of mutable parameters, as they are in a column. Without
-/// mutable parameters they are those of the parameters alone.
+/// Encodes parameters and mutable parameters into the canonical bytes of the column `params`. Mutable
+/// parameters that are empty add no bytes.
 ///
 /// # Errors
 ///
-/// Where memory was refused.
+/// If memory is refused.
 #[tactic(auto, using(crate::specs::facts::Writing::params_written))]
 pub fn write_params(alloc: Global, params: &Map, mutable: &Map) -> Result<Vec<u8>, AllocError>
     ensures bytes { IfOk result (λ out. out.items ≡ params_bytes params.now mutable.now) }

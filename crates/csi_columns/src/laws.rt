@@ -1,10 +1,10 @@
-//! The law of the bytes in columns.
+//! The law of the bytes in the columns.
 
 ghost use Rattle.csi_columns.specs.Encoding.{ReadsBack};
 
 use csi_codec::laws::{read_as_meant, round_trip};
 
-/// The bytes that are written of a request that fits are read as that request.
+/// Decoding the bytes that a fitting request was encoded to gives the same request.
 #[inline(always)]
 pub fn read_back()
     ensures { ReadsBack }

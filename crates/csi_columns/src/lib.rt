@@ -1,9 +1,11 @@
-//! Volumes and attachments as rows of tables, and their capabilities and parameters as bytes in a column.
+//! The form of volumes and attachments as rows of tables, and of their capabilities and parameters as bytes
+//! in a column.
 //!
-//! [`write_caps`] and [`write_params`] write these bytes (`encoding.rt`): the canonical bytes of a
-//! `CreateVolumeRequest` that has nothing else (`specs/Encoding.antt`). `specs/Entries.antt` has the rows
-//! that represent a volume and an attachment, and `specs/facts/` what several crates need about both. Crates
-//! above read the columns: `csi_tables` reads what it wrote, `csi_constraints` judges any bytes.
+//! [`write_caps`] and [`write_params`] encode these bytes (`encoding.rt`): the canonical bytes of a
+//! `CreateVolumeRequest` that has no other field set (`specs/Encoding.antt`). `specs/Entries.antt` defines
+//! the rows that represent a volume and an attachment, and `specs/facts/` what several crates need about
+//! both. Crates above decode the columns: `csi_tables` decodes what it wrote, `csi_constraints` tests any
+//! bytes.
 //!
 //! ```rust
 //! let caps = write_caps(alloc, volume.caps.as_slice())?;

@@ -1,4 +1,4 @@
-//! The configuration.
+//! A configuration without faults.
 
 ghost use Rattle.std.specs.Prelude.{◌≡◌, IfOk, IfErr, OnOk, Some, None};
 ghost use Rattle.csi_config.specs.Faults.{fault_of};
@@ -10,22 +10,23 @@ use crate::pools::{Pool, check_bytes, check_names, check_segments};
 use crate::sizes::{Sizes, check_sizes};
 use csi_types::Items;
 
-/// A configuration, which has none of the faults of [`ConfigFault`]: so it was made by [`Config::new`],
-/// or its maker has proved as much.
+/// A configuration, which has none of the faults of [`ConfigFault`]: either [`Config::new`] made it, or the
+/// code that made it has proved that.
 #[derive(Debug)]
 pub struct Config {
-    /// Who the plugin is.
+    /// The name and the version of the plugin.
     pub plugin: Plugin,
-    /// The sizes of volumes.
+    /// The default size and the greatest size of a volume.
     pub sizes: Sizes,
-    /// The pools, in the order in which they are tried.
+    /// The pools, at least 1 and at most 16, in the order in which a new volume tries them.
     pub pools: Items<Pool>,
-    /// The nodes that volumes can be published at, at most 64.
+    /// The nodes that volumes can be published to, at most 64.
     pub nodes: Items<Node>,
     ghost faultless: { fault_of plugin sizes pools nodes ≡ None },
 }
 
-// Written out, so that what drops one has one call for it, and its proof no branch for each of its parts.
+// Written out, so that code which drops a configuration has one call for that, and its proof no branch for
+// each part.
 impl Drop for Config {
     #[inline(always)]
     fn drop(self) {
@@ -39,7 +40,7 @@ impl Drop for Config {
 }
 
 impl Config {
-    /// A configuration of these parts. It takes no memory.
+    /// Makes a configuration of these parts. It takes no memory.
     ///
     /// # Errors
     ///
@@ -69,28 +70,28 @@ impl Config {
         })
     }
 
-    /// Who the plugin is.
+    /// The name and the version of the plugin.
     pub fn plugin(&self) -> &Plugin
         ensures { result.now ≡ self.now.plugin }
     {
         &self.plugin
     }
 
-    /// The sizes of volumes.
+    /// The default size and the greatest size of a volume.
     pub fn sizes(&self) -> &Sizes
         ensures { result.now ≡ self.now.sizes }
     {
         &self.sizes
     }
 
-    /// The pools, in the order in which they are tried.
+    /// The pools, at least 1 and at most 16, in the order in which a new volume tries them.
     pub fn pools(&self) -> &[Pool]
         ensures { result.now ≡ self.now.pools }
     {
         self.pools.as_slice()
     }
 
-    /// The nodes, in the order of the configuration.
+    /// The nodes, at most 64, in the order of the configuration file.
     pub fn nodes(&self) -> &[Node]
         ensures { result.now ≡ self.now.nodes }
     {

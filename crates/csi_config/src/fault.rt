@@ -1,18 +1,18 @@
-//! Why parts make no configuration.
+//! The faults that make a configuration invalid.
 
 use csi_types::Text;
 use thiserror::Error;
 
-/// A broken rule of the two sizes of volumes.
+/// Which rule the default size and the greatest size of a volume break.
 #[derive(Clone, Copy, Debug, Error)]
 pub enum SizeRule {
-    /// The default size is 0 or no multiple of 1 MiB.
+    /// The default size is 0 or not a multiple of 1 MiB.
     #[error("the default size is not a positive multiple of 1048576 bytes")]
     Default,
-    /// The greatest size is 0 or no multiple of 1 MiB.
+    /// The greatest size is 0 or not a multiple of 1 MiB.
     #[error("the greatest size is not a positive multiple of 1048576 bytes")]
     Greatest,
-    /// The default size is above the greatest.
+    /// The default size is above the greatest size.
     #[error("the default size is above the greatest")]
     Order,
     /// The greatest size is above 2^62 bytes.
@@ -20,19 +20,19 @@ pub enum SizeRule {
     Limit,
 }
 
-/// A broken rule of a pool.
+/// Which rule a pool breaks.
 #[derive(Clone, Copy, Debug, Error)]
 pub enum PoolRule {
     /// The name is not 1 to 63 ASCII letters, digits, `-`, `_` and `.`.
     #[error("the name is not 1 to 63 ASCII letters, digits, '-', '_' and '.'")]
     Name,
-    /// An earlier pool has the name.
+    /// An earlier pool of the configuration has the same name.
     #[error("an earlier pool has the name")]
     NameTwice,
-    /// The bytes are 0 or no multiple of 1 MiB.
+    /// The size is 0 or not a multiple of 1 MiB.
     #[error("the bytes are not a positive multiple of 1048576")]
     Bytes,
-    /// There are more than 8 segments.
+    /// The pool has more than 8 segments.
     #[error("there are more than 8 segments")]
     Segments,
     /// The key of a segment is empty.
@@ -44,18 +44,18 @@ pub enum PoolRule {
     /// The value of a segment has more than 128 bytes.
     #[error("a segment's value is longer than 128 bytes")]
     ValueTooLong,
-    /// Two keys differ at most in the case of ASCII letters.
+    /// Two keys of segments are equal, ignoring the case of ASCII letters.
     #[error("two segments have keys that are equal but for the case of letters")]
     KeysAlike,
 }
 
-/// A broken rule of a node.
+/// Which rule a node breaks.
 #[derive(Clone, Copy, Debug, Error)]
 pub enum NodeRule {
-    /// The id is not 1 to 256 bytes, or has one below 0x20 or 0x7F.
+    /// The id is empty, is longer than 256 bytes, or contains a byte below 0x20 or the byte 0x7F.
     #[error("the id is not 1 to 256 bytes without control characters")]
     Id,
-    /// An earlier node has the id.
+    /// An earlier node of the configuration has the same id.
     #[error("an earlier node has the id")]
     IdTwice,
     /// The greatest number of volumes is 0 or above 100,000.
@@ -63,11 +63,11 @@ pub enum NodeRule {
     Volumes,
 }
 
-/// Why parts make no configuration. Its `Display` names what is wrong, and which rule it breaks.
+/// Why a configuration is invalid. Its `Display` names the faulty item and the rule that it breaks.
 #[derive(Debug, Drop, Error)]
 pub enum ConfigFault {
-    /// The plugin's name is not 1 to 63 ASCII letters, digits, `-` and `.`, the first and the last a
-    /// letter or digit.
+    /// The plugin's name is not 1 to 63 ASCII letters, digits, `-` and `.`, or its first or last byte is
+    /// not a letter or digit.
     #[error("plugin name {name}: it is not 1 to 63 ASCII letters, digits, '-' and '.', the first and the last a letter or digit")]
     PluginName {
         /// The plugin's name, as it was given.
@@ -76,33 +76,33 @@ pub enum ConfigFault {
     /// The plugin's version is empty or has more than 128 bytes.
     #[error("the plugin's version is not 1 to 128 bytes")]
     PluginVersion,
-    /// The sizes of volumes break a rule.
+    /// The default size or the greatest size of a volume breaks a rule.
     #[error(transparent)]
     Sizes(SizeRule),
-    /// There is no pool.
+    /// The configuration has no pool.
     #[error("there is no pool")]
     NoPool,
-    /// There are more than 16 pools.
+    /// The configuration has more than 16 pools.
     #[error("there are more than 16 pools")]
     TooManyPools,
-    /// The bytes of all pools together are above 2^62.
+    /// The sizes of all pools add up to more than 2^62 bytes.
     #[error("the bytes of all pools together are above 2^62")]
     AllBytes,
     /// A pool breaks a rule.
     #[error("pool {name}: {rule}")]
     Pool {
-        /// The pool's name, or its number if the name is not read.
+        /// The name of the pool; its number, counted from 1, if the file gives no name.
         name: Text,
         /// The first rule that the pool breaks.
         rule: PoolRule,
     },
-    /// There are more than 64 nodes.
+    /// The configuration has more than 64 nodes.
     #[error("there are more than 64 nodes")]
     TooManyNodes,
     /// A node breaks a rule.
     #[error("node {id}: {rule}")]
     Node {
-        /// The node's id, or its number if the id is not read.
+        /// The id of the node; its number, counted from 1, if the file gives no id.
         id: Text,
         /// The first rule that the node breaks.
         rule: NodeRule,

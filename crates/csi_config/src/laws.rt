@@ -1,5 +1,5 @@
-//! What a configuration has, as it has none of the faults: each law is the contract of a function that
-//! does nothing.
+//! Laws of a configuration, which follow because it has none of the faults. Each law is the contract of a
+//! function that does nothing.
 
 ghost use Rattle.std.specs.Prelude.{◌≡◌, ◌≤◌, ◌<◌, ◌^◌, false, true, length};
 ghost use Rattle.std.specs.FinMap.{len};
@@ -16,7 +16,8 @@ use crate::nodes::Node;
 use crate::pools::Pool;
 use csi_types::laws::pairs;
 
-/// The plugin's name and version are within their limits.
+/// The plugin's name has 1 to 63 bytes and the form that [`Plugin`](crate::Plugin) states, and its version
+/// has 1 to 128 bytes.
 #[inline(always)]
 pub fn plugin_named(config: &Config)
     ensures name { is_plugin_name config.now.plugin.name ≡ true }
@@ -26,7 +27,8 @@ pub fn plugin_named(config: &Config)
     ensures version_short { length config.now.plugin.version ≤ MAX_TEXT_BYTES }
 {}
 
-/// Sizes are positive multiples of 1 MiB, the default at most the greatest, and that at most 2^62.
+/// The two sizes are positive multiples of 1 MiB. The default size is at most the greatest size, and the
+/// greatest size is at most 2^62 bytes.
 #[inline(always)]
 pub fn sizes_whole(config: &Config)
     ensures default { is_whole config.now.sizes.default_bytes ≡ true }
@@ -35,7 +37,7 @@ pub fn sizes_whole(config: &Config)
     ensures limit { config.now.sizes.greatest_bytes ≤ 2 ^ 62 }
 {}
 
-/// There are 1 to 16 pools, each with a name within its limits.
+/// There are 1 to 16 pools, each with a valid name.
 #[inline(always)]
 pub fn pools_named(config: &Config)
     ensures positive { 0 < length config.now.pools }
@@ -43,7 +45,7 @@ pub fn pools_named(config: &Config)
     ensures names { (p : Pool) → Has config.now.pools p → is_pool_name p.name ≡ true }
 {}
 
-/// No two pools have one name.
+/// No two pools have the same name.
 #[inline(always)]
 pub fn pool_names_differ(config: &Config)
     ensures { (p q : Pool) → Has config.now.pools p → Has config.now.pools q → p.name ≡ q.name → p ≡ q }
@@ -51,7 +53,7 @@ pub fn pool_names_differ(config: &Config)
     pairs::<Pool>();
 }
 
-/// Each pool's bytes are a positive multiple of 1 MiB, and all together at most 2^62.
+/// The size of each pool is a positive multiple of 1 MiB, and the sizes add up to at most 2^62 bytes.
 #[inline(always)]
 pub fn pool_bytes_whole(config: &Config)
     ensures in_granules { (p : Pool) → Has config.now.pools p → is_whole p.bytes ≡ true }
@@ -59,14 +61,15 @@ pub fn pool_bytes_whole(config: &Config)
     ensures all { all_bytes config.now.pools ≤ 2 ^ 62 }
 {}
 
-/// Each pool has at most 8 segments, and no two keys that are equal when their ASCII letters are folded.
+/// Each pool has at most 8 segments, and no two keys of a pool are equal, ignoring the case of ASCII
+/// letters.
 #[inline(always)]
 pub fn pool_keys_differ(config: &Config)
     ensures bounded { (p : Pool) → Has config.now.pools p → len p.segments ≤ MAX_SEGMENTS }
     ensures differ { (p : Pool) → Has config.now.pools p → has_alike_keys p.segments ≡ false }
 {}
 
-/// There are at most 64 nodes, and no two have one id.
+/// There are at most 64 nodes, and no two have the same id.
 #[inline(always)]
 pub fn node_ids_differ(config: &Config)
     ensures bounded { length config.now.nodes ≤ MAX_NODES }
@@ -75,7 +78,7 @@ pub fn node_ids_differ(config: &Config)
     pairs::<Node>();
 }
 
-/// Each node's greatest number of volumes is 1 to 100,000.
+/// The greatest number of volumes of each node is between 1 and 100,000, both included.
 #[inline(always)]
 pub fn node_volumes_few(config: &Config)
     ensures positive { (n : Node) → Has config.now.nodes n → 0 < n.max_volumes }

@@ -1,11 +1,13 @@
-//! The configuration of the plugin: who it is, the sizes of its volumes, its pools and its nodes.
+//! The configuration of the plugin: its name and version, the sizes of its volumes, its pools and its
+//! nodes.
 //!
-//! `specs/Faults.antt` is the table of faults, a definition a line; `fault_of` is the first that holds.
-//! `plugin.rt`, `sizes.rt`, `pools.rt` and `nodes.rt` each hold one part and its checks: a check takes the
-//! part, and gives it back or gives a fault that keeps the name of what is wrong, so no memory is taken.
-//! [`Config::new`] runs them in the order of the table. A `Config` has public fields, which all may read, and
-//! a ghost field, `faultless`, that no line of the table holds; [`laws`] says what follows from that, for
-//! layers above to cite. [`Config::sample`] is the sample configuration.
+//! `specs/Faults.antt` is the table of faults, one definition a line; `fault_of` returns the first fault.
+//! `plugin.rt`, `sizes.rt`, `pools.rt` and `nodes.rt` each define one part of a configuration and its
+//! checks. A check takes the part, and returns it or a fault that owns the name of the faulty item, so it
+//! takes no memory. [`Config::new`] runs the checks in the order of the table. A `Config` has public
+//! fields, which any code may read, and a ghost field `faultless`, which proves that it has none of the
+//! faults; [`laws`] lists what follows from that, for the crates above. [`Config::sample`] is the sample
+//! configuration.
 //!
 //! ```rust
 //! let config = Config::new(plugin, sizes, pools, nodes)?;

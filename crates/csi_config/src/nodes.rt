@@ -10,12 +10,13 @@ use crate::fault::{ConfigFault, NodeRule};
 use crate::rule::{Ruled, check_rule};
 use csi_types::{MAX_NODE_ID_BYTES, MAX_NODES, MAX_VOLUMES, Text};
 
-/// A node, at which volumes are published (CSI specification, 'ControllerPublishVolume').
+/// A node to which volumes can be published (CSI specification, 'ControllerPublishVolume').
 #[derive(Debug, Drop)]
 pub struct Node {
-    /// Its id: 1 to 256 bytes, none below 0x20 or 0x7F.
+    /// The id of the node (`ControllerPublishVolumeRequest.node_id`): 1 to 256 bytes, without bytes below
+    /// 0x20 and without 0x7F.
     pub id: Text,
-    /// The most volumes published there at once: 1 to 100,000.
+    /// The greatest number of volumes that can be published to the node at once: 1 to 100,000.
     pub max_volumes: u64,
 }
 
@@ -38,7 +39,7 @@ fn is_bad_id(id: &[u8]) -> bool
     id.is_empty() || id.len() > MAX_NODE_ID_BYTES || has_bad_byte(id)
 }
 
-// Whether a node among the first `count` has the id.
+// Whether one of the first `count` nodes has the id.
 fn has_id_before(nodes: &[Node], count: usize, id: &Text) -> bool
     ensures { result ≡ list_any (λ n. same_text n.id id.now) (take count nodes.now) }
 {
@@ -67,7 +68,11 @@ impl Ruled for Node {
     }
 }
 
-/// Gives the nodes back, or the first fault of their number and their ids.
+/// Returns the nodes.
+///
+/// # Errors
+///
+/// If there are too many nodes, or an id is invalid or occurs twice.
 #[tactic(auto, unfolding(crate::specs::Faults::node_ids_fault))]
 pub(crate) fn check_ids(nodes: Vec<Node>) -> Result<Vec<Node>, ConfigFault>
     ensures unchanged { IfOk result (λ same. same.items ≡ nodes.items) }
@@ -81,7 +86,11 @@ pub(crate) fn check_ids(nodes: Vec<Node>) -> Result<Vec<Node>, ConfigFault>
     check_rule(NodeRule::IdTwice, known)
 }
 
-/// Gives the nodes back, or the first fault of their greatest numbers of volumes.
+/// Returns the nodes.
+///
+/// # Errors
+///
+/// If the greatest number of volumes of a node is out of range.
 #[tactic(auto, unfolding(crate::specs::Faults::node_volumes_fault))]
 pub(crate) fn check_volumes(nodes: Vec<Node>) -> Result<Vec<Node>, ConfigFault>
     ensures unchanged { IfOk result (λ same. same.items ≡ nodes.items) }

@@ -1,4 +1,4 @@
-//! Who the plugin is.
+//! The name and the version of the plugin.
 
 ghost use Rattle.std.specs.Prelude.{◌≡◌, None, OnOk, IfOk, IfErr, Some};
 ghost use Rattle.std.specs.List.{list_all};
@@ -7,18 +7,19 @@ ghost use Rattle.csi_config.specs.Faults.{is_plugin_byte, is_plugin_name, plugin
 use crate::fault::ConfigFault;
 use csi_types::{MAX_TEXT_BYTES, Text};
 
-/// The most bytes of the name of the plugin and of a pool (CSI specification, 'GetPluginInfo': at
-/// most 63 characters, after the form of a domain name).
+/// The greatest length of the name of the plugin or of a pool, in bytes (CSI specification,
+/// 'GetPluginInfo': at most 63 characters, in the form of a domain name).
 pub const MAX_NAME_BYTES: usize = 63;
 
 const _: () = prove!(MAX_NAME_BYTES == 63);
 
-/// Who the plugin is (CSI specification, 'GetPluginInfo').
+/// The name and the version of the plugin (CSI specification, 'GetPluginInfo').
 #[derive(Debug, Drop)]
 pub struct Plugin {
-    /// `name`: 1 to 63 ASCII letters, digits, `-` and `.`, the first and the last a letter or digit.
+    /// `GetPluginInfoResponse.name`: 1 to 63 ASCII letters, digits, `-` and `.`. The first and the last
+    /// byte are a letter or digit.
     pub name: Text,
-    /// `vendor_version`: 1 to 128 bytes.
+    /// `GetPluginInfoResponse.vendor_version`: 1 to 128 bytes.
     pub version: Text,
 }
 
@@ -44,7 +45,11 @@ fn is_plugin_name(name: &[u8]) -> bool
     name[0].is_ascii_alphanumeric() && name[name.len() - 1].is_ascii_alphanumeric()
 }
 
-/// Gives the plugin back, or its first fault.
+/// Returns the plugin.
+///
+/// # Errors
+///
+/// If its name or its version is invalid; the name is checked first.
 #[tactic(auto, unfolding(crate::specs::Faults::plugin_fault))]
 pub(crate) fn check_plugin(plugin: Plugin) -> Result<Plugin, ConfigFault>
     ensures unchanged { IfOk result (λ same. same ≡ plugin) }

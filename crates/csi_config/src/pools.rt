@@ -15,16 +15,16 @@ use csi_types::{
     MAX_POOL_BYTES, MAX_POOLS, MAX_SEGMENTS, MAX_TEXT_BYTES, Map, Text, has_alike_keys,
 };
 
-/// A pool of bytes, from which volumes are made.
+/// A pool of storage. Each volume takes its bytes from one pool.
 #[derive(Debug, Drop)]
 pub struct Pool {
-    /// Its name: 1 to 63 ASCII letters, digits, `-`, `_` and `.`.
+    /// The name of the pool: 1 to 63 ASCII letters, digits, `-`, `_` and `.`.
     pub name: Text,
-    /// The size in bytes: a positive multiple of 1 MiB, and at most 2^62 in all pools together.
+    /// The size in bytes: a positive multiple of 1 MiB. The sizes of all pools add up to at most 2^62.
     pub bytes: u64,
-    /// The topology from which its volumes are reached, at most 8 segments; without any they are
-    /// reached from everywhere (CSI specification, 'CreateVolume', `Topology`). Keys have 1 to 128
-    /// bytes and differ when their ASCII letters are folded, values have at most 128.
+    /// The topology from which the pool's volumes are accessible, at most 8 segments; without segments they
+    /// are accessible from everywhere (CSI specification, 'CreateVolume', `Topology`). Keys have 1 to 128
+    /// bytes, and no two are equal ignoring the case of ASCII letters. Values have at most 128 bytes.
     pub segments: Map,
 }
 
@@ -47,7 +47,7 @@ fn is_pool_name(name: &[u8]) -> bool
     !name.is_empty() && name.len() <= MAX_NAME_BYTES && are_pool_bytes(name)
 }
 
-// Whether a pool among the first `count` has the name.
+// Whether one of the first `count` pools has the name.
 fn is_named_before(pools: &[Pool], count: usize, name: &Text) -> bool
     ensures { result ≡ list_any (λ p. same_text p.name name.now) (take count pools.now) }
 {
@@ -57,7 +57,7 @@ fn is_named_before(pools: &[Pool], count: usize, name: &Text) -> bool
         .any(|earlier| earlier.name == *name)
 }
 
-// Whether a segment breaks a rule of keys and values.
+// Whether a segment breaks a rule of its key or its value.
 fn breaks_segment(rule: PoolRule, key: &Text, value: &Text) -> bool
     ensures { result ≡ breaks_segment rule (key.now, value.now) }
 {
@@ -107,7 +107,11 @@ impl Ruled for Pool {
     }
 }
 
-/// Gives the pools back, or the first fault of their number and their names.
+/// Returns the pools.
+///
+/// # Errors
+///
+/// If there is no pool or too many, or a name is invalid or occurs twice.
 #[tactic(auto, unfolding(crate::specs::Faults::pool_names_fault))]
 pub(crate) fn check_names(pools: Vec<Pool>) -> Result<Vec<Pool>, ConfigFault>
     ensures unchanged { IfOk result (λ same. same.items ≡ pools.items) }
@@ -124,7 +128,7 @@ pub(crate) fn check_names(pools: Vec<Pool>) -> Result<Vec<Pool>, ConfigFault>
     check_rule(PoolRule::NameTwice, named)
 }
 
-// The bytes of all pools, up to the greatest number of 64 bits.
+// Returns the sum of the sizes of all pools in bytes, at most 2^64 - 1.
 fn all_bytes(pools: &[Pool]) -> u64
     ensures { result ≡ min (all_bytes pools.now) (2 ^ 64 - 1) }
 {
@@ -135,7 +139,11 @@ fn all_bytes(pools: &[Pool]) -> u64
     sum
 }
 
-/// Gives the pools back, or the first fault of their bytes.
+/// Returns the pools.
+///
+/// # Errors
+///
+/// If the size of a pool is invalid, or the sizes add up to more than 2^62 bytes.
 #[tactic(auto, unfolding(crate::specs::Faults::pool_bytes_fault))]
 pub(crate) fn check_bytes(pools: Vec<Pool>) -> Result<Vec<Pool>, ConfigFault>
     ensures unchanged { IfOk result (λ same. same.items ≡ pools.items) }
@@ -149,7 +157,11 @@ pub(crate) fn check_bytes(pools: Vec<Pool>) -> Result<Vec<Pool>, ConfigFault>
     Ok(whole)
 }
 
-/// Gives the pools back, or the first fault of their segments.
+/// Returns the pools.
+///
+/// # Errors
+///
+/// If the segments of a pool break a rule.
 #[tactic(auto, unfolding(crate::specs::Faults::segments_fault))]
 pub(crate) fn check_segments(pools: Vec<Pool>) -> Result<Vec<Pool>, ConfigFault>
     ensures unchanged { IfOk result (λ same. same.items ≡ pools.items) }

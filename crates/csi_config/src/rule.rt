@@ -1,34 +1,35 @@
-//! Rules that each item of a list must meet, and the first item that breaks one.
+//! Rules that each item of a list must meet, and the search for the first item that breaks a rule.
 
 ghost use Rattle.std.specs.Prelude.{◌≡◌, ◌<◌, take, None, OnOk, IfOk, IfErr, IfSome, Some, length};
 ghost use Rattle.csi_config.specs.Faults.{first_broken, place_broken};
 
 use crate::fault::ConfigFault;
 
-/// An item in a list of a configuration. It has a name, which a fault says.
+/// An item in a list of a configuration. It has a name, which a fault contains.
 pub(crate) trait Ruled: Drop {
     ghost use Rattle.std.specs.Prelude.{ℕ, Bool, List};
     ghost use Rattle.csi_config.specs.declared.fault.ConfigFault.{ConfigFault};
 
     type Rule: Copy;
 
-    // An item, after some earlier ones, breaks a rule; its name; the fault by a name and the rule.
+    // Whether an item that comes after earlier items breaks a rule; its name; the fault with a name and a
+    // rule.
     ghost breaks_rule: { Self.Rule → List Self → Self → Bool };
 
     ghost name_of: { Self → List ℕ };
 
     ghost fault_of: { List ℕ → Self.Rule → ConfigFault };
 
-    /// Whether an item, which comes after the first `count`, breaks a rule.
+    /// Whether an item breaks a rule, given the first `count` items, which come before it.
     fn breaks(rule: Self::Rule, items: &[Self], count: usize, item: &Self) -> bool
         ensures { result ≡ breaks_rule rule (take count items.now) item.now };
 
-    /// The fault that names the item.
+    /// Makes the fault that contains the item's name and the rule.
     fn fault(self, rule: Self::Rule) -> ConfigFault
         ensures { result ≡ fault_of (name_of self) rule };
 }
 
-// The place of the first item that breaks a rule.
+// Returns the place of the first item that breaks a rule, counted from 0.
 fn place_of<T: Ruled>(rule: T::Rule, items: &[T]) -> Option<usize>
     ensures value { result ≡ place_broken T.breaks_rule rule items.now }
     ensures within { IfSome result (λ place. place < length items.now) }
@@ -39,7 +40,11 @@ fn place_of<T: Ruled>(rule: T::Rule, items: &[T]) -> Option<usize>
         .position(|(place, item)| T::breaks(rule, items, place, item))
 }
 
-/// Gives the items back, or the fault of the first of them that breaks a rule.
+/// Returns the items.
+///
+/// # Errors
+///
+/// The fault of the first item that breaks the rule.
 pub(crate) fn check_rule<T: Ruled>(rule: T::Rule, mut items: Vec<T>) -> Result<Vec<T>, ConfigFault>
     ensures unchanged { IfOk result (λ same. same.items ≡ items.items) }
     ensures passed { OnOk result (first_broken T.breaks_rule T.name_of T.fault_of rule items.items ≡ None) }

@@ -20,7 +20,7 @@ fn plugin(alloc: Global) -> Result<Plugin, AllocError>
     })
 }
 
-// A pool with one segment, `zone`.
+// Makes a pool with one segment, whose key is `zone`.
 fn pool(alloc: Global, name: &str, bytes: u64, zone: &str) -> Result<Pool, AllocError>
     ensures { IfOk result (λ pool. pool ≡ sample_pool name.now bytes zone.now) }
 {
@@ -33,7 +33,7 @@ fn pool(alloc: Global, name: &str, bytes: u64, zone: &str) -> Result<Pool, Alloc
     })
 }
 
-// A node for two volumes.
+// Makes a node to which two volumes can be published.
 fn node(alloc: Global, id: &str) -> Result<Node, AllocError>
     ensures { IfOk result (λ node. node ≡ sample_node id.now) }
 {
@@ -62,9 +62,13 @@ fn nodes(alloc: Global) -> Result<Vec<Node>, AllocError>
 }
 
 impl Config {
-    /// The sample: the plugin `pools.example.org` in version 1.0.0, volumes of 1 MiB by default and 8
-    /// MiB at most, the pool `p1` of 10 MiB in zone `a`, the pool `p2` of 4 MiB in zone `b`, and the
-    /// nodes `n1` and `n2` for two volumes each.
+    /// Makes the sample configuration: the plugin `pools.example.org` in version 1.0.0, volumes of 1 MiB by
+    /// default and 8 MiB at most, the pool `p1` of 10 MiB in zone `a`, the pool `p2` of 4 MiB in zone `b`,
+    /// and the nodes `n1` and `n2` for two volumes each.
+    ///
+    /// # Errors
+    ///
+    /// If memory is refused.
     pub fn sample(alloc: Global) -> Result<Self, AllocError>
         ensures plugin { IfOk result (λ config. config.plugin ≡ sample_plugin) }
         ensures default { IfOk result (λ config. config.sizes.default_bytes ≡ 1_048_576) }

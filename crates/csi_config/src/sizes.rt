@@ -1,4 +1,4 @@
-//! The sizes of volumes.
+//! The default size and the greatest size of a volume.
 
 ghost use Rattle.std.specs.Prelude.{◌≡◌, None, OnOk, IfErr, Some};
 ghost use Rattle.csi_config.specs.Faults.{broken_sizes, is_whole, sizes_fault};
@@ -11,12 +11,12 @@ pub const GRANULE_BYTES: u64 = 1_048_576;
 
 const _: () = prove!(GRANULE_BYTES == 1_048_576);
 
-/// The sizes of volumes: positive multiples of 1 MiB.
+/// The default size and the greatest size of a volume. Both are positive multiples of 1 MiB.
 #[derive(Clone, Copy, Debug)]
 pub struct Sizes {
-    /// The size of a volume for which none is asked, in bytes.
+    /// The size in bytes of a volume created without a requested size.
     pub default_bytes: u64,
-    /// The greatest size of a volume, in bytes: at least the default, and at most 2^62.
+    /// The greatest size of a volume in bytes: at least the default size, and at most 2^62.
     pub greatest_bytes: u64,
 }
 
@@ -43,7 +43,11 @@ fn broken_rule(sizes: &Sizes) -> Option<SizeRule>
     }
 }
 
-/// The first fault of the sizes, or `Ok` where they have none.
+/// Checks the two sizes.
+///
+/// # Errors
+///
+/// The first rule that they break, in the order of [`SizeRule`].
 #[tactic(auto, unfolding(crate::specs::Faults::sizes_fault))]
 pub(crate) fn check_sizes(sizes: &Sizes) -> Result<(), ConfigFault>
     ensures passed { OnOk result (sizes_fault sizes.now ≡ None) }

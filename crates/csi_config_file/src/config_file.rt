@@ -1,6 +1,7 @@
-//! A configuration from its text, a TOML document (TOML 1.0).
+//! Reads a configuration from a TOML document (TOML 1.0).
 //!
-//! It is read key by key: a derived reader has no clause on the value, and says little of what is wrong.
+//! The document is read key by key, because a derived reader has no contract on the value and describes
+//! faults poorly.
 
 ghost use Rattle.std.specs.Prelude.{◌≡◌, IfOk, OnOk, Some, None, if◌then◌else◌, option_and_then, option_map};
 ghost use Rattle.std.specs.FinMap.{insert};
@@ -19,14 +20,15 @@ use std::fmt;
 use thiserror::Error;
 use toml::{Table, Value};
 
-/// A part of the document.
+/// A part of a configuration file. Its `Display` is a prefix for messages, such as `pool 1:`; it is empty
+/// for [`Section::Top`].
 #[derive(Clone, Copy, Debug)]
 pub enum Section {
-    /// The keys before the first section.
+    /// The top of the document: the keys before the first table.
     Top,
-    /// A table of the array `pool`, by its number from 1.
+    /// A table of the array `pool`: its number, counted from 1.
     Pool(usize),
-    /// A table of the array `node`, by its number from 1.
+    /// A table of the array `node`: its number, counted from 1.
     Node(usize),
 }
 
@@ -40,33 +42,33 @@ impl fmt::Display for Section {
     }
 }
 
-/// A key of a configuration. It is displayed as it is written.
+/// A key of a configuration file. Its `Display` is the key as it is written in the file.
 #[derive(Clone, Copy, Debug)]
 pub enum Key {
-    /// The plugin's name, and the name of a pool.
+    /// `name`, the name of the plugin or of a pool.
     Name,
-    /// `vendor_version`, the plugin's version.
+    /// `vendor_version`, the version of the plugin.
     VendorVersion,
-    /// The size of a volume for which none is asked.
+    /// `default_bytes`, the size of a volume created without a requested size.
     DefaultBytes,
-    /// The greatest size of a volume.
+    /// `greatest_bytes`, the greatest size of a volume.
     GreatestBytes,
     /// `[[pool]]`, the array of pools.
     Pool,
-    /// `bytes`, the size of a pool.
+    /// `bytes`, the size of a pool in bytes.
     Bytes,
-    /// The topology of a pool.
+    /// `segments`, the topology of a pool: a table of texts.
     Segments,
     /// `[[node]]`, the array of nodes.
     Node,
-    /// The id of a node.
+    /// `id`, the id of a node.
     Id,
-    /// The greatest number of volumes of a node.
+    /// `max_volumes`, the greatest number of volumes that can be published to a node.
     MaxVolumes,
 }
 
 impl Key {
-    // The key as it is written in the file.
+    // Returns the key as it is written in the file.
     pub(crate) fn text(self) -> &'static str
         ensures { result.now ≡ key_text self }
     {
@@ -91,49 +93,50 @@ impl fmt::Display for Key {
     }
 }
 
-/// A fault of one key.
+/// Which rule a key or its value breaks.
 #[derive(Clone, Copy, Debug, Error)]
 pub enum KeyRule {
-    /// A required key is missing.
+    /// The key is required and missing.
     #[error("is missing")]
     Missing,
-    /// Its value is no text.
+    /// The value of the key is not a string.
     #[error("is no text")]
     Text,
-    /// Its value is no number from 0 to 2^63 - 1.
+    /// The value of the key is not an integer from 0 to 2^63 - 1.
     #[error("is no number from 0 to 2^63 - 1")]
     Count,
-    /// Its value is no array of tables.
+    /// The value of the key is not an array of tables.
     #[error("is no array of tables")]
     Tables,
-    /// Its value is no table of texts.
+    /// The value of the key is not a table of strings.
     #[error("is no table of texts")]
     Texts,
 }
 
-/// Why a text gives no configuration. Its `Display` is one line that says where.
+/// Why a document is not a valid configuration. Its `Display` is one line that names the place of the
+/// fault.
 #[derive(Debug, Drop, Error)]
 pub enum ConfigError {
-    /// The bytes are not UTF-8, or no TOML document.
+    /// The bytes are not UTF-8, or not a TOML document.
     #[error("line {line}: it is no TOML in UTF-8")]
     NotToml {
-        /// The line, from 1, at which this is seen.
+        /// The line of the first fault, counted from 1.
         line: usize,
     },
-    /// A key is missing, or its value is of another type.
+    /// A key is missing, or its value has the wrong type.
     #[error("{section}the key '{key}' {rule}")]
     Key {
-        /// Where the key is.
+        /// The part of the document that has or lacks the key.
         section: Section,
-        /// The key, which the file has or lacks.
+        /// The key that breaks the rule.
         key: Key,
         /// The rule that the key or its value breaks.
         rule: KeyRule,
     },
-    /// The parts make no configuration.
+    /// All keys were read, but the configuration breaks a rule.
     #[error("{0}")]
     Fault(ConfigFault),
-    /// Memory was refused.
+    /// Memory for reading was refused.
     #[error("out of memory")]
     NoMemory,
 }
@@ -172,7 +175,7 @@ fn insert_segment(
     segments.insert(key, Text::from_str(alloc, value)?)
 }
 
-// Adds the texts of a table, or says that it has something else.
+// Adds the texts of a table. Returns false if the table contains a value that is not a text.
 fn insert_texts(alloc: Global, table: &Table, texts: &mut Map) -> Result<bool, AllocError>
     ensures { IfOk result (λ all. with_texts texts.old (table_view table.now)
         ≡ (if all then Some texts.new else None)) }
@@ -214,7 +217,7 @@ impl<'a> Keys<'a> {
         }
     }
 
-    // The value of a key, if it is there.
+    // Returns the value of a key; `None` if the key is missing.
     pub(crate) fn find(&self, key: Key) -> Option<&'a Value>
         ensures { option_map (λ value. view value.now) result
             ≡ get_member (key_text key) (table_view self.now.table.now) }
@@ -222,7 +225,7 @@ impl<'a> Keys<'a> {
         self.table.get(key.text())
     }
 
-    // The array that a key has, if it has one.
+    // Returns the array of a key; `None` if the key is missing or its value is not an array.
     pub(crate) fn array(&self, key: Key) -> Option<&'a [Value]>
         ensures { option_map (λ array. items_view array.now) result
             ≡ option_and_then as_array (get_member (key_text key) (table_view self.now.table.now)) }
@@ -263,7 +266,7 @@ impl<'a> Keys<'a> {
         }
     }
 
-    // The segments of a pool; none where the key is missing.
+    // Returns the segments of a pool; an empty map if the key is missing.
     pub(crate) fn segments(&self, alloc: Global) -> Result<Map, ConfigError>
         ensures { IsRead (λ read. read) (texts_of self.now.section
             (get_member (key_text key_of.Segments) (table_view self.now.table.now))) result }
@@ -279,7 +282,7 @@ impl<'a> Keys<'a> {
     }
 }
 
-// The table that an element of an array of tables is.
+// Returns the keys of one element of an array of tables.
 pub(crate) fn element<'a>(
     value: &'a Value,
     key: Key,
@@ -317,7 +320,7 @@ fn node(alloc: Global, keys: Keys<'_>) -> Result<Node, ConfigError>
     })
 }
 
-// The pool that an element of the array is.
+// Reads a pool from an element of the array.
 fn pool_at(alloc: Global, value: &Value, number: usize) -> Result<Pool, ConfigError>
     ensures { IsRead (λ pool. pool) (pool_at number (view value.now)) result }
 {
@@ -344,7 +347,7 @@ fn pools(alloc: Global, table: &Table) -> Result<Vec<Pool>, ConfigError>
     }
 }
 
-// The node that an element of the array is.
+// Reads a node from an element of the array.
 fn node_at(alloc: Global, value: &Value, number: usize) -> Result<Node, ConfigError>
     ensures { IsRead (λ node. node) (node_at number (view value.now)) result }
 {
@@ -361,7 +364,7 @@ fn nodes_of(alloc: Global, array: &[Value]) -> Result<Vec<Node>, ConfigError>
     Ok(nodes)
 }
 
-// The nodes; none where the key is missing.
+// Reads the nodes; an empty list if the key is missing.
 fn nodes(alloc: Global, table: &Table) -> Result<Vec<Node>, ConfigError>
     ensures { IsRead (λ nodes. nodes.items)
         (nodes_in (get_member (key_text key_of.Node) (table_view table.now))) result }
@@ -406,7 +409,7 @@ fn config(alloc: Global, table: &Table) -> Result<Config, ConfigError>
     Config::new(plugin, sizes, pools, nodes).map_err(ConfigError::Fault)
 }
 
-// The line, from 1, that a place is in.
+// Returns the number of the line after these bytes, counted from 1.
 fn line_of(before: &[u8]) -> usize {
     before
         .iter()
@@ -415,19 +418,21 @@ fn line_of(before: &[u8]) -> usize {
         .saturating_add(1)
 }
 
-/// The configuration that a text gives: a TOML document with the keys `name`, `vendor_version`,
-/// `default_bytes`, `greatest_bytes`, the array of tables `pool` (`name`, `bytes` and, if it has any,
-/// `segments`) and, if there are any, `node` (`id`, `max_volumes`). Other keys are ignored.
+/// Reads a configuration from a TOML document. The document has the keys `name`, `vendor_version`,
+/// `default_bytes` and `greatest_bytes`, the array of tables `pool` (keys `name`, `bytes` and optionally
+/// `segments`), and optionally the array of tables `node` (keys `id` and `max_volumes`). Other keys are
+/// ignored.
 ///
 /// # Errors
 ///
-/// [`ConfigError::NotToml`] only where the bytes are not UTF-8, or no document by the grammar of TOML. Of a
-/// document the first key that is missing or of another type, in the order above; then the first fault of
-/// [`Config::new`].
+/// [`ConfigError::NotToml`] only if the bytes are not UTF-8 or not a TOML document. For a document, the
+/// first key in the order above that is missing or has a value of the wrong type; then the first fault of
+/// [`Config::new`]. [`ConfigError::NoMemory`] if memory is refused.
 ///
 /// # Not promised
 ///
-/// The line of a fault of TOML, which tests show. Want of memory says nothing of the document.
+/// Which line [`ConfigError::NotToml`] contains; tests show it. Whether the document has a fault if memory
+/// is refused.
 pub fn read_config(alloc: Global, bytes: &[u8]) -> Result<Config, ConfigError>
     ensures { IsOfText bytes.now result }
 {

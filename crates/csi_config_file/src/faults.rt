@@ -1,4 +1,4 @@
-//! All faults of a configuration at once.
+//! Finds all faults of a configuration at once.
 
 use crate::config_file::{ConfigError, Key, KeyRule, Keys, Section, element};
 use csi_config::{
@@ -14,7 +14,7 @@ const FAULTLESS_SIZES: Sizes = Sizes {
     greatest_bytes: GRANULE_BYTES,
 };
 
-// The number of a pool or node, as a name for faults if its name or id is not read.
+// Writes the number of a pool or node as text. Faults use it if the name or id cannot be read.
 fn number_text(alloc: Global, number: usize) -> Result<Text, AllocError> {
     Ok(Text::from_string(format!(in alloc; "{number}")?))
 }
@@ -32,7 +32,7 @@ impl Faults {
         Ok(())
     }
 
-    // The value that was read, or `None` after its fault was added.
+    // Returns the value that was read; otherwise adds its fault and returns `None`.
     fn keep<T: Drop>(&mut self, read: Result<T, ConfigError>) -> Result<Option<T>, AllocError> {
         match read {
             Ok(part) => Ok(Some(part)),
@@ -44,7 +44,7 @@ impl Faults {
         }
     }
 
-    // A faultless plugin.
+    // Makes a plugin without faults.
     fn plugin(&self) -> Result<Plugin, AllocError> {
         Ok(Plugin {
             name: Text::from_str(self.alloc, "a")?,
@@ -52,7 +52,7 @@ impl Faults {
         })
     }
 
-    // A faultless pool.
+    // Makes a pool without faults.
     fn pool(&self) -> Result<Pool, AllocError> {
         Ok(Pool {
             name: Text::from_str(self.alloc, "a")?,
@@ -61,7 +61,7 @@ impl Faults {
         })
     }
 
-    // Adds the fault of parts of which all but one have none.
+    // Adds the first fault of these parts, of which only one may have faults.
     fn judge(
         &mut self,
         plugin: Plugin,
@@ -124,7 +124,7 @@ impl Faults {
         Ok(())
     }
 
-    // Adds the faults of the sizes: of each alone, or of both together where each alone has none.
+    // Adds the faults of each size alone. If neither has a fault, adds the fault of the two together.
     fn add_sizes(&mut self, top: &Keys<'_>) -> Result<(), AllocError> {
         let default_bytes = self.keep(top.count(Key::DefaultBytes))?;
         let greatest_bytes = self.keep(top.count(Key::GreatestBytes))?;
@@ -143,8 +143,8 @@ impl Faults {
         }
     }
 
-    // Adds the faults of the pool with this number, which comes after pools of these names. Its bytes, or
-    // none where they are not read.
+    // Adds the faults of the pool with this number, which comes after the pools with these names. Returns
+    // the bytes of the pool; 0 if they cannot be read.
     fn add_pool(
         &mut self,
         number: usize,
@@ -161,7 +161,8 @@ impl Faults {
         if let Some(name) = &name {
             pool.name = name.copy(self.alloc)?;
         }
-        // Where they are whole and too many alone, the fault is that of all pools together.
+        // If the size of this pool is a multiple of 1 MiB and exceeds the limit alone, the fault is that of
+        // all pools together.
         if let Some(bytes) = bytes.filter(|bytes| *bytes <= MAX_POOL_BYTES || !is_whole(*bytes)) {
             pool.bytes = bytes;
         }
@@ -209,7 +210,7 @@ impl Faults {
         Ok(())
     }
 
-    // Adds the faults of the node with this number, which comes after nodes of these ids.
+    // Adds the faults of the node with this number, which comes after the nodes with these ids.
     fn add_node(
         &mut self,
         number: usize,
@@ -276,17 +277,17 @@ impl Faults {
     }
 }
 
-/// The faults of a document that [`read_config`](crate::read_config) refuses, all at once: of each key, of
-/// each pool and each node the first rule that it breaks alone, and of all of them together. A text that is
-/// no document has none.
+/// Finds all faults of a document that [`read_config`](crate::read_config) refuses: those of keys, the
+/// first rule that each pool and each node breaks, and those of the pools and nodes together. If the bytes
+/// are not a TOML document, the list is empty.
 ///
 /// # Errors
 ///
-/// Where memory was refused.
+/// If memory is refused.
 ///
 /// # Not promised
 ///
-/// Which faults are found: rows of tests show them. What is refused is for `read_config` to say.
+/// Which faults are found; tests show them. Only `read_config` decides whether a document is refused.
 pub fn config_faults(alloc: Global, bytes: &[u8]) -> Result<Vec<ConfigError>, AllocError> {
     let mut faults = Faults {
         alloc,

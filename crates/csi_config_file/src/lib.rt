@@ -1,5 +1,5 @@
-//! A configuration from its text, a TOML document: what it gives, or the first fault of it; all of its
-//! faults; and its keys that are not known.
+//! Reads a configuration from a TOML document: the configuration or its first fault, all of its faults, and
+//! its unknown keys.
 #![tactic(auto)]
 
 mod config_file;

@@ -1,4 +1,4 @@
-//! Keys of a configuration that are not known.
+//! Finds keys of a configuration file that are not known.
 
 ghost use Rattle.std.specs.Prelude.{◌≡◌, ◌++◌, [], map, IfOk, OnOk, IsUtf8};
 ghost use Rattle.toml.specs.Parse.{parse_document};
@@ -12,7 +12,7 @@ use std::alloc::{AllocError, Global};
 use std::fmt;
 use toml::{Table, Value};
 
-// The keys that a table may have.
+// Returns the keys that a table in this section may have.
 fn known_in(section: Section) -> &'static [Key]
     ensures { result.now ≡ known_in section }
 {
@@ -30,12 +30,13 @@ fn known_in(section: Section) -> &'static [Key]
     }
 }
 
-/// A key that is not known, which reading a configuration passes over. Its `Display` says where it is.
+/// A key that is not known, and which [`read_config`](crate::read_config) ignores. Its `Display` names the
+/// key and its section.
 #[derive(Debug, Drop)]
 pub struct UnknownKey {
-    /// The section that has the key.
+    /// The part of the document that contains the key.
     pub section: Section,
-    /// The key as the file has it.
+    /// The key, as it is written in the file.
     pub key: String,
 }
 
@@ -53,7 +54,7 @@ fn is_known(known: &[Key], key: &str) -> bool
     known.iter().any(|one| one.text() == key)
 }
 
-// Adds the keys of a table that are none of these.
+// Adds the keys of a table that are not in `known`.
 fn add_unknown(
     alloc: Global,
     found: &mut Vec<UnknownKey>,
@@ -73,7 +74,7 @@ fn add_unknown(
     Ok(())
 }
 
-// Adds those of an element of an array, where it is a table.
+// Adds the unknown keys of an element of an array, if the element is a table.
 fn add_of_table(
     alloc: Global,
     found: &mut Vec<UnknownKey>,
@@ -89,7 +90,7 @@ fn add_of_table(
     }
 }
 
-// Adds those of the pools.
+// Adds the unknown keys of the pools.
 fn add_of_pools(
     alloc: Global,
     found: &mut Vec<UnknownKey>,
@@ -104,7 +105,7 @@ fn add_of_pools(
     Ok(())
 }
 
-// Adds those of the nodes.
+// Adds the unknown keys of the nodes.
 fn add_of_nodes(
     alloc: Global,
     found: &mut Vec<UnknownKey>,
@@ -134,12 +135,12 @@ fn add_all(alloc: Global, found: &mut Vec<UnknownKey>, top: &Table) -> Result<()
     Ok(())
 }
 
-/// The keys of a configuration that are not known: those of the top, then those of the pools and of the
-/// nodes. A text that is no document has none.
+/// Returns the unknown keys of a configuration file: those at the top, then those of the pools, then those
+/// of the nodes. If the bytes are not a TOML document, the list is empty.
 ///
 /// # Errors
 ///
-/// Where memory was refused.
+/// If memory is refused.
 pub fn unknown_keys(alloc: Global, bytes: &[u8]) -> Result<Vec<UnknownKey>, AllocError>
     ensures found { IfOk result (λ found. IsUtf8 bytes.now
         → map place_of found.items ≡ unknown_if (parse_document bytes.now)) }

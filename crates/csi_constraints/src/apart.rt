@@ -1,4 +1,5 @@
-//! The constraint of attachments of one volume, by one that represents all of them.
+//! The constraint that attachments of one volume can coexist. One attachment represents all earlier ones of
+//! the volume.
 
 ghost use Rattle.std.specs.Prelude.{◌≡◌, None, IfOk, IsSome, OnErr};
 ghost use Rattle.sqlite.specs.Order.{column};
@@ -15,17 +16,17 @@ use csi_sql::Fold;
 use sqlite::{Error, Row};
 use std::alloc::Global;
 
-/// An attachment that represents those of its volume so far: what can coexist with it can coexist with
-/// each of them.
+/// An attachment that represents all attachments of its volume so far: what can coexist with this
+/// attachment can coexist with each of them.
 #[derive(Drop)]
 pub struct LastAttachment {
     /// The number of the volume.
     pub number: i64,
-    /// The attachment; `None` where the row says none.
+    /// The attachment; `None` if `cap` or `readonly` of the row cannot be decoded.
     pub attachment: Option<Attachment>,
 }
 
-// The attachment of a row that has a number.
+// Decodes the attachment of a row; `None` if the row has no number.
 fn last_attachment_at(alloc: Global, row: &Row) -> Result<Option<LastAttachment>, Error>
     ensures value { IfOk result (λ led. led ≡ last_attachment_at row.now) }
     ensures memory { FailsForMemory result }
@@ -56,7 +57,7 @@ fn is_written(attachment: &Option<Attachment>) -> bool
     }
 }
 
-// Whether an attachment can coexist with all of its volume so far.
+// Whether the next attachment can coexist with all attachments of its volume so far.
 fn admits(last: &Option<LastAttachment>, next: &LastAttachment) -> bool
     ensures { result ≡ admits last.now next.now }
 {
@@ -66,7 +67,8 @@ fn admits(last: &Option<LastAttachment>, next: &LastAttachment) -> bool
     }
 }
 
-// Whether the one that represents those so far represents the next one too, which it admits.
+// Whether the representative of the attachments so far represents the next attachment too, given that the
+// two can coexist.
 fn covers(last: &Option<LastAttachment>, next: &LastAttachment) -> bool
     ensures { result ≡ covers last.now next.now }
 {
@@ -76,18 +78,18 @@ fn covers(last: &Option<LastAttachment>, next: &LastAttachment) -> bool
     }
 }
 
-/// The first attachment that cannot coexist with one before it of the same volume, over rows whose
-/// numbers do not fall (`scan_places`).
+/// Finds the first attachment that cannot coexist with an earlier attachment of the same volume, over rows
+/// whose numbers do not fall (`scan_places`).
 ///
-/// One attachment is kept for all of a volume: one that is written, where there is one, as what can
-/// coexist with it can coexist with those that are only read.
+/// The fold keeps one attachment of each volume: a written one if the volume has one, since what can
+/// coexist with a written attachment can coexist with those that are only read.
 #[derive(Drop)]
 pub struct FirstApart {
-    /// The allocator of the capabilities that are read, and of the row's text.
+    /// The allocator of the decoded capabilities and of the text in `found`.
     pub alloc: Global,
     /// The representative of the last volume; `None` while no row had a number. It begins as `None`.
     pub last: Option<LastAttachment>,
-    /// The first row that breaks the constraint; `None` where none has so far. It begins as `None`.
+    /// The first row that breaks the constraint; `None` while no row breaks it. It begins as `None`.
     pub found: Option<RowName>,
 }
 

@@ -1,4 +1,4 @@
-//! The constraints of a row that read capabilities or parameters of its bytes.
+//! The constraints of a row that decode capabilities or parameters from its bytes.
 
 ghost use Rattle.std.specs.Prelude.{◌≡◌, IfOk, IfSome, OnErr, ◌∷◌, []};
 ghost use Rattle.csi_columns.specs.Encoding.{FitCaps, FitParams};
@@ -13,7 +13,8 @@ use csi_types::{Items, Map};
 use sqlite::{Error, Row};
 use std::alloc::Global;
 
-/// The keys that a cell, counted from 0, says.
+/// Decodes the capability keys in column `at`, counted from 0; `None` if the value there is not their
+/// canonical bytes.
 pub(crate) fn keys_at(alloc: Global, row: &Row, at: usize) -> Result<Option<Items<CapKey>>, Error>
     ensures value { IfOk result (λ keys. keys ≡ keys_at at row.now) }
     ensures fits { IfOk result (λ keys. IfSome keys FitCaps) }
@@ -26,7 +27,8 @@ pub(crate) fn keys_at(alloc: Global, row: &Row, at: usize) -> Result<Option<Item
     }
 }
 
-/// The one key that a cell says.
+/// Decodes the capability key in column `at`, counted from 0; `None` if the value there is not the
+/// canonical bytes of exactly one key.
 pub(crate) fn key_at(alloc: Global, row: &Row, at: usize) -> Result<Option<CapKey>, Error>
     ensures value { IfOk result (λ key. key ≡ key_at at row.now) }
     ensures fits { IfOk result (λ key. IfSome key (λ k. FitCaps (k ∷ []))) }
@@ -51,10 +53,11 @@ fn params_at(alloc: Global, row: &Row, at: usize) -> Result<Option<(Map, Map)>, 
     }
 }
 
-/// `caps` of a volume is the canonical bytes of capabilities: at least one, in order, each supported.
+/// The test that `caps` of a volume is the canonical bytes of at least one capability, and that the
+/// capabilities are in order and supported.
 #[derive(Clone, Copy)]
 pub struct HasCaps {
-    /// The allocator of the capabilities that are read.
+    /// The allocator of the decoded capabilities.
     pub alloc: Global,
 }
 
@@ -73,13 +76,13 @@ impl RowTrial for HasCaps {
     }
 }
 
-/// `params` of a volume is the canonical bytes of parameters and mutable parameters, each of at most
-/// 4,096 bytes. Tables of format 1 have none that are mutable.
+/// The test that `params` of a volume is the canonical bytes of parameters and mutable parameters, each of
+/// at most 4,096 bytes. In tables of format 1 there must be no mutable parameters.
 #[derive(Clone, Copy)]
 pub struct HasParams {
-    /// The allocator of the parameters that are read.
+    /// The allocator of the decoded parameters.
     pub alloc: Global,
-    /// The format of the tables, as `meta` has it.
+    /// The format number of the tables, as it is in `meta`.
     pub format: u32,
 }
 
@@ -98,10 +101,10 @@ impl RowTrial for HasParams {
     }
 }
 
-/// `cap` of an attachment is the canonical bytes of one capability, which is supported.
+/// The test that `cap` of an attachment is the canonical bytes of exactly one supported capability.
 #[derive(Clone, Copy)]
 pub struct HasCap {
-    /// The allocator of the capability that is read.
+    /// The allocator of the decoded capability.
     pub alloc: Global,
 }
 

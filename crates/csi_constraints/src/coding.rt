@@ -1,4 +1,5 @@
-//! What capabilities and parameters bytes say: those whose canonical bytes they are.
+//! Decodes capabilities and parameters from their canonical bytes. Other bytes, even if they can be
+//! decoded, give `None`.
 
 ghost use Rattle.std.specs.Prelude.{◌≡◌, ◌^◌, ◌-◌, ◌∷◌, [], min, Some, Ok, IfOk, IfSome, OnErr, OnOk, bytes_eq, map};
 ghost use Rattle.std.specs.List.{list_all};
@@ -70,9 +71,13 @@ fn are_params_of(
     Ok(write_params(alloc, params, mutable)?.as_slice() == bytes)
 }
 
-// ---- what bytes say
+// ---- what bytes encode
 
-/// The keys whose canonical bytes these are.
+/// Decodes capability keys; `None` if `bytes` are not the canonical bytes of the keys decoded from them.
+///
+/// # Errors
+///
+/// If memory is refused.
 pub(crate) fn keys_in(alloc: Global, bytes: &[u8]) -> Result<Option<Items<CapKey>>, Error>
     ensures value { IfOk result (λ keys. keys ≡ keys_in bytes.now) }
     ensures fits { IfOk result (λ keys. IfSome keys FitCaps) }
@@ -85,7 +90,7 @@ pub(crate) fn keys_in(alloc: Global, bytes: &[u8]) -> Result<Option<Items<CapKey
     }
 }
 
-// The keys of capabilities, if these are their canonical bytes.
+// Returns the keys of the capabilities; `None` if `bytes` are not their canonical bytes.
 fn keys_of(
     alloc: Global,
     capabilities: &[Capability],
@@ -106,7 +111,7 @@ fn keys_of(
     }
 }
 
-// The only key of some.
+// Returns the key of a list with exactly one key; `None` for any other list.
 fn only(keys: Items<CapKey>) -> Option<CapKey>
     ensures { result ≡ only keys }
 {
@@ -114,7 +119,11 @@ fn only(keys: Items<CapKey>) -> Option<CapKey>
     if keys.len() == 1 { keys.pop() } else { None }
 }
 
-/// The one key whose canonical bytes these are.
+/// Decodes one capability key; `None` if `bytes` are not the canonical bytes of exactly one key.
+///
+/// # Errors
+///
+/// If memory is refused.
 pub(crate) fn key_in(alloc: Global, bytes: &[u8]) -> Result<Option<CapKey>, Error>
     ensures value { IfOk result (λ key. key ≡ key_in bytes.now) }
     ensures fits { IfOk result (λ key. IfSome key (λ k. FitCaps (k ∷ []))) }
@@ -127,7 +136,12 @@ pub(crate) fn key_in(alloc: Global, bytes: &[u8]) -> Result<Option<CapKey>, Erro
     }
 }
 
-/// The parameters and mutable parameters whose canonical bytes these are.
+/// Decodes parameters and mutable parameters; `None` if `bytes` are not the canonical bytes of those
+/// decoded from them.
+///
+/// # Errors
+///
+/// If memory is refused.
 pub(crate) fn params_in(alloc: Global, bytes: &[u8]) -> Result<Option<(Map, Map)>, Error>
     ensures value { IfOk result (λ params. params ≡ params_in bytes.now) }
     ensures fits { IfOk result (λ params. IfSome params (λ ms. FitParams ms.0 ms.1)) }
@@ -149,7 +163,7 @@ pub(crate) fn params_in(alloc: Global, bytes: &[u8]) -> Result<Option<(Map, Map)
     }
 }
 
-// ---- the constraints of what is said
+// ---- the constraints of what is decoded
 
 fn is_before(one: &CapKey, next: &CapKey) -> bool
     ensures { result ≡ is_before one.now next.now }
@@ -174,7 +188,7 @@ fn all_supported(keys: &[CapKey]) -> bool
     keys.iter().all(|key| supported(key))
 }
 
-/// Whether there is at least one key, they are in order, and each is supported.
+/// Whether there is at least one key, the keys are in order, and each is supported.
 pub(crate) fn are_keys(keys: &[CapKey]) -> bool
     ensures { result ≡ are_keys keys.now }
 {
@@ -187,8 +201,8 @@ fn is_small(map: &Map) -> bool
     map_bytes(map) <= MAX_MAP_BYTES
 }
 
-/// Whether parameters and mutable parameters have at most 4,096 bytes each, and tables of the format
-/// may have them.
+/// Whether parameters and mutable parameters have at most 4,096 bytes each, and no parameters are mutable
+/// in tables of format 1.
 pub(crate) fn are_params(format: u32, params: &Map, mutable: &Map) -> bool
     ensures { result ≡ are_params format (params.now, mutable.now) }
 {

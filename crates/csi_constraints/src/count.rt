@@ -1,4 +1,4 @@
-//! How many rows there are.
+//! Counts rows.
 
 ghost use Rattle.csi_constraints.specs.Folds.{CountsRows};
 ghost use Rattle.csi_constraints.specs.facts.Starts.{counts_none};
@@ -9,7 +9,7 @@ use sqlite::{Error, Row};
 /// A fold that counts rows.
 #[derive(Drop)]
 pub struct RowCount {
-    /// The rows so far, or 2^64 - 1 where there are more. It begins as 0.
+    /// The number of rows so far, at most 2^64 - 1. It begins as 0.
     pub rows: u64,
 }
 

@@ -1,4 +1,4 @@
-//! Many folds of one type over the same rows.
+//! Several folds of one type over the same rows.
 
 ghost use Rattle.std.specs.Prelude.{[]};
 ghost use Rattle.std.specs.List.{AllZip};
@@ -8,10 +8,10 @@ ghost use Rattle.csi_constraints.specs.facts.Starts.{each_itself};
 use csi_sql::Fold;
 use sqlite::{Error, Row};
 
-/// Folds of one type over the same rows, as one for each pool or for each node.
+/// Several folds of one type over the same rows, for example one fold for each pool or each node.
 #[derive(Drop)]
 pub struct FoldEach<F> {
-    /// The folds. Each takes each row, in their order.
+    /// The folds. Each row is passed to all of them, in this order.
     pub parts: Vec<F>,
 }
 

@@ -1,4 +1,4 @@
-//! The attachment that a row says.
+//! Decodes the attachment of a row.
 
 ghost use Rattle.std.specs.Prelude.{◌≡◌, IfOk};
 ghost use Rattle.csi_sql.specs.Folding.{FailsForMemory};
@@ -11,7 +11,12 @@ use csi_types::Text;
 use sqlite::{Error, Row};
 use std::alloc::Global;
 
-/// The attachment whose cap and readonly are in two cells.
+/// Decodes the attachment whose capability and `readonly` are in the columns `cap` and `readonly`, counted
+/// from 0; `None` if either cannot be decoded. The node is left empty.
+///
+/// # Errors
+///
+/// If memory is refused.
 pub(crate) fn attached_at(
     alloc: Global,
     row: &Row,

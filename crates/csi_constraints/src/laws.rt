@@ -1,5 +1,5 @@
-//! Laws of the constraints: a row that represents a value passes a constraint exactly where a State may have
-//! the value.
+//! Laws of the constraints: a row that represents a volume or an attachment passes a constraint if and only
+//! if a State may have that volume or attachment.
 
 ghost use Rattle.std.specs.Prelude.{ℕ, List};
 ghost use Rattle.sqlite.specs.declared.types.Value.{Value};
@@ -12,15 +12,15 @@ ghost use Rattle.csi_constraints.specs.Agreement.{AttachmentAgrees, OwnerAgrees,
 
 use csi_columns::laws::read_back;
 
-/// The constraints of a row of volumes are those of the volume with that number.
+/// A row of volumes meets the constraints if and only if a State may have the volume it represents.
 pub fn volumes()
     ensures { (config : Config) (format next : ℕ) (e : ℕ × Volume) → VolumeAgrees config format next e }
 {
     read_back();
 }
 
-/// The constraints of a row of attachments are those of the attachment at the number and the
-/// node.
+/// A row of attachments meets the constraints if and only if a State may have the attachment it represents,
+/// at that volume and that node.
 pub fn attachments()
     ensures { (config : Config) (rowid : Value) (e : AttachmentKey × Attachment)
         → AttachmentAgrees config rowid e }
@@ -28,15 +28,15 @@ pub fn attachments()
     read_back();
 }
 
-/// The constraint of an attachment with its volume is that its capability is one of the volume's own, and
-/// with no volume it is broken.
+/// An attachment meets the constraint with its volume if and only if the volume exists and has the
+/// attachment's capability.
 pub fn owners()
     ensures { (e : AttachmentKey × Attachment) (own : List CapKey) → OwnerAgrees e own }
 {
     read_back();
 }
 
-/// Two attachments are apart exactly where they are of one volume and cannot exist at two nodes.
+/// Two attachments break the constraint exactly if they are of the same volume and cannot coexist.
 pub fn pairs()
     ensures { (e f : AttachmentKey × Attachment) → PairAgrees e f }
 {

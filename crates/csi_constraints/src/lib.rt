@@ -2,35 +2,36 @@
 //! not grow with the number of rows.
 //!
 //! A scan is a query with a fixed text, and `csi_sql::each_row` hands the rows of its answer to a
-//! `csi_sql::Fold`, in order. A fold is a relation between what it was, rows, and what it became
-//! (`folds`), which a row more extends and no row leaves as it is. [`TextSum`] adds up over the rows of a
-//! text, [`RowCount`] counts them, [`Rising`] finds whether the integers of a column rise. A struct of
-//! folds that hands each row to all of its parts is a fold too, as [`FoldEach`] is of many of one type. So
-//! one scan judges a table by many constraints. `scans.rt` has the five scans: meta, volumes by number,
-//! attachments by rowid, the attachments by their numbers, and each with the caps of its volume. SQL joins
-//! two tables, so a constraint over a row of each is a test of one; `specs/Scans.antt` says which rows are
-//! shown, and `specs/facts/` what follows from a test of each.
+//! `csi_sql::Fold`, in order. A fold has a relation between its value before some rows, the rows, and its
+//! value after them (`folds`). The relation holds between a value and itself for no rows, and one more row
+//! extends it. [`TextSum`] adds up over the rows of a text, [`RowCount`] counts them, [`Rising`] tests
+//! whether the integers of a column rise. A struct of folds that passes each row to all of its parts is a
+//! fold too; [`FoldEach`] is one for several folds of one type. So one scan tests a table for many
+//! constraints. `scans.rt` has the five scans: meta, volumes by number, attachments by rowid, the
+//! attachments by their numbers, and each with the caps of its volume. SQL joins two tables, so a
+//! constraint over a row of each is a test of one; `specs/Scans.antt` says which rows are shown, and
+//! `specs/facts/` what follows from a test of each.
 //!
-//! A constraint is a Bool function of a row in `specs/`: kinds (`Kinds`), numbers and texts of a volume
-//! (`Volumes`) and of an attachment (`Attachments`), bytes (`Coded`), and an attachment with the caps of
-//! its volume (`Joins`). Those that need no memory are a `RowTest`; those that read capabilities or
-//! parameters of bytes are a [`RowTrial`], which can be refused memory and also finds that what a passing
-//! row says can be read again; [`InfallibleTest`] makes a trial of a test. Two keep something of the rows
-//! before, and so are folds: [`FirstUnowned`] the capabilities of the last volume (`Known`), and
-//! [`FirstApart`] one attachment that represents all of the last volume (`Apart`): one that is written, if
-//! there is one, as what can coexist with it can coexist with those that are only read. [`FirstBroken`]
-//! finds the first row that breaks a constraint, with the number and the text that name it, and
-//! [`BrokenConstraint`] displays it.
+//! A constraint is a function in `specs/` from a row to a Bool: kinds (`Kinds`), numbers and texts of a
+//! volume (`Volumes`) and of an attachment (`Attachments`), bytes (`Coded`), and an attachment with the
+//! caps of its volume (`Joins`). A constraint that needs no memory is a `RowTest`. A constraint that
+//! decodes capabilities or parameters is a [`RowTrial`]: it fails if memory is refused, and a row that
+//! passes it can be decoded again. [`InfallibleTest`] makes a trial of a test. Two constraints depend on
+//! earlier rows, and so are folds. [`FirstUnowned`] keeps the capabilities of the last volume (`Known`).
+//! [`FirstApart`] keeps one attachment that represents all attachments of the last volume (`Apart`): a
+//! written one if there is one, since what can coexist with a written attachment can coexist with those
+//! that are only read. [`FirstBroken`] finds the first row that breaks a constraint, with the number and
+//! the text that name it, and [`BrokenConstraint`] displays it.
 //!
-//! `specs/Coding.antt` says what bytes say: those keys or parameters whose canonical bytes they are, so
-//! `coding.rt` reads them, writes what it read, and compares. [`laws`] ties each constraint to what is so of
-//! a State (`specs/Agreement.antt`): a row that represents a volume or an attachment passes exactly where the
-//! State may have it. Sums over rows, as of a pool's bytes or a node's attachments, are folds and no tests of
-//! one row.
+//! `specs/Coding.antt` defines what bytes encode: the keys or parameters whose canonical bytes they are. So
+//! `coding.rt` decodes the bytes, encodes the result, and compares the two. [`laws`] ties each constraint
+//! to the State (`specs/Agreement.antt`): a row that represents a volume or an attachment passes if and
+//! only if a State may have that volume or attachment. Sums over rows, such as the bytes of a pool or the
+//! attachments of a node, are folds and not tests of one row.
 //!
-//! What is promised of the rows is promised while the connection is clean as the call ends (`HasCleanDisk`),
-//! and under the schema that `csi_sql::make_tables` makes. A scan leaves the tables, and adds nothing to what
-//! a stop may leave.
+//! The contracts about the rows hold if the connection is clean when the call ends (`HasCleanDisk`) and the
+//! schema is the one that `csi_sql::make_tables` makes. A scan does not change the tables, and adds nothing
+//! to what a stop may leave.
 //!
 //! ```rust
 //! let mut unsized_volume = FirstBroken {

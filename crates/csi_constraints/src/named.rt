@@ -1,4 +1,4 @@
-//! The first row that breaks a constraint, by its number and its text.
+//! Finds the first row that breaks a constraint, and names it by its number and its text.
 
 ghost use Rattle.std.specs.Prelude.{◌≡◌, ◌⊎◌, false, None, IfOk, OnErr};
 ghost use Rattle.std.specs.Str.{is_utf8};
@@ -37,7 +37,11 @@ fn words_at(alloc: Global, row: &Row, at: usize) -> Result<Option<Text>, AllocEr
     }
 }
 
-/// The name of a row, by the integer and the text in two columns.
+/// Reads the name of a row from the columns `number` and `text`, counted from 0.
+///
+/// # Errors
+///
+/// If memory is refused.
 pub(crate) fn name_at(
     alloc: Global,
     row: &Row,
@@ -52,25 +56,25 @@ pub(crate) fn name_at(
     })
 }
 
-/// The first row that breaks a constraint.
+/// Finds the first row that breaks a constraint.
 #[derive(Drop)]
 pub struct FirstBroken<T> {
-    /// The allocator of the row's text.
+    /// The allocator of the text in `found`.
     pub alloc: Global,
-    /// The constraint that each row is tried against.
+    /// The constraint that each row is tested for.
     pub test: T,
-    /// The column of the number, counted from 0.
+    /// The column of the number that names a row, counted from 0.
     pub number: usize,
-    /// The column of the text, counted from 0.
+    /// The column of the text that names a row, counted from 0.
     pub text: usize,
-    /// The first row that breaks the constraint; `None` where none has so far. It begins as `None`.
+    /// The first row that breaks the constraint; `None` while no row breaks it. It begins as `None`.
     pub found: Option<RowName>,
 }
 
 impl<T: RowTrial> FirstBroken<T> {
     ghost use Rattle.csi_constraints.specs.Named.{name_if};
 
-    // The name of the row, if it breaks the constraint.
+    // Returns the name of the row if it breaks the constraint, `None` if it meets the constraint.
     fn name_if_broken(&self, row: &Row) -> Result<Option<RowName>, Error>
         ensures value { IfOk result (λ name. name
             ≡ name_if self.now.number self.now.text (T.accepts self.now.test) row.now) }
@@ -105,10 +109,10 @@ impl<T: RowTrial> Fold for FirstBroken<T> {
     }
 }
 
-/// A test that takes no memory, as one that may.
+/// Makes a [`RowTrial`] of a [`RowTest`]: a test that cannot fail and takes no memory.
 #[derive(Drop)]
 pub struct InfallibleTest<T> {
-    /// The test that each row is tried against.
+    /// The test that each row is passed to.
     pub test: T,
 }
 

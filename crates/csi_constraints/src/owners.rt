@@ -1,5 +1,5 @@
-//! The constraint of an attachment with its volume, whose capabilities are read once for all of its
-//! attachments.
+//! The constraint that an attachment's volume exists and has its capability. The capabilities of a volume
+//! are decoded once for all of its attachments.
 
 ghost use Rattle.std.specs.Prelude.{◌≡◌, None, Some, IfOk, OnOk};
 ghost use Rattle.csi_keeper.specs.Capability.{has_key};
@@ -21,17 +21,17 @@ use csi_types::Items;
 use sqlite::{Error, Row};
 use std::alloc::Global;
 
-/// The caps of a volume, and the keys that they say.
+/// The `caps` bytes of a volume's row, and the capability keys decoded from them.
 #[derive(Drop)]
 pub struct KnownCaps {
-    /// The bytes, as they are in the row.
+    /// The value of `caps`, as it is in the row.
     pub bytes: Vec<u8>,
-    /// The keys; `None` where the bytes say none.
+    /// The decoded keys; `None` if `bytes` are not the canonical bytes of capabilities.
     pub caps: Option<Items<CapKey>>,
 }
 
 impl KnownCaps {
-    // Whether the volume has a key among its own.
+    // Whether the volume has this key.
     fn have(&self, key: &CapKey) -> bool
         ensures { result ≡ is_some_and (λ caps. has_key caps (Some key.now)) self.now.caps }
     {
@@ -42,21 +42,20 @@ impl KnownCaps {
     }
 }
 
-/// The first attachment whose volume does not exist, or does not have its capability (`scan_owners`).
+/// Finds the first attachment whose volume does not exist or lacks its capability (`scan_owners`).
 ///
-/// The keys of the caps that were read last are kept, and read again only where other caps come: once a
-/// volume, where its attachments follow one another.
+/// The caps decoded last are kept, so consecutive attachments of one volume decode its caps once.
 #[derive(Drop)]
 pub struct FirstUnowned {
-    /// The allocator of the capabilities that are read.
+    /// The allocator of the decoded capabilities and of the text in `found`.
     pub alloc: Global,
-    /// The caps that were read last; `None` where none were so far. It begins as `None`.
+    /// The caps decoded last; `None` while none were decoded. It begins as `None`.
     pub last: Option<KnownCaps>,
-    /// The first row that breaks the constraint; `None` where none has so far. It begins as `None`.
+    /// The first row that breaks the constraint; `None` while no row breaks it. It begins as `None`.
     pub found: Option<RowName>,
 }
 
-// Whether the bytes equal the last ones read, so that they need not be read again.
+// Whether the bytes equal those decoded last, so that they need not be decoded again.
 fn are_last(last: &Option<KnownCaps>, bytes: &[u8]) -> bool
     ensures { result ≡ are_last last.now bytes.now }
 {
@@ -80,7 +79,7 @@ fn read_caps(alloc: Global, last: &mut Option<KnownCaps>, bytes: &[u8]) -> Resul
     Ok(())
 }
 
-// Whether the caps that were read last have a key.
+// Whether the caps decoded last contain this key.
 fn have_key(last: &Option<KnownCaps>, key: &CapKey) -> bool
     ensures { result ≡ is_some_and (λ caps. has_key caps (Some key.now)) (last_keys last.now) }
 {

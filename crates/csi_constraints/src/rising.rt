@@ -1,7 +1,7 @@
-//! Integers that rise.
+//! Tests that the integers of a column rise.
 //!
-//! A rowid that does not rise is a failure of the database. No clause of a connection rules it out, and a
-//! DELETE of an attachment goes by its rowid.
+//! If rowids do not rise, the database has failed. The contracts of a connection do not rule that out, and
+//! an attachment is deleted by its rowid.
 
 ghost use Rattle.std.specs.Prelude.{◌≡◌};
 ghost use Rattle.csi_constraints.specs.Folds.{RisesOver, is_above};
@@ -20,12 +20,13 @@ fn is_above_last(last: Option<i64>, integer: i64) -> bool
     }
 }
 
-/// A fold that tests whether each row has an integer in a column, above the earlier rows'.
+/// A fold that tests whether each row has an integer in a column and each integer is above the one before
+/// it.
 #[derive(Drop)]
 pub struct Rising {
-    /// The column, counted from 0.
+    /// The column of the integers, counted from 0.
     pub column: usize,
-    /// The integer that came last; `None` where there is none yet.
+    /// The integer of the last row that passed; `None` before the first.
     pub last: Option<i64>,
     /// Whether the integers have risen so far. It begins as `true`.
     pub good: bool,

@@ -1,4 +1,4 @@
-//! The scans: each a query with a fixed text over our tables.
+//! The scans. Each is a query with a fixed text over the tables.
 
 ghost use Rattle.std.specs.Prelude.{◌≡◌, IsPermutation, map};
 ghost use Rattle.sqlite.specs.Held.{state};
@@ -12,11 +12,11 @@ ghost use Rattle.csi_constraints.specs.Scans.{IsInOrder, keyed_attachment, owner
 use csi_sql::{Fold, IdleConnection, each_row};
 use sqlite::{Alter, Error};
 
-/// Folds each row of meta: `k`, `format_no` and `next_number`.
+/// Folds each row of `meta`. The columns are `k`, `format_no` and `next_number`.
 ///
 /// # Errors
 ///
-/// Where the rows cannot be read, and what the fold answers.
+/// If the rows cannot be read, or the fold returns an error.
 pub fn scan_meta<S: Alter, F: Fold>(conn: &mut IdleConnection<S>, fold: &mut F) -> Result<(), Error>
     requires has_schema { HasCleanDisk (state S.Store conn.old) → conn.old.schema ≡ our_schema }
     ensures { FoldsOver S.Store conn.old conn.new F.folds fold.old fold.new
@@ -26,11 +26,12 @@ pub fn scan_meta<S: Alter, F: Fold>(conn: &mut IdleConnection<S>, fold: &mut F) 
     each_row(conn, "SELECT k, format_no, next_number FROM meta", fold)
 }
 
-/// Folds each row of volumes in the order of the numbers: number, name, bytes, pool, caps and params.
+/// Folds each row of volumes, ordered by number. The columns are number, name, bytes, pool, caps and
+/// params.
 ///
 /// # Errors
 ///
-/// Where the rows cannot be read, and what the fold answers.
+/// If the rows cannot be read, or the fold returns an error.
 pub fn scan_volumes<S: Alter, F: Fold>(
     conn: &mut IdleConnection<S>,
     fold: &mut F,
@@ -47,12 +48,11 @@ pub fn scan_volumes<S: Alter, F: Fold>(
     )
 }
 
-/// Folds each row of attachments in the order of the rowids: the rowid, number, node, cap and
-/// readonly.
+/// Folds each row of attachments, ordered by rowid. The columns are rowid, number, node, cap and readonly.
 ///
 /// # Errors
 ///
-/// Where the rows cannot be read, and what the fold answers.
+/// If the rows cannot be read, or the fold returns an error.
 pub fn scan_attachments<S: Alter, F: Fold>(
     conn: &mut IdleConnection<S>,
     fold: &mut F,
@@ -69,12 +69,12 @@ pub fn scan_attachments<S: Alter, F: Fold>(
     )
 }
 
-/// Folds each attachment with the caps of its volume, in the order of the numbers: number, node, cap
-/// and readonly, and the volume's caps. They are NULL where no volume has the number.
+/// Folds each attachment together with the caps of its volume, ordered by number. The columns are number,
+/// node, cap, readonly and the caps of the volume, which are NULL if no volume has the number.
 ///
 /// # Errors
 ///
-/// Where the rows cannot be read, and what the fold answers.
+/// If the rows cannot be read, or the fold returns an error.
 pub fn scan_owners<S: Alter, F: Fold>(
     conn: &mut IdleConnection<S>,
     fold: &mut F,
@@ -91,12 +91,12 @@ pub fn scan_owners<S: Alter, F: Fold>(
     )
 }
 
-/// Folds each attachment in the order of the numbers, so that those of one volume come one after the
-/// other: number, node, cap and readonly.
+/// Folds each attachment, ordered by number, so that attachments of one volume are consecutive. The columns
+/// are number, node, cap and readonly.
 ///
 /// # Errors
 ///
-/// Where the rows cannot be read, and what the fold answers.
+/// If the rows cannot be read, or the fold returns an error.
 pub fn scan_places<S: Alter, F: Fold>(
     conn: &mut IdleConnection<S>,
     fold: &mut F,

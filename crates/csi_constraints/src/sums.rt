@@ -14,9 +14,10 @@ use std::cmp::Ordering;
 /// The amount that a row adds to a sum.
 #[derive(Clone, Copy)]
 pub enum Weight {
-    /// One for each row, so the sum is the count.
+    /// Each row adds 1, so the sum is the number of rows.
     One,
-    /// The number in this column, counted from 0; nothing where there is none.
+    /// Each row adds the number in this column, counted from 0. A row with another value there adds
+    /// nothing.
     Number(usize),
 }
 
@@ -44,16 +45,16 @@ fn weight_in(row: &Row, weight: Weight) -> u64
     }
 }
 
-/// The sum over the rows that have a text in a column, as the bytes of the volumes of a pool.
+/// Adds up over the rows with a given text in a column, for example the bytes of the volumes in a pool.
 #[derive(Drop)]
 pub struct TextSum {
     /// The column of the text, counted from 0.
     pub column: usize,
-    /// The text. A row with another one, or with none, adds nothing.
+    /// The text to compare with. A row with any other value in the column adds nothing.
     pub text: Vec<u8>,
     /// The amount that a row with the text adds.
     pub weight: Weight,
-    /// The sum so far, or 2^64 - 1 where it is more.
+    /// The sum so far, at most 2^64 - 1.
     pub sum: u64,
 }
 

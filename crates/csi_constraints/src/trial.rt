@@ -1,4 +1,4 @@
-//! A test of each row alone, without memory and with it.
+//! Tests of a single row: one trait for tests that take no memory, and one for tests that do.
 
 ghost use Rattle.std.specs.Prelude.{◌≡◌, Bool, IfOk, IsTrue, OnErr};
 ghost use Rattle.sqlite.specs.Order.{Row as Values};
@@ -6,7 +6,7 @@ ghost use Rattle.csi_sql.specs.Folding.{FailsForMemory};
 
 use sqlite::{Error, Row};
 
-/// A test of a row alone.
+/// A test of a single row that takes no memory and cannot fail.
 pub trait RowTest {
     /// Whether a row passes.
     ghost accepts: { Self → Values → Bool };
@@ -16,22 +16,22 @@ pub trait RowTest {
         ensures { result ≡ accepts self.now row.now };
 }
 
-/// A test of a row alone that takes memory.
+/// A test of a single row that may take memory.
 pub trait RowTrial {
     /// Whether a row passes.
     ghost accepts: { Self → Values → Bool };
 
-    /// A fact of each row that passes.
+    /// A fact about each row that passes.
     ghost knows: { Self → Values → Type 0 };
 
-    /// Where it asks for memory to look at a row.
+    /// When the test takes memory for a row.
     ghost takes_memory: { Self → Values → Type 0 };
 
     /// Whether the row passes.
     ///
     /// # Errors
     ///
-    /// Where memory was refused.
+    /// If memory is refused.
     fn try_test(&self, row: &Row) -> Result<bool, Error>
         ensures exact { IfOk result (λ passed. passed ≡ accepts self.now row.now) }
         ensures known { IfOk result (λ passed. IsTrue passed → knows self.now row.now) }

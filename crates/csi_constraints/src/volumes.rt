@@ -1,4 +1,4 @@
-//! The constraints of a row of volumes on its numbers and texts.
+//! The constraints on the number, the size, the name and the pool of a row of volumes.
 
 ghost use Rattle.std.specs.Prelude.{◌≡◌};
 ghost use Rattle.csi_constraints.specs.Volumes.{is_in_pools, is_name, is_named, is_numbered, is_pool, is_sized};
@@ -10,10 +10,10 @@ use csi_sql::values::{number_at, text_at};
 use csi_types::name_reason;
 use sqlite::Row;
 
-/// The number of a volume is at least 1, and below the next number.
+/// The test that the number of a volume is at least 1 and below the next number.
 #[derive(Clone, Copy)]
 pub struct IsNumbered {
-    /// The next number of meta: every volume's number is below it.
+    /// The next number in `meta`: every volume's number must be below it.
     pub next: u64,
 }
 
@@ -37,7 +37,7 @@ fn is_name(name: &[u8]) -> bool
     }
 }
 
-/// The name of a volume is one that a volume can be made with (`csi_types::name_reason`).
+/// The test that a volume can be created with this name (`csi_types::name_reason`).
 #[derive(Clone, Copy)]
 pub struct IsNamed;
 
@@ -52,7 +52,7 @@ impl RowTest for IsNamed {
     }
 }
 
-/// The size of a volume is a positive multiple of 1 MiB.
+/// The test that the size of a volume is a positive multiple of 1 MiB.
 #[derive(Clone, Copy)]
 pub struct IsSized;
 
@@ -73,7 +73,7 @@ fn is_pool(pools: &[Pool], name: &[u8]) -> bool
     pools.iter().any(|pool| pool.name.as_bytes() == name)
 }
 
-/// The pool of a volume is one of the configuration.
+/// The test that the configuration has the pool of a volume.
 #[derive(Clone, Copy)]
 pub struct IsInPools<'a> {
     /// The configuration whose pools are allowed.

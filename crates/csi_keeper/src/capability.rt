@@ -1,4 +1,4 @@
-//! What a volume can be used as.
+//! The keys of capabilities: how a volume can be used.
 
 ghost use Rattle.std.specs.Prelude.{◌≡◌, Some, IfOk};
 ghost use Rattle.csi_keeper.specs.Capability.{kind_cmp, mode_of, key_with, key_of, access_of, capability_of, is_supported_key, same_kind, same_key, wider_mode, wider_key, is_key, has_same, has_key};
@@ -14,21 +14,22 @@ use std::cmp::Ordering;
 pub enum Kind {
     /// A raw block device (`BlockVolume`).
     Block,
-    /// A file system of this type (`MountVolume.fs_type`, up to 128 bytes), or of the plugin's
-    /// choice where the text is empty.
+    /// A file system of this type (`MountVolume.fs_type`, at most 128 bytes). If the text is empty, the
+    /// plugin chooses the type.
     Mount(Text),
 }
 
-/// What a capability is known by: how the volume is offered, and its access mode.
+/// The key of a capability: the access type and the access mode.
 ///
-/// Mount flags and the mount group do not count: two capabilities that differ in these alone have
-/// one key. Keys are ordered: block before mount, mounts by the bytes of their type, and then by
-/// mode.
+/// Mount flags and the mount group are not part of the key: two capabilities that differ only in these have
+/// the same key. Keys are ordered: block before mount, then mounts by the bytes of their file system type,
+/// then by the number of the mode.
 #[derive(Debug, Drop)]
 pub struct CapKey {
     /// The access type: block, or mount with a file system type.
     pub kind: Kind,
-    /// The number of the access mode (CSI 1.x, `VolumeCapability.AccessMode.Mode`), one of those known.
+    /// The number of the access mode (CSI 1.x, `VolumeCapability.AccessMode.Mode`), which must be a known
+    /// mode.
     pub mode: u8,
 }
 
@@ -122,7 +123,8 @@ fn wider_mode(mode: u8) -> Option<u8>
     }
 }
 
-/// The key with the wider mode, if its kind has one. A volume with the wider key has the key too.
+/// Returns the key with the same access type and the wider mode; `None` if no mode is wider than the key's.
+/// A volume with the wider key can be used as the key allows.
 pub fn wider_key(key: CapKey) -> Option<CapKey>
     ensures { result ≡ wider_key key }
 {
@@ -135,7 +137,7 @@ pub fn wider_key(key: CapKey) -> Option<CapKey>
     }
 }
 
-// Whether the first is the wider one of the second.
+// Whether `own` is the wider key of `key`.
 fn is_wider(own: &CapKey, key: &CapKey) -> bool
     ensures { result ≡ is_key (wider_key key.now) own.now }
 {
@@ -157,15 +159,16 @@ fn has_wider(keys: &[CapKey], key: &CapKey) -> bool
     keys.iter().any(|own| is_wider(own, key))
 }
 
-/// Whether a set has a key: it is one of those, or the wider one is.
+/// Whether a list of keys contains this key or its wider key ([`wider_key`]).
 pub fn has_key(keys: &[CapKey], key: &CapKey) -> bool
     ensures { result ≡ has_key keys.now (Some key.now) }
 {
     has_same(keys, key) || has_wider(keys, key)
 }
 
-/// Returns true if a volume can be made for the key: block with each known mode, mount with the modes that
-/// let no node write while others have the volume (CSI specification, 'CreateVolume').
+/// Returns true if a volume can be created for the key: block with each known mode, or mount with each
+/// known mode that lets no node write while other nodes have the volume (CSI specification,
+/// 'CreateVolume').
 pub fn supported(key: &CapKey) -> bool
     ensures { result ≡ is_supported_key key.now }
 {
@@ -176,7 +179,7 @@ pub fn supported(key: &CapKey) -> bool
     }
 }
 
-// The number of a known access mode.
+// Returns the number of an access mode; `None` if the mode is missing or unknown.
 fn mode_of(mode: Option<i32>) -> Option<u8>
     ensures { result ≡ mode_of mode }
 {
@@ -201,11 +204,11 @@ fn key_with(alloc: Global, access: &Access, mode: u8) -> Result<Option<CapKey>, 
     Ok(Some(CapKey { kind, mode }))
 }
 
-/// What a capability is known by; `None` without an access type, or with a mode that is not known.
+/// Returns the key of a capability; `None` if it has no access type, or its mode is unknown.
 ///
 /// # Errors
 ///
-/// Where memory was refused.
+/// If memory is refused.
 pub fn cap_key(alloc: Global, capability: &Capability) -> Result<Option<CapKey>, AllocError>
     ensures { IfOk result (λ key. key ≡ key_of capability.now) }
 {
@@ -231,11 +234,11 @@ fn access_of(alloc: Global, kind: &Kind) -> Result<Access, AllocError>
     }
 }
 
-/// The capability of a key, without mount flags and mount group.
+/// Makes a capability with this key, without mount flags and mount group.
 ///
 /// # Errors
 ///
-/// Where memory was refused.
+/// If memory is refused.
 pub fn capability_of(alloc: Global, key: &CapKey) -> Result<Capability, AllocError>
     ensures { IfOk result (λ capability. capability ≡ capability_of key.now) }
 {

@@ -1,4 +1,4 @@
-//! Changes of the State, the usage of a pool, and the faults of a call.
+//! The changes of the State, the usage of a pool, and the faults of a keeper's call.
 
 ghost use Rattle.std.specs.Prelude.{◌≡◌, ◌≢◌, IfErr, IfOk};
 ghost use Rattle.csi_keeper.specs.declared.change.Change.TheVariants.{AddVolume};
@@ -8,28 +8,29 @@ use crate::volume::{Attachment, Volume};
 use csi_types::{Map, Text};
 use std::alloc::{AllocError, AllocFailed};
 
-/// One change of the State, which is made whole or not at all.
+/// One change of the State, which is made as a whole or not at all.
 #[derive(Debug)]
 pub enum Change {
-    /// A new volume. Its number is the State's next one, no volume has its name, and it has at most
-    /// 2^62 bytes. The next number becomes greater by 1.
+    /// Adds a volume. Its number must be the State's next number, no other volume may have its name, and it
+    /// has at most 2^62 bytes. The next number rises by 1.
     AddVolume(Volume),
-    /// The volume of the number no longer exists. It has no attachments. Its number is never given
-    /// again. Where no volume has the number nothing changes.
+    /// Removes the volume with this number, which must have no attachments. Its number is never used again.
+    /// If no volume has the number, nothing changes.
     RemoveVolume(u64),
-    /// The volume of the number, which exists, is attached at a node where it is not.
+    /// Attaches the volume with this number, which must exist, to a node that it is not attached to.
     Attach(u64, Attachment),
-    /// The volume of the number is detached at a node. Where it is not attached there nothing
-    /// changes.
+    /// Detaches the volume with this number from the node with this id. If the volume is not attached
+    /// there, nothing changes.
     Detach(u64, Text),
-    /// The volume of the number is detached at each node.
+    /// Detaches the volume with this number from every node.
     DetachAll(u64),
-    /// The volume of the number, which exists, has these mutable parameters, of at most 4,096 bytes,
-    /// instead of its own.
+    /// Replaces the mutable parameters of the volume with this number, which must exist. The new ones have
+    /// at most 4,096 bytes.
     SetMutable(u64, Map),
 }
 
-// Written out, so that what drops a change has one call for it, and its proof no branch for each.
+// Written out, so that code which drops a change has one call for that, and its proof no branch for each
+// variant.
 impl Drop for Change {
     #[inline(always)]
     fn drop(self) {
@@ -45,11 +46,11 @@ impl Drop for Change {
 }
 
 impl Change {
-    /// The volume that is added.
+    /// Returns the volume of [`Change::AddVolume`].
     ///
     /// # Errors
     ///
-    /// Any other change, as it was.
+    /// If the change is another one, which is returned unchanged.
     pub fn into_added(self) -> Result<Volume, Change>
         ensures added { IfOk result (λ volume. self ≡ AddVolume volume) }
         ensures other { IfErr result (λ change. (change ≡ self)
@@ -62,23 +63,23 @@ impl Change {
     }
 }
 
-/// The count of a pool's volumes, and the sum of their bytes.
+/// What the volumes of a pool use: their number, and the sum of their sizes.
 #[derive(Clone, Copy, Debug)]
 pub struct Usage {
     /// The number of volumes in the pool.
     pub volumes: u64,
-    /// The sum of their bytes, or the greatest `u64` where that is smaller.
+    /// The sum of the volumes' sizes in bytes, at most 2^64 - 1.
     pub bytes: u64,
 }
 
 /// Why a keeper's call failed.
 #[derive(Clone, Copy, Debug, PartialEq, Eq)]
 pub enum StoreFault {
-    /// Memory was refused.
+    /// Memory for the call was refused.
     NoMemory,
-    /// The store below the keeper, such as a file, refused the call.
+    /// The store below the keeper, such as a file, failed the call.
     Refused,
-    /// The keeper is down: it answers nothing until it is opened again.
+    /// The keeper is down: every call except `refusals` fails until the keeper is opened again.
     Down,
 }
 

@@ -7,11 +7,11 @@ use crate::volume::{Attachment, Volume};
 use csi_types::{Items, copy_map};
 use std::alloc::{AllocError, Global};
 
-/// A key equal to this one.
+/// Copies a capability key.
 ///
 /// # Errors
 ///
-/// Where memory was refused.
+/// If memory is refused.
 pub fn copy_key(alloc: Global, key: &CapKey) -> Result<CapKey, AllocError>
     ensures { IfOk result (λ copy. copy ≡ key.now) }
 {
@@ -25,11 +25,11 @@ pub fn copy_key(alloc: Global, key: &CapKey) -> Result<CapKey, AllocError>
     })
 }
 
-/// Keys equal to these.
+/// Copies a list of capability keys.
 ///
 /// # Errors
 ///
-/// Where memory was refused.
+/// If memory is refused.
 pub fn copy_keys(alloc: Global, keys: &Items<CapKey>) -> Result<Items<CapKey>, AllocError>
     ensures { IfOk result (λ copy. copy ≡ keys.now) }
 {
@@ -40,11 +40,11 @@ pub fn copy_keys(alloc: Global, keys: &Items<CapKey>) -> Result<Items<CapKey>, A
     Ok(copy)
 }
 
-/// A volume equal to this one.
+/// Copies a volume with all its fields.
 ///
 /// # Errors
 ///
-/// Where memory was refused.
+/// If memory is refused.
 pub fn copy_volume(alloc: Global, volume: &Volume) -> Result<Volume, AllocError>
     ensures { IfOk result (λ copy. copy ≡ volume.now) }
 {
@@ -59,11 +59,11 @@ pub fn copy_volume(alloc: Global, volume: &Volume) -> Result<Volume, AllocError>
     })
 }
 
-/// An attachment equal to this one.
+/// Copies an attachment with all its fields.
 ///
 /// # Errors
 ///
-/// Where memory was refused.
+/// If memory is refused.
 pub fn copy_attachment(alloc: Global, attachment: &Attachment) -> Result<Attachment, AllocError>
     ensures { IfOk result (λ copy. copy ≡ attachment.now) }
 {

@@ -1,4 +1,4 @@
-//! How many calls a keeper refused, and whether it is down.
+//! Whether a keeper is down, and how many calls it refused.
 
 ghost use Rattle.std.specs.Prelude.{◌≡◌, ◌≢◌, ◌+◌, ◌-◌, ◌^◌, min, true, false, Err, OnOk, OnErr};
 ghost use Rattle.csi_keeper.specs.Keeper.{count_after};
@@ -7,9 +7,10 @@ ghost use Rattle.csi_keeper.specs.declared.change.StoreFault.TheVariants.{Down};
 
 use crate::change::StoreFault;
 
-/// Whether a keeper is down, and how many of its calls were refused.
+/// Whether a keeper is down, and how many calls it refused.
 ///
-/// A keeper starts each call here, does its work, and finishes the call with the answer.
+/// A keeper calls `start_call` at the start of each call, and `finish_call` or `finish_change` with the
+/// result at its end.
 ///
 /// ```rust
 /// self.health.start_call()?;
@@ -18,14 +19,14 @@ use crate::change::StoreFault;
 /// ```
 #[derive(Drop)]
 pub struct Health {
-    /// The number of calls answered `Refused` or `Down`, up to the greatest `u64`.
+    /// The number of calls that returned `Refused` or `Down`, at most 2^64 - 1.
     pub refusals: u64,
-    /// Each further call is answered `Down`.
+    /// Whether the keeper is down, so that each further call returns `Down`.
     pub is_down: bool,
 }
 
 impl Health {
-    /// The health of a keeper before its first call.
+    /// Creates the health of a keeper before its first call: not down, with no refusals.
     pub fn new() -> Health
         ensures fresh { result.refusals ≡ 0 }
         ensures up { result.is_down ≡ false }
@@ -42,11 +43,11 @@ impl Health {
         self.refusals = self.refusals.saturating_add(1);
     }
 
-    /// Starts a call, a read or a change.
+    /// Starts a call, which is a read or a change.
     ///
     /// # Errors
     ///
-    /// `Down` where the keeper is down, which is counted.
+    /// `Down` if the keeper is down; the refusal is counted.
     pub fn start_call(&mut self) -> Result<(), StoreFault>
         ensures { Starts self.old self.new result }
     {
@@ -57,12 +58,12 @@ impl Health {
         Ok(())
     }
 
-    /// Finishes a read with its answer. It leaves the keeper up.
+    /// Finishes a read with its result. Whether the keeper is down is unchanged.
     ///
     /// # Errors
     ///
-    /// The fault of the answer, with `Refused` counted. This keeper is not down, so a `Down` from the keeper
-    /// below is a refusal.
+    /// The fault in `answer`. `Refused` is counted. `Down` becomes `Refused`: this keeper is not down, but
+    /// the keeper below it may be.
     pub fn finish_call<T>(&mut self, answer: Result<T, StoreFault>) -> Result<T, StoreFault>
         ensures { Finishes self.old self.new answer result }
     {
@@ -76,11 +77,11 @@ impl Health {
         }
     }
 
-    /// Finishes a change with its answer. After any fault, also want of memory, the keeper is down.
+    /// Finishes a change with its result. After any fault, `NoMemory` too, the keeper is down.
     ///
     /// # Errors
     ///
-    /// As of `finish_call`.
+    /// As `finish_call`.
     pub fn finish_change(&mut self, answer: Result<(), StoreFault>) -> Result<(), StoreFault>
         ensures answers { result ≡ answered answer }
         ensures up { result ≢ Err Down }

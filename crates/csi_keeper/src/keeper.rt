@@ -1,4 +1,4 @@
-//! What keeps the State.
+//! The trait of the stores that keep the State.
 
 ghost use Rattle.std.specs.Prelude.{◌≡◌, is_some};
 ghost use Rattle.std.specs.FinMap.{get};
@@ -16,56 +16,56 @@ use crate::volume::{Attachment, Volume};
 use csi_types::{Items, Text};
 use std::alloc::Global;
 
-/// What keeps volumes and attachments: their State is the next number, the volumes by number, and
-/// the attachments by number and node.
+/// A store of volumes and attachments. Its State is the next number, the volumes by number, and the
+/// attachments by number and node.
 ///
-/// Each read says what the State is, and leaves it. A change is made whole or not at all: where it
-/// fails the State stays, but a stop of the process may then leave it made. While the keeper is
-/// down each call but `refusals` is answered `Down`, and nothing moves; no call is answered so
-/// otherwise.
+/// A read returns a part of the State and changes nothing. A change is made as a whole or not at all: if it
+/// fails, the State is unchanged, but after a stop of the process the change may turn out to be made. While
+/// the keeper is down, each call except `refusals` returns `Down` and changes nothing; no call returns
+/// `Down` otherwise.
 ///
-/// A keeper may be over a disk that returns other bytes than were written to it. The promises about the State
-/// hold while no such bytes were seen: while `doubt`, which never falls, is 0.
+/// A keeper may use a disk that returns other bytes than were written to it. The promises about the State
+/// hold while no such bytes were read: while `doubt`, which never falls, is 0.
 ///
-/// Any call but `refusals` may be answered `NoMemory` or `Refused`; the State stays then. An answer belongs
-/// to the caller.
+/// Any call except `refusals` may return `NoMemory` or `Refused`; the State is unchanged then. The caller
+/// owns what a call returns.
 ///
 /// # Not promised
 ///
-/// That a call succeeds where memory is there, that memory was refused where a call is answered
-/// so, and what calls cost. What a change does that the State does not allow. That what a keeper
-/// holds is a State at all: new keepers have one, each change keeps one, and over a file with rows
-/// `csi_adoption::adopt` shows it.
+/// That a call succeeds if memory is available, that memory was refused if a call returns `NoMemory`, and
+/// what calls cost. What a change does if the State does not allow it. That the contents of a keeper are a
+/// State at all: a new keeper has a State and each change keeps it one, and for a file with rows
+/// `csi_adoption::adopt` checks it.
 pub trait Keeper {
-    // The State, the survivors and the counts of the keeper, as contracts see them.
+    // The State, the survivors and the counts of the keeper, as used by contracts.
     ghost model: { Self → Model State };
 
-    /// The number of calls answered `Refused` or `Down` since the keeper was opened, up to the greatest
-    /// `u64`. It costs O(1), and is answered also while the keeper is down.
+    /// Returns the number of calls that returned `Refused` or `Down` since the keeper was opened, at most
+    /// 2^64 - 1. The call takes O(1) time, and works while the keeper is down too.
     fn refusals(&self) -> u64
         ensures { result ≡ (model self.now).refusals };
 
-    /// The number that the next volume gets. A volume that is added takes it and raises it by 1; no
-    /// other change moves it, so no number is given twice.
+    /// Returns the number that the next volume gets. Adding a volume takes this number and raises it by 1.
+    /// No other change affects it, so no number is used twice.
     fn next_number(&mut self) -> Result<u64, StoreFault>
         ensures { Reads (model self.old) (model self.new) result (λ s n. n ≡ s.next) };
 
-    /// The volume of a name, byte for byte; `None` if no volume has it.
+    /// Returns the volume whose name equals `name` byte for byte; `None` if no volume has this name.
     fn by_name(&mut self, alloc: Global, name: &str) -> Result<Option<Volume>, StoreFault>
         ensures { Reads (model self.old) (model self.new) result (λ s v. v ≡ named s name.now) };
 
-    /// The volume of a number; `None` if no volume has it.
+    /// Returns the volume with this number; `None` if no volume has it.
     fn by_number(&mut self, alloc: Global, number: u64) -> Result<Option<Volume>, StoreFault>
         ensures { Reads (model self.old) (model self.new) result (λ s v. v ≡ get s.volumes number) };
 
-    /// Returns true if a volume has this number. The volume is not copied, so that it can be deleted without
-    /// memory for a copy.
+    /// Returns true if a volume has this number. The volume is not copied, so this call needs no memory for
+    /// a copy; a delete uses it.
     fn has_volume(&mut self, number: u64) -> Result<bool, StoreFault>
         ensures { Reads (model self.old) (model self.new) result
             (λ s has. has ≡ is_some (get s.volumes number)) };
 
-    /// The capability keys of the volume of a number; `None` if no volume has it. It costs no more than
-    /// `by_number`, and less if a keeper need not copy the rest of the volume.
+    /// Returns the capability keys of the volume with this number; `None` if no volume has it. The call
+    /// costs no more than `by_number`, and less if a keeper need not copy the rest of the volume.
     fn caps_of(&mut self, alloc: Global, number: u64) -> Result<Option<Items<CapKey>>, StoreFault>
         ensures { Reads (model self.old) (model self.new) result
             (λ s keys. keys ≡ option_map (λ v. v.caps) (get s.volumes number)) }
@@ -76,17 +76,17 @@ pub trait Keeper {
         }
     }
 
-    /// The attachments of the volume of a number, in byte order of their nodes' ids.
+    /// Returns the attachments of the volume with this number, in byte order of their nodes' ids.
     fn attachments(&mut self, alloc: Global, number: u64) -> Result<Items<Attachment>, StoreFault>
         ensures { Reads (model self.old) (model self.new) result (λ s xs. xs ≡ attached s number) };
 
-    /// The numbers of the volumes that are attached at a node, in rising order. It may look through
-    /// all attachments.
+    /// Returns the numbers of the volumes that are attached to a node, in rising order. The call may look
+    /// through all attachments.
     fn attached_at(&mut self, alloc: Global, node: &str) -> Result<Items<u64>, StoreFault>
         ensures { Reads (model self.old) (model self.new) result (λ s xs. xs ≡ attached_at s node.now) };
 
-    /// The number of volumes attached at a node: the count of the list of `attached_at`. It costs no more
-    /// than `attached_at`, and less if a keeper has the count at hand.
+    /// Returns the number of volumes that are attached to a node: the length of the list that `attached_at`
+    /// returns. The call costs no more than `attached_at`, and less if a keeper has the count at hand.
     fn count_at(&mut self, alloc: Global, node: &Text) -> Result<u64, StoreFault>
         ensures { Reads (model self.old) (model self.new) result (λ s n. n ≡ count_at s node.now) }
     {
@@ -94,25 +94,26 @@ pub trait Keeper {
         Ok(numbers.len() as u64)
     }
 
-    /// The sizes in bytes of a pool's volumes, in rising order of their numbers. It may look through
-    /// all volumes; `used_in` returns their count and sum without that.
+    /// Returns the sizes in bytes of a pool's volumes, in rising order of the volumes' numbers. The call
+    /// may look through all volumes; `used_in` returns their count and sum without that.
     fn sizes_in(&mut self, alloc: Global, pool: &str) -> Result<Items<u64>, StoreFault>
         ensures { Reads (model self.old) (model self.new) result (λ s xs. xs ≡ sizes s pool.now) };
 
-    /// The number of a pool's volumes and the sum of their bytes, each up to the greatest `u64`: the count
-    /// and the sum of the list of `sizes_in`. A keeper has them at hand, so a create costs no more in a
-    /// pool with many volumes.
+    /// Returns the number of a pool's volumes and the sum of their bytes, each at most 2^64 - 1: the length
+    /// and the sum of the list that `sizes_in` returns. A keeper has both at hand, so creating a volume
+    /// costs no more in a pool with many volumes.
     fn used_in(&mut self, pool: &Text) -> Result<Usage, StoreFault>
         ensures { Reads (model self.old) (model self.new) result (λ s u. u ≡ used s pool.now) };
 
-    /// The volumes with numbers greater than `after`, in rising order, and of these the first
-    /// `count`: one page of a listing (CSI 1.x, `ListVolumes`). It costs the search for the first of
-    /// them, and then what it answers.
+    /// Returns the first `count` volumes with numbers greater than `after`, in rising order: one page of a
+    /// listing (CSI 1.x, `ListVolumes`). The call costs one search for the first volume, and then time in
+    /// proportion to what it returns.
     fn page(&mut self, alloc: Global, after: u64, count: u32) -> Result<Items<Volume>, StoreFault>
         ensures { Reads (model self.old) (model self.new) result (λ s xs. xs ≡ page s after count) };
 
-    /// The volumes of `page`, and the ids of the nodes that each is published at, in byte order (CSI 1.x,
-    /// `ListVolumesResponse.VolumeStatus.published_node_ids`). It is one read for the whole page.
+    /// Returns the volumes that `page` returns, and for each the ids of the nodes that it is published to,
+    /// in byte order (CSI 1.x, `ListVolumesResponse.VolumeStatus.published_node_ids`). The whole page is
+    /// one read.
     fn page_with_nodes(
         &mut self,
         alloc: Global,
@@ -121,10 +122,10 @@ pub trait Keeper {
     ) -> Result<PageWithNodes, StoreFault>
         ensures { Reads (model self.old) (model self.new) result (λ s p. IsPageWithNodes s after count p) };
 
-    /// Gives a fold each volume of `page_with_nodes` with its nodes, as a listing reports them. It costs no
-    /// more than `page_with_nodes`, and less if a keeper can pass references.
+    /// Passes each volume of `page_with_nodes` with its nodes to a fold, as a listing reports them. The
+    /// call costs no more than `page_with_nodes`, and less if a keeper can pass references.
     ///
-    /// After an error the fold has taken some of the volumes.
+    /// After an error the fold may have taken some of the volumes.
     fn fold_page<F: PageFold>(
         &mut self,
         alloc: Global,
@@ -141,20 +142,20 @@ pub trait Keeper {
         Ok(fold_listed(listed.as_slice(), fold)?)
     }
 
-    /// Makes a change, which the State must allow: the items of `Change` say when it does. A
-    /// volume that is added has a number below 2^62, at most 2^62 bytes, and capabilities in order
-    /// and without doubles.
+    /// Makes a change, which the State must allow; the variants of `Change` state their conditions. An
+    /// added volume has a number below 2^62, at most 2^62 bytes, and capabilities in order without
+    /// duplicates.
     ///
-    /// After `Ok` the State is the one after the change, so is what a stop leaves, and the keeper is
-    /// not down. After `NoMemory` or `Refused` the State stays; a stop leaves what it could have
-    /// left before, or the State after the change. After `Down` nothing moved. Where the State does
-    /// not allow the change, nothing is promised of the State from then on.
+    /// After `Ok` the change is made, a stop leaves the State with the change, and the keeper is not down.
+    /// After `NoMemory` or `Refused` the State is unchanged; a stop leaves what it could have left before
+    /// the call, or the State with the change. After `Down` nothing is changed. If the State does not allow
+    /// the change, nothing is promised about the State from then on.
     fn apply(&mut self, alloc: Global, change: &Change) -> Result<(), StoreFault>
         requires { IsBounded change.now }
         ensures { Applies (model self.old) (model self.new) change.now result };
 
-    /// Makes a change as `apply` does. It costs no more, and less where a keeper has a use for what the
-    /// change owns, as one in memory has for a volume that is added.
+    /// Makes a change as `apply` does. The call costs no more than `apply`, and less if a keeper can use
+    /// what the change owns: a keeper in memory stores an added volume without a copy.
     fn apply_owned(&mut self, alloc: Global, change: Change) -> Result<(), StoreFault>
         requires { IsBounded change }
         ensures { Applies (model self.old) (model self.new) change result }

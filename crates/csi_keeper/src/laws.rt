@@ -1,5 +1,4 @@
-//! Laws of the definitions that the contracts cite: each is the contract of a function that does
-//! nothing.
+//! Laws of the definitions that contracts use. Each law is the contract of a function that does nothing.
 
 ghost use Rattle.std.specs.Prelude.{◌≡◌, ◌≤◌, ℕ};
 ghost use Rattle.csi_keeper.specs.Coexistence.{coexist};
@@ -10,14 +9,14 @@ ghost use Rattle.csi_types.specs.declared.limits.TheConstants.{MAX_NUMBER};
 
 use csi_config::Config;
 
-/// Coexistence has no order.
+/// Coexistence is symmetric: `coexist` returns the same for both orders of two attachments.
 #[inline(always)]
 #[tactic(auto, using(crate::specs::facts::Coexistence::coexist_turned))]
 pub fn coexist_symmetric()
     ensures { (a b : Attachment) → coexist a b ≡ coexist b a }
 {}
 
-/// A State without volumes is of the invariant, with any number for its first volume.
+/// A State without volumes has the invariant, whatever number its first volume will get.
 #[inline(always)]
 pub fn first(config: &Config)
     ensures { (n : ℕ) → 1 ≤ n → n ≤ MAX_NUMBER → IsInvariant config.now (first_state n) }

@@ -1,16 +1,16 @@
 //! The State of volumes, its changes, and the trait of the stores that keep it.
 //!
-//! `specs/State.antt` has the State of volumes as finite maps, its reads as filters of their entries, and its
-//! changes; `specs/Invariant.antt` has the invariant of each State that the machine reaches;
-//! `specs/Keeper.antt` has the effect of each call on the model of a keeper. docs/MACHINE.md says them in
-//! prose. `specs/facts/` has facts about these definitions that crates above use too: sums over a pool after
-//! a change, the orders of the maps, chains of reads, supported keys.
+//! `specs/State.antt` defines the State of volumes as finite maps, its reads as filters of their entries,
+//! and its changes. `specs/Invariant.antt` defines the invariant that each State the machine reaches has.
+//! `specs/Keeper.antt` defines the effect of each call on the model of a keeper. docs/MACHINE.md describes
+//! them in prose. `specs/facts/` has facts about these definitions that crates above use too: sums over a
+//! pool after a change, the orders of the maps, chains of reads, supported keys.
 //!
-//! The step of requests uses only the trait [`Keeper`]. This crate also has the parts that keepers share: the
-//! running totals of pools, [`Totals`], copies of volumes and attachments ([`copy_volume`],
-//! [`copy_attachment`]), the count of refusals with the state of a keeper that is down ([`Health`]), the
-//! entries of a listing ([`listed_at`], [`listed_each`]), and folds over them ([`PageFold`]). The keepers are
-//! in crates above: `csi_memory` in memory, `csi_tables` in SQLite, `csi_through` over two.
+//! The step of requests uses only the trait [`Keeper`]. This crate also has the parts that keepers share:
+//! the running totals of pools, [`Totals`], copies of volumes and attachments ([`copy_volume`],
+//! [`copy_attachment`]), the count of refusals and whether a keeper is down ([`Health`]), the entries of a
+//! listing ([`listed_at`], [`listed_each`]), and folds over them ([`PageFold`]). The keepers are in crates
+//! above: `csi_memory` in memory, `csi_tables` in SQLite, `csi_through` over two keepers.
 //!
 //! ```rust
 //! let number = keeper.next_number()?;

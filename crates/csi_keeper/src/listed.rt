@@ -1,4 +1,4 @@
-//! What a listing says of volumes.
+//! The entries of a listing of volumes.
 
 ghost use Rattle.std.specs.Prelude.{◌≡◌, IfOk};
 ghost use Rattle.csi_keeper.specs.Listing.{listed_at, listed_each, row_reported};
@@ -10,18 +10,18 @@ use std::alloc::{AllocError, Global};
 /// The part of a volume that a listing shows (CSI 1.x, `ListVolumesResponse.Entry`).
 #[derive(Drop)]
 pub struct Listed {
-    /// The volume's number.
+    /// The number of the volume, which its id contains.
     pub number: u64,
-    /// The size in bytes.
+    /// The size of the volume in bytes.
     pub bytes: u64,
-    /// The name of the pool that it takes its bytes from.
+    /// The name of the pool that the volume takes its bytes from.
     pub pool: Text,
-    /// The nodes that it is published at, in byte order of their ids.
+    /// The ids of the nodes that the volume is published to, in byte order.
     pub nodes: Items<Text>,
 }
 
 impl Listed {
-    /// The same fields, borrowed.
+    /// Borrows the fields as a [`ListedRow`].
     #[inline(always)]
     pub fn lent(&self) -> ListedRow<'_>
         ensures { row_reported result ≡ self.now }
@@ -38,30 +38,30 @@ impl Listed {
 /// The part of a volume that a listing shows, borrowed: the fields of [`Listed`].
 #[derive(Drop)]
 pub struct ListedRow<'a> {
-    /// The volume's number.
+    /// The number of the volume, which its id contains.
     pub number: u64,
-    /// The size in bytes.
+    /// The size of the volume in bytes.
     pub bytes: u64,
-    /// The name of the pool that it takes its bytes from.
+    /// The name of the pool that the volume takes its bytes from.
     pub pool: &'a Text,
-    /// The nodes that it is published at, in byte order of their ids.
+    /// The ids of the nodes that the volume is published to, in byte order.
     pub nodes: &'a Items<Text>,
 }
 
-/// A page of volumes, and the nodes of each.
+/// A page of volumes, and the nodes that each is published to.
 #[derive(Drop)]
 pub struct PageWithNodes {
-    /// The volumes, in rising order of their numbers.
+    /// The volumes of the page, in rising order of their numbers.
     pub volumes: Items<Volume>,
-    /// The nodes that each volume is published at, in byte order of their ids.
+    /// For each volume, in the same order, the ids of the nodes that it is published to, in byte order.
     pub nodes: Items<Items<Text>>,
 }
 
-/// The entry of a volume that is published at these nodes.
+/// Makes the listing entry of a volume that is published to `nodes`.
 ///
 /// # Errors
 ///
-/// Where memory was refused.
+/// If memory is refused.
 #[inline(always)]
 pub fn listed_at(alloc: Global, volume: &Volume, nodes: Items<Text>) -> Result<Listed, AllocError>
     ensures { IfOk result (λ reported. reported ≡ listed_at volume.now nodes) }
@@ -74,11 +74,12 @@ pub fn listed_at(alloc: Global, volume: &Volume, nodes: Items<Text>) -> Result<L
     })
 }
 
-/// The entries of volumes and the nodes of each. It ends with the shorter of the two lists.
+/// Makes the listing entries of volumes, each with the nodes at the same place in `nodes`. The result is as
+/// long as the shorter of the two lists.
 ///
 /// # Errors
 ///
-/// Where memory was refused.
+/// If memory is refused.
 pub fn listed_each(
     alloc: Global,
     volumes: &[Volume],

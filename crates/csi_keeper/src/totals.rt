@@ -1,4 +1,4 @@
-//! Running totals: how many volumes each pool has, and their bytes.
+//! Running totals: the number of volumes in each pool, and the sum of their bytes.
 
 ghost use Rattle.std.specs.Prelude.{◌≡◌, ◌↔◌, List, ℕ, false, IsTrue, OnOk, OnErr, if◌then◌else◌};
 ghost use Rattle.csi_types.specs.Maps.{same_text};
@@ -9,26 +9,26 @@ use csi_types::Text;
 use std::alloc::{AllocError, Global};
 use std::collections::BTreeMap;
 
-/// The number of a pool's volumes, and the sum of their bytes.
+/// The running total of one pool: the number of its volumes, and the sum of their sizes.
 #[derive(Clone, Copy, Debug)]
 pub struct Total {
-    /// The number of volumes counted.
+    /// The number of volumes in the pool.
     pub volumes: u64,
-    /// The sum of their bytes.
+    /// The sum of the volumes' sizes in bytes.
     pub bytes: u128,
 }
 
-/// The total of each pool. The total of a pool that was never named is 0 volumes and 0 bytes.
+/// The total of each pool. A pool to which no volume was ever added has the total of 0 volumes and 0 bytes.
 ///
-/// A keeper of volumes has one in addition to its rows, so that what a pool has used is found in O(log n) for
-/// n pools. An entry stays for each pool that a volume was ever added to.
+/// A keeper has these totals in addition to its rows, so that the usage of a pool is found in O(log n) for
+/// n pools. The entry of a pool is never removed.
 #[derive(Drop)]
 pub struct Totals {
     tree: BTreeMap<Text, Total>,
 }
 
 impl Totals {
-    /// No volumes in any pool. It takes no memory.
+    /// Creates totals of 0 for every pool. It takes no memory.
     pub fn new(alloc: Global) -> Totals
         ensures { (q : List ℕ) → total_of result q ≡ zero_total }
     {
@@ -49,7 +49,7 @@ impl Totals {
         }
     }
 
-    /// The number of a pool's volumes and the sum of their bytes, each up to the greatest `u64`.
+    /// Returns the number of a pool's volumes and the sum of their bytes, each at most 2^64 - 1.
     pub fn usage(&self, pool: &Text) -> Usage
         ensures { result ≡ reported (total_of self.now pool.now) }
     {
@@ -60,11 +60,11 @@ impl Totals {
         }
     }
 
-    /// Sets the total of a pool; the other pools stay.
+    /// Sets the total of a pool. The totals of other pools are unchanged.
     ///
     /// # Errors
     ///
-    /// Where memory was refused; each total stays.
+    /// If memory is refused; every total is unchanged.
     #[tactic(auto, using(crate::proofs::TotalsLemmas::total_set))]
     pub fn set(&mut self, pool: Text, total: Total) -> Result<(), AllocError>
         ensures set { OnOk result ((q : List ℕ)
@@ -75,12 +75,13 @@ impl Totals {
         Ok(())
     }
 
-    /// Counts a volume of this many bytes in a pool; the other pools stay. Of the pool nothing is said
-    /// where it has 2^64 - 1 volumes already, or the sum would pass the greatest `u128`.
+    /// Adds a volume of `bytes` bytes to the total of a pool. The totals of other pools are unchanged.
+    /// Nothing is promised about the pool's total if it has 2^64 - 1 volumes already, or if the sum of
+    /// bytes would exceed 2^128 - 1.
     ///
     /// # Errors
     ///
-    /// Where memory was refused; each total stays.
+    /// If memory is refused; every total is unchanged.
     #[tactic(auto, using(crate::proofs::TotalsLemmas::total_set, crate::proofs::TotalsLemmas::total_other))]
     pub fn add(&mut self, pool: Text, bytes: u64) -> Result<(), AllocError>
         ensures counted { OnOk result (HasRoom (total_of self.old pool) bytes → (q : List ℕ)
@@ -95,8 +96,8 @@ impl Totals {
         Ok(())
     }
 
-    /// Whether one more volume of this many bytes can be counted in a pool: it has fewer than 2^64 - 1
-    /// volumes, and the sum stays below 2^128.
+    /// Whether a volume of `bytes` bytes can be added to the total of a pool: the pool has fewer than 2^64
+    /// - 1 volumes, and the sum of bytes would remain below 2^128.
     pub fn has_room(&self, pool: &Text, bytes: u64) -> bool
         ensures { IsTrue result ↔ HasRoom (total_of self.now pool.now) bytes }
     {
@@ -104,11 +105,11 @@ impl Totals {
         total.volumes < u64::MAX && total.bytes <= u128::MAX - bytes as u128
     }
 
-    /// Takes the memory that [`count`](Totals::count) wants for a pool. Each total stays.
+    /// Takes the memory that [`count`](Totals::count) needs for a pool. Every total is unchanged.
     ///
     /// # Errors
     ///
-    /// Where memory was refused.
+    /// If memory is refused.
     #[tactic(auto, using(crate::proofs::TotalsLemmas::same_set, crate::proofs::TotalsLemmas::is_set))]
     pub fn reserve(&mut self, pool: Text) -> Result<(), AllocError>
         ensures reserved { OnOk result (IsReserved self.new pool) }
@@ -119,8 +120,9 @@ impl Totals {
         Ok(())
     }
 
-    /// Counts a volume of this many bytes in a pool that is reserved; the other pools stay. It takes
-    /// no memory. Of the pool nothing is said where [`has_room`](Totals::has_room) is false.
+    /// Adds a volume of `bytes` bytes to the total of a pool that has an entry, for example after
+    /// [`reserve`](Totals::reserve). The totals of other pools are unchanged. It takes no memory. Nothing
+    /// is promised about the pool's total if [`has_room`](Totals::has_room) is false.
     #[tactic(auto, using(crate::proofs::TotalsLemmas::total_set, crate::proofs::TotalsLemmas::total_other))]
     pub fn count(&mut self, pool: &Text, bytes: u64)
         requires { IsReserved self.old pool.now }
@@ -135,8 +137,8 @@ impl Totals {
         }
     }
 
-    /// Takes a volume of this many bytes out of a pool's total; the other pools stay. It takes no
-    /// memory. Neither part goes below 0.
+    /// Subtracts a volume of `bytes` bytes from the total of a pool. The totals of other pools are
+    /// unchanged. It takes no memory. Neither the count nor the sum falls below 0.
     #[tactic(auto, using(crate::proofs::TotalsLemmas::total_set))]
     pub fn remove(&mut self, pool: &Text, bytes: u64)
         ensures { (q : List ℕ) → total_of self.new q
@@ -149,7 +151,7 @@ impl Totals {
     }
 }
 
-// A total with one volume more. Neither part wraps.
+// Returns the total with one more volume. Neither the count nor the sum overflows.
 fn more_total(total: Total, bytes: u64) -> Total
     ensures { HasRoom total bytes → result ≡ more total bytes }
 {
@@ -159,7 +161,7 @@ fn more_total(total: Total, bytes: u64) -> Total
     }
 }
 
-// A total with one volume less.
+// Returns the total with one volume less.
 fn less_total(total: Total, bytes: u64) -> Total
     ensures { result ≡ less total bytes }
 {

@@ -1,4 +1,5 @@
-//! The attachments in memory, by number and node.
+//! The attachments in memory, in a map from places. A place is the pair of a volume's number and a node's
+//! id.
 
 ghost use Rattle.std.specs.Prelude.{◌≡◌, ◌+◌, ◌<◌, ◌^◌, ◌==◌, [], ◌∷◌, ◌++◌, if◌then◌else◌, ℕ, None, IfOk, IfErr, OnOk, OnErr, map, filter, not};
 ghost use Rattle.std.specs.BTreeMap.Range.{entries_between};
@@ -17,7 +18,7 @@ use std::collections::btree_map::Range;
 use std::collections::{BTreeMap, BTreeSet};
 use std::ops::Bound;
 
-// The end of a number's places.
+// Returns the end of the range of places with this number.
 fn end_of(alloc: Global, number: u64) -> Bound<(u64, Text)>
     ensures { result ≡ place_end number }
 {
@@ -58,11 +59,11 @@ fn push_at(
     Ok(())
 }
 
-/// Copies of the attachments of the volume with this number, in byte order of their nodes.
+/// Copies the attachments of the volume with this number, in byte order of their nodes.
 ///
 /// # Errors
 ///
-/// Where memory is refused.
+/// If memory is refused.
 pub fn attached_to(
     alloc: Global,
     attachments: &BTreeMap<(u64, Text), Attachment>,
@@ -80,7 +81,11 @@ pub fn attached_to(
     Ok(copies)
 }
 
-/// Adds the node of an attachment, if it is one of a number.
+/// Adds the node of an attachment if `place` has the number `number`.
+///
+/// # Errors
+///
+/// If memory is refused.
 pub(crate) fn push_node(
     alloc: Global,
     nodes: &mut Items<Text>,
@@ -97,7 +102,11 @@ pub(crate) fn push_node(
     Ok(())
 }
 
-/// The nodes of the attachments of a number, in byte order.
+/// Copies the node ids of the attachments of the volume with this number, in byte order.
+///
+/// # Errors
+///
+/// If memory is refused.
 pub(crate) fn nodes_of(
     alloc: Global,
     attachments: &BTreeMap<(u64, Text), Attachment>,
@@ -112,7 +121,7 @@ pub(crate) fn nodes_of(
     Ok(nodes)
 }
 
-// Where memory is refused the rows stay, and the attachment comes back with its place.
+// If memory is refused, the map is unchanged, and the error contains the place and the attachment.
 #[tactic(auto, using(crate::specs::facts::Trees::one_place))]
 fn put_place(
     attachments: &mut BTreeMap<(u64, Text), Attachment>,
@@ -128,12 +137,12 @@ fn put_place(
     Ok(())
 }
 
-/// Adds a copy of an attachment to the volume with this number, and its node and number to the index of
-/// nodes. Where the volume was not attached at that node, the index has exactly what the attachments have.
+/// Adds a copy of an attachment to the volume with this number, and adds its node and number to the index
+/// of nodes. If the volume was not attached to that node, the index then agrees with the attachments.
 ///
 /// # Errors
 ///
-/// Where memory is refused. The attachments and the index stay.
+/// If memory is refused. The attachments and the index are unchanged.
 pub fn put_attachment(
     alloc: Global,
     attachments: &mut BTreeMap<(u64, Text), Attachment>,
@@ -181,7 +190,7 @@ fn push_place(
     Ok(())
 }
 
-/// Copies of the places of a number.
+/// Copies the places with this number.
 fn places_to(
     alloc: Global,
     attachments: &BTreeMap<(u64, Text), Attachment>,
@@ -199,7 +208,8 @@ fn places_to(
     Ok(copies)
 }
 
-/// Removes the attachment of a number at a node, if there is one, and both from the index of nodes.
+/// Removes the attachment at a place, and removes the place from the index of nodes. If no attachment is at
+/// the place, nothing changes.
 pub fn remove_attachment(
     attachments: &mut BTreeMap<(u64, Text), Attachment>,
     nodes: &mut BTreeMap<Text, BTreeSet<u64>>,
@@ -229,11 +239,11 @@ fn remove_each(
     }
 }
 
-/// Removes all attachments of the volume with this number, and each from the index of nodes.
+/// Removes all attachments of the volume with this number, and removes them from the index of nodes.
 ///
 /// # Errors
 ///
-/// Where memory is refused. The attachments and the index stay.
+/// If memory is refused. The attachments and the index are unchanged.
 #[tactic(auto, using(crate::proofs::DetachLemmas::each_detached))]
 pub fn remove_attachments(
     alloc: Global,

@@ -1,4 +1,4 @@
-//! A map that takes little room where it has no entries.
+//! A map that takes little memory if it is empty.
 
 ghost use Rattle.std.specs.Prelude.{◌≡◌, IfOk};
 
@@ -6,7 +6,7 @@ use csi_types::{Boxed, Map, copy_map};
 use std::alloc::{AllocError, Global};
 use std::marker::Model;
 
-/// A map of texts, which takes two words, and no other memory where it has no entries.
+/// A map from texts to texts that takes two words, and no other memory if it is empty.
 #[derive(Drop)]
 pub struct CompactMap {
     // The entries; `None` for an empty map, which then owns no memory.
@@ -29,11 +29,11 @@ impl Model for CompactMap {
 }
 
 impl CompactMap {
-    /// Keeps a map, which is moved.
+    /// Makes a compact map of a map, which is moved.
     ///
     /// # Errors
     ///
-    /// Where memory is refused. The map is dropped.
+    /// If memory is refused. The map is dropped.
     pub fn new(alloc: Global, map: Map) -> Result<CompactMap, AllocError>
         ensures { IfOk result (λ compact. compact ≡ map) }
     {
@@ -45,7 +45,11 @@ impl CompactMap {
         })
     }
 
-    /// A copy of the map.
+    /// Copies the map into one that is not compact.
+    ///
+    /// # Errors
+    ///
+    /// If memory is refused.
     pub(crate) fn copy(&self, alloc: Global) -> Result<Map, AllocError>
         ensures { IfOk result (λ copy. copy ≡ self.now) }
     {

@@ -1,4 +1,4 @@
-//! A hash of a name.
+//! The hash of a name, which the index of names uses.
 
 ghost use Rattle.std.specs.Prelude.{◌≡◌, ◌<◌, length};
 ghost use Rattle.csi_maps.specs.Hashing.{hashed, name_hash, word_hashed};
@@ -6,8 +6,8 @@ ghost use Rattle.csi_maps.specs.Hashing.{hashed, name_hash, word_hashed};
 // An odd number without a pattern in its bits: 2^64 divided by the golden ratio.
 const MULTIPLIER: u64 = 0x9e37_79b9_7f4a_7c15;
 
-// The hash after one word more.
-// It is one-to-one in the word, so names of one length that differ in one word only never meet.
+// Returns the hash after one more word. It is one-to-one in the word, so two names of the same length that
+// differ in one word only have different hashes.
 #[inline(always)]
 fn hash_word(hash: u64, word: u64) -> u64
     ensures { result ≡ word_hashed hash word }
@@ -16,7 +16,7 @@ fn hash_word(hash: u64, word: u64) -> u64
     product ^ (product >> 32)
 }
 
-// The hash after fewer than eight bytes more, each a word.
+// Returns the hash after fewer than eight more bytes, each taken as a word.
 #[inline(always)]
 #[tactic(auto, using(crate::proofs::HashLemmas::byte_next))]
 fn hash_tail(start: u64, tail: &[u8]) -> u64
@@ -30,7 +30,8 @@ fn hash_tail(start: u64, tail: &[u8]) -> u64
     hash
 }
 
-/// The hash of a name, over all of its bytes. Equal names have one hash, and most others another one.
+/// Returns the hash of a name, over all of its bytes. Equal names have the same hash; different names
+/// rarely do.
 #[tactic(auto, using(crate::proofs::HashLemmas::word_first), unfolding(crate::specs::Hashing::name_hash))]
 pub(crate) fn name_hash(name: &[u8]) -> u64
     ensures { result ≡ name_hash name.now }

@@ -1,15 +1,15 @@
-//! Ordered maps of volumes and attachments in memory, and the indexes by which they are found.
+//! Ordered maps of volumes and attachments in memory, and the indexes that find them.
 //!
-//! `rows.rt` has the volumes by number, each as `stored.rt` and `compact.rt` keep it, `attachments.rt` the
-//! attachments by number and node, `names.rt` the index of names, by the hash of `hash.rt`, and `nodes.rt`
-//! the index of nodes. The indexes have what the rows have and nothing else, also after want of memory;
-//! `walk.rt` is a walk over the attachments next to a page of volumes.
+//! `rows.rt` defines the volumes by number, in the form of `stored.rt` and `compact.rt`; `attachments.rt`
+//! the attachments by number and node; `names.rt` the index of names, which uses the hash of `hash.rt`; and
+//! `nodes.rt` the index of nodes. The indexes agree with the rows, also after memory was refused. `walk.rt`
+//! visits the attachments along with a page of volumes.
 //!
-//! `specs/Stored.antt` says which volumes rows are, and `specs/Rows.antt` which finite maps of the State they
-//! represent, and what the index of nodes has; `specs/Naming.antt` what the index of names finds;
-//! `specs/Walking.antt` what a walk has ahead; `specs/facts/` what follows from these definitions: ordered
-//! maps as finite maps, stored volumes, pages and ranges of rows, what is in the index of nodes after a
-//! change.
+//! `specs/Stored.antt` defines which volume a row is. `specs/Rows.antt` defines which finite maps of the
+//! State the rows represent, and the contents of the index of nodes. `specs/Naming.antt` defines what the
+//! index of names finds, and `specs/Walking.antt` which attachments a walk has not passed. `specs/facts/`
+//! lists what follows from these definitions: ordered maps as finite maps, stored volumes, pages and ranges
+//! of rows, and the index of nodes after a change.
 //!
 //! ```rust
 //! let stored = StoredVolume::new(alloc, volume)?;

@@ -1,8 +1,8 @@
 //! The index of names in memory.
 //!
-//! It has no second copy of a name: a name is looked up by its hash, and the volume that is found has the
-//! name, or another one. Of names with one hash the first is under the hash, and each other one is under
-//! itself.
+//! The index does not copy each name. A name is looked up by its hash; the volume found has that name or
+//! another name with the same hash. If several names have the same hash, the name added first is found by
+//! the hash, and each other name is found by its text.
 
 ghost use Rattle.std.specs.Prelude.{◌≡◌, ◌≢◌, ◌↔◌, [], None, Some, IfOk, IsTrue, OnOk, OnErr};
 ghost use Rattle.std.specs.BTreeMap.{is_at};
@@ -20,18 +20,18 @@ use csi_types::{Text, copy_text};
 use std::alloc::{AllocError, Global};
 use std::collections::BTreeMap;
 
-/// The index of names, which finds the volume of a name. It holds numbers by the hashes of names, and the
-/// names themselves only if two share a hash.
+/// The index of names, which finds a volume by its name. It maps the hashes of names to volume numbers, and
+/// contains a name itself only if another name has the same hash.
 #[derive(Drop)]
 pub struct Names {
-    // The number of a volume, by the hash of its name. Most names have a hash of their own.
+    // The number of a volume, by the hash of its name. Most names have a hash that no other name has.
     by_hash: BTreeMap<u64, u64>,
-    // The number of each volume whose name has the hash of one that was there before it, by its name.
+    // The number of each volume whose name has the same hash as an earlier name, by its name.
     by_text: BTreeMap<Text, u64>,
 }
 
 impl Names {
-    /// An index without names.
+    /// Creates an index without names. It takes no memory.
     pub fn new(alloc: Global) -> Names
         ensures { (result.by_hash.entries ≡ []) × (result.by_text.entries ≡ []) }
     {
@@ -42,12 +42,12 @@ impl Names {
     }
 }
 
-/// A copy of the volume that the index finds by a name; `None` where it finds none. It takes O(log n) for n
+/// Copies the volume that the index finds by a name; `None` if it finds no volume. It takes O(log n) for n
 /// volumes.
 ///
 /// # Errors
 ///
-/// Where memory is refused.
+/// If memory is refused.
 pub fn volume_named(
     alloc: Global,
     names: &Names,
@@ -71,7 +71,7 @@ pub fn volume_named(
     }
 }
 
-// Gives a hash its number again.
+// Sets the number of a hash to the number that it had before.
 fn put_back(by_hash: &mut BTreeMap<u64, u64>, hash: u64, number: u64)
     requires { lookup (is_at (nat_cmp hash)) by_hash.old.entries ≢ None }
     ensures { IsSetAt nat_cmp hash (Some number) by_hash.old.entries by_hash.new.entries }
@@ -81,11 +81,11 @@ fn put_back(by_hash: &mut BTreeMap<u64, u64>, hash: u64, number: u64)
     };
 }
 
-/// Gives a name, which no volume has, its number.
+/// Adds a name, which no volume has, with the number of its volume.
 ///
 /// # Errors
 ///
-/// Where memory is refused. The index finds what it found before.
+/// If memory is refused. The index finds the same volumes as before.
 pub fn set_name(
     alloc: Global,
     names: &mut Names,
@@ -113,7 +113,7 @@ fn leads_to(by_hash: &BTreeMap<u64, u64>, hash: u64, number: u64) -> bool
     }
 }
 
-// Removes a hash, if it leads to a number.
+// Removes a hash if its number is `number`.
 fn drop_hash(by_hash: &mut BTreeMap<u64, u64>, hash: u64, number: u64)
     ensures { IsHashDropped hash number by_hash.old.entries by_hash.new.entries }
 {
@@ -123,7 +123,7 @@ fn drop_hash(by_hash: &mut BTreeMap<u64, u64>, hash: u64, number: u64)
     by_hash.remove(&hash);
 }
 
-/// Removes a name with its number. Every other name keeps its number.
+/// Removes a name, whose number is `number`. Every other name keeps its number.
 pub fn drop_name(names: &mut Names, name: &Text, number: u64)
     ensures { IsUnnamed name.now number names.old names.new }
 {

@@ -1,5 +1,6 @@
-//! The index of nodes in memory: the numbers of the volumes that are attached at each node, by the node's id.
-//! A node where none is has no entry.
+//! The index of nodes in memory: a map from the id of a node to the numbers of the volumes that are
+//! attached to the node. A node without attached volumes has no entry. A spot is the pair of a node and a
+//! volume's number.
 
 ghost use Rattle.std.specs.List.Sorted.{IsStrictlySortedBy};
 ghost use Rattle.std.specs.Ordering.{nat_cmp};
@@ -10,7 +11,11 @@ use csi_types::{Items, Text, copy_text};
 use std::alloc::{AllocError, Global};
 use std::collections::{BTreeMap, BTreeSet};
 
-/// Adds a spot. Where memory is refused the index has the spots that it had.
+/// Adds a spot to the index.
+///
+/// # Errors
+///
+/// If memory is refused. The index has the same spots as before.
 pub(crate) fn put_spot(
     alloc: Global,
     nodes: &mut BTreeMap<Text, BTreeSet<u64>>,
@@ -31,7 +36,7 @@ pub(crate) fn put_spot(
     Ok(())
 }
 
-/// Takes a spot out of the index, and its node where that was the last one there.
+/// Removes a spot from the index. A node without further spots is removed too.
 pub(crate) fn drop_spot(nodes: &mut BTreeMap<Text, BTreeSet<u64>>, spot: &(Text, u64))
     ensures gone { IsSpotSet spot.now false nodes.old.entries nodes.new.entries }
     ensures full { HasNoEmpty nodes.old.entries → HasNoEmpty nodes.new.entries }
@@ -56,12 +61,12 @@ fn copies_of(alloc: Global, numbers: &BTreeSet<u64>) -> Result<Items<u64>, Alloc
     Ok(copies)
 }
 
-/// The numbers of the volumes that are attached at a node, in rising order; none where the index does not
-/// have the node.
+/// Returns the numbers of the volumes that are attached to a node, in rising order. The list is empty if
+/// the index does not contain the node.
 ///
 /// # Errors
 ///
-/// Where memory is refused.
+/// If memory is refused.
 pub fn numbers_at(
     alloc: Global,
     nodes: &BTreeMap<Text, BTreeSet<u64>>,
@@ -77,7 +82,7 @@ pub fn numbers_at(
     }
 }
 
-/// The number of volumes attached at a node: 0 for a node that the index does not have.
+/// Returns the number of volumes that are attached to a node; 0 if the index does not contain the node.
 pub fn count_at(nodes: &BTreeMap<Text, BTreeSet<u64>>, node: &Text) -> u64
     ensures value { result ≡ length (numbers_by nodes.now.entries node.now) }
     ensures ordered { IsStrictlySortedBy nat_cmp (numbers_by nodes.now.entries node.now) }

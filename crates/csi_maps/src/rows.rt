@@ -1,4 +1,4 @@
-//! The volumes in memory, by their numbers.
+//! The volumes in memory, in a map from their numbers.
 
 ghost use Rattle.std.specs.Prelude.{◌≡◌, ℕ, IfErr, IfOk, OnOk, OnErr, is_some, map, filter, take};
 ghost use Rattle.std.specs.BTreeMap.{values};
@@ -26,11 +26,11 @@ use std::collections::btree_map::Range;
 use std::mem::replace;
 use std::ops::Bound;
 
-/// A copy of the volume with this number; `None` where no volume has it.
+/// Copies the volume with this number; `None` if no volume has it.
 ///
 /// # Errors
 ///
-/// Where memory is refused.
+/// If memory is refused.
 #[tactic(auto, using(crate::specs::facts::Stored::get_stored))]
 pub fn volume_at(
     alloc: Global,
@@ -53,7 +53,12 @@ pub fn has_volume(volumes: &BTreeMap<u64, StoredVolume>, number: u64) -> bool
     volumes.contains_key(&number)
 }
 
-/// A copy of the volume of a number, if it has a name.
+/// Copies the volume with this number if its name is `name`; `None` if it has another name or does not
+/// exist.
+///
+/// # Errors
+///
+/// If memory is refused.
 #[tactic(auto, using(crate::specs::facts::Stored::get_stored))]
 pub(crate) fn volume_if_named(
     alloc: Global,
@@ -70,11 +75,11 @@ pub(crate) fn volume_if_named(
     }
 }
 
-/// A copy of the capability keys of the volume with this number; `None` where no volume has it.
+/// Copies the capability keys of the volume with this number; `None` if no volume has it.
 ///
 /// # Errors
 ///
-/// Where memory is refused.
+/// If memory is refused.
 #[tactic(auto, using(crate::specs::facts::Stored::get_stored))]
 pub fn caps_at(
     alloc: Global,
@@ -96,11 +101,12 @@ fn is_in(volume: &StoredVolume, pool: &str) -> bool
     volume.pool.as_str() == pool
 }
 
-/// The bytes of each volume of a pool, in rising order of their numbers. It looks through all volumes.
+/// Returns the size in bytes of each volume of a pool, in rising order of the volumes' numbers. It looks
+/// through all volumes.
 ///
 /// # Errors
 ///
-/// Where memory is refused.
+/// If memory is refused.
 #[tactic(auto, using(crate::specs::facts::Stored::stored_are))]
 pub fn sizes_of(
     alloc: Global,
@@ -127,12 +133,12 @@ fn beyond(volumes: &BTreeMap<u64, StoredVolume>, after: u64) -> Range<'_, u64, S
     volumes.range((Bound::Excluded(after), Bound::Unbounded))
 }
 
-/// Copies of the first `count` volumes whose numbers are greater than `after`, in rising order; fewer where
-/// there are fewer.
+/// Copies the first `count` volumes whose numbers are greater than `after`, in rising order of the numbers.
+/// If there are fewer such volumes, it copies all of them.
 ///
 /// # Errors
 ///
-/// Where memory is refused.
+/// If memory is refused.
 pub fn volumes_after(
     alloc: Global,
     volumes: &BTreeMap<u64, StoredVolume>,
@@ -155,12 +161,12 @@ pub fn volumes_after(
     Ok(copies)
 }
 
-/// The nodes of the first `count` volumes whose numbers are greater than `after`: a list for each volume, in
-/// byte order.
+/// Returns the nodes of the first `count` volumes whose numbers are greater than `after`: one list of node
+/// ids for each volume, in byte order.
 ///
 /// # Errors
 ///
-/// Where memory is refused.
+/// If memory is refused.
 pub fn nodes_after(
     alloc: Global,
     volumes: &BTreeMap<u64, StoredVolume>,
@@ -186,12 +192,12 @@ pub fn nodes_after(
     Ok(nodes)
 }
 
-/// Folds what a listing says of the first `count` volumes whose numbers are greater than `after`, in rising
-/// order, with their nodes.
+/// Passes the listing entries of the first `count` volumes whose numbers are greater than `after`, with
+/// their nodes, to a fold, in rising order of the numbers.
 ///
 /// # Errors
 ///
-/// Where memory is refused, also by the fold, which keeps what it has taken so far.
+/// If memory is refused, also to the fold. The fold keeps the entries that it has taken so far.
 #[inline(always)]
 pub fn fold_after<F: PageFold>(
     alloc: Global,
@@ -221,11 +227,11 @@ pub fn fold_after<F: PageFold>(
     Ok(())
 }
 
-/// Puts a volume under a number.
+/// Inserts a volume under a number, in place of an earlier volume with this number.
 ///
 /// # Errors
 ///
-/// Where memory is refused. The rows stay, and the volume is given back with the number.
+/// If memory is refused. The map is unchanged, and the error contains the number and the volume.
 #[tactic(auto, using(crate::specs::facts::Stored::one_stored))]
 pub fn put_volume(
     volumes: &mut BTreeMap<u64, StoredVolume>,
@@ -241,7 +247,7 @@ pub fn put_volume(
     Ok(())
 }
 
-/// Removes the volume with this number and returns it; `None` where no volume has it.
+/// Removes the volume with this number and returns it; `None` if no volume has it.
 #[tactic(auto, using(crate::specs::facts::Stored::none_stored, crate::specs::facts::Stored::get_stored))]
 pub fn remove_volume(volumes: &mut BTreeMap<u64, StoredVolume>, number: u64) -> Option<StoredVolume>
     ensures value { option_map (as_volume number) result
@@ -252,7 +258,8 @@ pub fn remove_volume(volumes: &mut BTreeMap<u64, StoredVolume>, number: u64) -> 
     volumes.remove(&number)
 }
 
-/// Gives the volume with this number, if there is one, other mutable parameters. It takes no memory.
+/// Replaces the mutable parameters of the volume with this number. If no volume has it, nothing changes. It
+/// takes no memory.
 #[tactic(auto, using(crate::proofs::RowChangeLemmas::one_mutable, crate::proofs::RowChangeLemmas::no_mutable))]
 pub fn set_mutable(volumes: &mut BTreeMap<u64, StoredVolume>, number: u64, mutable: CompactMap)
     ensures { volumes_of (as_volumes volumes.new.entries)

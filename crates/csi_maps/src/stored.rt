@@ -1,4 +1,4 @@
-//! A volume as it is kept in memory.
+//! The form in which a volume is kept in memory.
 
 ghost use Rattle.std.specs.Prelude.{◌≡◌, IfOk};
 ghost use Rattle.csi_keeper.specs.Listing.{listed_at, row_reported};
@@ -9,16 +9,17 @@ use csi_keeper::{CapKey, ListedRow, Volume, copy_keys};
 use csi_types::{Items, Text};
 use std::alloc::{AllocError, Global};
 
-/// A volume without its number, which it is kept under.
+/// A volume without its number, which is the key of the map.
 ///
-/// A node of the tree has room for twice as many rows as it holds, so each byte here counts twice.
+/// The nodes of the tree have room for up to twice as many rows as they contain, so each byte of this
+/// struct counts twice.
 #[derive(Drop)]
 pub struct StoredVolume {
-    /// The volume's name, which no other volume has.
+    /// The name of the volume. No other volume has it.
     pub name: Text,
-    /// Its size in bytes.
+    /// The size of the volume in bytes.
     pub bytes: u64,
-    /// The name of its pool.
+    /// The name of the pool that the volume takes its bytes from.
     pub pool: Text,
     pub(crate) caps: Items<CapKey>,
     pub(crate) params: CompactMap,
@@ -26,11 +27,11 @@ pub struct StoredVolume {
 }
 
 impl StoredVolume {
-    /// A volume without its number. The fields that the volume owns are moved.
+    /// Makes the stored form of a volume, without its number. The fields of the volume are moved.
     ///
     /// # Errors
     ///
-    /// Where memory is refused. The volume is dropped.
+    /// If memory is refused. The volume is dropped.
     pub fn new(alloc: Global, volume: Volume) -> Result<StoredVolume, AllocError>
         ensures { IfOk result (λ stored. as_volume volume.number stored ≡ volume) }
     {
@@ -44,7 +45,11 @@ impl StoredVolume {
         })
     }
 
-    /// A copy of the volume, which has this number.
+    /// Copies the volume, and gives the copy this number.
+    ///
+    /// # Errors
+    ///
+    /// If memory is refused.
     pub(crate) fn copy(&self, alloc: Global, number: u64) -> Result<Volume, AllocError>
         ensures { IfOk result (λ volume. volume ≡ as_volume number self.now) }
     {
@@ -59,7 +64,7 @@ impl StoredVolume {
         })
     }
 
-    /// The part of the volume that a listing shows, with this number and these nodes.
+    /// Borrows the part of the volume that a listing shows, with this number and these nodes.
     #[inline(always)]
     pub(crate) fn listed_at<'a>(&'a self, number: u64, nodes: &'a Items<Text>) -> ListedRow<'a>
         ensures { row_reported result ≡ listed_at (as_volume number self.now) nodes.now }

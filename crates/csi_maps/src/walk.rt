@@ -1,4 +1,4 @@
-//! A walk over the attachments in memory, along with one over the volumes.
+//! A walk over the attachments in memory, along with a walk over the volumes.
 
 ghost use Rattle.std.specs.Prelude.{◌≡◌, [], OnOk};
 ghost use Rattle.csi_maps.specs.Rows.{nodes_in};
@@ -12,21 +12,20 @@ use std::collections::BTreeMap;
 use std::collections::btree_map::Range;
 use std::ops::Bound;
 
-/// A walk over the attachments in rising order, which goes to numbers that rise: each costs the attachments
-/// that it goes past, and takes no memory where it has none. For a number that does not rise they are looked
-/// for.
+/// Visits volume numbers in rising order along with their attachments, passing each attachment once. For a
+/// number that is not above the last one, the attachments are looked up in the map.
 #[derive(Drop)]
 pub(crate) struct Walk<'a> {
-    // The attachment that is next, and those after it.
+    // The next attachment, and the iterator over the attachments after it.
     next: Option<(&'a (u64, Text), &'a Attachment)>,
     rest: Range<'a, (u64, Text), Attachment>,
-    // The last number passed. All greater numbers are ahead.
+    // The last number that was visited. The attachments of all greater numbers are still to come.
     passed: u64,
-    /// The nodes of the number that it went to last, in byte order.
+    /// The nodes of the volume number that was visited last, in byte order.
     pub(crate) nodes: Items<Text>,
 }
 
-/// A walk over the attachments of greater numbers.
+/// Starts a walk over the attachments of the volume numbers greater than `after`.
 pub(crate) fn walk_after(
     alloc: Global,
     attachments: &BTreeMap<(u64, Text), Attachment>,
@@ -34,7 +33,8 @@ pub(crate) fn walk_after(
 ) -> Walk<'_>
     ensures { IsOver attachments.now.entries result }
 {
-    // After the last number there is none. A walk after it may begin at it: each number is looked for.
+    // No number is greater than `u64::MAX`. A walk after `u64::MAX` may begin at `u64::MAX`, as each number
+    // is looked up in the map then.
     let first = (after.saturating_add(1), Text::new(alloc));
     let mut rest = attachments.range((Bound::Included(first), Bound::Unbounded));
     Walk {
@@ -45,7 +45,7 @@ pub(crate) fn walk_after(
     }
 }
 
-// Leaves no nodes.
+// Removes all nodes.
 #[inline(always)]
 fn clear(alloc: Global, nodes: &mut Items<Text>)
     ensures { nodes.new ≡ [] }
@@ -57,7 +57,7 @@ fn clear(alloc: Global, nodes: &mut Items<Text>)
 }
 
 impl<'a> Walk<'a> {
-    // Takes the next attachment, unless its number is greater.
+    // Takes the next attachment, unless its number is greater than `number`.
     #[inline(always)]
     fn next_up_to(&mut self, number: u64) -> Option<(&'a (u64, Text), &'a Attachment)>
         ensures takes { TakesUpTo number (ahead self.old) result (ahead self.new) }
@@ -73,7 +73,11 @@ impl<'a> Walk<'a> {
         }
     }
 
-    /// Goes to a number: its nodes are those of the number's attachments.
+    /// Visits a volume number: `nodes` become the nodes of the attachments of that volume.
+    ///
+    /// # Errors
+    ///
+    /// If memory is refused.
     #[inline(always)]
     pub(crate) fn go_to(
         &mut self,

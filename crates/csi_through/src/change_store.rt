@@ -1,4 +1,4 @@
-//! What keeps the changes of a State.
+//! The trait of the stores that keep the changes of a State.
 
 ghost use Rattle.std.specs.Prelude.{◌≡◌};
 ghost use Rattle.csi_keeper.specs.Keeper.{Applies, Changes};
@@ -8,40 +8,40 @@ ghost use Rattle.csi_keeper.specs.State.{State, IsBounded};
 use csi_keeper::{Change, Keeper, StoreFault};
 use std::alloc::Global;
 
-/// A store that keeps the changes of a State, and answers no reads: a database, or a change store at a
-/// socket. The promises about the State hold while `doubt`, which never falls, is 0.
+/// A store that keeps the changes of a State and need not be readable, such as a database or a process at
+/// the other end of a socket.
 ///
-/// What is promised of the State is promised while `doubt`, which never falls, is 0.
+/// The promises about the State hold while `doubt`, which never falls, is 0.
 pub trait ChangeStore {
-    // The State, the survivors and the counts of the store, as contracts see them. Its count of refused
+    // The State, the survivors and the counts of the store, as used by contracts. The count of refused
     // calls is not used.
     ghost model: { Self → Model State };
 
-    /// Makes a change, which the State must allow: the items of `Change` say when it does.
+    /// Makes a change, which the State must allow; the variants of `Change` state their conditions.
     ///
-    /// After `Ok` the State is the one after the change, and so is what a stop leaves. After `NoMemory` or
-    /// `Refused` the State stays; a stop leaves what it could have left before, or the State after the
-    /// change. After `Down` nothing moved.
+    /// After `Ok` the change is made, and a stop leaves the State with the change. After `NoMemory` or
+    /// `Refused` the State is unchanged; a stop leaves what it could have left before the call, or the
+    /// State with the change. After `Down` nothing is changed.
     fn commit(&mut self, alloc: Global, change: &Change) -> Result<(), StoreFault>
         requires { IsBounded change.now }
         ensures { Changes (model self.old) (model self.new) change.now result };
 }
 
-/// A keeper as what keeps the changes.
+/// A keeper that is used as a change store.
 #[derive(Drop)]
 pub struct KeeperChanges<K> {
     keeper: K,
 }
 
 impl<K: Keeper> KeeperChanges<K> {
-    /// The keeper, which is only changed from then on.
+    /// Makes a change store of a keeper. Its reads are not called from then on.
     pub fn new(keeper: K) -> KeeperChanges<K>
         ensures { result.keeper ≡ keeper }
     {
         KeeperChanges { keeper }
     }
 
-    /// The keeper, with each change that was made.
+    /// Returns the keeper, which has each change that was made.
     pub fn into_keeper(self) -> K
         ensures { result ≡ self.keeper }
     {

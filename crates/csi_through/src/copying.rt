@@ -1,4 +1,4 @@
-//! A copy in memory of what a keeper has.
+//! Copies the contents of a keeper into memory.
 
 ghost use Rattle.std.specs.Prelude.{◌≡◌, ◌≢◌, ◌↔◌, ◌<◌, ◌+◌, [], false, length, get_or, Err, IfErr, IfOk, IsTrue, OnOk, ⊤};
 ghost use Rattle.std.specs.List.{AllByRecursion};
@@ -14,10 +14,10 @@ use csi_memory::MemKeeper;
 use csi_types::{Items, MAX_NUMBER, MAX_POOL_BYTES, Text};
 use std::alloc::Global;
 
-// So many volumes are read at once.
+// The number of volumes that one read returns.
 const PAGE: u32 = 1000;
 
-// The attachments of a volume, none of which exists.
+// Adds the attachments of a volume to the memory, which has none of them yet.
 #[tactic(auto, using(crate::proofs::CopyLemmas::allows_more, crate::proofs::CopyLemmas::attached_more))]
 fn attach_each(
     alloc: Global,
@@ -35,22 +35,24 @@ fn attach_each(
     Ok(())
 }
 
-// Whether a memory can have a next number. No truthful store has a greater one.
+// Whether the memory can have this next number. A store that reads back what was written has no greater
+// next number.
 fn is_numbered(next: u64) -> bool
     ensures { IsTrue result ↔ IsNumbered next }
 {
     next <= MAX_NUMBER
 }
 
-// Whether a memory can hold a volume. No truthful store has one that is out of bounds.
+// Whether the memory can hold a volume: its number and its size are in bounds. A store that reads back what
+// was written has no other volumes.
 fn is_held(volume: &Volume) -> bool
     ensures { IsTrue result ↔ IsHeld volume.now }
 {
     (volume.number < MAX_NUMBER) & (volume.bytes <= MAX_POOL_BYTES)
 }
 
-// A volume with its attachments, after those that the memory has. One that it cannot hold is refused, not
-// left out.
+// Adds a volume with its attachments after the volumes in memory. A volume that the memory cannot hold is
+// an error; it is not left out.
 fn restore(
     alloc: Global,
     memory: &mut MemKeeper,
@@ -72,7 +74,7 @@ fn restore(
     attach_each(alloc, memory, number, attachments)
 }
 
-// Whether a volume of a page is published at a node; also where that is not known.
+// Whether a volume of a page is published to a node. Returns true too if the page has no nodes for it.
 fn is_published(nodes: &[Items<Text>], index: usize) -> bool
     ensures { result ≡ false → (index < length nodes.now) × (get_or nodes.now index [] ≡ []) }
 {
@@ -82,7 +84,8 @@ fn is_published(nodes: &[Items<Text>], index: usize) -> bool
     }
 }
 
-// The attachments of a volume. One that is published nowhere has none, and is not asked for.
+// Reads the attachments of a volume. For a volume that is not published the keeper is not called, since the
+// volume has no attachments.
 fn attachments_of<K: Keeper>(
     alloc: Global,
     keeper: &mut K,
@@ -102,8 +105,8 @@ fn attachments_of<K: Keeper>(
     keeper.attachments(alloc, number)
 }
 
-// The volumes of a page with their attachments, after the number of the volume before them. They are moved
-// into the memory. The number of the last one.
+// Adds the volumes of a page with their attachments to the memory. `after` is the number of the volume
+// before them. The volumes are moved. Returns the number of the last volume.
 fn restore_page<K: Keeper>(
     alloc: Global,
     keeper: &mut K,
@@ -134,7 +137,7 @@ fn restore_page<K: Keeper>(
     Ok(last)
 }
 
-// All volumes with their attachments, page by page.
+// Adds all volumes with their attachments to the memory, page by page.
 fn restore_all<K: Keeper>(
     alloc: Global,
     keeper: &mut K,
@@ -156,17 +159,17 @@ fn restore_all<K: Keeper>(
     Err(StoreFault::Refused)
 }
 
-/// A copy in memory of what a keeper has, by reads alone. It takes one read for 1,000 volumes, and one for
-/// each that is published.
+/// Copies the contents of a keeper into memory. It only reads from the keeper: once for each 1,000 volumes,
+/// and once for each volume that is published.
 ///
-/// Of each State of the invariant that the keeper may have, the copy has the same, while the keeper's doubt
-/// is 0.
+/// For each State that the keeper may have and that has the invariant, the copy has the same State, while
+/// the keeper's doubt is 0.
 ///
 /// # Errors
 ///
-/// What the keeper answers, or want of memory; `Refused` also where a number or a size is none that a volume
-/// has, as only an untruthful store gives. So of a State of the invariant each refusal is
-/// the keeper's.
+/// The fault of a read, or `NoMemory` if memory is refused. `Refused` also if a number or a size is out of
+/// bounds, which only a store can return that reads back other bytes than were written. So for a State that
+/// has the invariant each `Refused` is the keeper's.
 pub(crate) fn copy_of<K: Keeper>(alloc: Global, keeper: &mut K) -> Result<MemKeeper, StoreFault>
     ensures keeper_unchanged { IsQuiet (K.model keeper.old) (K.model keeper.new) }
     ensures copy { IfOk result (λ memory. IsCopy (K.model keeper.old) (K.model keeper.new) memory) }

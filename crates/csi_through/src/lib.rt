@@ -1,13 +1,13 @@
-//! A keeper that reads from one keeper, and has each change made by a change store first.
+//! A keeper that reads from a keeper in memory, and passes each change to a change store first.
 //!
-//! A store that answers reads slowly, or none, still keeps what was answered: [`ChangeStore`] is all that
-//! is asked of it, a commit. [`Through`] reads from a memory next to it, and makes a change there once the
-//! change store has made it. So each read costs what it costs in memory, and a change what the log's
-//! commit costs. Any keeper is a change store ([`KeeperChanges`]), and [`Through::over`] makes the memory
-//! of what a keeper has.
+//! A store that is slow to read, or cannot be read, can still keep changes: [`ChangeStore`] needs only a
+//! commit. [`Through`] reads from a keeper in memory, and makes a change in memory after the change store
+//! has made it. So a read costs as much as in memory, and a change as much as a commit of the change store.
+//! Any keeper can be a change store ([`KeeperChanges`]), and [`Through::over`] copies the contents of a
+//! keeper into memory.
 //!
-//! `specs/Through.antt` says which States such a keeper may have, and what a read of it leaves as it was.
-//! `specs/Copying.antt` says what is copied so far.
+//! `specs/Through.antt` defines which States such a keeper may have, and what a read of it does not change.
+//! `specs/Copying.antt` defines what is copied so far.
 //!
 //! ```rust
 //! let mut keeper = Through::over(alloc, tables)?;
@@ -17,10 +17,10 @@
 //!
 //! # Not promised
 //!
-//! Any call of a keeper may be refused, so no clause says that the memory is asked for each
-//! change, or that a change for which it has no room is followed by refusals and not by reads from
-//! the change store. Rows of `test_bytes` show both. That memory was refused where `over` and
-//! `copied` say so is shown by `tests/test_csid_*.py`.
+//! Any call of a keeper may be refused. So no contract promises that each change is made in memory, or that
+//! after a change for which the memory has no room reads are refused and not taken from the change store.
+//! Tests of `test_bytes` show both. That memory was refused if `over` or `copied` return `NoMemory` is
+//! shown by `tests/test_csid_*.py`.
 #![tactic(auto)]
 
 mod change_store;

@@ -20,7 +20,7 @@ use csi_memory::MemKeeper;
 use csi_types::{Items, Text};
 use std::alloc::Global;
 
-// Starts a call. A keeper whose memory is older than the change store refuses each.
+// Starts a call. The call is refused if the memory lacks a change that the change store has.
 fn start_call(health: &mut Health, is_current: bool) -> Result<(), StoreFault>
     ensures down { (result ≡ Err Down) ↔ IsTrue health.old.is_down }
     ensures fault { result ≢ Err NoMemory }
@@ -35,7 +35,7 @@ fn start_call(health: &mut Health, is_current: bool) -> Result<(), StoreFault>
     Ok(())
 }
 
-// Starts a change, as any call. Where it may not be made, each further call is answered `Down`.
+// Starts a change, as any call. If the change is refused, each further call returns `Down`.
 fn start_change(health: &mut Health, is_current: bool) -> Result<(), StoreFault>
     ensures down { (result ≡ Err Down) ↔ IsTrue health.old.is_down }
     ensures fault { result ≢ Err NoMemory }
@@ -51,23 +51,24 @@ fn start_change(health: &mut Health, is_current: bool) -> Result<(), StoreFault>
     Ok(())
 }
 
-/// A keeper that reads from a memory, and has each change made by a change store first.
+/// A keeper that reads from a keeper in memory, and passes each change to a change store first.
 ///
-/// The change store decides: its State is the State, and what a stop leaves is what the change store leaves.
-/// After a change that was refused, also for memory, each further call is answered `Down`.
+/// The State is that of the change store, and a stop leaves what the change store leaves. After a failed
+/// change, also if memory was refused, each further call returns `Down`.
 ///
-/// A change that the change store made is made, also where the memory has no room for it: it is answered
-/// `Ok`. The memory is then out of date, so each further read is answered `Refused`, until the keeper is
-/// opened again; a further change is refused and not tried, and with it the keeper is down.
+/// A change that the change store made is made, even if the memory has no room for it: the call returns
+/// `Ok`. The memory is then out of date, so each further read returns `Refused` until the keeper is opened
+/// again. A further change is refused without being tried, and then the keeper is down.
 pub struct Through<M, D> {
     memory: M,
     change_store: D,
     health: Health,
-    // The memory has each change that the change store has.
+    // Whether the memory has each change that the change store has.
     is_current: bool,
 }
 
-// Written out, so that what drops one has one call for it, and its proof no branch for each of its parts.
+// Written out, so that code which drops a keeper has one call for that, and its proof no branch for each
+// part.
 impl<M: Drop, D: Drop> Drop for Through<M, D> {
     fn drop(self) {
         let Through {
@@ -80,8 +81,8 @@ impl<M: Drop, D: Drop> Drop for Through<M, D> {
 }
 
 impl<M: Keeper, D: ChangeStore> Through<M, D> {
-    /// Over a memory and a change store of the same State. Where they have none in common, nothing is
-    /// promised.
+    /// Makes a keeper of a memory and a change store that have the same State. If their States differ,
+    /// nothing is promised.
     pub fn new(memory: M, change_store: D) -> Through<M, D>
         ensures over { (result.memory ≡ memory) × (result.change_store ≡ change_store) }
         ensures fresh { (result.health.refusals ≡ 0) × (result.is_current ≡ true)
@@ -95,15 +96,15 @@ impl<M: Keeper, D: ChangeStore> Through<M, D> {
         }
     }
 
-    /// Whether every further call is answered `Down`. Only a refused change makes it so.
+    /// Whether the keeper is down: every further call returns `Down`. Only a failed change brings the
+    /// keeper down.
     pub fn is_down(&self) -> bool
         ensures { result ≡ self.now.health.is_down }
     {
         self.health.is_down
     }
 
-    /// Whether the memory has each change that the change store has. Where not, each further call is answered
-    /// a fault.
+    /// Whether the memory has each change that the change store has. If not, each further call fails.
     pub fn is_current(&self) -> bool
         ensures { result ≡ self.now.is_current }
     {
@@ -111,25 +112,26 @@ impl<M: Keeper, D: ChangeStore> Through<M, D> {
     }
 }
 
-/// Why what a keeper has was not copied, and the keeper.
+/// The error of [`Through::over`]: why the copy failed, and the keeper.
 #[derive(Drop)]
 pub struct NotCopied<K> {
-    /// Why: want of memory, or what the keeper answered.
+    /// Why the copy failed: memory was refused, or a read of the keeper failed.
     pub fault: StoreFault,
-    /// The keeper, as it was before.
+    /// The keeper, whose State is unchanged.
     pub keeper: K,
 }
 
 impl<K: Keeper> Through<MemKeeper, KeeperChanges<K>> {
-    /// Over a copy in memory of what a keeper has, and the keeper. It takes two reads for 1,000 volumes, and
-    /// one for each that is published.
+    /// Makes a keeper of a copy of `keeper` in memory, and of `keeper` as the change store. It takes two
+    /// reads for each 1,000 volumes, and one for each volume that is published.
     ///
-    /// Each State of the invariant that the keeper may have is the State, and a stop leaves what it would
-    /// leave of the keeper. The memory has each change that the change store has.
+    /// The new keeper has each State that `keeper` may have and that has the invariant, and a stop leaves
+    /// what it would leave of `keeper`. The memory has each change that the change store has.
     ///
     /// # Errors
     ///
-    /// What the keeper answers, or want of memory; the keeper's State stays.
+    /// [`NotCopied`] if a read of `keeper` fails or memory is refused. It contains `keeper`, whose State is
+    /// unchanged.
     pub fn over(
         alloc: Global,
         mut keeper: K,
@@ -148,12 +150,12 @@ impl<K: Keeper> Through<MemKeeper, KeeperChanges<K>> {
 }
 
 impl<D: ChangeStore + Drop> Through<MemKeeper, D> {
-    /// Over a copy in memory of what a keeper has, and a change store of the same State. It takes two reads
-    /// for 1,000 volumes, and one for each that is published.
+    /// Makes a keeper of a copy of `keeper` in memory, and of a change store that has the same State. It
+    /// takes two reads for each 1,000 volumes, and one for each volume that is published.
     ///
     /// # Errors
     ///
-    /// What the keeper answers, or want of memory.
+    /// The fault of a read of `keeper`, or `NoMemory` if memory is refused.
     pub fn copied<K: Keeper>(
         alloc: Global,
         keeper: &mut K,
@@ -173,7 +175,7 @@ impl<D: ChangeStore + Drop> Through<MemKeeper, D> {
 }
 
 impl<M: Drop, D> Through<M, D> {
-    /// The change store, with each change that was made.
+    /// Returns the change store, which has each change that was made. The memory is dropped.
     pub fn into_change_store(self) -> D
         ensures { result ≡ self.change_store }
     {

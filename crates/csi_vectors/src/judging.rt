@@ -1,4 +1,4 @@
-//! Whether a server writes what a vector says.
+//! Compares what a server writes with the output of a vector.
 
 ghost use Rattle.std.specs.Prelude.{◌≡◌, ◌≢◌, IfOk, IsTrue, List, ℕ, bytes_eq, false, not};
 ghost use Rattle.csi_types.specs.declared.reason.Reason.TheVariants as reason;
@@ -16,10 +16,10 @@ use envelope::laws::reply_read_back;
 use envelope::{Reply, TakenReply, take_reply};
 use std::alloc::{AllocError, Global};
 
-// The number that the first volume gets.
+// The number of the first volume of the server.
 const FIRST_NUMBER: u64 = 1;
 
-// Whether the whole input was answered, or all of it up to a malformed frame.
+// Whether the server answered the whole input, or all calls before a malformed frame.
 fn is_whole(end: RunEnd) -> bool
     ensures true_only_if { IsTrue result → IsWhole end }
     ensures all { IsWhole end → IsTrue result }
@@ -27,7 +27,7 @@ fn is_whole(end: RunEnd) -> bool
     matches!(end, RunEnd::Done | RunEnd::Malformed(_))
 }
 
-// The output of a new server for these bytes.
+// Returns the output of a new server for this input.
 fn written(alloc: Global, config: &Config, input: &[u8]) -> Result<Vec<u8>, AllocError>
     ensures { IfOk result (λ bytes. IsWritten config.now false input.now bytes.items) }
 {
@@ -35,7 +35,7 @@ fn written(alloc: Global, config: &Config, input: &[u8]) -> Result<Vec<u8>, Allo
     let mut keeper = MemKeeper::new(alloc, FIRST_NUMBER)?;
     let mut reader = input;
     let mut writer = Vec::new(alloc);
-    // Over memory, nothing but memory is refused.
+    // A server in memory fails only if memory is refused.
     if is_whole(serve(alloc, config, &mut keeper, &mut reader, &mut writer)) {
         Ok(writer)
     } else {
@@ -43,7 +43,7 @@ fn written(alloc: Global, config: &Config, input: &[u8]) -> Result<Vec<u8>, Allo
     }
 }
 
-// Whether a reply refuses its call for want of memory.
+// Whether a reply refuses its call because memory was refused.
 fn is_refusal(reply: &Reply<'_>) -> bool
     ensures { result ≡ false → reply_bytes_of reply.now ≢ refused reason.OutOfMemory }
 {
@@ -51,7 +51,7 @@ fn is_refusal(reply: &Reply<'_>) -> bool
     reply.status == reason.code().number() && reply.text == reason.text().as_bytes()
 }
 
-// Whether one of these replies refuses for want of memory.
+// Whether one of the replies refuses its call because memory was refused.
 fn has_refusal(replies: &[u8]) -> bool
     ensures { result ≡ false → IsUnrefused replies.now }
 {
@@ -69,12 +69,13 @@ fn has_refusal(replies: &[u8]) -> bool
     }
 }
 
-/// Whether a new server with this configuration and no volumes, which keeps them in memory, writes
-/// for the input of a vector its output, and no byte more.
+/// Whether a vector passes: a new server in memory, with this configuration and without volumes, writes
+/// exactly the output of the vector for its input.
 ///
 /// # Errors
 ///
-/// Where memory was refused, also to a call of a vector whose output differs for that.
+/// If memory is refused. That includes memory refused to a call of the vector, if the output differs from
+/// the vector's.
 pub fn passes(alloc: Global, config: &Config, vector: &Vector<'_>) -> Result<bool, AllocError>
     ensures { IfOk result (λ ok. (bytes : List ℕ) × IsWritten config.now (not ok) vector.now.input.items bytes
         × (ok ≡ bytes_eq bytes vector.now.output.items)) }

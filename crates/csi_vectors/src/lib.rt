@@ -1,7 +1,8 @@
-//! Test vectors: streams of calls, each with all that a new server writes for it.
+//! Test vectors: streams of calls, each with the bytes that a new server must write in reply.
 //!
-//! `vector.rt` reads a line, `judging.rt` serves its input from a new server in memory and compares
-//! (`specs/Judging.antt` says what such a server writes), `running.rt` goes over lines.
+//! `vector.rt` parses a line. `judging.rt` serves the input of a vector with a new server in memory and
+//! compares the output (`specs/Judging.antt` defines what such a server writes). `running.rt` runs the
+//! vectors of all lines.
 //!
 //! ```rust
 //! let vector = Vector::parse(alloc, line)?;
@@ -10,10 +11,9 @@
 //!
 //! # Not promised
 //!
-//! That a read or a write failed, or memory was refused, where an end says so: a run that gives up
-//! at once meets its contract, and so does one that does not flush. Rows of
-//! `tests/test_csictl_*.py` and the vectors of `tests/vectors` show that lines are run to their
-//! end.
+//! That a read or a write failed, or memory was refused, if the end of a run is that: a run that gives up
+//! at once meets its contract, and so does a run that does not flush. Tests in `tests/test_csictl_*.py` and
+//! the vectors of `tests/vectors` show that all lines are run.
 #![tactic(auto)]
 
 mod judging;

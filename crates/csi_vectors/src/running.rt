@@ -1,4 +1,4 @@
-//! Vectors line by line.
+//! Runs the vectors of a text line by line.
 
 ghost use Rattle.std.specs.Prelude.{◌≡◌, ◌≢◌, ◌⊎◌, [], List, ℕ, IfErr, IfOk, IsErrOf, IsTrue, IsUtf8, Ok, OnOk, false, true};
 ghost use Rattle.std.specs.IoError.{error_kind};
@@ -19,22 +19,22 @@ use std::str;
 /// How a run of vectors ended.
 #[derive(Clone, Copy, Debug, PartialEq, Eq)]
 pub enum VectorsEnd {
-    /// All lines were run. Whether a vector failed.
+    /// All lines were run. The value is true if a vector failed.
     Done(bool),
-    /// The line with this number, counted from 1, is no vector. The lines before it were run.
+    /// The line with this number, counted from 1, is not a vector. The lines before it were run.
     BadLine(u64),
-    /// 2^64 - 1 lines were run, and no more are.
+    /// The limit of 2^64 - 1 lines was reached.
     LinesSpent,
     /// A read of the file failed.
     ReadFailed,
-    /// A write or a flush failed, or a write was interrupted. The lines before were written, and of this one
-    /// a part.
+    /// A write or a flush failed, or a write was interrupted. The results of the lines before were written,
+    /// and a part of the result of the last line.
     WriteFailed,
-    /// Memory was refused.
+    /// Memory for a line, a vector or a server was refused.
     NoMemory,
 }
 
-// Why no more lines are run.
+// The reason why no more lines are run.
 #[derive(Clone, Copy)]
 pub(crate) enum RunHalt {
     BadLine,
@@ -61,7 +61,7 @@ impl From<LineFault> for RunHalt {
     }
 }
 
-// Whether a line, without its end, is skipped: it is empty, or a comment.
+// Whether a line without its end is skipped: it is empty or a comment.
 fn is_skipped(text: &[u8]) -> bool
     ensures skipped { IsTrue result → IsSkipped text.now }
     ensures run { IsSkipped text.now → IsTrue result }
@@ -69,7 +69,7 @@ fn is_skipped(text: &[u8]) -> bool
     text.is_empty() || text.starts_with(b"#")
 }
 
-// The text that these bytes are.
+// Returns the bytes as a text, if they are UTF-8.
 fn text_of(bytes: &[u8]) -> Result<&str, RunHalt>
     ensures ok { IfOk result (λ text. (text.now ≡ bytes.now) × IsUtf8 bytes.now) }
     ensures bad { IfErr result (λ halt. (halt ≡ BadLine) × ¬ IsUtf8 bytes.now) }
@@ -77,8 +77,8 @@ fn text_of(bytes: &[u8]) -> Result<&str, RunHalt>
     str::from_utf8(bytes).map_err(|_| RunHalt::BadLine)
 }
 
-// The line that says whether a vector failed. It is made before any of it is written, so that no part of it
-// is written for want of memory.
+// Makes the line with the result of a vector. It is made before any of it is written, so that no partial
+// line is written if memory is refused.
 fn line_of(alloc: Global, name: &str, failed: bool) -> Result<Vec<u8>, AllocError>
     ensures { IfOk result (λ line. line.items ≡ reported failed name.now) }
 {
@@ -89,7 +89,7 @@ fn line_of(alloc: Global, name: &str, failed: bool) -> Result<Vec<u8>, AllocErro
     Ok(line)
 }
 
-// Runs the vector of a line without its end, and writes whether it failed.
+// Runs the vector of a line without its end, and writes its result. Returns true if the vector failed.
 fn run_text<W: Write>(
     alloc: Global,
     config: &Config,
@@ -115,7 +115,7 @@ fn run_text<W: Write>(
     }
 }
 
-// A line without its end.
+// Returns a line without its end.
 fn without_end(line: &[u8]) -> &[u8]
     ensures { IsTextOf line.now result.now }
 {
@@ -125,7 +125,7 @@ fn without_end(line: &[u8]) -> &[u8]
     }
 }
 
-// Runs a line with its end.
+// Runs a line that has its end.
 fn run_line<W: Write>(
     alloc: Global,
     config: &Config,
@@ -143,7 +143,7 @@ fn run_line<W: Write>(
     run_text(alloc, config, without_end(line), writer)
 }
 
-// The end of a run after a read failed with this error.
+// Returns the end of a run after a read failed with this error.
 fn unread(error: &io::Error) -> VectorsEnd
     ensures memory { error_kind error.now ≡ OutOfMemory → result ≡ ends.NoMemory }
     ensures failed { error_kind error.now ≢ OutOfMemory → result ≡ ends.ReadFailed }
@@ -154,7 +154,8 @@ fn unread(error: &io::Error) -> VectorsEnd
     }
 }
 
-// Reads the next line with its end, over the line before. Whether there is one.
+// Reads the next line with its end into `line`, which is cleared first. Returns false at the end of the
+// input.
 fn next_line<B: BufRead>(reader: &mut B, line: &mut Vec<u8>) -> Result<bool, VectorsEnd>
     ensures line { OnOk result (Takes (B.remaining reader.old) (B.remaining reader.new) line.new.items) }
     ensures not_empty { result ≡ Ok true → line.new.items ≢ [] }
@@ -168,7 +169,7 @@ fn next_line<B: BufRead>(reader: &mut B, line: &mut Vec<u8>) -> Result<bool, Vec
     }
 }
 
-// The end of a run that halts at the line with this number.
+// Returns the end of a run that halts at the line with this number.
 fn ended(halt: RunHalt, number: u64) -> VectorsEnd
     ensures { result ≡ end_of halt number }
 {
@@ -204,10 +205,10 @@ fn run_lines<B: BufRead, W: Write>(
     VectorsEnd::LinesSpent
 }
 
-/// Runs the vectors of a text, a line each, under the sample configuration, and writes `ok NAME` or
-/// `FAIL NAME` for each, which is flushed at once. A line is what [`Vector::parse`] takes; an empty
-/// one, and one that begins with `#`, whatever its bytes are, is skipped. A line that is no vector
-/// ends the run. At most 2^64 - 1 lines are run.
+/// Runs the vectors of a text, one for each line, under the sample configuration. For each it writes `ok
+/// NAME` or `FAIL NAME` and flushes the line at once. Lines have the form that [`Vector::parse`] takes.
+/// Empty lines, and lines that begin with `#`, are skipped. A line that is not a vector ends the run. At
+/// most 2^64 - 1 lines are run.
 pub fn run_vectors<R: Read, W: Write>(alloc: Global, reader: &mut R, writer: &mut W) -> VectorsEnd
     ensures { Runs (R.remaining reader.old) (W.contents writer.old) (W.contents writer.new) result }
 {

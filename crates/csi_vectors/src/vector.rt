@@ -1,4 +1,4 @@
-//! A line as a vector.
+//! Parses a line as a vector.
 
 ghost use Rattle.std.specs.Prelude.{◌≡◌, List, ℕ, IfOk, IsErrOf, IsTrue};
 ghost use Rattle.std.specs.Char.{is_ascii_hexdigit};
@@ -8,23 +8,24 @@ ghost use Rattle.csi_vectors.specs.declared.vector.LineFault.TheVariants.{NoMemo
 
 use std::alloc::{AllocError, Global};
 
-/// A test vector: bytes for a new server, and the bytes that it must write.
+/// A test vector: input bytes for a new server, and the output bytes that the server must write.
 #[derive(Debug, Drop)]
 pub struct Vector<'a> {
-    /// The name, which the line of its result shows.
+    /// The name of the vector, which its result line shows.
     pub name: &'a str,
-    /// The bytes that a server reads until their end: frames of calls.
+    /// The frames of calls, which the server reads until their end.
     pub input: Vec<u8>,
-    /// All that it writes for them: frames of replies.
+    /// The frames of replies, which are all that the server must write.
     pub output: Vec<u8>,
 }
 
-/// Why a line is no vector.
+/// Why a line cannot be parsed as a vector.
 #[derive(Clone, Copy, Debug, PartialEq, Eq)]
 pub enum LineFault {
-    /// It is not a name, the input and the output, with one space between.
+    /// The line is not a name, the input and the output, separated by single spaces, or the input or output
+    /// is not in hexadecimal digits.
     NotVector,
-    /// Memory was refused.
+    /// Memory for the input or the output was refused.
     NoMemory,
 }
 
@@ -42,7 +43,7 @@ fn are_digits(bytes: &[u8]) -> bool
     bytes.iter().all(|byte| byte.is_ascii_hexdigit())
 }
 
-// Whether these are pairs of hexadecimal digits, of either case; `-` is no bytes.
+// Whether the text is one or more pairs of hexadecimal digits in either case, or `-` for no bytes.
 fn is_spelling(digits: &str) -> bool
     ensures true_only_if { IsTrue result → IsSpelling digits.now }
     ensures none { IsSpelling digits.now → IsTrue result }
@@ -56,7 +57,7 @@ fn is_spelling(digits: &str) -> bool
     are_digits(digits.as_bytes())
 }
 
-// The bytes of such digits; nothing but memory is refused of them.
+// Decodes the bytes of such digits. It fails only if memory is refused.
 #[tactic(auto, using(crate::proofs::Digits::spelled))]
 fn bytes_of(alloc: Global, digits: &str) -> Result<Vec<u8>, AllocError>
     ensures { IfOk result (λ bytes. IsSpelling digits.now → Spells digits.now bytes.items) }
@@ -71,12 +72,13 @@ fn bytes_of(alloc: Global, digits: &str) -> Result<Vec<u8>, AllocError>
 }
 
 impl<'a> Vector<'a> {
-    /// The vector of a line: its name, its input and its output in hexadecimal digits (`-` for no
-    /// bytes), with one space between.
+    /// Parses a line: the name, the input and the output of a vector, separated by single spaces. The input
+    /// and the output are in hexadecimal digits, or `-` for no bytes.
     ///
     /// # Errors
     ///
-    /// Where the line is no vector; where it is one, and memory was refused.
+    /// [`LineFault::NotVector`] if the line is not a vector. [`LineFault::NoMemory`] if it is a vector and
+    /// memory is refused.
     pub fn parse(alloc: Global, line: &'a str) -> Result<Vector<'a>, LineFault>
         ensures ok { IfOk result (λ v. IsLineOf line.now v.name.now v.input.items v.output.items) }
         ensures refused { IsErrOf result NotVector → (name input output : List ℕ)

@@ -1,4 +1,4 @@
-//! What configurations are made of, as words.
+//! Parses the parts of configurations from words.
 
 use crate::fault::RowFault;
 use crate::parts::number_at;
@@ -9,11 +9,11 @@ use std::alloc::Global;
 
 const MEBIBYTE: u64 = 1_048_576;
 
-/// The plugin of `NAME VERSION`.
+/// Parses the words `NAME VERSION` as a plugin.
 ///
 /// # Errors
 ///
-/// Where a word is missing or no text, or memory was refused.
+/// If a word is missing or not a text, or memory is refused.
 pub fn plugin_of(alloc: Global, words: &[&str]) -> Result<Plugin, RowFault> {
     Ok(Plugin {
         name: text_at(alloc, words, 0)?,
@@ -21,11 +21,12 @@ pub fn plugin_of(alloc: Global, words: &[&str]) -> Result<Plugin, RowFault> {
     })
 }
 
-/// The pools of `NAME BYTES ..`, without segments; one word is none.
+/// Parses the words `NAME BYTES ..` as pools without segments. A single word, or no word, gives an empty
+/// list.
 ///
 /// # Errors
 ///
-/// Where a word is missing, no text or no number, or memory was refused.
+/// If a word is missing, a word is not a text or not a number, or memory is refused.
 pub fn pools_of(alloc: Global, words: &[&str]) -> Result<Vec<Pool>, RowFault> {
     let mut pools = Vec::new(alloc);
     if words.len() > 1 {
@@ -40,11 +41,11 @@ pub fn pools_of(alloc: Global, words: &[&str]) -> Result<Vec<Pool>, RowFault> {
     Ok(pools)
 }
 
-/// The nodes of `ID VOLUMES ..`.
+/// Parses the words `ID VOLUMES ..` as nodes, each with its greatest number of volumes.
 ///
 /// # Errors
 ///
-/// Where a word is missing, no text or no number, or memory was refused.
+/// If a word is missing, a word is not a text or not a number, or memory is refused.
 pub fn nodes_of(alloc: Global, words: &[&str]) -> Result<Vec<Node>, RowFault> {
     let mut nodes = Vec::new(alloc);
     for pair in words.chunks(2) {
@@ -56,12 +57,12 @@ pub fn nodes_of(alloc: Global, words: &[&str]) -> Result<Vec<Node>, RowFault> {
     Ok(nodes)
 }
 
-/// The configuration with the pools of `NAME BYTES ..`, and the nodes n1, n2 and n3 for two volumes each; a
-/// volume has 1 to 8 MiB.
+/// Makes a configuration with the pools of the words `NAME BYTES ..`, and with the nodes n1, n2 and n3 for
+/// two volumes each. A volume has 1 MiB by default and 8 MiB at most.
 ///
 /// # Errors
 ///
-/// Where the words are no pools, a configuration cannot have them, or memory was refused.
+/// If the words are not pools, a configuration cannot have these pools, or memory is refused.
 pub fn config_with(alloc: Global, words: &[&str]) -> Result<Config, RowFault> {
     let plugin = plugin_of(alloc, &["rows.example.org", "1"])?;
     let sizes = Sizes {

@@ -1,4 +1,4 @@
-//! Why a row has no answer.
+//! The faults that are written instead of the answer to a row.
 
 use crate::notation::NotationFault;
 use csi_keeper::StoreFault;
@@ -6,27 +6,28 @@ use std::alloc::{AllocError, AllocFailed};
 use std::fmt;
 use thiserror::Error;
 
-/// Why a row has no answer. It is written instead of one.
+/// Why a row cannot be answered. Its `Display` is written instead of an answer.
 #[derive(Debug, Error)]
 pub enum RowFault {
-    /// The row is none of those that its section knows.
+    /// The row does not have a form that its section knows.
     #[error("not a row")]
     NotRow,
-    /// The bytes are not written as they should be.
+    /// A word is not bytes in the notation of [`bytes_of`](crate::bytes_of).
     #[error("not bytes")]
     NotBytes,
-    /// Memory was refused.
+    /// An allocation failed while the row was answered.
     #[error("no memory for the row")]
     NoMemory,
-    /// The tested call refused, for a cause with a fixed text.
+    /// The tested call failed. The value is the fixed text of its cause.
     #[error("{0}")]
     Refused(&'static str),
-    /// The result is not the wanted one.
+    /// The result differs from the expected result. The value is a text about the difference.
     #[error("{0}")]
     Differs(String),
 }
 
-// Written out, so that what drops one has one call for it, and its proof no branch for each of its parts.
+// Written out, so that code which drops a fault has one call for that, and its proof no branch for each
+// variant.
 impl Drop for RowFault {
     fn drop(self) {
         match self {
@@ -49,7 +50,7 @@ impl<T: Drop> From<AllocFailed<T>> for RowFault {
     }
 }
 
-// A text in memory refuses nothing but memory.
+// Writing to a text in memory fails only if memory is refused.
 impl From<fmt::Error> for RowFault {
     fn from(_error: fmt::Error) -> RowFault {
         RowFault::NoMemory
@@ -65,7 +66,7 @@ impl From<NotationFault> for RowFault {
     }
 }
 
-// A keeper that refuses memory to a row, its change, or each call.
+// A fault of a keeper: `NoMemory`, or the text `refused` or `down`.
 impl From<StoreFault> for RowFault {
     fn from(fault: StoreFault) -> RowFault {
         match fault {

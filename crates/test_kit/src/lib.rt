@@ -1,10 +1,10 @@
-//! What the programs of rows share: programs that answer each line of their input, and are compared with a
-//! stored output.
+//! The parts that test programs of rows share. Such a program answers each line of its input, and its
+//! output is compared with a stored output.
 //!
-//! A program has sections. A line `@ NAME` begins one; a line that is empty or begins with `#` is copied as
-//! it is; each other line is a row, which the section answers. A [`RowFault`] is written instead of an
-//! answer. What a section keeps from row to row lives while the section is answered: [`AnswerSection`]
-//! makes it, and passes it to [`Rows::answer`].
+//! A program has sections. A line `@ NAME` begins a section. A line that is empty or begins with `#` is
+//! copied unchanged. Each other line is a row, which the section answers; if a row cannot be answered, its
+//! [`RowFault`] is written instead. State that a section keeps from row to row lives while the section is
+//! answered: [`AnswerSection`] makes the state and passes it to [`Rows::answer`].
 //!
 //! ```text
 //! @ calls

@@ -1,25 +1,26 @@
-//! Bytes as people write them.
+//! Parses bytes from a notation that people can write.
 //!
-//! Two hexadecimal digits are a byte, and a text between quotation marks is its bytes. Parentheses are
-//! the length of what is in them, as a varint, and then it, so `0a(61)` is `0a0161`. Square brackets group.
-//! `*N` after a byte, a text or a group repeats it, so `61*3` is `616161`. In a group `#N` is how often it
-//! was repeated before, as N digits to the base 64 (1 to 3), each a byte of that value, and `#0` the same as
-//! a decimal text. Spaces are skipped, and `-` alone is no bytes. Digits are in lower case, and parentheses
-//! and brackets nest up to 11 deep.
+//! Two hexadecimal digits are a byte, and a text between quotation marks is the bytes of the text.
+//! Parentheses are the length of their contents, as a varint, followed by the contents, so `0a(61)` is
+//! `0a0161`. Square brackets are a group. `*N` after a byte, a text or a group repeats it N times, so
+//! `61*3` is `616161`. In a group, `#N` is the number of earlier repetitions of the group, as N digits to
+//! the base 64 (N is 1 to 3), each a byte with the value of the digit; `#0` is the same number as a decimal
+//! text. Spaces are skipped, and `-` alone is no bytes. Digits are in lower case, and parentheses and
+//! brackets nest up to 11 deep.
 ghost use Rattle.std.specs.Prelude.{◌≡◌, ◌<◌, ◌++◌, [], IfOk, IfSome, codes, length};
 
 use std::alloc::{AllocError, AllocFailed, Global};
 use std::str;
 
-// The deepest nesting of parentheses and brackets.
+// One more than the deepest nesting of parentheses and brackets.
 const DEEPEST: u8 = 12;
 
-/// Why a text is no bytes.
+/// Why a text cannot be parsed as bytes.
 #[derive(Clone, Copy, Debug, PartialEq, Eq)]
 pub enum NotationFault {
-    /// The text is not of this notation.
+    /// The text is not in the notation of [`bytes_of`](crate::bytes_of).
     NotBytes,
-    /// Memory was refused.
+    /// Memory for the bytes was refused.
     NoMemory,
 }
 
@@ -35,7 +36,7 @@ impl From<AllocFailed<u8>> for NotationFault {
     }
 }
 
-// A part of a notation.
+// A part of a text in the notation.
 #[derive(Clone, Copy)]
 enum Part<'t> {
     Space,
@@ -46,26 +47,28 @@ enum Part<'t> {
     Sized(&'t [u8]),
     // The contents of square brackets.
     Group(&'t [u8]),
-    // The number of digits of the count.
+    // The number of digits that follows `#`.
     Count(u8),
 }
 
-/// The bytes of a notation.
+/// Parses a text in the notation as bytes: hexadecimal digits, quoted texts, and parentheses, brackets and
+/// `*N` around them.
 ///
 /// # Errors
 ///
-/// Where the text is not of this notation, or memory was refused.
+/// If the text is not in the notation, or memory is refused.
 pub fn bytes_of(alloc: Global, text: &str) -> Result<Vec<u8>, NotationFault>
     ensures none { text.now ≡ codes "-" → IfOk result (λ bytes. bytes.items ≡ []) }
 {
     bytes_counted(alloc, text, 0)
 }
 
-/// The bytes of a notation in a group which was repeated `count` times before.
+/// Parses a text in the notation of [`bytes_of`] as bytes, as the contents of a group after `count`
+/// repetitions.
 ///
 /// # Errors
 ///
-/// Where the text is not of this notation, or memory was refused.
+/// If the text is not in the notation, or memory is refused.
 pub fn bytes_counted(alloc: Global, text: &str, count: u32) -> Result<Vec<u8>, NotationFault>
     ensures none { text.now ≡ codes "-" → IfOk result (λ bytes. bytes.items ≡ []) }
 {
@@ -76,7 +79,7 @@ pub fn bytes_counted(alloc: Global, text: &str, count: u32) -> Result<Vec<u8>, N
     Ok(out)
 }
 
-// Appends the bytes of a notation. The group around it was repeated `count` times before.
+// Appends the bytes of a text in the notation. The group around the text had `count` repetitions before.
 #[cycle(put)]
 fn put_all(
     out: &mut Vec<u8>,
@@ -86,7 +89,7 @@ fn put_all(
     depth: u8,
 ) -> Result<(), NotationFault> {
     let mut rest = text;
-    // Each part has a byte of the text at least.
+    // Each part has at least one byte of the text.
     for _ in 0..text.len() {
         if rest.is_empty() {
             break;
@@ -99,7 +102,7 @@ fn put_all(
     Ok(())
 }
 
-// Appends a part so many times.
+// Appends a part `times` times.
 #[cycle(put)]
 fn put_times(
     out: &mut Vec<u8>,
@@ -124,7 +127,7 @@ fn put_times(
     Ok(())
 }
 
-// Appends the length of what is in parentheses, and then it.
+// Appends the length of the contents of parentheses, and then the contents.
 #[cycle(put)]
 fn put_sized(
     out: &mut Vec<u8>,
@@ -155,7 +158,7 @@ fn put_varint(out: &mut Vec<u8>, number: usize) -> Result<(), NotationFault> {
     Ok(())
 }
 
-// Appends a count as one to three digits to the base 64.
+// Appends a count as one to three digits to the base 64, each a byte.
 fn put_count(out: &mut Vec<u8>, count: u32, digits: u8) -> Result<(), NotationFault> {
     let high = (count / 4096 % 64) as u8;
     let middle = (count / 64 % 64) as u8;
@@ -177,7 +180,7 @@ fn put_decimal(out: &mut Vec<u8>, alloc: Global, count: u32) -> Result<(), Notat
     }
 }
 
-// The part in front, and what follows it.
+// Returns the first part of the text, and the text after it.
 fn first_part(text: &[u8]) -> Option<(Part<'_>, &[u8])> {
     let (first, rest) = text.split_first()?;
     match *first {
@@ -194,7 +197,7 @@ fn first_part(text: &[u8]) -> Option<(Part<'_>, &[u8])> {
     }
 }
 
-// The part that begins with a quotation mark or a bracket, and what follows what closes it.
+// Returns the part after an opening quotation mark or bracket, and the text after the closing one.
 fn enclosed(opening: u8, text: &[u8]) -> Option<(Part<'_>, &[u8])> {
     let end = match opening {
         b'"' => text.iter().position(|byte| *byte == b'"'),
@@ -210,7 +213,7 @@ fn enclosed(opening: u8, text: &[u8]) -> Option<(Part<'_>, &[u8])> {
     Some((part, rest))
 }
 
-// The value of a hexadecimal digit.
+// Returns the value of a hexadecimal digit in lower case.
 fn digit(character: u8) -> Option<u8>
     ensures { IfSome result (λ value. value < 16) }
 {
@@ -221,7 +224,7 @@ fn digit(character: u8) -> Option<u8>
     }
 }
 
-// The place of the bracket that closes what the text begins in.
+// Returns the place of the bracket that closes the bracket before the text.
 fn closing(text: &[u8]) -> Option<usize>
     ensures { IfSome result (λ place. place < length text.now) }
 {
@@ -240,7 +243,7 @@ fn closing(text: &[u8]) -> Option<usize>
     None
 }
 
-// The count of repetitions after a part, and the rest of the text.
+// Returns the number of repetitions after a part, which is 1 without `*N`, and the rest of the text.
 fn times_of(text: &[u8]) -> Option<(u32, &[u8])> {
     let Some((b'*', rest)) = text.split_first() else {
         return Some((1, text));

@@ -1,17 +1,17 @@
-//! The parts of a row, and of an answer.
+//! Parses the words of a row, and writes the parts of an answer.
 
 use crate::fault::RowFault;
 use std::alloc::Global;
 use std::str::FromStr;
 
-// Longer bytes are shown by how many they are.
+// Of more bytes only the number is shown.
 const SHOWN_BYTES: usize = 64;
 
-/// The words of a row, with single spaces between them.
+/// Splits a row into words at each space. Two spaces in a row enclose an empty word.
 ///
 /// # Errors
 ///
-/// Where memory was refused.
+/// If memory is refused.
 pub fn words_of(alloc: Global, row: &str) -> Result<Vec<&str>, RowFault> {
     let mut words = Vec::new(alloc);
     for word in row.split(' ') {
@@ -20,20 +20,20 @@ pub fn words_of(alloc: Global, row: &str) -> Result<Vec<&str>, RowFault> {
     Ok(words)
 }
 
-/// The word at a place, as it is.
+/// Returns the word at a place, counted from 0, unchanged.
 ///
 /// # Errors
 ///
-/// Where there is none.
+/// If there is no word at this place.
 pub fn word_at<'w>(words: &[&'w str], place: usize) -> Result<&'w str, RowFault> {
     words.get(place).copied().ok_or(RowFault::NotRow)
 }
 
-/// The number that a word is.
+/// Parses a word as a number.
 ///
 /// # Errors
 ///
-/// Where it is none of this type.
+/// If the word is not a number of this type.
 pub fn number_of<T: FromStr>(word: &str) -> Result<T, RowFault>
 where
     T::Err: Drop,
@@ -44,11 +44,11 @@ where
     }
 }
 
-/// The number of the word at a place.
+/// Parses the word at a place, counted from 0, as a number.
 ///
 /// # Errors
 ///
-/// Where there is none.
+/// If there is no word at this place, or the word is not a number of this type.
 pub fn number_at<T: FromStr>(words: &[&str], place: usize) -> Result<T, RowFault>
 where
     T::Err: Drop,
@@ -56,11 +56,11 @@ where
     number_of(word_at(words, place)?)
 }
 
-/// Appends a part of an answer, after a comma where it is not the first.
+/// Appends a part of an answer, after a comma and a space if it is not the first part.
 ///
 /// # Errors
 ///
-/// Where memory was refused.
+/// If memory is refused.
 pub fn put_part(out: &mut String, part: &str) -> Result<(), RowFault> {
     if !out.is_empty() {
         out.push_str(", ")?;
@@ -69,11 +69,12 @@ pub fn put_part(out: &mut String, part: &str) -> Result<(), RowFault> {
     Ok(())
 }
 
-/// Bytes in hexadecimal, or how many there are of more than 64; `-` is no bytes.
+/// Writes bytes in hexadecimal digits: `-` for no bytes, and only their number, as `N bytes`, for more than
+/// 64.
 ///
 /// # Errors
 ///
-/// Where memory was refused.
+/// If memory is refused.
 pub fn bytes_text(alloc: Global, bytes: &[u8]) -> Result<String, RowFault> {
     if bytes.is_empty() {
         return Ok(String::from_str(alloc, "-")?);

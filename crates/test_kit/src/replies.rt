@@ -1,4 +1,4 @@
-//! A call over a keeper, from its message to its reply.
+//! Runs a call over a keeper, from its message to its reply.
 
 use crate::fault::RowFault;
 use crate::parts::bytes_text;
@@ -12,21 +12,21 @@ use pbmessage::DecodeFault;
 use std::alloc::Global;
 use std::fmt::Write;
 
-// A call for which memory is refused is made again, once.
+// The greatest number of tries: a call for which memory is refused is made once more.
 const TRIES: u8 = 2;
 
-// Why the body of a listing gives no text.
+// The text of the fault if the body of a listing cannot be decoded.
 const NO_PAGE: &str = "the body is no page";
 
-/// The answer to a call.
+/// The reply to a call.
 pub enum Reply {
-    /// The call is done; the body of its response.
+    /// The call succeeded. The value is the body of its response.
     Done(Vec<u8>),
-    /// The message means no request.
+    /// The message could not be decoded as a request.
     Malformed(DecodeFault),
-    /// The request is refused.
+    /// The request was refused for this reason.
     Refused(Reason),
-    /// The keeper failed.
+    /// The keeper failed with this fault.
     Failed(StoreFault),
 }
 
@@ -40,7 +40,7 @@ impl Drop for Reply {
 }
 
 impl Reply {
-    // Whether memory was refused.
+    // Whether the reply is that memory was refused.
     fn is_for_memory(&self) -> bool {
         matches!(
             self,
@@ -48,11 +48,11 @@ impl Reply {
         )
     }
 
-    /// The status, and after it the bytes of the body or the text.
+    /// Writes the status number, and after it the body in hexadecimal digits or the text of the refusal.
     ///
     /// # Errors
     ///
-    /// Where the keeper failed, or memory was refused.
+    /// If the keeper failed, or memory is refused.
     pub fn text(&self, alloc: Global) -> Result<String, RowFault> {
         Ok(match self {
             Reply::Done(body) => format!(in alloc; "0 {}", bytes_text(alloc, body)?)?,
@@ -62,12 +62,12 @@ impl Reply {
         })
     }
 
-    /// The same of a listing, whose body is a page in words: how many entries it has, its token, and of each
-    /// entry the id and the nodes.
+    /// Writes the reply to a listing like [`text`](Reply::text), but the body in words: the number of
+    /// entries, the token, and for each entry the id and the nodes.
     ///
     /// # Errors
     ///
-    /// Where the keeper failed, or memory was refused.
+    /// If the keeper failed, or memory is refused.
     pub fn page_text(&self, alloc: Global) -> Result<String, RowFault> {
         match self {
             Reply::Done(body) => page_text(alloc, body),
@@ -76,7 +76,7 @@ impl Reply {
     }
 }
 
-/// Reads a message, checks it and answers it.
+/// Decodes a message, checks the request and executes it. If memory is refused, it tries once more.
 pub fn reply_to<K: Keeper>(
     alloc: Global,
     config: &Config,
@@ -131,7 +131,7 @@ fn page_text(alloc: Global, body: &[u8]) -> Result<String, RowFault> {
     }
 }
 
-// A response is borrowed here, since so large a value is expensive to own.
+// The response is borrowed here, since a value this large is expensive to own.
 fn entries_text(alloc: Global, response: &Response) -> Result<String, RowFault> {
     let Response::List { entries, token } = response else {
         return Err(RowFault::Refused(NO_PAGE));
@@ -143,7 +143,7 @@ fn entries_text(alloc: Global, response: &Response) -> Result<String, RowFault> 
     Ok(text)
 }
 
-// The id of a volume, and the nodes at which it is published.
+// Appends the id of a volume, and the nodes that it is published to.
 fn put_entry(text: &mut String, entry: &Entry) -> Result<(), RowFault> {
     let id = match &entry.volume {
         Some(volume) => volume.id.as_str(),

@@ -1,43 +1,44 @@
-//! Each line of the input goes to the output with what it is answered.
+//! Copies each line of the input to the output, together with its answer.
 
 use crate::fault::RowFault;
 use std::io::{self, Read, Write};
 use std::process::ExitCode;
 
-// The exit status where the input cannot be read or the output cannot be written.
+// The exit status if the input cannot be read or the output cannot be written.
 const INPUT_OUTPUT: u8 = 5;
 
-// The first characters of a section's line.
+// The first characters of a line that begins a section.
 const HEAD: &str = "@ ";
 
-/// The answer to a row.
+/// The answer to a row of the input.
 #[derive(Drop)]
 pub enum RowAnswer {
-    /// Nothing: the row is not written either.
+    /// No answer; the row itself is not written either.
     Nothing,
-    /// A text, on the row's line.
+    /// A text, which is written after ` -> ` on the line of the row.
     Text(String),
-    /// Lines, each with its end, below the row.
+    /// Lines, each with its line end, which are written below the row.
     Lines(Vec<u8>),
 }
 
-/// A section that answers its rows in order.
+/// A section, which answers its rows in order.
 pub trait AnswerRow {
-    /// The answer to a row.
+    /// The answer to a row of the input.
     ///
     /// # Errors
     ///
-    /// Where the row has none.
+    /// If the row cannot be answered.
     fn answer_row(&mut self, rt: &HostRuntime, row: &str) -> Result<RowAnswer, RowFault>;
 }
 
-/// A program that answers sections in order.
+/// A test program, which answers its sections in order.
 pub trait AnswerSection {
-    /// Answers the rows of the section of a name, by [`Rows::answer`].
+    /// Answers the rows of the section with this name, by [`Rows::answer`].
     ///
     /// # Errors
     ///
-    /// Where there is none of this name, or it cannot begin. Its rows are not answered then.
+    /// If the program has no section with this name, or the section cannot begin. No row of the section is
+    /// answered then.
     fn answer_section<W: Write>(
         &self,
         rt: &HostRuntime,
@@ -46,18 +47,19 @@ pub trait AnswerSection {
     ) -> Result<(), RowFault>;
 }
 
-/// The lines of a section, and where they go with their answers.
+/// The lines of a section, and the writer for the lines and their answers.
 #[derive(Drop)]
 pub struct Rows<'a, W> {
     name: &'a str,
     lines: &'a str,
     out: &'a mut W,
-    // The first error of writing, if any.
+    // The first error of writing; `Ok` if no write failed.
     end: io::Result<()>,
 }
 
 impl<W: Write> Rows<'_, W> {
-    /// Answers the rows of a section, up to the next section.
+    /// Answers the rows of the section, and writes them with their answers. Nothing more is written after a
+    /// write failed.
     pub fn answer<R: AnswerRow>(&mut self, rt: &HostRuntime, section: &mut R) {
         self.end = writeln!(self.out, "{HEAD}{}", self.name);
         for line in self.lines.split('\n') {
@@ -96,7 +98,7 @@ fn answer_line<W: Write, R: AnswerRow>(
     write_answer(out, line, section.answer_row(rt, line))
 }
 
-// Answers a section, whose first line is its name.
+// Answers a section. The first line of the text is the name of the section.
 fn answer_lines<W: Write, S: AnswerSection>(
     rt: &HostRuntime,
     sections: &S,
@@ -116,8 +118,8 @@ fn answer_lines<W: Write, S: AnswerSection>(
     }
 }
 
-/// Answers the sections of standard input, and gives the exit status: 5 where the input cannot be read or the
-/// output cannot be written.
+/// Answers the sections of standard input on standard output. Returns the exit status: 0, or 5 if the input
+/// cannot be read or the output cannot be written.
 pub fn answer_rows<S: AnswerSection>(rt: &HostRuntime, sections: &S) -> ExitCode {
     let mut text = String::new(rt.alloc());
     if rt.stdin().read_to_string(&mut text).is_err() {

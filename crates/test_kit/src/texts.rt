@@ -1,27 +1,27 @@
-//! Texts, and what is made of texts, as words.
+//! Parses texts, lists of texts and maps of texts from words.
 //!
-//! A word is its text, `U+` and a hexadecimal number is the character of that number, and `-` is the empty
-//! text. `*N` after a text or a character repeats it.
+//! A word stands for its own text, with two exceptions: `U+` and a hexadecimal number is the character with
+//! that number, and `-` is the empty text. `*N` after a text or a character repeats it N times.
 
 use crate::fault::RowFault;
 use crate::parts::{number_of, word_at};
 use csi_types::{Items, Map, Text};
 use std::alloc::Global;
 
-/// The text of the word at a place.
+/// Parses the word at a place, counted from 0, as a text.
 ///
 /// # Errors
 ///
-/// Where there is none, or memory was refused.
+/// If there is no word at this place, the word is not a text, or memory is refused.
 pub fn text_at(alloc: Global, words: &[&str], place: usize) -> Result<Text, RowFault> {
     text_of(alloc, word_at(words, place)?)
 }
 
-/// The texts of words, in order.
+/// Parses each word as a text, in order.
 ///
 /// # Errors
 ///
-/// Where a word is no text, or memory was refused.
+/// If a word is not a text, or memory is refused.
 pub fn texts_of(alloc: Global, words: &[&str]) -> Result<Items<Text>, RowFault> {
     let mut texts = Items::new(alloc);
     for word in words {
@@ -30,11 +30,11 @@ pub fn texts_of(alloc: Global, words: &[&str]) -> Result<Items<Text>, RowFault> 
     Ok(texts)
 }
 
-/// The map of `KEY VALUE ..`.
+/// Parses the words `KEY VALUE ..` as a map of texts.
 ///
 /// # Errors
 ///
-/// Where a key has no value, a word is no text, or memory was refused.
+/// If a key has no value, a word is not a text, or memory is refused.
 pub fn map_of(alloc: Global, words: &[&str]) -> Result<Map, RowFault> {
     let mut map = Map::new(alloc);
     for pair in words.chunks(2) {
@@ -60,7 +60,7 @@ fn text_of(alloc: Global, word: &str) -> Result<Text, RowFault> {
     Ok(Text::from_string(text))
 }
 
-// The character after `U+`, if that is how the part begins.
+// Returns the character whose number follows `U+`; `None` if the part does not begin with `U+`.
 fn character_of(part: &str) -> Result<Option<char>, RowFault> {
     match part.strip_prefix("U+") {
         Some(digits) => {
