@@ -24,8 +24,8 @@ pub const REPLY_HEAD_BYTES: usize = 1 + 2 + 1 + 4;
 /// The most bytes of a reply frame before its body: status, text length, text, flag and body length.
 pub const MAX_REPLY_HEAD_BYTES: usize = 1 + 2 + MAX_TEXT_BYTES + 1 + 4;
 
-/// The most bytes of a reply frame: an OK with the longest body.
+/// The most bytes of a reply frame, which a reply with status 0 and the longest body has.
 pub const MAX_REPLY_BYTES: usize = REPLY_HEAD_BYTES + MAX_BODY_BYTES;
 
-/// The most bytes of a text that [`refusal_frame`](crate::refusal_frame) takes.
+/// The most bytes of the text that [`refusal_frame`](crate::refusal_frame) accepts.
 pub const MAX_REFUSAL_TEXT_BYTES: usize = 160;
