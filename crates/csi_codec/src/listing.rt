@@ -79,8 +79,8 @@ impl Written<Csi> for ListedEntry<'_> {
     }
 }
 
-/// Appends an entry, encoded as a `ListVolumesResponse` with this entry and no token. The encodings of
-/// several entries and then of a token, one after the other, are the encoding of the whole response.
+/// Appends an entry, encoded as a `ListVolumesResponse` with this entry and no token. The encoding of a whole
+/// response is the encodings of its entries in order, followed by the encoding of its token.
 ///
 /// # Errors
 ///

@@ -144,7 +144,7 @@ impl<'a> Service<PluginNames<'a>> for Identity {
     }
 }
 
-/// Serves the two calls that identify a plugin: Probe, whose response tells that the plugin is ready, and
+/// Serves the two calls that identify a plugin: Probe, whose response is that the plugin is ready, and
 /// GetPluginInfo (CSI specification, 'Identity Service RPC'). A call with any other path is refused with 12
 /// `unknown method`.
 ///

@@ -6,32 +6,32 @@ ghost use Rattle.csi_types.specs.declared.method.Method.{Method};
 
 use std::alloc::{AllocError, Global};
 
-/// A method (CSI specification, 'RPC Interface').
+/// A method of the Identity or the Controller service (CSI specification, 'RPC Interface').
 #[derive(Clone, Copy, Debug, PartialEq, Eq)]
 pub enum Method {
-    /// `csi.v1.Identity.GetPluginInfo`.
+    /// `csi.v1.Identity.GetPluginInfo`: returns the name and version of the plugin.
     GetPluginInfo,
-    /// `csi.v1.Identity.GetPluginCapabilities`.
+    /// `csi.v1.Identity.GetPluginCapabilities`: returns which optional services the plugin has.
     GetPluginCapabilities,
-    /// `csi.v1.Identity.Probe`.
+    /// `csi.v1.Identity.Probe`: returns whether the plugin is ready.
     Probe,
-    /// `csi.v1.Controller.CreateVolume`.
+    /// `csi.v1.Controller.CreateVolume`: creates a volume, or returns the one that has its name.
     CreateVolume,
-    /// `csi.v1.Controller.DeleteVolume`.
+    /// `csi.v1.Controller.DeleteVolume`: deletes a volume.
     DeleteVolume,
-    /// `csi.v1.Controller.ControllerPublishVolume`.
+    /// `csi.v1.Controller.ControllerPublishVolume`: publishes a volume to a node.
     ControllerPublishVolume,
-    /// `csi.v1.Controller.ControllerUnpublishVolume`.
+    /// `csi.v1.Controller.ControllerUnpublishVolume`: unpublishes a volume from one node or from all.
     ControllerUnpublishVolume,
-    /// `csi.v1.Controller.ValidateVolumeCapabilities`.
+    /// `csi.v1.Controller.ValidateVolumeCapabilities`: checks whether a volume has the given capabilities.
     ValidateVolumeCapabilities,
-    /// `csi.v1.Controller.ListVolumes`.
+    /// `csi.v1.Controller.ListVolumes`: lists the volumes, page by page.
     ListVolumes,
-    /// `csi.v1.Controller.GetCapacity`.
+    /// `csi.v1.Controller.GetCapacity`: returns the bytes that new volumes can take.
     GetCapacity,
-    /// `csi.v1.Controller.ControllerGetCapabilities`.
+    /// `csi.v1.Controller.ControllerGetCapabilities`: returns which optional methods the service has.
     ControllerGetCapabilities,
-    /// `csi.v1.Controller.ControllerModifyVolume`.
+    /// `csi.v1.Controller.ControllerModifyVolume`: changes the mutable parameters of a volume.
     ControllerModifyVolume,
 }
 

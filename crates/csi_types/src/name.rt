@@ -30,7 +30,7 @@ fn holds_banned(text: &str) -> bool
     !is_plain(text.as_bytes()) && text.chars().any(is_banned)
 }
 
-/// Whether all bytes are printable ASCII, none of which is banned. Almost all names are.
+/// Whether all bytes are printable ASCII, which is not banned. Almost all names have only such bytes.
 fn is_plain(bytes: &[u8]) -> bool
     ensures { result ≡ list_all is_plain bytes.now }
 {

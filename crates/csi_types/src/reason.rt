@@ -55,7 +55,7 @@ pub enum Reason {
     NodeNotFound,
     /// A volume with this name exists, and differs from what the request asks for.
     VolumeNotCompatible,
-    /// Pools serve the topology, but none of them has room.
+    /// No pool that serves the topology has room for the volume.
     NoRoom,
     /// As many volumes exist as this plugin allows.
     TooManyVolumes,
@@ -88,7 +88,7 @@ pub enum Reason {
 }
 
 impl Reason {
-    /// The status code of the reply.
+    /// The status code of the reply to a request that is refused for this reason.
     pub fn code(self) -> Code
         ensures { result ≡ code_of self }
     {
@@ -127,7 +127,7 @@ impl Reason {
         }
     }
 
-    /// The text of the reply.
+    /// The text of the reply to a request that is refused for this reason.
     pub fn text(self) -> &'static str
         ensures { result.now ≡ text_of self }
     {

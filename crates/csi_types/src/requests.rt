@@ -178,33 +178,34 @@ impl fmt::Debug for Modify {
     }
 }
 
-/// The request of a call; the variant tells the method. A message with fields is boxed, so that a `Request`
-/// takes little room wherever it is stored.
+/// The request of a call; the variant gives the method. A message with fields is boxed, so that a `Request`
+/// takes little room.
 #[derive(Debug)]
 pub enum Request {
-    /// `GetPluginInfoRequest`, without fields.
+    /// Asks for the name and version of the plugin: `GetPluginInfoRequest`, without fields.
     PluginInfo,
-    /// `GetPluginCapabilitiesRequest`, without fields.
+    /// Asks which optional services the plugin has: `GetPluginCapabilitiesRequest`, without fields.
     PluginCapabilities,
-    /// `ProbeRequest`, without fields.
+    /// Asks whether the plugin is ready: `ProbeRequest`, without fields.
     Probe,
-    /// `ControllerGetCapabilitiesRequest`, without fields.
+    /// Asks which optional methods the Controller service has: `ControllerGetCapabilitiesRequest`, without
+    /// fields.
     ControllerCapabilities,
-    /// `CreateVolumeRequest`.
+    /// Asks to create a volume: `CreateVolumeRequest`.
     Create(Boxed<CreateVolume>),
-    /// `DeleteVolumeRequest`.
+    /// Asks to delete a volume: `DeleteVolumeRequest`.
     Delete(Boxed<DeleteVolume>),
-    /// `ControllerPublishVolumeRequest`.
+    /// Asks to publish a volume to a node: `ControllerPublishVolumeRequest`.
     Publish(Boxed<Publish>),
-    /// `ControllerUnpublishVolumeRequest`.
+    /// Asks to unpublish a volume from one node or from all: `ControllerUnpublishVolumeRequest`.
     Unpublish(Boxed<Unpublish>),
-    /// `ValidateVolumeCapabilitiesRequest`.
+    /// Asks whether a volume has capabilities: `ValidateVolumeCapabilitiesRequest`.
     Validate(Boxed<Validate>),
-    /// `ListVolumesRequest`.
+    /// Asks for a page of the volumes: `ListVolumesRequest`.
     List(Boxed<ListVolumes>),
-    /// `GetCapacityRequest`.
+    /// Asks for the bytes that new volumes can take: `GetCapacityRequest`.
     Capacity(Boxed<GetCapacity>),
-    /// `ControllerModifyVolumeRequest`.
+    /// Asks to change the mutable parameters of a volume: `ControllerModifyVolumeRequest`.
     Modify(Boxed<Modify>),
 }
 

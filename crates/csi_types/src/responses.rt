@@ -8,7 +8,7 @@ use crate::volume::{Confirmed, Entry, VolumeInfo};
 /// The response of a call, by its method (CSI specification, 'RPC Interface').
 #[derive(Debug, Drop)]
 pub enum Response {
-    /// `GetPluginInfoResponse`.
+    /// `GetPluginInfoResponse`: the name and version of the plugin.
     PluginInfo {
         /// `name`, field 1.
         name: Text,
@@ -32,14 +32,14 @@ pub enum Response {
     Publish(Map),
     /// `ControllerUnpublishVolumeResponse`, without fields.
     Unpublish,
-    /// `ValidateVolumeCapabilitiesResponse`.
+    /// `ValidateVolumeCapabilitiesResponse`: whether the volume has the capabilities.
     Validate {
         /// `confirmed`, field 1; `None` if a capability or a parameter is not supported.
         confirmed: Option<Confirmed>,
         /// `message`, field 2.
         message: Text,
     },
-    /// `ListVolumesResponse`.
+    /// `ListVolumesResponse`: a page of the volumes.
     List {
         /// `entries`, field 1.
         entries: Items<Entry>,

@@ -100,7 +100,7 @@ impl Text {
         Ok(Self::from_string(string))
     }
 
-    /// Makes a text of a string without allocating.
+    /// Makes a text that keeps the string as it is, without allocating.
     pub fn from_string(string: String) -> Self
         ensures { result ≡ string_bytes string }
     {

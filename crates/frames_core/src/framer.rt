@@ -83,7 +83,7 @@ impl<F: Fault> Cutter<F> {
         self.known
     }
 
-    // The bytes of the frame, if it is whole. The clauses tell what is known if it is not.
+    // The bytes of the frame, if it is whole. The clauses state what is known if it is not.
     #[inline(always)]
     fn whole_frame(&self) -> Option<&[u8]>
         ensures value { IfSome result (λ bytes. (bytes.now ≡ self.now.held) × IsUnbroken F.kind bytes.now

@@ -10,7 +10,7 @@ ghost use Rattle.frames_core.specs.Writing.{WrotePrefix};
 use std::io::{self, ErrorKind, Write};
 
 // Writes all of the bytes, or fails after a prefix of them.
-// std's `write_all` says what was written only if all was, and a change store that fails needs the rest.
+// std's `write_all` promises what was written only if all was. A change store that fails needs more.
 #[inline(always)]
 fn put<W: Write>(writer: &mut W, bytes: &[u8]) -> io::Result<()>
     ensures all { OnOk result (Appends (W.contents writer.old) (W.contents writer.new) bytes.now) }

@@ -97,8 +97,10 @@ fn merge_field<P, M: Message<P>>(
     Ok(())
 }
 
-/// Returns the offset at which the bytes stop being a list of well-formed fields; `None` if all of them are
-/// well-formed. Takes no memory.
+/// The offset at which the bytes stop being a list of good fields, if they do. It takes no memory.
+///
+/// A field is good if it is well-formed and, if the message has a text or an embedded message under its
+/// number, its payload is well-formed too.
 pub fn first_fault<P, M: Message<P>>(bytes: &[u8]) -> Option<usize>
     ensures { MatchOption result (AreGood (GoodField (Good M.schema)) bytes.now)
         (IsRefusedAt (GoodField (Good M.schema)) bytes.now) }

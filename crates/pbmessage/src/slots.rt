@@ -40,7 +40,7 @@ pub fn set_text(slot: &mut Text, payload: &[u8]) -> Result<(), AllocError>
     slot.set(unsafe { std::str::from_utf8_unchecked(payload) })
 }
 
-/// Whether the payload by itself is a well-formed message of type `M`.
+/// Whether the payload, taken alone, is a well-formed message of type `M`.
 pub fn is_message<P, M: Message<P>>(payload: &[u8]) -> bool
     ensures { IsTrue result ↔ AreGood (GoodField (Good M.schema)) payload.now }
 {
@@ -80,7 +80,7 @@ pub fn push_message<P, M: Message<P>>(
     Ok(())
 }
 
-/// Whether the payload by itself is a well-formed entry of a map of texts.
+/// Whether the payload, taken alone, is a well-formed entry of a map of texts.
 pub fn is_entry(payload: &[u8]) -> bool
     ensures { IsTrue result ↔ AreGood (GoodField (Good map_entry_schema)) payload.now }
 {

@@ -20,7 +20,7 @@ pub enum Value<'a> {
 pub struct Field<'a> {
     /// The field's number, from 1 to 536,870,911.
     pub number: u32,
-    /// The field's value.
+    /// The field's value, in the form of its wire type.
     pub value: Value<'a>,
 }
 

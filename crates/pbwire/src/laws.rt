@@ -7,7 +7,7 @@ ghost use Rattle.pbwire.specs.Reading.{field_at};
 ghost use Rattle.pbwire.specs.Faults.{Faults};
 ghost use Rattle.pbwire.specs.Writing.{varint, spelling, spellings};
 
-/// A field is read exactly if the bytes begin with an encoding of it, whatever follows, and takes at least
+/// A field is read exactly if the bytes begin with an encoding of it, no matter what follows, and takes at least
 /// one byte.
 #[inline(always)]
 pub fn spelled()
@@ -38,7 +38,7 @@ pub fn listed()
         AreFields (e ∷ es) bytes ↔ ((rest : List ℕ) × (field_at bytes ≡ Ok (e, rest)) × AreFields es rest) }
 {}
 
-/// A written field is read back, whatever follows it; fields written one after the other are the message with
+/// A written field is read back, no matter what follows it; fields written in order are the message with
 /// this list of fields; and no other encoding of a field is shorter. A field can be encoded exactly if its
 /// number and its value are in range.
 #[inline(always)]

@@ -210,7 +210,7 @@ pub fn put_plugin_info(out: &mut Vec<u8>, name: &Text, version: &Text) -> Result
     Ok(())
 }
 
-/// Appends a `ValidateVolumeCapabilitiesResponse` with these fields 1 and 2.
+/// Appends a `ValidateVolumeCapabilitiesResponse` with `confirmed` and `message` as given.
 pub fn put_validation(
     out: &mut Vec<u8>,
     confirmed: &Option<Confirmed>,
@@ -232,7 +232,7 @@ pub fn put_validation(
     Ok(())
 }
 
-/// Appends a `ListVolumesResponse` with these fields 1 and 2.
+/// Appends a `ListVolumesResponse` with these entries and this `next_token`.
 pub fn put_listing(
     out: &mut Vec<u8>,
     entries: &Items<Entry>,
@@ -248,7 +248,7 @@ pub fn put_listing(
     Ok(())
 }
 
-/// Appends a `GetCapacityResponse` with these fields 1 and 2, in bytes.
+/// Appends a `GetCapacityResponse` with this available capacity and maximum volume size, in bytes.
 pub fn put_free_capacity(
     out: &mut Vec<u8>,
     available: i64,
