@@ -1,4 +1,4 @@
-//! Encodes and decodes the messages of the Container Storage Interface (Protocol Buffers, proto3).
+//! Messages of the Container Storage Interface to and from bytes (Protocol Buffers, proto3).
 //!
 //! Each message is three short definitions over `pbmessage`, which reads and writes messages of any type:
 //! which view gives each part of its value, its schema, and how the value is written. The definitions are in

@@ -1,5 +1,5 @@
-//! The rules by which the volume machine plans: functions of the State and of requests, and the reads that
-//! they need.
+//! The rules that the volume machine plans by: values of the State and of requests, and the reads that they
+//! need.
 //!
 //! [`keys_of`] and [`have_keys`] give the keys of capabilities and compare them (`capability.rt`), [`size`]
 //! and [`has_size`] the size of a new volume (`sizes.rt`), [`serves`] and [`is_reachable`] the pools that

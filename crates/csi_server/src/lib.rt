@@ -1,4 +1,4 @@
-//! The server: reads the frames of calls and writes the frames of their replies.
+//! The server: it reads frames of calls and writes the frames of their replies.
 //!
 //! The engine, [`run_service`], knows no methods: it feeds a `Framer`, passes each call to a [`Service`], and
 //! writes the service's answers. Its proof is over any service, reader and writer, from the public clauses of

@@ -1,4 +1,4 @@
-//! The envelope: how calls and replies are framed as bytes, and which calls a stream of bytes contains.
+//! The envelope: how calls and replies are framed as bytes, and which calls a list of bytes has.
 //!
 //! The envelope is this project's own (docs/PROTOCOL.md, "Envelope"). Calls and replies share one kind of
 //! frame: the length of a text, the text, a flag, the length of a body, and the body. A reply has its status

@@ -1,4 +1,4 @@
-//! Cuts streams of calls and replies, which come in any pieces, into frames.
+//! Streams of calls and replies, cut into their frames as they come, in any pieces.
 //!
 //! The crate `envelope` defines frames and which calls a list of bytes contains. Types and limits such as
 //! `envelope::MAX_MESSAGE_BYTES` have their names there alone: this crate exports none of them again.

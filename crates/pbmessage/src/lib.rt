@@ -1,4 +1,4 @@
-//! Encodes and decodes messages of any type (Protocol Buffers, proto3).
+//! Messages of any type to and from bytes (Protocol Buffers, proto3).
 //!
 //! The value that bytes encode is a function of *views*: what a list of fields has under each field number,
 //! such as the last text, all payloads, the joined fields of an embedded message, the last entry of each key,

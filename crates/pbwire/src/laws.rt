@@ -7,8 +7,8 @@ ghost use Rattle.pbwire.specs.Reading.{field_at};
 ghost use Rattle.pbwire.specs.Faults.{Faults};
 ghost use Rattle.pbwire.specs.Writing.{varint, spelling, spellings};
 
-/// A field is read exactly if the bytes begin with an encoding of it, no matter what follows, and takes at least
-/// one byte.
+/// A field is read exactly if the bytes begin with an encoding of it, no matter what follows, and takes at
+/// least one byte.
 #[inline(always)]
 pub fn spelled()
     ensures exactly { (bytes rest : List ℕ) (e : WireField) →

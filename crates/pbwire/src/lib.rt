@@ -1,4 +1,4 @@
-//! The wire format of Protocol Buffers: reads the fields of a message, and appends fields.
+//! The wire format of Protocol Buffers: a message's bytes read as fields, and fields written as bytes.
 //!
 //! [`Fields`] goes over a message from the left and borrows each payload from it, without allocating.
 //! [`put_varint`], [`put_bytes`], [`put_joined`] (bytes in two parts) and [`put_entry`] append one field in
