@@ -101,9 +101,9 @@ fn write_request(request: &Request, out: &mut Vec<u8>) -> Result<(), AllocError>
     }
 }
 
-/// Appends the encoding of the request, in one fixed form: field numbers rise, varints have their least
-/// length, default scalars and empty texts are left out, present messages are written even if empty, and map
-/// entries come in byte order of their keys with key and value both written.
+/// Appends the encoding of the request, in one fixed form. Field numbers rise, and varints have their least
+/// length. Default scalars and empty texts are left out; present messages are written even if empty. Map
+/// entries come in byte order of their keys, with key and value both written.
 ///
 /// # Errors
 ///

@@ -37,9 +37,9 @@ use csi_machine::laws::{
 };
 use envelope::laws::decimal_is_text;
 
-/// If no call of a run is refused for memory or by the store, a stop after the run can leave only the state
-/// after it, provided that before the run a stop could leave only the state at its start. A call refused
-/// because the store is down adds no state.
+/// A run without a refusal for memory or by the store: if before the run a stop could leave only the state at
+/// its start, then after the run a stop can leave only the state after it. Calls that are refused because the
+/// store is down add no state.
 pub fn stop_leaves_state<C, S: Service<C>>(config: &C)
     ensures { (old new : S) (s : S.State) (events : List Event)
         → Runs (S.machine config.now) (S.model config.now old) (S.model config.now new) s events
@@ -97,9 +97,9 @@ pub fn kept(config: &Config)
 }
 
 /// No volume number is used twice. A run of the volume machine from a State of the invariant, with any calls
-/// and marks, never lowers the next number, never reuses the number of a deleted volume, and changes only the
-/// mutable parameters of a volume that keeps its number. So an id never names another volume. The same holds
-/// for each State that a stop may leave ([`pending`]).
+/// and marks, never lowers the next number and never reuses the number of a deleted volume. Of a volume that
+/// keeps its number it changes only the mutable parameters. So an id never names another volume. The same
+/// holds for each State that a stop may leave ([`pending`]).
 pub fn numbers(config: &Config)
     ensures run { (s : MachineState) (events : List Event) → IsInvariant config.now s
         → NumbersRise s (state_after (volumes config.now) s events) }

@@ -90,8 +90,9 @@ fn answer_piece<C, S: Service<C>, W: Write>(
 ///
 /// No clause knows the bytes of a reader or writer that does not report them, such as a socket; the body
 /// treats all alike, and tests of `csid` as a process compare its output. Rows of `test_bytes` show that a
-/// reply is flushed before the next frame is looked at, that no read is longer than 4,096 bytes, that nothing
-/// is read after a fault or a failed write, and that a read, write or flush that fails is not tried again.
+/// reply is flushed before the next frame is looked at, and that no read is longer than 4,096 bytes. They
+/// also show that nothing is read after a fault or a failed write, and that a failed read, write or flush is
+/// not tried again.
 pub fn run_service<C, S: Service<C>, R: Read, W: Write>(
     alloc: Global,
     config: &C,

@@ -95,9 +95,9 @@ impl<K: Keeper> Service<Config> for K {
 /// Serves the volume machine over a keeper, until the input ends or the run fails.
 ///
 /// For every stream of bytes, in any pieces, the bytes written are the framed replies of the volume machine
-/// to the calls in the stream, up to its first malformed frame, which is refused at its place. Afterwards the
-/// keeper has the State of that machine, in which no pool is overcommitted. A call that is refused for memory
-/// or by the store is answered `INTERNAL`, and the State is unchanged.
+/// to the calls in the stream. The first malformed frame is refused at its place, and ends the run.
+/// Afterwards the keeper has the State of that machine, in which no pool is overcommitted. A call that is
+/// refused for memory or by the store is answered `INTERNAL`, and the State is unchanged.
 ///
 /// The clause `serves` states this for each way in which a run can end, from each State of the invariant that
 /// the keeper may have had, if the keeper's store is not in doubt at the end. It also states that the
