@@ -1,13 +1,13 @@
-//! Marks that a peer cannot choose.
+//! Marks of topologies, which a peer cannot choose.
 //!
-//! The hasher of a list begins with the digest of the whole list. So another list has other marks,
-//! and a peer can only try lists, and the marks of each are as if drawn again.
+//! The hasher of a list starts from the digest of the whole list, so another list has other marks. A peer can
+//! only try one list after another, and the marks of each are as if chosen at random.
 
 use csi_types::{Map, Text};
 use sha2::{Digest, Sha256};
 use std::hash::{DefaultHasher, Hasher};
 
-/// A hasher that has begun with the digest of the topologies.
+/// Returns a hasher that starts from the SHA-256 digest of all the topologies.
 pub(crate) fn begun_by(topologies: &[Map]) -> DefaultHasher {
     let mut digest = Sha256::new();
     for topology in topologies {
@@ -27,12 +27,13 @@ fn put_text(digest: &mut Sha256, text: &Text) {
     digest.update(text.as_bytes());
 }
 
-// Lengths go before what they count, so different lists are different bytes.
+// Lengths are written before what they count, so different lists give different bytes.
 fn put_length(digest: &mut Sha256, length: usize) {
     digest.update(&length.to_le_bytes());
 }
 
-/// The mark of a topology, which those share that are equal when their keys are folded.
+/// Returns the mark of a topology. Topologies that differ only in the case of ASCII letters in keys have the
+/// same mark.
 pub(crate) fn mark_of_topology(begun: DefaultHasher, topology: &Map) -> u64 {
     // The entries may come in any order, so their marks are added.
     let mut mark: u64 = 0;

@@ -1,4 +1,4 @@
-//! How much a part of a request holds, in bytes.
+//! The sizes of parts of a request, compared with their limits.
 
 ghost use Rattle.std.specs.Prelude.{◌≡◌, ◌^◌, ◌-◌, ◌==◌, min, nat_lt, length, sum_by};
 ghost use Rattle.std.specs.FinMap.{len};
@@ -38,14 +38,14 @@ pub(crate) fn is_any_long_node_id(ids: &[Text]) -> bool
     ids.iter().any(|id| id.len() > MAX_NODE_ID_BYTES)
 }
 
-/// Whether the keys and values of a map have more than 4,096 bytes.
+/// Whether the keys and values of a map have more than 4,096 bytes together.
 pub(crate) fn is_large_map(map: &Map) -> bool
     ensures { result ≡ nat_lt MAX_MAP_BYTES (map_bytes map.now) }
 {
     map_bytes(map) > MAX_MAP_BYTES
 }
 
-/// The bytes of all texts of a list, as far as a number of 64 bits counts.
+/// Returns the number of bytes of all texts together, or 2^64 - 1 if there are more.
 pub(crate) fn bytes_of_texts(texts: &Items<Text>) -> usize
     ensures { result ≡ min (sum_by length texts.now) (2 ^ 64 - 1) }
 {
@@ -56,7 +56,7 @@ pub(crate) fn bytes_of_texts(texts: &Items<Text>) -> usize
     bytes
 }
 
-/// Whether a part of one of the capacity ranges is below 0.
+/// Whether one of the capacity ranges has a negative number.
 pub(crate) fn is_any_negative(ranges: &[CapacityRange]) -> bool
     ensures { result ≡ list_any is_negative_range ranges.now }
 {

@@ -1,4 +1,4 @@
-//! The checks of each request, in the order in which they are answered.
+//! The checks of each request, in the order of the table.
 
 ghost use Rattle.std.specs.Prelude.{◌≡◌, ◌++◌, ◌||◌, OnOk, IfErr, false, nat_lt};
 ghost use Rattle.std.specs.List.{list_any};
@@ -18,10 +18,12 @@ use crate::parts::{Parts, parts_of};
 use crate::topologies::{has_ambiguous_term, has_large_term, is_any_large, prefers_another};
 use csi_types::{Reason, Request, Text, has_alike_keys, name_reason};
 
-/// The reason of the first check that a request doesn't pass, in the order of the checks; `Ok`
-/// where it passes them all. It takes no memory.
+/// Checks the arguments of a request. Takes no memory.
 ///
-/// Every refusal has the code `InvalidArgument`.
+/// # Errors
+///
+/// The reason of the first check, in the order of the table, that the request does not pass. The code of each
+/// of these reasons is `InvalidArgument`.
 #[tactic(auto, unfolding(csi_types::specs::Checks::checked))]
 pub fn check(request: &Request) -> Result<(), Reason>
     ensures passed { OnOk result (checked request.now ≡ None) }
@@ -39,7 +41,8 @@ pub fn check(request: &Request) -> Result<(), Reason>
     }
 }
 
-// The table has one ladder, a rung a line, in three functions: the first rung that holds is answered.
+// The table is one ladder of checks in three functions, one rung for each line. Returns the reason of the
+// first rung that applies.
 fn first_reason(parts: &Parts<'_>) -> Option<Reason>
     ensures { result ≡ first_line lines (parts_in parts.now) }
 {
@@ -142,7 +145,7 @@ fn has_alike_segments(parts: &Parts<'_>) -> bool
         || parts.requirement.is_some_and(has_ambiguous_term)
 }
 
-// Whether a preferred topology is none of the requisite ones.
+// Whether requisite topologies are given and a preferred topology is not among them.
 fn has_other_preference(parts: &Parts<'_>) -> bool
     requires { list_any has_alike_keys (parts_in parts.now).topologies ≡ false }
     ensures { result ≡ list_any prefers_another (parts_in parts.now).requirements }

@@ -1,4 +1,4 @@
-//! The response of CreateVolume, written from borrowed parts.
+//! The response of CreateVolume, encoded from borrowed parts.
 
 ghost use Rattle.std.specs.Prelude.{◌≡◌, ◌++◌, OnOk, OnErr, Some};
 ghost use Rattle.csi_types.specs.declared.responses.Response.TheVariants as response;
@@ -14,25 +14,25 @@ use csi_types::Map;
 use pbmessage::{Written, put_joined, put_message, put_signed, put_single, whole_or_none};
 use std::alloc::AllocError;
 
-/// A volume that was made, or that exists as it is asked for; nothing of it is copied (CSI specification,
-/// `CreateVolumeResponse.volume`).
+/// A volume that was created, or that exists already as the request asks (CSI specification,
+/// `CreateVolumeResponse.volume`). All parts are borrowed.
 #[derive(Drop)]
 pub struct CreatedVolume<'a> {
-    /// The size in bytes, `capacity_bytes`.
+    /// `capacity_bytes`: the size of the volume in bytes.
     pub bytes: i64,
-    /// The part of the volume's id before its number.
+    /// The first part of the volume's id.
     pub prefix: &'a str,
-    /// The rest of the volume's id.
+    /// The last part of the volume's id.
     pub suffix: &'a str,
-    /// The one key of its context, `volume_context`.
+    /// The key of the one entry of `volume_context`.
     pub key: &'a str,
-    /// The value of that key in the volume's context.
+    /// The value of the one entry of `volume_context`.
     pub value: &'a str,
-    /// The segments of its topology, `accessible_topology`; where there are none it has no topology.
+    /// The segments of `accessible_topology`. If they are empty, the volume has no topology.
     pub segments: &'a Map,
 }
 
-// Appends the topology of these segments, if there is one.
+// Appends the topology that has these segments; appends nothing if there are no segments.
 #[tactic(auto, unfolding(pbmessage::specs::Canon::row_fields))]
 fn put_topology(out: &mut Vec<u8>, segments: &Map) -> Result<(), AllocError>
     ensures ok { OnOk result (out.new.items
@@ -63,11 +63,11 @@ impl Written<Csi> for CreatedVolume<'_> {
     }
 }
 
-/// Appends the response of CreateVolume that has this volume.
+/// Appends the encoded response of CreateVolume with this volume.
 ///
 /// # Errors
 ///
-/// Where memory is refused the vector is as it was.
+/// If memory is refused; the vector is unchanged.
 #[tactic(auto, unfolding(pbmessage::specs::Canon::row_fields, crate::specs::Methods::response_bytes, crate::specs::Methods::FitsResponse))]
 pub fn encode_created(volume: &CreatedVolume, out: &mut Vec<u8>) -> Result<(), AllocError>
     ensures ok { OnOk result (out.new.items

@@ -24,9 +24,9 @@ ghost use Rattle.csi_codec.specs.Reading.{read_request, IsRead, read_response, I
 use csi_types::laws::map_entries;
 use pbwire::laws::{spelled, written};
 
-/// The encoding of a request or a response means it. An `Ok` of [`encode_request`](crate::encode_request) and
-/// of [`encode_response`](crate::encode_response) says that the value fits, so what they write is read as the
-/// value.
+/// Decoding an encoded request or response gives the same value, if that value fits.
+/// [`encode_request`](crate::encode_request) and [`encode_response`](crate::encode_response) return `Ok` only
+/// for values that fit.
 pub fn round_trip()
     ensures requests { (r : Request) → FitsRequest r → MeansRequest (request_method r) (request_bytes r) r }
     ensures responses { (r : Response) → FitsResponse r
@@ -37,7 +37,7 @@ pub fn round_trip()
     map_entries();
 }
 
-/// Bytes mean at most one request of a method, and at most one response.
+/// Bytes encode at most one request of a method, and at most one response.
 pub fn one_meaning()
     ensures requests { (m : Method) (bytes : List ℕ) (r s : Request) → MeansRequest m bytes r
         → MeansRequest m bytes s → r ≡ s }
@@ -47,7 +47,8 @@ pub fn one_meaning()
     spelled();
 }
 
-/// Bytes that are good mean a request, and so for responses.
+/// Bytes that pass the checks of a method's message encode a request of the method. The same holds for
+/// responses.
 pub fn a_meaning()
     ensures requests { (m : Method) (bytes : List ℕ) → IsGoodRequest m bytes → (r : Request)
         × MeansRequest m bytes r }
@@ -55,7 +56,7 @@ pub fn a_meaning()
         × MeansResponse m bytes r }
 {}
 
-/// Bytes that are refused as malformed mean no request, and so for responses.
+/// Bytes that are refused as malformed encode no request of the method. The same holds for responses.
 pub fn no_meaning()
     ensures requests { (m : Method) (bytes : List ℕ) (at : ℕ) → IsNoRequest m bytes at → (r : Request)
         → MeansRequest m bytes r → ⊥ }
@@ -63,7 +64,7 @@ pub fn no_meaning()
         → MeansResponse m bytes r → ⊥ }
 {}
 
-/// Bytes that mean no request are refused at one offset, and so for responses.
+/// Bytes that encode no request of a method are refused at one offset only. The same holds for responses.
 pub fn one_offset()
     ensures requests { (m : Method) (bytes : List ℕ) (a b : ℕ) → IsNoRequest m bytes a → IsNoRequest m bytes b
         → a ≡ b }
@@ -72,7 +73,8 @@ pub fn one_offset()
 {}
 
 /// What [`decode`](crate::decode) and [`decode_response`](crate::decode_response) find in any bytes, as a
-/// function of the method and the bytes: the value that they mean, or the offset at which they are refused.
+/// function of the method and the bytes: the value that the bytes encode, or the offset at which they are
+/// refused.
 pub fn reading()
     ensures requests { (m : Method) (bytes : List ℕ) → IsRead m bytes (read_request m bytes) }
     ensures responses { (m : Method) (bytes : List ℕ) → IsReadResponse m bytes (read_response m bytes) }
@@ -80,7 +82,8 @@ pub fn reading()
     spelled();
 }
 
-/// The function reads what the bytes mean, and where they are refused it gives that offset.
+/// The function of [`reading`] returns the value that the bytes encode, or the offset at which they are
+/// refused.
 pub fn read_as_meant()
     ensures requests { (m : Method) (bytes : List ℕ) (r : Request) → MeansRequest m bytes r
         → read_request m bytes ≡ Ok r }
@@ -97,14 +100,14 @@ pub fn read_as_meant()
     one_offset();
 }
 
-/// In an encoding the field numbers of the message rise, from 1 to 2^29 - 1 (Protocol Buffers language guide,
-/// 'Assigning Field Numbers').
+/// In an encoding, the field numbers of the message rise, and lie between 1 and 2^29 - 1 (Protocol Buffers
+/// language guide, 'Assigning Field Numbers').
 pub fn rising()
     ensures requests { (r : Request) → IsTrue (rises (canon_request r)) }
     ensures responses { (r : Response) → IsTrue (rises (canon_response r)) }
 {}
 
-/// The same law for each message inside another one. All encodings are made of these.
+/// The law [`rising`] for each message inside another one. All encodings consist of these messages.
 pub fn rising_within()
     ensures ranges { (r : CapacityRange) → IsTrue (rises (canon_range r)) }
     ensures mounts { (m : Mount) → IsTrue (rises (canon_mount m)) }

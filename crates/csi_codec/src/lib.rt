@@ -1,14 +1,15 @@
 //! Messages of the Container Storage Interface to and from bytes (Protocol Buffers, proto3).
 //!
 //! Each message is three short definitions over `pbmessage`, which reads and writes messages of any type:
-//! which view gives each part of its value, its schema, and how the value is written. They are in
-//! `specs/messages/`, the code in `src/messages/` and the round trips in `proofs/`, a file a subject under
-//! one name.
+//! which view gives each part of its value, its schema, and how the value is written. The definitions are in
+//! `specs/messages/`, the code in `src/messages/` and the round trips in `proofs/`, with one file of the same
+//! name for each subject.
 //!
-//! `MeansRequest` and `IsNoRequest` say what bytes mean with no order of reading; `specs/Reading.antt` says
-//! it as a function, for layers above that must compute with it, and the law [`laws::reading`] ties the
-//! two. Reading takes two passes: one looks for faults and takes no memory, so a malformed message is never
-//! answered as want of memory; the other builds. Embedded messages are merged in place and written in place.
+//! `MeansRequest` and `IsNoRequest` define which request bytes encode, without an order of reading.
+//! `specs/Reading.antt` defines it as a function, for crates above that must compute with it, and the law
+//! [`laws::reading`] proves that the two agree. Decoding takes two passes. The first looks for faults and
+//! takes no memory, so a malformed message is never refused for lack of memory; the second builds the value.
+//! Embedded messages are merged in place and written in place.
 //!
 //! ```rust
 //! match decode(alloc, method, message) {

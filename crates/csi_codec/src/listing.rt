@@ -1,4 +1,4 @@
-//! Entries of a listing, written from borrowed parts.
+//! Entries of ListVolumes, encoded from borrowed parts.
 
 ghost use Rattle.std.specs.Prelude.{◌≡◌, ◌++◌, ◌∷◌, [], OnErr, OnOk};
 ghost use Rattle.csi_types.specs.declared.responses.Response.TheVariants as response;
@@ -17,7 +17,7 @@ use pbmessage::{Written, put_joined, put_message, put_signed, whole_or_none};
 use pbwire::laws::short;
 use std::alloc::AllocError;
 
-// A volume of a pool.
+// A volume with the context and topology of its pool.
 #[derive(Drop)]
 struct PlacedVolume<'a> {
     bytes: i64,
@@ -43,18 +43,18 @@ impl Written<Csi> for PlacedVolume<'_> {
     }
 }
 
-/// An entry of a listing, of which nothing is copied (CSI specification, `ListVolumesResponse.Entry`).
+/// An entry of ListVolumes (CSI specification, `ListVolumesResponse.Entry`). All parts are borrowed.
 #[derive(Drop)]
 pub struct ListedEntry<'a> {
-    /// The size in bytes, `capacity_bytes`.
+    /// `capacity_bytes`: the size of the volume in bytes.
     pub bytes: i64,
     /// The part of the volume's id before its number.
     pub prefix: &'a str,
-    /// The volume's number, in decimal at the end of its id.
+    /// The number of the volume, with whose decimal digits its id ends.
     pub number: u64,
-    /// The context and the topology of the volume's pool, encoded.
+    /// The context and the topology of the volume's pool, already encoded.
     pub placement: &'a Placement,
-    /// The nodes that it is published at.
+    /// The ids of the nodes to which the volume is published.
     pub nodes: &'a Items<Text>,
 }
 
@@ -79,12 +79,12 @@ impl Written<Csi> for ListedEntry<'_> {
     }
 }
 
-/// Appends an entry of a listing: the response of this one entry and of no token. A listing is its entries,
-/// each appended after the one before it, and then its token.
+/// Appends an entry, encoded as a `ListVolumesResponse` with this entry and no token. The encoding of a whole
+/// response is the encodings of its entries in order, followed by the encoding of its token.
 ///
 /// # Errors
 ///
-/// Where memory is refused the vector is as it was.
+/// If memory is refused; the vector is unchanged.
 #[inline(always)]
 #[tactic(auto, using(crate::specs::facts::Listing::entries_only), unfolding(crate::specs::Methods::FitsResponse))]
 pub fn encode_entry(entry: &ListedEntry, out: &mut Vec<u8>) -> Result<(), AllocError>

@@ -1,4 +1,4 @@
-//! What a pool gives its volumes, encoded.
+//! The context and topology that all volumes of a pool share, encoded.
 
 ghost use Rattle.std.specs.Prelude.{◌≡◌, ◌++◌, IfOk, OnOk, OnErr};
 ghost use Rattle.std.proofs.Props.{props};
@@ -10,27 +10,27 @@ use csi_types::{Items, Map};
 use pbmessage::{put_map, put_messages};
 use std::alloc::{AllocError, Global};
 
-// The status of a volume that is published nowhere: field 2 of its entry, without nodes.
+// The status of a volume that is published to no node: field 2 of its entry, empty.
 const NO_NODES: [u8; 2] = [18, 0];
 
-/// The context and the topology that all volumes of a pool share, with their encoding: a listing encodes
-/// them once a pool (CSI specification, `Volume`, its fields `volume_context` and `accessible_topology`).
+/// The context and the topology that all volumes of a pool share, with their encoding. A listing encodes them
+/// once for each pool (CSI specification, the fields `volume_context` and `accessible_topology` of `Volume`).
 #[derive(Drop)]
 pub struct Placement {
     context: Map,
     topology: Items<Map>,
-    // The encoding, followed by the end of a listing's entry without nodes.
+    // The encoding, followed by the end of a listing's entry that has no nodes.
     ending: Vec<u8>,
     ghost spelled: { ending.items ≡ placement_bytes context topology ++ no_nodes },
     ghost fitting: { FitsMap context × FitsTerms topology } by { Prim.hlevel props },
 }
 
 impl Placement {
-    /// Of a context and a topology.
+    /// Encodes a context and a topology, and keeps both.
     ///
     /// # Errors
     ///
-    /// Where memory is refused.
+    /// If memory is refused.
     pub fn new(alloc: Global, context: Map, topology: Items<Map>) -> Result<Placement, AllocError>
         ensures { IfOk result (λ placement. (placement.context ≡ context) × (placement.topology ≡ topology)) }
     {
@@ -45,7 +45,7 @@ impl Placement {
         })
     }
 
-    /// The encoded fields, as part of `Volume`.
+    /// The encoded context and topology, as fields of a `Volume`.
     #[inline(always)]
     pub(crate) fn as_bytes(&self) -> &[u8]
         ensures value { result.now ≡ placement_bytes self.now.context self.now.topology }
@@ -54,7 +54,7 @@ impl Placement {
         &self.ending[..len]
     }
 
-    /// The encoded fields, followed by the end of a listing's entry without nodes.
+    /// The encoded context and topology, followed by the end of a listing's entry that has no nodes.
     #[inline(always)]
     pub(crate) fn ending(&self) -> &[u8]
         ensures value { result.now ≡ placement_bytes self.now.context self.now.topology ++ no_nodes }
@@ -64,7 +64,8 @@ impl Placement {
     }
 }
 
-/// Appends what a pool gives its volumes.
+/// Appends the encoded context and topology, as fields of a `Volume`. If memory is refused, the vector is
+/// unchanged.
 pub(crate) fn put_placement(out: &mut Vec<u8>, placement: &Placement) -> Result<(), AllocError>
     ensures ok { OnOk result (out.new.items
         ≡ out.old.items ++ placement_bytes placement.now.context placement.now.topology) }

@@ -1,4 +1,4 @@
-//! The response of a ControllerPublishVolume.
+//! The response of ControllerPublishVolume, encoded from borrowed parts.
 
 ghost use Rattle.std.specs.Prelude.{◌≡◌, ◌++◌, OnOk, OnErr};
 ghost use Rattle.std.specs.FinMap.{empty, insert};
@@ -9,12 +9,12 @@ ghost use Rattle.csi_codec.specs.Methods.{response_bytes, FitsResponse};
 use pbmessage::{put_single, whole_or_none};
 use std::alloc::AllocError;
 
-/// Appends the response of a ControllerPublishVolume whose context has this one entry (CSI specification,
-/// `ControllerPublishVolumeResponse`).
+/// Appends the encoded response of ControllerPublishVolume whose `publish_context` has one entry, this key
+/// and value (CSI specification, `ControllerPublishVolumeResponse`).
 ///
 /// # Errors
 ///
-/// Where memory is refused the vector is as it was.
+/// If memory is refused; the vector is unchanged.
 #[tactic(auto, unfolding(pbmessage::specs::Canon::row_fields, crate::specs::Methods::response_bytes, crate::specs::Methods::FitsResponse))]
 pub fn encode_published(key: &str, value: &str, out: &mut Vec<u8>) -> Result<(), AllocError>
     ensures ok { OnOk result (out.new.items

@@ -1,4 +1,4 @@
-//! Requests by their method.
+//! Decoding and encoding requests by their method.
 
 ghost use Rattle.std.specs.Prelude.{◌≡◌, ◌++◌, OnOk, OnErr, IfOk, IfErr};
 ghost use Rattle.pbmessage.specs.Kept.{Keeps};
@@ -14,17 +14,16 @@ use pbmessage::{DecodeFault, Written, decode_boxed, decode_message, whole_or_non
 use pbwire::laws::spelled;
 use std::alloc::{AllocError, Global};
 
-/// The request of this method that the bytes mean (Protocol Buffers encoding guide; CSI specification,
-/// csi.proto).
+/// Decodes the request of this method (Protocol Buffers encoding guide; CSI specification, csi.proto).
 ///
-/// Fields come in any order, and unknown ones are skipped. Of a scalar or a text the last occurrence counts,
-/// those of an embedded message are merged, and those of a repeated field are its elements. Faults are looked
-/// for first, without memory.
+/// Fields may come in any order, and unknown fields are skipped. If a field of a number or a text is
+/// repeated, the last occurrence counts; the occurrences of an embedded message are merged; and those of a
+/// repeated field are its elements. All bytes are checked for faults before memory is taken.
 ///
 /// # Errors
 ///
-/// [`DecodeFault::Malformed`] exactly where the bytes mean no request; [`DecodeFault::NoMemory`] only where
-/// they mean one.
+/// [`DecodeFault::Malformed`] exactly if the bytes encode no request of this method;
+/// [`DecodeFault::NoMemory`] if they encode one and memory is refused.
 pub fn decode(alloc: Global, method: Method, bytes: &[u8]) -> Result<Request, DecodeFault>
     ensures ok { IfOk result (MeansRequest method bytes.now) }
     ensures err { IfErr result (RefusesRequest method bytes.now) }
@@ -34,11 +33,11 @@ pub fn decode(alloc: Global, method: Method, bytes: &[u8]) -> Result<Request, De
     decode_by_method(alloc, method, bytes)
 }
 
-/// The `CreateVolumeRequest` that the bytes mean, as [`decode`] reads it.
+/// Decodes a `CreateVolumeRequest`, as [`decode`] does.
 ///
 /// # Errors
 ///
-/// Those of [`decode`].
+/// The errors of [`decode`].
 pub fn decode_create(alloc: Global, bytes: &[u8]) -> Result<CreateVolume, DecodeFault>
     ensures { Decodes (read_request Creating bytes.now) (as_create result) }
 {
@@ -79,7 +78,7 @@ fn decode_by_method(alloc: Global, method: Method, bytes: &[u8]) -> Result<Reque
     }
 }
 
-// Appends the encoding. Where memory is refused a part of it may be there.
+// Appends the encoding. If memory is refused, a part of the encoding may have been appended.
 #[tactic(auto, unfolding(crate::specs::Methods::request_bytes, crate::specs::Methods::FitsRequest))]
 fn write_request(request: &Request, out: &mut Vec<u8>) -> Result<(), AllocError>
     ensures ok { OnOk result (out.new.items ≡ out.old.items ++ request_bytes request.now) }
@@ -102,13 +101,13 @@ fn write_request(request: &Request, out: &mut Vec<u8>) -> Result<(), AllocError>
     }
 }
 
-/// Appends the one encoding of the request: rising field numbers, minimal varints, default scalars and empty
-/// texts left out, present messages written even when empty, map entries in byte order of their keys with
-/// both parts.
+/// Appends the encoding of the request, in one fixed form. Field numbers rise, and varints have their least
+/// length. Default scalars and empty texts are left out; present messages are written even if empty. Map
+/// entries come in byte order of their keys, with key and value both written.
 ///
 /// # Errors
 ///
-/// Where memory is refused the vector is as it was.
+/// If memory is refused; the vector is unchanged.
 pub fn encode_request(request: &Request, out: &mut Vec<u8>) -> Result<(), AllocError>
     ensures ok { OnOk result (out.new.items ≡ out.old.items ++ request_bytes request.now) }
     ensures fitting { OnOk result (FitsRequest request.now) }
@@ -119,11 +118,11 @@ pub fn encode_request(request: &Request, out: &mut Vec<u8>) -> Result<(), AllocE
     whole_or_none(out, from, written)
 }
 
-/// Appends the one encoding of a `CreateVolumeRequest`, as [`encode_request`] does.
+/// Appends the encoding of a `CreateVolumeRequest`, in the one form that [`encode_request`] describes.
 ///
 /// # Errors
 ///
-/// Where memory is refused the vector is as it was.
+/// If memory is refused; the vector is unchanged.
 #[tactic(auto, unfolding(crate::specs::Methods::request_bytes, crate::specs::Methods::FitsRequest))]
 pub fn encode_create(message: &CreateVolume, out: &mut Vec<u8>) -> Result<(), AllocError>
     ensures ok { OnOk result (out.new.items ≡ out.old.items ++ request_bytes (Create message.now)) }

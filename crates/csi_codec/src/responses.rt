@@ -1,4 +1,4 @@
-//! Responses by their method.
+//! Decoding and encoding responses by their method.
 
 ghost use Rattle.std.specs.Prelude.{◌≡◌, ◌++◌, OnOk, OnErr, IfOk, IfErr};
 ghost use Rattle.pbmessage.specs.Kept.{Keeps};
@@ -15,12 +15,12 @@ use pbmessage::{DecodeFault, Written, decode_message, whole_or_none};
 use pbwire::laws::spelled;
 use std::alloc::{AllocError, Global};
 
-/// The response of this method that the bytes mean, as [`decode`](crate::decode) reads requests.
+/// Decodes the response of this method, as [`decode`](crate::decode) decodes requests.
 ///
 /// # Errors
 ///
-/// [`DecodeFault::Malformed`] exactly where the bytes mean no response; [`DecodeFault::NoMemory`] only where
-/// they mean one.
+/// [`DecodeFault::Malformed`] exactly if the bytes encode no response of this method;
+/// [`DecodeFault::NoMemory`] if they encode one and memory is refused.
 pub fn decode_response(alloc: Global, method: Method, bytes: &[u8]) -> Result<Response, DecodeFault>
     ensures ok { IfOk result (MeansResponse method bytes.now) }
     ensures err { IfErr result (RefusesResponse method bytes.now) }
@@ -76,7 +76,7 @@ fn decode_by_method(alloc: Global, method: Method, bytes: &[u8]) -> Result<Respo
     }
 }
 
-// Appends the encoding. Where memory is refused a part of it may be there.
+// Appends the encoding. If memory is refused, a part of the encoding may have been appended.
 #[tactic(auto, unfolding(crate::specs::Methods::response_bytes, crate::specs::Methods::FitsResponse))]
 fn write_response(response: &Response, out: &mut Vec<u8>) -> Result<(), AllocError>
     ensures ok { OnOk result (out.new.items ≡ out.old.items ++ response_bytes response.now) }
@@ -98,11 +98,12 @@ fn write_response(response: &Response, out: &mut Vec<u8>) -> Result<(), AllocErr
     }
 }
 
-/// Appends the one encoding of the response, as [`encode_request`](crate::encode_request) does.
+/// Appends the encoding of the response, in the one form that [`encode_request`](crate::encode_request)
+/// describes.
 ///
 /// # Errors
 ///
-/// Where memory is refused the vector is as it was.
+/// If memory is refused; the vector is unchanged.
 pub fn encode_response(response: &Response, out: &mut Vec<u8>) -> Result<(), AllocError>
     ensures ok { OnOk result (out.new.items ≡ out.old.items ++ response_bytes response.now) }
     ensures fitting { OnOk result (FitsResponse response.now) }

@@ -1,5 +1,5 @@
-//! A short entry of a listing, of a volume that is published nowhere: it is put together in a buffer from its
-//! last byte to its first, so that each length is known where it is written.
+//! Short entries of ListVolumes, of volumes published to no node. An entry is written into a buffer from its
+//! last byte to its first, so that each length is known when it is written.
 
 ghost use Rattle.std.specs.Prelude.{◌≡◌, ◌≤◌, ◌+◌, ◌++◌, ◌∷◌, IfSome, length, drop};
 ghost use Rattle.std.specs.Fmt.{decimal};
@@ -11,24 +11,24 @@ ghost use Rattle.csi_codec.specs.messages.Volume.{FitsVolume};
 use crate::listing::ListedEntry;
 use itoa::write_digits;
 
-/// The bytes of a buffer: two heads of two bytes each, a size of 11, the head of an id with a prefix of 16
-/// bytes and 20 digits, and the longest ending.
+/// The bytes of a buffer: 4 for the heads of entry and volume, 11 for the size field, 38 for the id field
+/// (its head 2, prefix 16, digits 20), and 123 for the longest ending.
 pub(crate) const BUFFER_BYTES: usize = 176;
 
-// The longest prefix of an id that has room in it.
+// The longest prefix of an id that fits the buffer.
 const LONGEST_PREFIX: usize = 16;
 
-// The longest ending of a short entry: what a pool gives a volume, and the status of no nodes.
+// The longest ending of a short entry: the context and topology of its pool, and an empty status.
 const LONGEST_ENDING: usize = 123;
 
-// The status of a volume that is published nowhere has so many bytes.
+// The bytes of the status of a volume that is published to no node.
 const STATUS_BYTES: usize = 2;
 
-// The entry of a volume of less than this, which is published nowhere, has at most 127 bytes, and each length
-// in it takes one.
+// An entry of a volume of fewer bytes than this, published to no node, has at most 127 bytes, so each length
+// in it takes one byte.
 const SHORT_VOLUME: usize = 122;
 
-// Puts bytes before those that begin at `end`, and returns where they begin.
+// Writes bytes that end at `end`, and returns the offset at which they begin.
 #[inline(always)]
 fn put_before(buffer: &mut [u8], end: usize, bytes: &[u8]) -> usize
     requires { (length bytes.now ≤ end) × (end ≤ length buffer.old) }
@@ -40,7 +40,7 @@ fn put_before(buffer: &mut [u8], end: usize, bytes: &[u8]) -> usize
     start
 }
 
-// Puts a varint there, its last group first.
+// Writes a varint that ends at `end`, its last group first, and returns the offset at which it begins.
 #[tactic(auto, using(crate::proofs::ShortLemmas::varint_one, crate::proofs::ShortLemmas::varint_more))]
 fn put_varint(buffer: &mut [u8], end: usize, number: u64) -> usize
     requires { (length (varint number) ≤ end) × (end ≤ length buffer.old) }
@@ -54,7 +54,8 @@ fn put_varint(buffer: &mut [u8], end: usize, number: u64) -> usize
     put_before(buffer, start, &[(number % 128) as u8 + 128])
 }
 
-// Puts the field of a size there, unless it is 0.
+// Writes the field of a size, so that it ends at `end`; writes nothing for 0. Returns the offset at which it
+// begins.
 #[inline(always)]
 fn put_size(buffer: &mut [u8], end: usize, bytes: u64) -> usize
     requires { (11 ≤ end) × (end ≤ length buffer.old) }
@@ -69,7 +70,7 @@ fn put_size(buffer: &mut [u8], end: usize, bytes: u64) -> usize
     put_before(buffer, start, &[8])
 }
 
-// Puts the field of an id there.
+// Writes the field of an id, so that it ends at `end`, and returns the offset at which it begins.
 #[inline(always)]
 fn put_id(buffer: &mut [u8], end: usize, prefix: &str, number: u64) -> usize
     requires { (length prefix.now ≤ 16) × (38 ≤ end) × (end ≤ length buffer.old) }
@@ -83,8 +84,8 @@ fn put_id(buffer: &mut [u8], end: usize, prefix: &str, number: u64) -> usize
     put_before(buffer, id, &[18, (end - id) as u8])
 }
 
-/// Puts an entry without nodes at the end of a buffer, and returns where it begins; `None` where it may be
-/// too long for that. Whether it has nodes is not looked at.
+/// Writes an entry without nodes at the end of the buffer and returns the offset at which it begins; `None`
+/// if the entry may be too long for a short one. The nodes of the entry are ignored.
 #[inline(always)]
 pub(crate) fn put_short(buffer: &mut [u8], entry: &ListedEntry) -> Option<usize>
     requires { length buffer.old ≡ 176 }

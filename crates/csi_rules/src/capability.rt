@@ -8,8 +8,9 @@ use csi_types::{Capability, Items};
 use std::alloc::{AllocError, Global};
 use std::collections::BTreeSet;
 
-// Up to this number of keys is searched one by one; longer lists are sorted first. The keys of a volume are
-// in order by the invariant, which a `requires` cannot name, so their set is built again for each comparison.
+// Up to this number of keys, keys are compared one by one; more keys are put into a set first. The keys of a
+// volume are in order by the invariant, which a `requires` cannot name, so their set is built again for each
+// comparison.
 const FEW_KEYS: usize = 4;
 
 #[tactic(auto, using(crate::specs::facts::Capability::keys_more, crate::specs::facts::Capability::keys_same, crate::specs::facts::Capability::keys_none))]
@@ -46,15 +47,16 @@ fn key_alone(alloc: Global, capability: &Capability) -> Result<Items<CapKey>, Al
     Ok(alone)
 }
 
-/// The keys of capabilities, in order and without doubles: O(n log n) for n capabilities.
+/// Returns the keys of the capabilities, sorted and without duplicates, in O(n log n) for n capabilities. A
+/// capability without a key is skipped.
 ///
 /// # Errors
 ///
-/// Where memory was refused.
+/// If memory is refused.
 pub fn keys_of(alloc: Global, capabilities: &[Capability]) -> Result<Items<CapKey>, AllocError>
     ensures { IfOk result (λ keys. keys ≡ keys_of capabilities.now) }
 {
-    // Most volumes have one.
+    // Most volumes have one capability.
     match capabilities {
         [capability] => key_alone(alloc, capability),
         _ => listed(alloc, key_set(alloc, capabilities)?),
@@ -111,7 +113,7 @@ fn have_all(
     Ok(true)
 }
 
-// As has_key, of keys that are looked through. It takes no memory for them.
+// `has_key` for a few keys, which are compared one by one, without allocating a set.
 #[tactic(auto, using(crate::specs::facts::Capability::has_none))]
 fn few_have_key(alloc: Global, keys: &[CapKey], capability: &Capability) -> Result<bool, AllocError>
     ensures { IfOk result (λ has. has ≡ has_key keys.now (key_of capability.now)) }
@@ -133,12 +135,12 @@ fn few_have(alloc: Global, keys: &[CapKey], capabilities: &[Capability]) -> Resu
     Ok(true)
 }
 
-/// Whether `keys` has the key of each capability: O((n + m) log m) for n capabilities and m keys, which
-/// need no order.
+/// Whether `keys`, in any order, has for each capability its key or the wider key (`csi_keeper::wider_key`).
+/// Takes O((n + m) log m) time for n capabilities and m keys.
 ///
 /// # Errors
 ///
-/// Where memory was refused.
+/// If memory is refused.
 #[tactic(auto, using(crate::specs::facts::Capability::have_ordered))]
 pub fn have_keys(
     alloc: Global,

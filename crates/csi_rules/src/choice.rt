@@ -15,7 +15,7 @@ use csi_keeper::{Keeper, StoreFault, Usage};
 use csi_types::{Map, Requirement};
 use std::alloc::Global;
 
-/// A pool, and what its volumes use of it.
+/// A pool, and the usage of the pool by its volumes.
 #[derive(Drop)]
 pub struct Room<'a> {
     pub pool: &'a Pool,
@@ -23,7 +23,7 @@ pub struct Room<'a> {
 }
 
 impl Room<'_> {
-    /// The bytes that are free.
+    /// The bytes of the pool that no volume has; 0 if its volumes have more bytes than the pool.
     pub fn free(&self) -> u64
         ensures { result ≡ free (room_value self.now) }
     {
@@ -31,7 +31,7 @@ impl Room<'_> {
     }
 }
 
-// A pool and its usage.
+// Reads the usage of a pool.
 #[inline(always)]
 fn read_room<'a, K: Keeper>(keeper: &mut K, pool: &'a Pool) -> Result<Room<'a>, StoreFault>
     ensures pool { IfOk result (λ r. r.pool.now ≡ pool.now) }
@@ -42,7 +42,8 @@ fn read_room<'a, K: Keeper>(keeper: &mut K, pool: &'a Pool) -> Result<Room<'a>, 
     Ok(Room { pool, used })
 }
 
-/// The pools in the order of the configuration, with the usage of each.
+/// Reads the usage of each pool, in the order of the configuration. Fails with the error of the keeper, or if
+/// memory is refused.
 #[tactic(auto, using(csi_keeper::specs::facts::Reads::quiet_same, csi_keeper::specs::facts::Reads::quiet_then))]
 #[inline(always)]
 pub fn read_rooms<'a, K: Keeper>(
@@ -61,7 +62,7 @@ pub fn read_rooms<'a, K: Keeper>(
     Ok(rooms)
 }
 
-/// The number of volumes in all pools, up to the greatest `u64`.
+/// Returns the number of volumes in all pools together, or 2^64 - 1 if there are more.
 pub fn count(rooms: &[Room<'_>]) -> u64
     ensures { result ≡ up_to_u64 (count (map room_value rooms.now)) }
 {
@@ -79,7 +80,7 @@ fn fits(room: &Room<'_>, term: &Map, size: u64) -> bool
     serves(&room.pool.segments, term) && size <= room.free()
 }
 
-// The first pool that serves the term and has room.
+// The first pool, in the order of the configuration, that serves the term and has `size` bytes free.
 fn first_for<'a>(rooms: &[Room<'a>], term: &Map, size: u64) -> Option<&'a Pool>
     ensures { option_map (λ p. p.now) result
         ≡ option_map (λ r. r.pool.now) (find
@@ -147,8 +148,8 @@ fn pool_by<'a>(
     pool_requisite(alloc, rooms, wanted.requisite.as_slice(), size)
 }
 
-/// The pool for a new volume of this size: the first pool, in the order of the configuration, that serves the
-/// first term, in the order of preference, that any pool with room serves.
+/// Chooses a new volume's pool: for the most preferred topology term that a pool with room for `size` bytes
+/// serves, the first such pool in the configuration; `None` if no such pool serves any term.
 pub fn choose<'a>(
     alloc: Global,
     rooms: &[Room<'a>],

@@ -5,7 +5,7 @@ ghost use Rattle.csi_rules.specs.Commitment.{is_overcommitted};
 
 use csi_config::Pool;
 
-/// Whether a pool has fewer bytes than its volumes, which have this many bytes together.
+/// Whether the volumes of a pool, which have `sum` bytes together, have more bytes than the pool.
 pub fn is_overcommitted(pool: &Pool, sum: u64) -> bool
     ensures { result ≡ is_overcommitted pool.now sum }
 {

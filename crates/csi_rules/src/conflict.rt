@@ -5,8 +5,8 @@ ghost use Rattle.csi_rules.specs.Conflict.{has_conflict};
 
 use csi_keeper::{Attachment, coexist};
 
-/// Returns true if one of a volume's attachments cannot coexist with a new one, `mine`, which is at another
-/// node than each of them (`csi_keeper::coexist`).
+/// Returns true if a new attachment of a volume, `mine`, cannot coexist (`csi_keeper::coexist`) with one of
+/// the volume's other `attachments`, which are at other nodes.
 pub fn has_conflict(mine: &Attachment, attachments: &[Attachment]) -> bool
     ensures { result ≡ has_conflict mine.now attachments.now }
 {

@@ -9,12 +9,12 @@ use csi_keeper::{CapKey, Keeper, StoreFault, Volume};
 use csi_types::{Items, Text};
 use std::alloc::Global;
 
-/// The volume of an id, with its number; `None` if no volume has the id. The keeper is not asked for a text
-/// that is no volume's id.
+/// Finds the volume with this id, and its number; `None` if no volume has it. The keeper is not asked if `id`
+/// does not have the form of a volume id.
 ///
 /// # Errors
 ///
-/// What the keeper answers.
+/// The error of the keeper.
 #[tactic(auto, using(csi_keeper::specs::facts::Reads::quiet_same, csi_keeper::specs::facts::Reads::quiet_then))]
 pub fn volume_of<K: Keeper>(
     alloc: Global,
@@ -34,12 +34,12 @@ pub fn volume_of<K: Keeper>(
     }
 }
 
-/// The capability keys of the volume of an id, with its number; `None` if no volume has the id. The keeper is
-/// not asked for a text that is no volume's id.
+/// Finds the number and capability keys of the volume with this id; `None` if no volume has it. The keeper is
+/// not asked if `id` does not have the form of a volume id.
 ///
 /// # Errors
 ///
-/// What the keeper answers.
+/// The error of the keeper.
 #[tactic(auto, using(csi_keeper::specs::facts::Reads::quiet_same, csi_keeper::specs::facts::Reads::quiet_then))]
 pub fn caps_of<K: Keeper>(
     alloc: Global,
@@ -59,12 +59,12 @@ pub fn caps_of<K: Keeper>(
     }
 }
 
-/// The number of the volume of an id; `None` if no volume has the id. The volume is not copied, and the
-/// keeper is not asked for a text that is no volume's id.
+/// Finds the number of the volume with this id, without copying the volume; `None` if no volume has it. The
+/// keeper is not asked if `id` does not have the form of a volume id.
 ///
 /// # Errors
 ///
-/// What the keeper answers.
+/// The error of the keeper.
 #[tactic(auto, using(csi_keeper::specs::facts::Reads::quiet_same, csi_keeper::specs::facts::Reads::quiet_then, crate::specs::facts::Finding::number_has, crate::specs::facts::Finding::number_none))]
 pub fn existing_number<K: Keeper>(keeper: &mut K, id: &Text) -> Result<Option<u64>, StoreFault>
     ensures asks_nothing { number_of_id id.now ≡ None → (keeper.new ≡ keeper.old) × (result ≡ Ok None) }

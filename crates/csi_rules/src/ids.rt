@@ -12,11 +12,11 @@ use std::alloc::{AllocError, Global};
 /// The first part of a volume's id, before its number in decimal.
 pub const ID_PREFIX: &str = "vol-";
 
-/// The number in decimal, without leading zeros.
+/// Returns the number in decimal, without leading zeros.
 ///
 /// # Errors
 ///
-/// Where memory was refused.
+/// If memory is refused.
 pub fn decimal_of(alloc: Global, number: u64) -> Result<Text, AllocError>
     ensures { IfOk result (λ t. t ≡ decimal number) }
 {
@@ -29,8 +29,8 @@ fn is_decimal_of(number: u64, text: &str) -> bool
     Buffer::new().format(number) == text
 }
 
-/// The number whose decimal a text is, byte for byte; `None` where it is no number's, as with a
-/// leading zero, or of 2^64 or more.
+/// Returns the number that the text is the decimal form of. `None` if there is no such number below 2^64, for
+/// example if the text has a leading zero.
 #[tactic(auto, using(crate::specs::facts::Ids::is_decimal, crate::specs::facts::Ids::no_decimal))]
 pub fn number_of(text: &str) -> Option<u64>
     ensures { result ≡ number_of text.now }
@@ -41,8 +41,8 @@ pub fn number_of(text: &str) -> Option<u64>
     is_decimal_of(number, text).then_some(number)
 }
 
-/// The number of the volume that a text is the id of (CSI specification, 'CreateVolume',
-/// `Volume.volume_id`); `None` where the plugin gives no volume that id.
+/// Returns the number in the id of a volume (CSI specification, 'CreateVolume', `Volume.volume_id`); `None`
+/// if the text does not have the form of a volume id. The volume need not exist.
 pub fn number_of_id(text: &str) -> Option<u64>
     ensures { result ≡ number_of_id text.now }
 {

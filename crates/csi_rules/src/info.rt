@@ -1,4 +1,4 @@
-//! The answer about a volume.
+//! The parts of a reply that describe a volume.
 
 ghost use Rattle.std.specs.Prelude.{◌≡◌, IfOk, codes};
 ghost use Rattle.std.specs.Option.{option_copied};
@@ -13,11 +13,12 @@ use std::alloc::{AllocError, Global};
 /// The one key of a volume's context. Its value is the name of the volume's pool.
 pub const CONTEXT_KEY: &str = "pool";
 
-/// The context of a volume.
+/// Returns the context of a volume: one entry, with [`CONTEXT_KEY`] as its key and the name of the volume's
+/// pool as its value.
 ///
 /// # Errors
 ///
-/// Where memory was refused.
+/// If memory is refused.
 pub fn context_of(alloc: Global, pool: &Text) -> Result<Map, AllocError>
     ensures { IfOk result (λ m. m ≡ insert empty (codes "pool") pool.now) }
 {
@@ -29,11 +30,12 @@ pub fn context_of(alloc: Global, pool: &Text) -> Result<Map, AllocError>
     Ok(context)
 }
 
-/// The topology of a volume: the segments of its pool, if there are any.
+/// Returns the topology of a volume: one term with the segments of its pool, or no term if the pool has no
+/// segments.
 ///
 /// # Errors
 ///
-/// Where memory was refused.
+/// If memory is refused.
 pub fn topology_of(alloc: Global, segments: &Map) -> Result<Items<Map>, AllocError>
     ensures { IfOk result (λ ms. ms ≡ topology_of segments.now) }
 {
@@ -44,7 +46,7 @@ pub fn topology_of(alloc: Global, segments: &Map) -> Result<Items<Map>, AllocErr
     Ok(terms)
 }
 
-/// Bytes as an `int64`, up to the greatest.
+/// Returns the number of bytes as an `int64`, or 2^63 - 1 if it is greater.
 pub fn signed(bytes: u64) -> i64
     ensures { result ≡ signed bytes }
 {
@@ -57,7 +59,8 @@ fn pool_named<'a>(pools: &'a [Pool], name: &Text) -> Option<&'a Pool>
     pools.iter().find(|pool| pool.name == *name)
 }
 
-/// The segments of the first pool that has the name; `no_segments` if the configuration has no such pool.
+/// Returns the segments of the first pool with this name, or `no_segments` if the configuration has no such
+/// pool.
 pub fn segments_at<'a>(config: &'a Config, pool: &Text, no_segments: &'a Map) -> &'a Map
     requires { no_segments.now ≡ empty }
     ensures { result.now ≡ segments_at config.now pool.now }

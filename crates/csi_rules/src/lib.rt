@@ -6,8 +6,8 @@
 //! serve a topology (`topology.rt`), [`choose`] the pool of a new volume (`choice.rt`). [`is_overcommitted`]
 //! finds a pool that is too small for its volumes (`commitment.rt`), and [`has_conflict`] attachments of a
 //! volume that cannot coexist (`conflict.rt`). `ids.rt` has ids and the numbers in ids and tokens, `info.rt`
-//! the answer about a volume, and `finding.rt` reads of a keeper. Each has its definitions in `specs/`;
-//! `specs/facts/` has facts about them that crates above use too.
+//! the parts of a reply that describe a volume, and `finding.rt` reads of a keeper. The definitions of each
+//! are in `specs/`; `specs/facts/` has facts about them that crates above use too.
 //!
 //! ```rust
 //! let rooms = read_rooms(alloc, config, keeper)?;

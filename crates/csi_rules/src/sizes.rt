@@ -1,4 +1,4 @@
-//! How large a volume is made.
+//! The size of a new volume.
 
 ghost use Rattle.std.specs.Prelude.{◌≡◌, ◌<◌, ◌≤◌, ◌^◌};
 ghost use Rattle.csi_rules.specs.Size.{whole, rounded_down, requested_bytes, size_by, size, has_size};
@@ -6,7 +6,7 @@ ghost use Rattle.csi_rules.specs.Size.{whole, rounded_down, requested_bytes, siz
 use csi_config::{GRANULE_BYTES, Sizes};
 use csi_types::CapacityRange;
 
-/// A number that is not negative; 0 for a negative one.
+/// Returns the number, or 0 if it is negative.
 fn whole(number: i64) -> u64
     ensures value { result ≡ whole number }
     ensures fits { result < 2 ^ 63 }
@@ -39,7 +39,7 @@ fn size_by(sizes: &Sizes, required: u64, limit: u64) -> Option<u64>
     ensures { result ≡ size_by sizes.now required limit }
 {
     let bytes = requested_bytes(sizes, required, limit);
-    // The required size is compared too, and never decides: rounded up it is no smaller.
+    // The required size is compared too, but never decides: rounded up it is no smaller.
     let is_within = bytes > 0
         && (limit == 0 || bytes <= limit)
         && bytes <= sizes.greatest_bytes
@@ -47,11 +47,11 @@ fn size_by(sizes: &Sizes, required: u64, limit: u64) -> Option<u64>
     if is_within { Some(bytes) } else { None }
 }
 
-/// The size of a volume for a range, in bytes; `None` if it is out of range (CSI specification,
-/// 'CreateVolume', `CapacityRange`).
+/// Returns the size of a new volume in bytes for the requested range; `None` if it is 0, above the limit of
+/// the range or above the greatest size of a volume (CSI specification, 'CreateVolume', `CapacityRange`).
 ///
-/// The required size is rounded up to a multiple of 1 MiB. Without a required size it is the default, or the
-/// limit rounded down if the limit is smaller.
+/// The size is the required size, rounded up to a multiple of 1 MiB. If no size is required, it is the
+/// default size, or the limit rounded down to a multiple of 1 MiB if that is smaller.
 pub fn size(sizes: &Sizes, range: &Option<CapacityRange>) -> Option<u64>
     ensures { result ≡ size sizes.now range.now }
 {
@@ -61,7 +61,7 @@ pub fn size(sizes: &Sizes, range: &Option<CapacityRange>) -> Option<u64>
     }
 }
 
-/// Whether a volume of this size is within a range.
+/// Whether the size of a volume, in bytes, is within the requested range. True if no range is requested.
 pub fn has_size(bytes: u64, range: &Option<CapacityRange>) -> bool
     ensures { result ≡ has_size bytes range.now }
 {

@@ -6,8 +6,8 @@ ghost use Rattle.csi_rules.specs.Topology.{serves, is_reachable};
 
 use csi_types::{Map, Requirement, is_within};
 
-/// Whether a pool of these segments serves a term: one of the two contains the other, with the ASCII
-/// letters of keys folded.
+/// Whether a pool with these segments serves a topology term: one of the two contains the other, without
+/// regard to the case of ASCII letters in keys.
 pub fn serves(segments: &Map, term: &Map) -> bool
     ensures { result ≡ serves segments.now term.now }
 {
@@ -20,8 +20,8 @@ fn serves_one(segments: &Map, terms: &[Map]) -> bool
     terms.iter().any(|term| serves(segments, term))
 }
 
-/// Returns true if a pool of these segments serves a requisite term, or if no requisite term is given (CSI
-/// specification, 'CreateVolume', `TopologyRequirement`).
+/// Returns true if a pool with these segments serves at least one requisite term, or if no requisite term is
+/// given (CSI specification, 'CreateVolume', `TopologyRequirement`).
 pub fn is_reachable(segments: &Map, topology: &Option<Requirement>) -> bool
     ensures { result ≡ is_reachable segments.now topology.now }
 {

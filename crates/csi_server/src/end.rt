@@ -1,18 +1,18 @@
 use envelope::FrameFault;
 
-/// How a run of the server ended.
+/// Why the server stopped reading a stream of calls, and which calls were answered by then.
 #[derive(Clone, Copy, Debug, PartialEq, Eq)]
 pub enum RunEnd {
     /// The input ended after a whole frame, and all calls were answered.
     Done,
-    /// The stream has this fault. All calls before it were answered, and then the fault.
+    /// A frame of the stream is malformed. All calls before it were answered, and then the frame was refused.
     Malformed(FrameFault),
-    /// A read failed. The calls whose frames were read whole were answered.
+    /// A read failed. All calls whose frames were whole were answered.
     ReadFailed,
-    /// 2^32 reads were made. The calls whose frames were read whole were answered.
+    /// The limit of 2^32 reads was reached. All calls whose frames were whole were answered.
     TurnsSpent,
-    /// A write or a flush failed, or a write took nothing. All replies before the last one were written.
+    /// A write or a flush failed, or a write took no byte. All replies before that one were written.
     WriteFailed,
-    /// Memory for the buffer of frames was refused. Nothing was read or written.
+    /// Memory for the buffer of frames was refused, before anything was read or written.
     NoMemory,
 }

@@ -20,18 +20,18 @@ use envelope::Call;
 use std::alloc::{AllocError, Global};
 use std::io::{Read, Write};
 
-// The name and version that the plugin answers.
+// The name and version that GetPluginInfo returns.
 #[derive(Drop)]
 struct PluginNames<'a> {
     name: &'a str,
     version: &'a str,
 }
 
-// Keeps nothing from call to call.
+// A service that keeps nothing from call to call.
 #[derive(Drop)]
 struct Identity {}
 
-// The response to one of the two requests.
+// Makes the response to Probe or GetPluginInfo; `None` for any other request.
 #[tactic(auto, unfolding(crate::specs::Identity::said))]
 fn respond(
     alloc: Global,
@@ -50,7 +50,7 @@ fn respond(
     }
 }
 
-// Replaces the frame with the frame of the response to a request.
+// Replaces the content of the buffer with room for the head of a reply and the response to a request.
 fn put_response(
     alloc: Global,
     names: &PluginNames<'_>,
@@ -69,7 +69,7 @@ fn put_response(
     }
 }
 
-// Answers one of the two requests.
+// Answers a request of Probe or GetPluginInfo.
 fn answer_request(
     alloc: Global,
     names: &PluginNames<'_>,
@@ -89,7 +89,7 @@ fn answer_request(
     }
 }
 
-// Reads the message of one of the two calls and answers it.
+// Decodes the message of a Probe or GetPluginInfo call, and answers the call.
 fn answer_message(
     alloc: Global,
     names: &PluginNames<'_>,
@@ -110,7 +110,7 @@ fn answer_message(
     }
 }
 
-// The method of a path, if it is one of the two.
+// The method with this path, if it is Probe or GetPluginInfo.
 fn known_method(path: &[u8]) -> Option<Method>
     ensures { result ≡ known (method_at path.now) }
 {
@@ -144,12 +144,13 @@ impl<'a> Service<PluginNames<'a>> for Identity {
     }
 }
 
-/// Serves the two calls that say what a plugin is: Probe, which is answered that it is ready, and
-/// GetPluginInfo (CSI specification, 'Identity Service RPC'). Any other path is answered 12 `unknown method`.
+/// Serves the two calls that identify a plugin: Probe, whose response is that the plugin is ready, and
+/// GetPluginInfo (CSI specification, 'Identity Service RPC'). A call with any other path is refused with 12
+/// `unknown method`.
 ///
-/// Name and version have at most 128 bytes each, and an empty one is left out of the answer. A message that
-/// is no list of fields is answered 3 `malformed message in the field at byte N`, and want of memory for one
-/// body 13 `out of memory`.
+/// Name and version must have at most 128 bytes each; an empty one is left out of the response. A message
+/// that is not a list of fields is refused with 3 `malformed message in the field at byte N`. If memory for a
+/// body is refused, the call is refused with 13 `out of memory`.
 pub fn serve_identity<R: Read, W: Write>(
     alloc: Global,
     name: &str,

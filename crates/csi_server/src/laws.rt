@@ -1,4 +1,4 @@
-//! Laws of the definitions and of the machines that are served.
+//! Laws of the definitions, and of the machines that are served.
 
 ghost use Rattle.std.specs.Prelude.{[], ◌≡◌, ◌⊎◌, ◌↔◌, ◌≤◌, ◌<◌, ◌^◌, ◌++◌, ℕ, List, None, Some, true, false, length, decimal, map};
 ghost use Rattle.std.specs.List.{AllByRecursion};
@@ -37,8 +37,9 @@ use csi_machine::laws::{
 };
 use envelope::laws::decimal_is_text;
 
-/// After a run without a call that memory or the store refused, a stop may leave only the state after the
-/// run: a call that is answered, also that the store is down, adds nothing to it.
+/// A run without a refusal for memory or by the store: if before the run a stop could leave only the state at
+/// its start, then after the run a stop can leave only the state after it. Calls that are refused because the
+/// store is down add no state.
 pub fn stop_leaves_state<C, S: Service<C>>(config: &C)
     ensures { (old new : S) (s : S.State) (events : List Event)
         → Runs (S.machine config.now) (S.model config.now old) (S.model config.now new) s events
@@ -48,15 +49,15 @@ pub fn stop_leaves_state<C, S: Service<C>>(config: &C)
         → t ≡ state_after (S.machine config.now) s events }
 {}
 
-/// Each reply of a run of any service is one of the envelope's table: one of its status codes, with a text
-/// and no body or, with status 0, with a body and no text. So are the refusals of the calls that are marked.
+/// Each reply in a run of any service is valid in the envelope: it has one of the status codes, and either a
+/// text and no body or, with status 0, a body and no text. The refusals of marked calls are valid too.
 pub fn formed<C, S: Service<C>>(config: &C)
     ensures { (old new : S) (s : S.State) (events : List Event)
         → Runs (S.machine config.now) (S.model config.now old) (S.model config.now new) s events
         → AreReplies (S.machine config.now) s events }
 {}
 
-/// The reply that answers a malformed frame is one of the envelope's table.
+/// The reply that refuses a malformed frame is valid in the envelope.
 pub fn formed_fault()
     ensures { (fault : FrameFault) → fault.at < 2 ^ 64
         → IsReply (refusal (number_of Code.InvalidArgument) (fault_words fault.why ++ decimal fault.at)) }
@@ -64,7 +65,7 @@ pub fn formed_fault()
     decimal_is_text();
 }
 
-/// Each reply of the identity service to any call, in a run or not, is one of the envelope's table.
+/// Each reply of the identity service to any call, in a run or not, is valid in the envelope.
 pub fn formed_identity()
     ensures { (name version : List ℕ) (call : CallBytes) → length call.message ≤ MAX_MESSAGE_BYTES
         → IsReply ((identity name version).respond tt call).0 }
@@ -73,8 +74,7 @@ pub fn formed_identity()
     reading();
 }
 
-/// Each reply of the volume machine to any call from any State, in a run or not, is one of the
-/// envelope's table.
+/// Each reply of the volume machine to any call from any State, in a run or not, is valid in the envelope.
 pub fn formed_volumes()
     ensures { (config : AnyConfig) (s : MachineState) (call : CallBytes)
         → length call.message ≤ MAX_MESSAGE_BYTES
@@ -84,8 +84,8 @@ pub fn formed_volumes()
     reading();
 }
 
-/// From a State of the invariant a run of the volume machine, with any calls and marks, leaves one of the
-/// invariant, and so is each State that [`pending`] says a stop may leave.
+/// A run of the volume machine that starts in a State of the invariant, with any calls and marks, ends in a
+/// State of the invariant. Each State that a stop may leave ([`pending`]) is a State of the invariant too.
 pub fn kept(config: &Config)
     ensures run { (s : MachineState) (events : List Event) → IsInvariant config.now s
         → IsInvariant config.now (state_after (volumes config.now) s events) }
@@ -96,10 +96,10 @@ pub fn kept(config: &Config)
     kept_by_answers(config);
 }
 
-/// No number is given twice: a run of the volume machine from a State of the invariant, with any calls and
-/// marks, lowers no next number, gives no number again whose volume was deleted, and changes nothing of a
-/// volume that keeps its number but its mutable parameters. So an id never names another volume. The same
-/// holds of each State that [`pending`] says a stop may leave.
+/// No volume number is used twice. A run of the volume machine from a State of the invariant, with any calls
+/// and marks, never lowers the next number and never reuses the number of a deleted volume. Of a volume that
+/// keeps its number it changes only the mutable parameters. So an id never names another volume. The same
+/// holds for each State that a stop may leave ([`pending`]).
 pub fn numbers(config: &Config)
     ensures run { (s : MachineState) (events : List Event) → IsInvariant config.now s
         → NumbersRise s (state_after (volumes config.now) s events) }
@@ -110,9 +110,10 @@ pub fn numbers(config: &Config)
     numbers_by_answers(config);
 }
 
-/// After a run of the volume machine from a State that alone would have been left by a stop, a stop leaves
-/// the State after the run, or what a call would have made that was refused for memory or by the store, whose
-/// request was read and passed the checks, and after which no call moved the State.
+/// The States that a stop may leave after a run of the volume machine, if before the run it could leave only
+/// the State at the start: the State after the run, or the State that one call would have made which was
+/// refused for memory or by the store. The request of that call was decoded and passed the checks, and no
+/// later call changed the State.
 pub fn pending<K: Keeper>(config: &Config)
     ensures { (old new : K) (s : MachineState) (events : List Event)
         → Runs (volumes config.now) (seen config.now (K.model old)) (seen config.now (K.model new)) s events
@@ -121,10 +122,8 @@ pub fn pending<K: Keeper>(config: &Config)
         ⊎ IsPending config.now s events t }
 {}
 
-/// A call asks for a request exactly if its path names a method, its message is read as that request, and the
-/// request passes the checks of its arguments. It is answered as the machine answers the request. A call that
-/// asks for no request has the same reply from each State, under each configuration, and leaves each State.
-/// Each request that can be encoded and passes the checks has a call.
+/// A call with a known path, readable message and valid arguments gets the machine's answer to its request;
+/// any other call gets a fixed reply and changes no State. Each valid request has a call.
 pub fn asking()
     ensures exact { (call : CallBytes) (r : Request) → (asked call ≡ Some r) ↔ Asks call r }
     ensures answered { (config : AnyConfig) (s : MachineState) (call : CallBytes) (r : Request)
@@ -138,10 +137,10 @@ pub fn asking()
     round_trip();
 }
 
-/// The calls of a session are tries of the requests that they ask for: the State after them and the replies
-/// that were heard are the State and the answers of the tries, and the States that they may leave
-/// ([`pending`]) are exactly the States that the tries may leave. So over any keeper, after a run from a
-/// State that alone would have been left by a stop, a stop leaves a State that the tries leave.
+/// The calls of a session are tries of the requests that the calls ask for. The State after the calls and the
+/// replies that were heard are the State after the tries and their answers, and the States that a stop may
+/// leave ([`pending`]) are the same for both. So over any keeper, if a stop before a run could leave only the
+/// State at the start, a stop after the run leaves a State that the tries leave.
 pub fn tries<K: Keeper>(config: &Config)
     ensures after { (s : MachineState) (session : List Exchange)
         → state_after (volumes config.now) s (events_of session)
@@ -157,23 +156,23 @@ pub fn tries<K: Keeper>(config: &Config)
         → (t : MachineState) → (K.model new).survivors t → Leaves config.now s (tries_of session) t }
 {}
 
-/// Requests that a client asks for over and over, each until it hears the reply, are each taken once (CSI
+/// If a client repeats each of its requests until it hears the reply, each request is executed once (CSI
 /// specification, 'Timeouts').
 ///
-/// From a State of the invariant: a call may be refused inside, a reply may be lost, and a stop may end the
-/// session between any two calls, which leaves a State of [`pending`]. Other clients may make calls that
-/// change nothing at any time, as Probe, ListVolumes and GetCapacity, and calls that are no request or are
-/// refused for their arguments. The replies that the client hears, and each State that may be left in the
-/// end, are the replies and the State of the requests taken once each.
+/// The first State is one of the invariant. A call may be refused for memory or by the store, a reply may be
+/// lost, and a stop may end the session between any two calls and leave a State of [`pending`]. At any time
+/// other clients may make calls that change nothing, such as Probe, ListVolumes and GetCapacity, and calls
+/// that are no request or are refused for their arguments. The replies that the client hears, and each State
+/// that may be left in the end, are the replies and the State of executing each request once.
 ///
 /// # Not promised
 ///
-/// That a request is ever answered, or that a start succeeds. The replies to two clients that both make
-/// requests that may change something, each between the other's tries. That a new connection is over a State
-/// that the stop left: the law asks that of it.
+/// That a request is ever answered, or that a start succeeds. Which replies two clients hear if both make
+/// requests that may change something, each between the tries of the other. That a new connection starts from
+/// the State that the stop left, which the law assumes.
 ///
-/// A contract speaks of calls that returned. That a process which ends inside a call leaves what a
-/// disk leaves that fails from there on is shown by the rows of stops of `test_tables`.
+/// A contract is about calls that returned. The rows of stops of `test_tables` show that a process which ends
+/// inside a call leaves what a disk leaves that fails from there on.
 pub fn retry(config: &Config)
     ensures { (s t : MachineState) (requests : List Request) (sessions : List (List Exchange))
         (heard : List ReplyBytes) → IsInvariant config.now s
@@ -185,14 +184,13 @@ pub fn retry(config: &Config)
     retry_requests(config);
 }
 
-/// Calls that walk over the pages of a listing, from a State of the invariant (CSI specification,
-/// 'ListVolumes').
+/// A walk over the pages of a listing, from a State of the invariant (CSI specification, 'ListVolumes').
 ///
-/// The first page is asked for with an empty token, each next one with the token of the page before. A call
-/// for a page that is refused inside, or whose reply is not heard, is no page of the walk, and the page is
-/// asked for again with its token. Other calls may come anywhere, from any client. No page is refused for its
-/// token; each listed volume existed at its page; no volume is listed twice; and a walk that came to its end
-/// has listed each volume that existed at all of its pages.
+/// The first page is requested with an empty token, each next page with the token of the page before. If a
+/// call for a page is refused for memory or by the store, or its reply is not heard, the page is requested
+/// again with the same token. Any client may make other calls at any time. No page is refused for its token;
+/// each listed volume existed when its page was read; no volume is listed twice; and a walk that came to its
+/// end has listed each volume that existed at all of its pages.
 pub fn walk(config: &Config)
     ensures read { (s : MachineState) (turns : List Turn) → IsInvariant config.now s
         → AreAsked config.now s [] turns → AreRead config.now s [] turns }
@@ -210,12 +208,12 @@ pub fn walk(config: &Config)
     walk_by_requests(config);
 }
 
-/// There are such lives, of each call that asks for a request and from each State, so [`retry`] does not
-/// speak of nothing.
+/// The premise of [`retry`] can be met: such sessions exist for each call that asks for a request, from each
+/// State.
 ///
-/// The call is made and its reply is lost; or it is refused for memory or by the store, and a stop leaves its
-/// change all the same. In the next session it is made again, and its reply is heard. Another client may have
-/// made a call that changes nothing before.
+/// The call is made and its reply is lost, or the call is refused for memory or by the store and a stop
+/// leaves its change nevertheless. In the next session the call is made again, and its reply is heard. Before
+/// that, another client may have made a call that changes nothing.
 pub fn made_twice(config: &Config)
     ensures lost { (s : MachineState) (call : CallBytes) (r : Request) → Asks call r
         → IsLifeOfTwo config.now s call r Unmarked }
@@ -225,9 +223,9 @@ pub fn made_twice(config: &Config)
         → is_read q ≡ true → IsLifeWithAnother config.now s call other r }
 {}
 
-/// Each call is idempotent (CSI specification, 'Timeouts'): from a State of the invariant the same call, made
-/// again at once, has the same reply and leaves the same State. So has a call that is not read or does not
-/// pass the checks.
+/// Each call is idempotent (CSI specification, 'Timeouts'): from a State of the invariant, the same call made
+/// again at once gets the same reply and changes nothing more. This includes calls that cannot be decoded or
+/// do not pass the checks.
 pub fn repeat(config: &Config)
     ensures { (s : MachineState) (call : CallBytes) → IsInvariant config.now s
         → (volumes config.now).respond ((volumes config.now).respond s call).1 call

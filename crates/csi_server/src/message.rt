@@ -1,4 +1,4 @@
-//! Reading the message of a call.
+//! Decoding and checking the message of a call.
 
 ghost use Rattle.std.specs.Prelude.{◌≡◌, ℕ, List, None, Ok, IfOk, IfErr};
 ghost use Rattle.csi_types.specs.Checks.{checked};
@@ -14,7 +14,8 @@ use csi_types::{Method, Reason, Request};
 use pbmessage::DecodeFault;
 use std::alloc::Global;
 
-/// The request that a message means, if its arguments pass the checks.
+/// Decodes the request in a message and checks its arguments. Fails with the refusal if the message is
+/// malformed, a check fails, or memory is refused.
 pub(crate) fn read_message(
     alloc: Global,
     method: Method,
@@ -35,7 +36,7 @@ pub(crate) fn read_message(
     }
 }
 
-/// The answer that refuses a call for a reason.
+/// Returns the answer that refuses a call for this reason.
 pub(crate) fn refuse(reason: Reason) -> CallResult
     ensures answered { (buffer : List ℕ) → reply_of result buffer ≡ refused reason }
     ensures room { (buffer : List ℕ) → HoldsBody result buffer }

@@ -1,4 +1,4 @@
-//! Why a call is not done.
+//! Refusals of calls.
 
 ghost use Rattle.std.specs.Prelude.{◌≡◌, ◌≤◌, List, ℕ, All, codes, length};
 ghost use Rattle.envelope.specs.Envelope.{IsReply, IsTextByte, reply as reply_frame};
@@ -8,20 +8,20 @@ use csi_types::{Code, Reason};
 use envelope::{FixedFrame, refusal_frame, text_and_number};
 use pbmessage::MALFORMED_MESSAGE;
 
-/// Why a call is not done.
+/// Why a call is refused, which gives the status and the text of its reply.
 #[derive(Clone, Copy, Debug, PartialEq, Eq)]
 pub enum Refusal {
-    /// For a reason, with its status code and its text.
+    /// The request is refused for this reason, with the status code and the text of the reason.
     For(Reason),
-    /// Its message is malformed in the field at this byte.
+    /// The message is malformed in the field at this offset, in bytes from the start of the message.
     Malformed(u64),
 }
 
-/// The outcome of a call: done, or refused.
+/// The outcome of a call: `Ok` for status 0, otherwise why the call is refused.
 pub type CallResult = Result<(), Refusal>;
 
 impl Refusal {
-    /// The frame of the reply that says so.
+    /// The frame of the reply that refuses the call.
     pub(crate) fn frame(self) -> FixedFrame
         ensures spelled { result ≡ reply_frame (refused_by self) }
         ensures formed { IsReply (refused_by self) }
@@ -50,7 +50,7 @@ fn malformed_frame(at: u64) -> FixedFrame
     )
 }
 
-// The text before the offset of the field.
+// The text of the refusal up to the offset of the field.
 fn malformed_start() -> &'static [u8]
     ensures value { result.now ≡ codes "malformed message in the field at byte " }
     ensures short { length result.now ≤ 120 }

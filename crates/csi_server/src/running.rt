@@ -25,7 +25,7 @@ pub(crate) enum PieceOutcome {
     Cut,
 }
 
-// Feeds the piece and answers all its frames.
+// Feeds the piece to the framer, and answers each call whose frame becomes whole.
 #[inline(always)]
 fn answer_piece<C, S: Service<C>, W: Write>(
     alloc: Global,
@@ -71,27 +71,28 @@ fn answer_piece<C, S: Service<C>, W: Write>(
     PieceOutcome::Fed
 }
 
-/// Runs a service over the calls that a reader gives, and writes their replies.
+/// Reads calls, has a service answer them, and writes the replies, until the input ends or the run fails.
 ///
-/// It reads at most 4,096 bytes a read and makes at most 2^32 reads. Each call is answered and its reply
-/// flushed as soon as its frame is whole, before the next frame is looked at. After a fault or a failed write
-/// nothing more is read. An interrupted read or write is a failure. Memory is taken for one buffer of frames
-/// at the start, and for the bodies of replies, in one buffer that is kept from call to call.
-/// That buffer is empty until the first body, so a refusal needs no memory, and want of it refuses that call.
+/// Each read takes at most 4,096 bytes, and at most 2^32 reads are made. Each call is answered and its reply
+/// flushed as soon as its frame is whole, before the next frame is looked at. Nothing is read after a fault
+/// or a failed write. An interrupted read or write is a failure. Memory is allocated for one buffer of frames
+/// at the start, and for the bodies of replies in one buffer that is kept from call to call. The second
+/// buffer is empty until the first body, so a refusal needs no memory; if memory for a body is refused, only
+/// that call is refused.
 ///
-/// `serves` speaks of a service that is clean to its end, and `writes` of any: one reply of the envelope's
-/// table is written to each call.
+/// The clause `serves` holds if the model of the service has no doubt (`doubt` is 0) at the end. The clause
+/// `writes` holds for any service: one valid reply of the envelope is written for each call.
 ///
 /// # Not promised
 ///
-/// That memory is there, that a read or a write succeeds, that a peer received the bytes, and anything about
-/// time. A call may be refused for memory although memory was not refused: tests rule that out.
+/// That memory is available, that a read or a write succeeds, that a peer receives the bytes, and anything
+/// about time. A call may be refused for memory although no memory was refused; tests rule that out.
 ///
-/// No clause knows the bytes of a reader or writer that does not report them, such as a socket; the
-/// body treats each alike, and tests of `csid` as a process compare what comes out. Rows of
-/// `test_bytes` show that a reply is flushed before the next frame is looked at, that no read is
-/// longer than 4,096 bytes, that none at all comes after a fault or a failed write, and that a
-/// read, write or flush that fails is not tried again.
+/// No clause knows the bytes of a reader or writer that does not report them, such as a socket; the body
+/// treats all alike, and tests of `csid` as a process compare its output. Rows of `test_bytes` show that a
+/// reply is flushed before the next frame is looked at, and that no read is longer than 4,096 bytes. They
+/// also show that nothing is read after a fault or a failed write, and that a failed read, write or flush is
+/// not tried again.
 pub fn run_service<C, S: Service<C>, R: Read, W: Write>(
     alloc: Global,
     config: &C,
@@ -141,7 +142,7 @@ pub fn run_service<C, S: Service<C>, R: Read, W: Write>(
     RunEnd::TurnsSpent
 }
 
-// Answers a fault, the last thing that a run does.
+// Refuses a malformed frame, which ends the run.
 fn refuse<W: Write>(fault: &FrameFault, writer: &mut W) -> RunEnd
     ensures { Refuses fault.now (W.contents writer.old) (W.contents writer.new) result }
 {
@@ -151,7 +152,7 @@ fn refuse<W: Write>(fault: &FrameFault, writer: &mut W) -> RunEnd
     }
 }
 
-// The input ended: a frame that was begun and is not complete is refused.
+// Ends the run when the input ended. A frame that has begun and is not whole is refused.
 fn finish<W: Write>(framer: &mut Framer, writer: &mut W) -> RunEnd
     ensures { Finishes framer.old (W.contents writer.old) (W.contents writer.new) result }
 {

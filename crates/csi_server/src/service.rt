@@ -8,7 +8,7 @@ use crate::refused::CallResult;
 use envelope::{Call, REPLY_HEAD_BYTES};
 use std::alloc::{AllocError, Global};
 
-/// A service that answers calls, under a configuration.
+/// A service that answers calls under a configuration of type `C`.
 pub trait Service<C> {
     /// The state that the service keeps from call to call, for definitions.
     ghost State: { Type 0 };
@@ -21,13 +21,13 @@ pub trait Service<C> {
 
     ghost use Rattle.csi_server.specs.Service.{reply_of, HoldsBody};
 
-    /// Answers one call with status 0. Then `reply` has room for a reply's head, [`REPLY_HEAD_BYTES`], and
-    /// after it the body, of at most [`MAX_BODY_BYTES`](envelope::MAX_BODY_BYTES).
+    /// Answers one call. `Ok` means status 0: `reply` then has room for the reply's head,
+    /// [`REPLY_HEAD_BYTES`], followed by the body, of at most [`MAX_BODY_BYTES`](envelope::MAX_BODY_BYTES).
     ///
     /// # Errors
     ///
-    /// The call is answered with the status and the text of the refusal, and what `reply` has is of no
-    /// account.
+    /// If the call is refused. The reply then has the status and the text of the refusal, and the content of
+    /// `reply` is ignored.
     fn answer(
         &mut self,
         config: &C,
@@ -43,11 +43,11 @@ pub trait Service<C> {
         ensures room { HoldsBody result reply.new.items };
 }
 
-/// Empties `reply` and leaves room for a reply's head in it, which the body follows.
+/// Clears `reply` and appends room for a reply's head, which the body is to follow.
 ///
 /// # Errors
 ///
-/// Where memory is refused, `reply` is empty.
+/// If memory is refused; `reply` is then empty.
 pub fn begin_body(reply: &mut Vec<u8>) -> Result<(), AllocError>
     ensures ok { OnOk result (reply.new.items ≡ room) }
     ensures err { OnErr result (reply.new.items ≡ []) }

@@ -1,4 +1,4 @@
-//! The volume machine over a keeper.
+//! The volume machine over a keeper, as a service.
 
 ghost use Rattle.std.specs.Prelude.{◌≡◌, ◌≤◌, ℕ, List, None, Ok};
 ghost use Rattle.std.specs.Io.KnownBytes.{Consumes, IsAtEnd, Keeps};
@@ -23,7 +23,7 @@ use envelope::Call;
 use std::alloc::Global;
 use std::io::{Read, Write};
 
-// The reply for this answer of the machine.
+// The outcome of a call, from the machine's answer.
 fn answer_of(verdict: Result<Verdict, StoreFault>) -> CallResult
     ensures reply { (buffer : List ℕ) → RepliesTo buffer (reply_of result buffer) verdict }
     ensures room { (buffer : List ℕ) → (verdict ≡ Ok Verdict.Done → HasBody buffer)
@@ -62,7 +62,7 @@ fn answer_request<K: Keeper>(
     }
 }
 
-/// A keeper answers the calls of the volume machine under a configuration.
+/// Makes each keeper a service, which answers calls as the volume machine does under a configuration.
 impl<K: Keeper> Service<Config> for K {
     ghost use Rattle.csi_keeper.specs.State.{State as MachineState};
     ghost use Rattle.csi_server.specs.Volumes.{volumes, seen};
@@ -92,26 +92,27 @@ impl<K: Keeper> Service<Config> for K {
     }
 }
 
-/// Serves the volume machine over a keeper.
+/// Serves the volume machine over a keeper, until the input ends or the run fails.
 ///
-/// For every byte stream, however it is cut, the bytes that are written are the framed replies of the volume
-/// machine over the calls that the stream has, up to its first malformed frame, which is refused at its
-/// place; the keeper then has that machine's State. No pool is overcommitted in it. A call that is refused
-/// for memory or by the store is answered `INTERNAL` and leaves the State as before it.
+/// For every stream of bytes, in any pieces, the bytes written are the framed replies of the volume machine
+/// to the calls in the stream. The first malformed frame is refused at its place, and ends the run.
+/// Afterwards the keeper has the State of that machine, in which no pool is overcommitted. A call that is
+/// refused for memory or by the store is answered `INTERNAL`, and the State is unchanged.
 ///
-/// `serves` says this by the way the run ends, from each State of the invariant that the keeper may
-/// have had, while what the keeper is over is not in doubt at the end; also, the keeper's count
-/// rose exactly as often as a call was answered that the store refused or that it is down, up to
-/// 2^64 - 1, and where a stop at the start could only leave the State, a stop at the end leaves the
-/// last State, or what [`pending`](crate::laws::pending) says.
+/// The clause `serves` states this for each way in which a run can end, from each State of the invariant that
+/// the keeper may have had, if the keeper's store is not in doubt at the end. It also states that the
+/// keeper's count of refusals rose once for each call that was refused by the store or because the store is
+/// down, up to 2^64 - 1. If a stop at the start could leave only the State, a stop at the end leaves the last
+/// State, or a State that [`pending`](crate::laws::pending) allows.
 ///
-/// `writes` has no premise: one reply of the envelope's table is written to each call that was read. It also
-/// says that a fault or a failed write ends the reading: it shows in the last 4,096 bytes that are read.
+/// The clause `writes` has no premise: one valid reply of the envelope is written for each call that was
+/// read. It also states that a fault or a failed write ends the reading, since the frame at fault or the call
+/// without a reply ends within the last 4,096 bytes that are read.
 ///
 /// # Not promised
 ///
-/// That no byte is read between a fault and its answer. Within those 4,096 bytes the clauses allow one read
-/// more, which waits where the peer sends nothing and keeps the connection open. Rows of `test_bytes` show
+/// That no byte is read between a fault and its reply. Within those 4,096 bytes the clauses allow one more
+/// read, which would wait if the peer sends nothing and keeps the connection open. Rows of `test_bytes` show
 /// that nothing is read after a fault.
 pub fn serve<K: Keeper, R: Read, W: Write>(
     alloc: Global,

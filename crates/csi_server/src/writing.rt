@@ -14,7 +14,7 @@ use envelope::{
 use frames_core::send;
 use std::io::{self, Write};
 
-// Writes the head of a reply with status 0 over the bytes before its body.
+// Writes the head of a reply with status 0 into the room before its body.
 #[inline(always)]
 fn set_head(reply: &mut Vec<u8>)
     requires head { REPLY_HEAD_BYTES ≤ length reply.old.items }
@@ -31,8 +31,8 @@ fn set_head(reply: &mut Vec<u8>)
         .copy_from_slice(head.bytes());
 }
 
-/// Writes the reply of an answer and flushes. The body goes out with its head in one write, where the writer
-/// takes it whole.
+/// Writes the reply to a call and flushes the writer. Head and body are passed to the writer together, so
+/// they go out in one write if the writer takes all of it.
 #[inline(always)]
 pub(crate) fn put_reply<W: Write>(
     writer: &mut W,
@@ -55,7 +55,7 @@ pub(crate) fn put_reply<W: Write>(
     }
 }
 
-/// Writes the frame that answers a fault and flushes.
+/// Writes the reply that refuses a malformed frame, and flushes the writer.
 pub(crate) fn put_fault<W: Write>(writer: &mut W, fault: &FrameFault) -> io::Result<()>
     ensures all { OnOk result (Appends (W.contents writer.old) (W.contents writer.new)
         (fault_frame fault.now)) }

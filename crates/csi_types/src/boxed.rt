@@ -1,4 +1,4 @@
-//! A value that is kept apart, which contracts see as the value.
+//! A value in memory of its own, which contracts see as the value.
 
 ghost use Rattle.std.specs.Prelude.{◌≡◌, IfOk};
 
@@ -6,7 +6,7 @@ use std::alloc::{AllocError, Global};
 use std::fmt;
 use std::marker::Model;
 
-/// A value that takes the room of a pointer where it is, and memory of its own.
+/// A value in memory of its own: where the box is stored, it takes the room of a pointer.
 #[derive(Drop)]
 pub struct Boxed<T> {
     kept: Box<T>,
@@ -21,7 +21,7 @@ impl<T> Model for Boxed<T> {
 }
 
 impl<T> Boxed<T> {
-    /// The value, by reference.
+    /// Returns a reference to the value.
     pub fn get(&self) -> &T
         ensures { result.now ≡ self.now }
     {
@@ -30,7 +30,7 @@ impl<T> Boxed<T> {
 }
 
 impl<T> Boxed<T> {
-    /// The value, taken out.
+    /// Returns the value and frees its memory.
     pub fn into_value(self) -> T
         ensures { result ≡ self }
     {
@@ -39,8 +39,8 @@ impl<T> Boxed<T> {
 }
 
 impl<T: Drop> Boxed<T> {
-    /// Takes memory for a value. Where it is refused, the value is let go. Who calls it knows which value of
-    /// an enum it is, so no more is moved.
+    /// Allocates memory for a value. If memory is refused, the value is dropped. The call is inlined: the
+    /// caller knows which variant of an enum the value is, so no more bytes than needed are moved.
     #[inline(always)]
     pub fn new(alloc: Global, value: T) -> Result<Boxed<T>, AllocError>
         ensures { IfOk result (λ boxed. boxed ≡ value) }

@@ -13,18 +13,18 @@ use crate::text::Text;
 /// Fields: `fs_type` 1, `mount_flags` 2, `volume_mount_group` 3.
 #[derive(Debug, Drop)]
 pub struct Mount {
-    /// The file system, or empty where the plugin chooses.
+    /// The type of the file system; if it is empty, the plugin chooses.
     pub fs_type: Text,
-    /// The options of the mount, in the order in which they were sent.
+    /// The mount options, in the order in which they were sent.
     pub flags: Items<Text>,
-    /// The group that owns the mounted files, or empty.
+    /// The group that owns the mounted files; empty for none.
     pub group: Text,
 }
 
-/// The member of `VolumeCapability.access_type` (CSI specification, 'CreateVolume').
+/// The member of the oneof `VolumeCapability.access_type` (CSI specification, 'CreateVolume').
 #[derive(Debug, Drop)]
 pub enum Access {
-    /// No member is set.
+    /// The oneof has no member.
     Missing,
     /// `block`, field 1: a raw block device.
     Block,
@@ -37,27 +37,27 @@ pub enum Access {
 pub struct Capability {
     /// The oneof `access_type`, fields 1 and 2.
     pub access: Access,
-    /// `access_mode.mode`, field 1 of field 3, as it was sent; `None` where `access_mode` is absent.
+    /// `access_mode.mode`, field 1 of field 3, as sent; `None` if `access_mode` is absent.
     pub mode: Option<i32>,
 }
 
-/// Whether an access mode is given and is one of those that are known, 1 to `MAX_ACCESS_MODE`.
+/// Whether an access mode is given and known: 1 to `MAX_ACCESS_MODE`.
 pub fn is_known_mode(mode: Option<i32>) -> bool
     ensures { result ≡ is_known_mode mode }
 {
     mode.is_some_and(|mode| 1 <= mode && mode <= i32::from(MAX_ACCESS_MODE))
 }
 
-/// Whether a node may write while others have the volume: `MULTI_NODE_SINGLE_WRITER` and
-/// `MULTI_NODE_MULTI_WRITER`.
+/// Whether a node may write while other nodes have the volume: `MULTI_NODE_SINGLE_WRITER` (4) or
+/// `MULTI_NODE_MULTI_WRITER` (5).
 pub fn is_multi_node_writer(mode: Option<i32>) -> bool
     ensures { result ≡ is_multi_node_writer mode }
 {
     mode.is_some_and(|mode| mode == 4 || mode == 5)
 }
 
-/// Whether a volume can be made for the capability: block with each known mode, mount with those in
-/// which no node writes while others have the volume (CSI specification, 'CreateVolume').
+/// Whether a volume can be created with the capability: block access in each known mode, or mount access in
+/// the known modes in which no node writes while others have the volume (CSI specification, 'CreateVolume').
 pub fn is_supported(capability: &Capability) -> bool
     ensures { result ≡ is_supported capability.now }
 {

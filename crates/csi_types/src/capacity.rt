@@ -1,13 +1,13 @@
-//! The size of a volume that is asked for.
+//! The range of sizes that a request asks for.
 
 /// `CapacityRange` (CSI specification, 'CreateVolume'), in bytes.
 ///
-/// Fields: `required_bytes` 1, `limit_bytes` 2. A part that is 0 is not given; what is below 0 is
-/// refused by the argument checks.
+/// Fields: `required_bytes` 1, `limit_bytes` 2. A number that is 0 sets no bound. The argument checks refuse
+/// a number below 0.
 #[derive(Clone, Copy, Debug)]
 pub struct CapacityRange {
-    /// The volume has at least this many bytes.
+    /// The least number of bytes that the volume may have; 0 for no bound.
     pub required: i64,
-    /// The volume has at most this many bytes.
+    /// The greatest number of bytes that the volume may have; 0 for no bound.
     pub limit: i64,
 }

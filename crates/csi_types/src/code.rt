@@ -4,33 +4,33 @@ ghost use Rattle.std.specs.Prelude.{◌≡◌, ◌↔◌};
 ghost use Rattle.csi_types.specs.Codes.{number_of, name_of};
 ghost use Rattle.csi_types.specs.declared.code.Code.{Code};
 
-/// A status code of gRPC, as the CSI specification, 'Error Scheme', uses them.
+/// A status code of gRPC, with the meaning that the CSI specification, 'Error Scheme', gives it.
 #[derive(Clone, Copy, Debug, PartialEq, Eq)]
 pub enum Code {
-    /// The call was done.
+    /// The call succeeded.
     Ok = 0,
     /// A field of the request is missing, malformed or not supported.
     InvalidArgument = 3,
     /// The volume or the node does not exist.
     NotFound = 5,
-    /// What exists is not compatible with the request.
+    /// A volume or an attachment exists already, and is not compatible with the request.
     AlreadyExists = 6,
-    /// There is no room, or a limit is reached.
+    /// No pool has room, or a limit is reached.
     ResourceExhausted = 8,
-    /// The volume is in use, or published elsewhere.
+    /// The volume is in use, or is published to another node.
     FailedPrecondition = 9,
     /// The starting token is not valid.
     Aborted = 10,
-    /// The capacity can't be had.
+    /// No size is within the requested capacity range and the sizes of this plugin.
     OutOfRange = 11,
-    /// The method is not known.
+    /// No method has the path of the call.
     Unimplemented = 12,
-    /// The plugin failed: memory or the store was refused.
+    /// The plugin failed: memory was refused, or the store failed.
     Internal = 13,
 }
 
 impl Code {
-    /// The code with a number, or `None` where this plugin has no such code.
+    /// The code with this number, or `None` if this plugin uses no such code.
     pub fn of(number: u8) -> Option<Code>
         ensures { (code : Code) → (result ≡ Some code) ↔ (number ≡ number_of code) }
     {
@@ -49,14 +49,14 @@ impl Code {
         })
     }
 
-    /// The number of the code, as a reply has it.
+    /// The number of the code in gRPC, which a reply carries.
     pub fn number(self) -> u8
         ensures { result ≡ number_of self }
     {
         self as u8
     }
 
-    /// The name of the code, as in `INVALID_ARGUMENT`.
+    /// The name of the code in gRPC, such as `INVALID_ARGUMENT`.
     pub fn name(self) -> &'static str
         ensures { result.now ≡ name_of self }
     {

@@ -9,14 +9,14 @@ use crate::map::Map;
 use crate::text::Text;
 use std::alloc::{AllocError, Global};
 
-/// A text equal to this one.
+/// Copies a text. Fails if memory is refused.
 pub fn copy_text(alloc: Global, text: &str) -> Result<Text, AllocError>
     ensures { IfOk result (λ copy. copy ≡ text.now) }
 {
     Text::from_str(alloc, text)
 }
 
-/// A map equal to this one.
+/// Copies a map, its keys and its values. Fails if memory is refused.
 pub fn copy_map(alloc: Global, map: &Map) -> Result<Map, AllocError>
     ensures { IfOk result (λ copy. copy ≡ map.now) }
 {
@@ -31,7 +31,7 @@ pub fn copy_map(alloc: Global, map: &Map) -> Result<Map, AllocError>
     Ok(copy)
 }
 
-/// A capability equal to this one.
+/// Copies a capability, its mount and the flags of the mount included. Fails if memory is refused.
 pub fn copy_capability(alloc: Global, capability: &Capability) -> Result<Capability, AllocError>
     ensures { IfOk result (λ copy. copy ≡ capability.now) }
 {

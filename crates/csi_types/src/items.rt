@@ -27,7 +27,7 @@ impl<T> Model for Items<T> {
 }
 
 impl<T> Items<T> {
-    /// No values. It takes no memory.
+    /// An empty list. It takes no memory.
     pub fn new(alloc: Global) -> Self
         ensures { result ≡ [] }
     {
@@ -36,7 +36,7 @@ impl<T> Items<T> {
         }
     }
 
-    /// No values, and room for so many.
+    /// An empty list with room for `room` values. Fails if memory is refused.
     pub fn with_room(alloc: Global, room: usize) -> Result<Self, AllocError>
         ensures { IfOk result (λ items. items ≡ []) }
     {
@@ -45,14 +45,14 @@ impl<T> Items<T> {
         })
     }
 
-    /// Takes a vector, and no memory.
+    /// Makes a list of a vector without allocating.
     pub fn from_vec(vec: Vec<T>) -> Self
         ensures { result ≡ vec.items }
     {
         Self { vec }
     }
 
-    /// Gives the vector back.
+    /// Returns the vector of the list.
     pub fn into_vec(self) -> Vec<T>
         ensures { result.items ≡ self }
     {
@@ -60,7 +60,7 @@ impl<T> Items<T> {
         vec
     }
 
-    /// The values, by reference.
+    /// The values, as a slice.
     pub fn as_slice(&self) -> &[T]
         ensures { result.now ≡ self.now }
     {
@@ -74,29 +74,29 @@ impl<T> Items<T> {
         self.vec.len()
     }
 
-    /// Whether the list has no value.
+    /// Whether the list is empty.
     pub fn is_empty(&self) -> bool
         ensures { result ≡ (length self.now == 0) }
     {
         self.vec.is_empty()
     }
 
-    /// The value at an index, or `None` past the end.
+    /// The value at an index counted from 0, or `None` past the end.
     pub fn get(&self, index: usize) -> Option<&T>
         ensures { option_copied result ≡ slice_get self.now index }
     {
         self.as_slice().get(index)
     }
 
-    /// The values, from first to last.
+    /// Iterates over the values from first to last.
     pub fn iter(&self) -> Iter<'_, T>
         ensures { iter_rest result ≡ self.now }
     {
         self.as_slice().iter()
     }
 
-    /// Appends a value. Where memory is refused the list stays, and the value is given back. A list
-    /// of one value takes room for no more, since most have one.
+    /// Appends a value. If memory is refused, the list is unchanged and the error returns the value. An empty
+    /// list reserves room for one value only, since most lists have one.
     pub fn push(&mut self, item: T) -> Result<(), AllocFailed<T>>
         ensures ok { OnOk result (self.new ≡ self.old ++ item ∷ []) }
         ensures err { OnErr result (self.new ≡ self.old) }

@@ -37,7 +37,7 @@ pub const MAX_PAGE_ENTRIES: u32 = 100;
 /// The most bytes of all pools together.
 pub const MAX_POOL_BYTES: u64 = 1 << 62;
 
-/// The number at which no further volume is made.
+/// The number at which no further volume is made. Each volume has a lower number.
 pub const MAX_NUMBER: u64 = 1 << 62;
 
 const _: () = prove!(MAX_ACCESS_MODE == 7);

@@ -18,16 +18,17 @@ use std::collections::BTreeMap;
 use std::fmt;
 use std::marker::Model;
 
-/// A `map<string, string>` (Protocol Buffers language guide, 'Maps'), in byte order of its keys.
+/// A `map<string, string>` (Protocol Buffers language guide, 'Maps'). Its entries are in byte order of their
+/// keys.
 ///
-/// Entries that come in rising order of their keys are in a list, others in a tree: a map of one
-/// entry takes no more than its room.
+/// Entries that are inserted in rising order of their keys are in a list, others in a tree. A map of one
+/// entry allocates room for that entry only.
 ///
-/// Most maps have one entry, and most others come in order, as the codec writes them. The first key out of
-/// order moves those from it on to the tree, so an entry moves at most once.
+/// Most maps have one entry, and most others are filled in order, as the codec writes them. The first key
+/// that comes out of order moves the entries with greater keys to the tree, so an entry moves at most once.
 pub struct Map {
     listed: Vec<(Text, Text)>,
-    // The keys are beyond those of the list.
+    // All keys in the tree are above those in the list.
     tree: BTreeMap<Text, Text>,
 }
 
@@ -59,7 +60,7 @@ impl Model for Map {
 }
 
 impl Map {
-    /// No entries. It takes no memory.
+    /// An empty map. It takes no memory.
     pub fn new(alloc: Global) -> Self
         ensures { result ≡ map.empty }
     {
@@ -83,7 +84,7 @@ impl Map {
         self.len() == 0
     }
 
-    /// The value of a key, or `None` where there is none.
+    /// The value under `key`, or `None` if the map does not have the key.
     pub fn get(&self, key: &Text) -> Option<&Text>
         ensures { option_copied result ≡ map.get self.now key.now }
     {
@@ -98,7 +99,8 @@ impl Map {
         }
     }
 
-    /// Gives a key its value, instead of one that it had. Where memory is refused the map stays.
+    /// Sets the value under `key`, replacing any earlier one. If memory is refused, the call fails and the
+    /// map is unchanged.
     pub fn insert(&mut self, key: Text, value: Text) -> Result<(), AllocError>
         ensures ok { OnOk result (self.new ≡ map.insert self.old key value) }
         ensures err { OnErr result (self.new ≡ self.old) }
@@ -107,7 +109,7 @@ impl Map {
         Ok(())
     }
 
-    // The entries, where all of them are in the list.
+    // The entries as one list; `None` if some are in the tree.
     #[inline(always)]
     pub(crate) fn listed(&self) -> Option<&[(Text, Text)]>
         ensures { IfSome result (λ listed. listed.now ≡ map.entries self.now) }
@@ -119,7 +121,7 @@ impl Map {
         }
     }
 
-    /// The entries, in byte order of their keys.
+    /// Iterates over the entries in byte order of their keys.
     #[tactic(auto, using(crate::proofs::Maps::entries_of))]
     pub fn iter(&self) -> MapEntries<'_>
         ensures { result ≡ map.entries self.now }

@@ -1,4 +1,4 @@
-//! How much a value holds, in bytes.
+//! The size of a map in bytes.
 
 ghost use Rattle.std.specs.Prelude.{◌≡◌, ◌^◌, ◌-◌, min};
 ghost use Rattle.csi_types.specs.Checks.{map_bytes};
@@ -15,7 +15,7 @@ fn entries_bytes(map: &Map) -> usize
     bytes
 }
 
-/// The bytes of all keys and values of a map, as far as a number of 64 bits counts.
+/// The number of bytes of all keys and values of the map together, or 2^64 - 1 if there are more.
 #[inline]
 pub fn map_bytes(map: &Map) -> usize
     ensures { result ≡ min (map_bytes map.now) (2 ^ 64 - 1) }

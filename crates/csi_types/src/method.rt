@@ -6,37 +6,37 @@ ghost use Rattle.csi_types.specs.declared.method.Method.{Method};
 
 use std::alloc::{AllocError, Global};
 
-/// A method (CSI specification, 'RPC Interface').
+/// A method of the Identity or the Controller service (CSI specification, 'RPC Interface').
 #[derive(Clone, Copy, Debug, PartialEq, Eq)]
 pub enum Method {
-    /// `csi.v1.Identity.GetPluginInfo`.
+    /// `csi.v1.Identity.GetPluginInfo`: returns the name and version of the plugin.
     GetPluginInfo,
-    /// `csi.v1.Identity.GetPluginCapabilities`.
+    /// `csi.v1.Identity.GetPluginCapabilities`: returns which optional services the plugin has.
     GetPluginCapabilities,
-    /// `csi.v1.Identity.Probe`.
+    /// `csi.v1.Identity.Probe`: returns whether the plugin is ready.
     Probe,
-    /// `csi.v1.Controller.CreateVolume`.
+    /// `csi.v1.Controller.CreateVolume`: creates a volume, or returns the one that has its name.
     CreateVolume,
-    /// `csi.v1.Controller.DeleteVolume`.
+    /// `csi.v1.Controller.DeleteVolume`: deletes a volume.
     DeleteVolume,
-    /// `csi.v1.Controller.ControllerPublishVolume`.
+    /// `csi.v1.Controller.ControllerPublishVolume`: publishes a volume to a node.
     ControllerPublishVolume,
-    /// `csi.v1.Controller.ControllerUnpublishVolume`.
+    /// `csi.v1.Controller.ControllerUnpublishVolume`: unpublishes a volume from one node or from all.
     ControllerUnpublishVolume,
-    /// `csi.v1.Controller.ValidateVolumeCapabilities`.
+    /// `csi.v1.Controller.ValidateVolumeCapabilities`: checks whether a volume has the given capabilities.
     ValidateVolumeCapabilities,
-    /// `csi.v1.Controller.ListVolumes`.
+    /// `csi.v1.Controller.ListVolumes`: lists the volumes, page by page.
     ListVolumes,
-    /// `csi.v1.Controller.GetCapacity`.
+    /// `csi.v1.Controller.GetCapacity`: returns the bytes that new volumes can take.
     GetCapacity,
-    /// `csi.v1.Controller.ControllerGetCapabilities`.
+    /// `csi.v1.Controller.ControllerGetCapabilities`: returns which optional methods the service has.
     ControllerGetCapabilities,
-    /// `csi.v1.Controller.ControllerModifyVolume`.
+    /// `csi.v1.Controller.ControllerModifyVolume`: changes the mutable parameters of a volume.
     ControllerModifyVolume,
 }
 
 impl Method {
-    /// The path of a call of the method: its service and its name.
+    /// The path of the method's calls: `/`, the service, `/` and the name.
     pub fn path(self) -> &'static str
         ensures { result.now ≡ path_of self }
     {
@@ -57,7 +57,7 @@ impl Method {
     }
 }
 
-/// The method of a path, or `None` where no method has that path.
+/// The method whose calls have this path, or `None` if there is no such method.
 pub fn method_of(path: &[u8]) -> Option<Method>
     ensures at { result ≡ method_at path.now }
     ensures by_path { (method : Method) → (result ≡ Some method) ↔ (path.now ≡ path_of method) }
@@ -66,7 +66,7 @@ pub fn method_of(path: &[u8]) -> Option<Method>
     (path == method.path().as_bytes()).then_some(method)
 }
 
-// The method of a name among those of a service.
+// The method with this name in the service whose path begins with `service`.
 fn method_under(alloc: Global, service: &str, name: &str) -> Result<Option<Method>, AllocError>
     ensures { IfOk result (λ method. method ≡ method_at (service.now ++ name.now)) }
 {
@@ -74,12 +74,12 @@ fn method_under(alloc: Global, service: &str, name: &str) -> Result<Option<Metho
     Ok(method_of(path.as_bytes()))
 }
 
-/// The method of a name alone, as `CreateVolume`, of the controller or of the identity service; `None`
-/// where neither has one.
+/// The method with this name, such as `CreateVolume`. Looks in the Controller service first, then in the
+/// Identity service; `None` if neither has the method.
 ///
 /// # Errors
 ///
-/// Where memory was refused.
+/// If memory is refused.
 pub fn method_named(alloc: Global, name: &str) -> Result<Option<Method>, AllocError>
     ensures { IfOk result (λ method. method ≡ method_named name.now) }
 {
@@ -89,7 +89,7 @@ pub fn method_named(alloc: Global, name: &str) -> Result<Option<Method>, AllocEr
     }
 }
 
-// The only method that may have this path, by its length and one byte.
+// The only method whose path can be `path`, found by the length of `path` and one byte.
 fn likely_method(path: &[u8]) -> Option<Method>
     ensures { (method : Method) → path.now ≡ path_of method → result ≡ Some method }
 {

@@ -7,10 +7,9 @@ ghost use Rattle.csi_types.specs.Names.{refused_name, holds_banned, is_banned, i
 use crate::limits::MAX_TEXT_BYTES;
 use crate::reason::Reason;
 
-/// Why a volume can't have a name, if it can't (CSI specification, 'CreateVolume', the field
-/// `name`): the first of `NameMissing` where it is empty, `NameTooLong` where it has more than 128
-/// bytes, and `NameBanned` where it holds U+0000 to U+0008, U+000B, U+000C, U+000E to U+001F or
-/// U+007F to U+009F.
+/// Why a volume cannot have this name; `None` if it can (CSI specification, 'CreateVolume', the field
+/// `name`). The first that applies: `NameMissing` if the name is empty, `NameTooLong` if it has more than 128
+/// bytes, `NameBanned` if it contains U+0000 to U+0008, U+000B, U+000C, U+000E to U+001F or U+007F to U+009F.
 pub fn name_reason(name: &str) -> Option<Reason>
     ensures { result ≡ refused_name name.now }
 {
@@ -31,7 +30,7 @@ fn holds_banned(text: &str) -> bool
     !is_plain(text.as_bytes()) && text.chars().any(is_banned)
 }
 
-/// Whether all bytes are printable ASCII. Almost all names are, and no such character is banned.
+/// Whether all bytes are printable ASCII, which is not banned. Almost all names have only such bytes.
 fn is_plain(bytes: &[u8]) -> bool
     ensures { result ≡ list_all is_plain bytes.now }
 {

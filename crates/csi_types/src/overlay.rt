@@ -1,4 +1,4 @@
-//! Maps laid over one another, and whether a map has what another gives.
+//! Maps with other maps laid over them, and whether a map has all entries of another.
 
 ghost use Rattle.std.specs.Prelude.{◌≡◌, IfOk};
 ghost use Rattle.std.specs.FinMap.{get};
@@ -9,8 +9,8 @@ use crate::map::Map;
 use crate::text::Text;
 use std::alloc::{AllocError, Global};
 
-/// A map with another laid over it: the given keys have the given values, and the other keys keep
-/// theirs.
+/// Copies `map` and sets each key of `given` to its value there; all other keys keep their values. Fails if
+/// memory is refused.
 pub fn laid_over(alloc: Global, map: &Map, given: &Map) -> Result<Map, AllocError>
     ensures { IfOk result (λ laid. laid ≡ laid_over map.now given.now) }
 {
@@ -21,7 +21,7 @@ pub fn laid_over(alloc: Global, map: &Map, given: &Map) -> Result<Map, AllocErro
     Ok(laid)
 }
 
-/// Whether each key of the given map has its value in this one.
+/// Whether `map` has each entry of `given`: the same key with the same value.
 pub fn has_each(map: &Map, given: &Map) -> bool
     ensures { result ≡ has_each map.now given.now }
 {

@@ -7,9 +7,10 @@ use crate::code::Code;
 use std::error::Error;
 use std::fmt;
 
-/// Why a request is refused. Its `Display` is its text.
+/// Why a request is refused. `Display` prints the text of the reply.
 ///
-/// A message that can't be decoded is no reason: its text names a place, and so is made apart.
+/// A message that cannot be decoded is not among these reasons: the text of that reply names a place in the
+/// message.
 #[derive(Clone, Copy, Debug, PartialEq, Eq)]
 pub enum Reason {
     /// `name` is empty.
@@ -20,11 +21,11 @@ pub enum Reason {
     NameBanned,
     /// No volume capability is given.
     CapabilityMissing,
-    /// A volume capability is neither block nor mount.
+    /// A volume capability has neither `block` nor `mount`.
     AccessTypeMissing,
-    /// The access mode of a volume capability is absent or not one of those known.
+    /// The access mode of a volume capability is absent or unknown.
     AccessModeUnknown,
-    /// A volume can't be made with a capability that is asked for.
+    /// A requested capability is one that no volume can have.
     CapabilityNotSupported,
     /// `required_bytes` or `limit_bytes` is below 0.
     CapacityNegative,
@@ -34,60 +35,60 @@ pub enum Reason {
     TextTooLong,
     /// `volume_content_source` is present.
     SourceNotSupported,
-    /// Two keys of one topology differ at most in the case of ASCII letters.
+    /// Two keys of one topology are equal but for the case of ASCII letters.
     TopologyKeysAlike,
-    /// A preferred topology is none of the requisite ones.
+    /// A preferred topology is not among the requisite topologies.
     PreferredNotRequisite,
     /// `volume_id` is empty.
     VolumeIdMissing,
     /// `node_id` is empty.
     NodeIdMissing,
-    /// `max_entries` is below 0.
+    /// `ListVolumesRequest.max_entries` (field 1) is below 0.
     MaxEntriesNegative,
     /// `mutable_parameters` has no entry.
     MutableMissing,
-    /// The path is that of no method.
+    /// No method has the path of the call.
     UnknownMethod,
     /// No volume has the id.
     VolumeNotFound,
     /// No node has the id.
     NodeNotFound,
-    /// A volume of the name exists, and is not as the request asks.
+    /// A volume with this name exists, and differs from what the request asks for.
     VolumeNotCompatible,
-    /// No pool that serves the topology has room.
+    /// No pool that serves the topology has room for the volume.
     NoRoom,
-    /// The most volumes exist already.
+    /// As many volumes exist as this plugin allows.
     TooManyVolumes,
-    /// No number is left for a further volume.
+    /// Volume numbers are used up, so no further volume can be made.
     NumbersUsedUp,
-    /// No size is within the capacity range and the sizes of this plugin.
+    /// No size is within both the requested capacity range and the sizes of this plugin.
     OutOfRange,
-    /// The volume is published at a node.
+    /// The volume cannot be deleted, since it is published to a node.
     VolumeInUse,
-    /// The volume is published at another node, and can't be published here too.
+    /// The volume is published to another node, and cannot be published to this one as well.
     PublishedElsewhere,
-    /// The volume is published at the node with another capability or readonly flag.
+    /// The volume is published to this node with another capability or another `readonly` flag.
     PublishedOtherwise,
-    /// The node holds as many volumes as it can.
+    /// As many volumes are published to the node as it can have.
     NodeFull,
-    /// The volume was not made with the capability.
+    /// The volume was not created with this capability.
     CapabilityNotOfVolume,
-    /// `starting_token` is none that this plugin gives.
+    /// `starting_token` is not a token that this plugin issues.
     BadToken,
-    /// The mutable parameters of the volume, as asked for, would have more than 4,096 bytes.
+    /// With the requested changes, the mutable parameters of the volume would have more than 4,096 bytes.
     MutableTooLarge,
-    /// The reply would pass 4,194,304 bytes.
+    /// The reply would be longer than 4,194,304 bytes.
     ReplyTooLarge,
-    /// Memory was refused.
+    /// Memory was refused while the call was executed.
     OutOfMemory,
-    /// The store refused the call, which changed nothing.
+    /// The store refused the change, so the call changed nothing.
     StoreRefused,
-    /// The store is down until it is opened again.
+    /// The store failed before, and takes no call until it is opened again.
     StoreDown,
 }
 
 impl Reason {
-    /// The status code of the reply.
+    /// The status code of the reply to a request that is refused for this reason.
     pub fn code(self) -> Code
         ensures { result ≡ code_of self }
     {
@@ -126,7 +127,7 @@ impl Reason {
         }
     }
 
-    /// The text of the reply.
+    /// The text of the reply to a request that is refused for this reason.
     pub fn text(self) -> &'static str
         ensures { result.now ≡ text_of self }
     {
@@ -171,7 +172,7 @@ impl Reason {
     }
 }
 
-// By hand: a derived one would state each text a second time.
+// By hand, so that each text is written once.
 impl fmt::Display for Reason {
     fn fmt<W: fmt::Write>(&self, f: &mut fmt::Formatter<W>) -> fmt::Result {
         f.write_str(self.text())

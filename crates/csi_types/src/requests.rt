@@ -1,6 +1,6 @@
 //! Requests.
 //!
-//! `Debug` shows no secrets: the requests that have some write it by hand, and leave them out.
+//! `Debug` shows no secrets: requests with secrets implement `Debug` by hand and leave them out.
 
 use crate::boxed::Boxed;
 use crate::capability::Capability;
@@ -24,7 +24,7 @@ pub struct CreateVolume {
     pub parameters: Map,
     /// `secrets`, field 5.
     pub secrets: Map,
-    /// Whether `volume_content_source`, field 6, is present.
+    /// Whether `volume_content_source`, field 6, is present. Its content is not kept.
     pub source: bool,
     /// `accessibility_requirements`, field 7.
     pub topology: Option<Requirement>,
@@ -97,7 +97,7 @@ impl fmt::Debug for Publish {
 pub struct Unpublish {
     /// `volume_id`, field 1.
     pub volume_id: Text,
-    /// `node_id`, field 2; empty for all nodes.
+    /// `node_id`, field 2. If it is empty, the volume is unpublished from all nodes.
     pub node_id: Text,
     /// `secrets`, field 3.
     pub secrets: Map,
@@ -141,7 +141,7 @@ impl fmt::Debug for Validate {
 /// `ListVolumesRequest` (CSI specification, 'ListVolumes').
 #[derive(Debug, Drop)]
 pub struct ListVolumes {
-    /// `max_entries`, field 1; 0 for as many as a page holds.
+    /// `max_entries`, field 1: the most entries that the reply may have; 0 for as many as fit a page.
     pub max_entries: i32,
     /// `starting_token`, field 2; empty for the first page.
     pub token: Text,
@@ -154,7 +154,7 @@ pub struct GetCapacity {
     pub capabilities: Items<Capability>,
     /// `parameters`, field 2.
     pub parameters: Map,
-    /// The segments of `accessible_topology`, field 3.
+    /// `accessible_topology`, field 3: its segments; `None` if it is absent.
     pub topology: Option<Map>,
 }
 
@@ -165,7 +165,7 @@ pub struct Modify {
     pub volume_id: Text,
     /// `secrets`, field 2.
     pub secrets: Map,
-    /// `mutable_parameters`, field 3: the keys that are given a value.
+    /// `mutable_parameters`, field 3: the keys to set and their new values.
     pub mutable: Map,
 }
 
@@ -178,33 +178,34 @@ impl fmt::Debug for Modify {
     }
 }
 
-/// The request of a call, by its method. The message of one that has fields is kept apart, so that a request
-/// is small in any place.
+/// The request of a call; the variant gives the method. A message with fields is boxed, so that a `Request`
+/// takes little room.
 #[derive(Debug)]
 pub enum Request {
-    /// `GetPluginInfoRequest`, without fields.
+    /// Asks for the name and version of the plugin: `GetPluginInfoRequest`, without fields.
     PluginInfo,
-    /// `GetPluginCapabilitiesRequest`, without fields.
+    /// Asks which optional services the plugin has: `GetPluginCapabilitiesRequest`, without fields.
     PluginCapabilities,
-    /// `ProbeRequest`, without fields.
+    /// Asks whether the plugin is ready: `ProbeRequest`, without fields.
     Probe,
-    /// `ControllerGetCapabilitiesRequest`, without fields.
+    /// Asks which optional methods the Controller service has: `ControllerGetCapabilitiesRequest`, without
+    /// fields.
     ControllerCapabilities,
-    /// `CreateVolumeRequest`.
+    /// Asks to create a volume: `CreateVolumeRequest`.
     Create(Boxed<CreateVolume>),
-    /// `DeleteVolumeRequest`.
+    /// Asks to delete a volume: `DeleteVolumeRequest`.
     Delete(Boxed<DeleteVolume>),
-    /// `ControllerPublishVolumeRequest`.
+    /// Asks to publish a volume to a node: `ControllerPublishVolumeRequest`.
     Publish(Boxed<Publish>),
-    /// `ControllerUnpublishVolumeRequest`.
+    /// Asks to unpublish a volume from one node or from all: `ControllerUnpublishVolumeRequest`.
     Unpublish(Boxed<Unpublish>),
-    /// `ValidateVolumeCapabilitiesRequest`.
+    /// Asks whether a volume has capabilities: `ValidateVolumeCapabilitiesRequest`.
     Validate(Boxed<Validate>),
-    /// `ListVolumesRequest`.
+    /// Asks for a page of the volumes: `ListVolumesRequest`.
     List(Boxed<ListVolumes>),
-    /// `GetCapacityRequest`.
+    /// Asks for the bytes that new volumes can take: `GetCapacityRequest`.
     Capacity(Boxed<GetCapacity>),
-    /// `ControllerModifyVolumeRequest`.
+    /// Asks to change the mutable parameters of a volume: `ControllerModifyVolumeRequest`.
     Modify(Boxed<Modify>),
 }
 

@@ -8,20 +8,21 @@ use crate::volume::{Confirmed, Entry, VolumeInfo};
 /// The response of a call, by its method (CSI specification, 'RPC Interface').
 #[derive(Debug, Drop)]
 pub enum Response {
-    /// `GetPluginInfoResponse`.
+    /// `GetPluginInfoResponse`: the name and version of the plugin.
     PluginInfo {
         /// `name`, field 1.
         name: Text,
         /// `vendor_version`, field 2.
         version: Text,
     },
-    /// `GetPluginCapabilitiesResponse`: `service.type`, field 1 of field 1, of each of the
-    /// `capabilities`, field 1; `None` where `service` is absent.
+    /// `GetPluginCapabilitiesResponse`: for each of `capabilities`, field 1, the value of `service.type`,
+    /// field 1 of field 1; `None` if `service` is absent.
     PluginCapabilities(Items<Option<i32>>),
-    /// `ProbeResponse`: the value, field 1, of `ready`, field 1.
+    /// `ProbeResponse`: `ready`, field 1, as the `value`, field 1, of its wrapper message; `None` if it is
+    /// absent.
     Probe(Option<bool>),
-    /// `ControllerGetCapabilitiesResponse`: `rpc.type`, field 1 of field 1, of each of the
-    /// `capabilities`, field 1; `None` where `rpc` is absent.
+    /// `ControllerGetCapabilitiesResponse`: for each of `capabilities`, field 1, the value of `rpc.type`,
+    /// field 1 of field 1; `None` if `rpc` is absent.
     ControllerCapabilities(Items<Option<i32>>),
     /// `CreateVolumeResponse`: `volume`, field 1.
     Create(Option<VolumeInfo>),
@@ -31,25 +32,26 @@ pub enum Response {
     Publish(Map),
     /// `ControllerUnpublishVolumeResponse`, without fields.
     Unpublish,
-    /// `ValidateVolumeCapabilitiesResponse`.
+    /// `ValidateVolumeCapabilitiesResponse`: whether the volume has the capabilities.
     Validate {
-        /// `confirmed`, field 1; `None` where the capabilities or parameters are not supported.
+        /// `confirmed`, field 1; `None` if a capability or a parameter is not supported.
         confirmed: Option<Confirmed>,
         /// `message`, field 2.
         message: Text,
     },
-    /// `ListVolumesResponse`.
+    /// `ListVolumesResponse`: a page of the volumes.
     List {
         /// `entries`, field 1.
         entries: Items<Entry>,
         /// `next_token`, field 2; empty on the last page.
         token: Text,
     },
-    /// `GetCapacityResponse`, in bytes.
+    /// `GetCapacityResponse`; both numbers are bytes.
     Capacity {
-        /// `available_capacity`, field 1.
+        /// `available_capacity`, field 1: the bytes that new volumes can take.
         available: i64,
-        /// The value, field 1, of `maximum_volume_size`, field 2.
+        /// `maximum_volume_size`, field 2: the `value`, field 1, of its wrapper message; `None` if it is
+        /// absent.
         maximum: Option<i64>,
     },
     /// `ControllerModifyVolumeResponse`, without fields.

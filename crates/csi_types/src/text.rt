@@ -10,28 +10,29 @@ use std::convert::AsStr;
 use std::fmt;
 use std::marker::Model;
 
-// The most bytes of a text that takes no memory: most ids, keys and names of pools have no more, and with
-// room for more a text would take more than 32 bytes.
+// The most bytes of a text that takes no memory of its own. Most ids, keys and pool names are not longer, and
+// with more room a text would take more than 32 bytes.
 const SHORT_BYTES: usize = 16;
 
 // Where a text is.
 #[derive(Drop)]
 enum TextStorage {
-    // In the value itself, with what a longer text would be allocated from.
+    // Where the bytes of a text are.
     Short(ArrayString<SHORT_BYTES>, Global),
-    // In memory of its own.
+    // In the value itself, along with the allocator for a text that becomes longer.
     Long(String),
 }
 
 /// A text in UTF-8 (Protocol Buffers language guide, 'Scalar Value Types').
 ///
-/// Texts are ordered by their bytes. One of at most 16 bytes takes no memory but its own 32 bytes.
+/// Texts are ordered by their bytes. A text of at most 16 bytes is stored in the 32 bytes of the value; a
+/// longer one is allocated.
 pub struct Text {
     kept: TextStorage,
 }
 
-// Written out, so that what drops a text has one call for it, and its proof no branch for each place where a
-// text may be.
+// Written by hand so that code which drops a text calls this one function, and its proof has no branch for
+// each place where the bytes may be.
 impl Drop for Text {
     #[inline(always)]
     fn drop(self) {
@@ -58,7 +59,7 @@ impl Text {
         }
     }
 
-    /// A copy of a text.
+    /// Copies a text. Allocates only for more than 16 bytes; fails if memory is refused.
     pub fn from_str(alloc: Global, text: &str) -> Result<Self, AllocError>
         ensures { IfOk result (λ copy. copy ≡ text.now) }
     {
@@ -69,7 +70,8 @@ impl Text {
         Ok(Text { kept })
     }
 
-    /// A copy of this text, in fewer steps than one of its bytes where it takes no memory.
+    /// Copies this text; fails if memory is refused. A text stored in the value itself is copied as it is, in
+    /// fewer steps than [`Text::from_str`] takes.
     #[inline(always)]
     pub fn copy(&self, alloc: Global) -> Result<Self, AllocError>
         ensures { IfOk result (λ copy. copy ≡ self.now) }
@@ -82,7 +84,8 @@ impl Text {
         }
     }
 
-    /// A text, and another one after it.
+    /// Returns `first` with `second` appended. Allocates only for more than 16 bytes; fails if memory is
+    /// refused.
     pub fn joined(alloc: Global, first: &str, second: &str) -> Result<Self, AllocError>
         ensures { IfOk result (λ both. both ≡ first.now ++ second.now) }
     {
@@ -97,7 +100,7 @@ impl Text {
         Ok(Self::from_string(string))
     }
 
-    /// Takes a string, and no memory.
+    /// Makes a text that keeps the string as it is, without allocating.
     pub fn from_string(string: String) -> Self
         ensures { result ≡ string_bytes string }
     {
@@ -106,11 +109,11 @@ impl Text {
         }
     }
 
-    /// Makes it equal to another text, in the memory that it has where that is enough. Where memory
-    /// is refused it is empty.
+    /// Sets this text to a copy of `text`, in the memory it already has if that is enough. If memory is
+    /// refused, the call fails and the text is empty.
     ///
-    /// A field may come again 350,000 times in a message, and each time was an allocation. What outlives a
-    /// request is copied, and a copy has no room that is not used.
+    /// A message may repeat one field 350,000 times; reusing the memory saves an allocation for each. Text
+    /// that outlives the request is copied, and the copy has no unused room.
     pub fn set(&mut self, text: &str) -> Result<(), AllocError>
         ensures ok { OnOk result (self.new ≡ text.now) }
         ensures err { OnErr result (self.new ≡ []) }
@@ -130,7 +133,7 @@ impl Text {
         }
     }
 
-    /// The text, by reference.
+    /// The text as a `&str`.
     pub fn as_str(&self) -> &str
         ensures bytes { result.now ≡ self.now }
         ensures utf8 { IsUtf8 self.now }
@@ -141,7 +144,7 @@ impl Text {
         }
     }
 
-    /// The bytes of the text, by reference.
+    /// The bytes of the text in UTF-8.
     pub fn as_bytes(&self) -> &[u8]
         ensures bytes { result.now ≡ self.now }
         ensures utf8 { IsUtf8 self.now }
@@ -149,14 +152,14 @@ impl Text {
         self.as_str().as_bytes()
     }
 
-    /// The length in bytes.
+    /// The length of the text in bytes.
     pub fn len(&self) -> usize
         ensures { result ≡ length self.now }
     {
         self.as_str().len()
     }
 
-    /// Whether the text has no byte.
+    /// Whether the text is empty.
     pub fn is_empty(&self) -> bool
         ensures { result ≡ (length self.now == 0) }
     {

@@ -1,8 +1,8 @@
-//! Where a volume may be, and topologies compared.
+//! The topologies that a new volume may have, and comparing topologies.
 //!
-//! Keys are compared with their ASCII letters folded, values by bytes. No function here takes
-//! memory. Each takes time little more than linear for topologies of 4,096 bytes and less without
-//! keys that are alike; for others it is right, and may compare all pairs of their segments.
+//! Keys are compared without regard to the case of ASCII letters, values by their bytes. No function here
+//! allocates. The time is little more than linear for topologies of at most 4,096 bytes whose keys differ;
+//! for others the result is right too, but all pairs of their segments may be compared.
 
 mod segments;
 
@@ -21,7 +21,7 @@ use crate::map::Map;
 use crate::text::Text;
 use segments::{MOST_SEGMENTS, Segment, sort_segments};
 
-// Segments that are compared pair by pair.
+// Up to this number of segments, all pairs of segments are compared.
 const FEW_SEGMENTS: usize = 32;
 
 /// `TopologyRequirement` (CSI specification, 'CreateVolume').
@@ -29,13 +29,14 @@ const FEW_SEGMENTS: usize = 32;
 /// Each term is the map `segments`, field 1, of a `Topology`.
 #[derive(Debug, Drop)]
 pub struct Requirement {
-    /// `requisite`, field 1: the volume is reachable from one of these.
+    /// `requisite`, field 1: the volume must be reachable from at least one of these topologies.
     pub requisite: Items<Map>,
-    /// `preferred`, field 2: the first of these that can be served is taken.
+    /// `preferred`, field 2: the volume is made in the first of these topologies that a pool with room
+    /// serves.
     pub preferred: Items<Map>,
 }
 
-/// Whether two keys of a topology are equal when their ASCII letters are folded.
+/// Whether two keys of the topology differ at most in the case of ASCII letters.
 pub fn has_alike_keys(topology: &Map) -> bool
     ensures { result ≡ has_alike_keys topology.now }
 {
@@ -50,12 +51,12 @@ pub fn has_alike_keys(topology: &Map) -> bool
 fn has_alike_pair(topology: &Map) -> bool
     ensures { result ≡ has_alike_keys topology.now }
 {
-    // Its keys can be counted.
+    // The number of keys fits a `usize`, which the proof needs.
     let _count = topology.len();
     topology.iter().enumerate().any(|(index, (key, _))| is_key_alike_before(topology, index, key))
 }
 
-// Whether one of the first `count` keys is like this one.
+// Whether one of the first `count` keys of the topology differs from `key` at most in ASCII case.
 fn is_key_alike_before(topology: &Map, count: usize, key: &Text) -> bool
     ensures { result ≡ list_any (λ e. alike e.0 key.now) (take count (entries topology.now)) }
 {
@@ -65,7 +66,7 @@ fn is_key_alike_before(topology: &Map, count: usize, key: &Text) -> bool
         .any(|(earlier, _)| are_alike(earlier, key))
 }
 
-// Compares each key with the next in order. The segments in order are a large local.
+// Compares each key with the next one in order. The sorted segments are a large local variable.
 #[inline(never)]
 fn has_alike_neighbours(topology: &Map) -> bool
     ensures { result ≡ has_alike_keys topology.now }
@@ -81,7 +82,7 @@ fn has_alike_neighbours(topology: &Map) -> bool
     has_tied_neighbours(segments)
 }
 
-// Whether two segments in order have keys that are alike: then two neighbours have.
+// Whether two of the sorted segments have keys that are alike. If so, two neighbours have.
 fn has_tied_neighbours(segments: &[Segment<'_>]) -> bool
     requires { IsSorted (on folded_key (slice_cmp nat_cmp)) segments.now }
     ensures { result ≡ some_two (λ e f. alike e.0 f.0) (map entry_of segments.now) }
@@ -89,11 +90,12 @@ fn has_tied_neighbours(segments: &[Segment<'_>]) -> bool
     !segments.is_sorted_by(|one, other| one < other)
 }
 
-/// Whether each segment of the one topology is one of the other.
+/// Whether `outer` has each segment of `inner`: an equal value under a key that differs at most in the case
+/// of ASCII letters.
 pub fn is_within(inner: &Map, outer: &Map) -> bool
     ensures { result ≡ is_within inner.now outer.now }
 {
-    // As many segments as a pool has are found among the others sooner than these are put in order.
+    // A pool has few segments; looking for them one by one is faster than sorting those of `outer`.
     if inner.len() <= MAX_SEGMENTS || outer.len() <= FEW_SEGMENTS {
         is_within_few(inner, outer)
     } else {
@@ -101,7 +103,7 @@ pub fn is_within(inner: &Map, outer: &Map) -> bool
     }
 }
 
-// Compares each segment with each. Nearly all maps are a list, whose entries are gone over by fewer steps.
+// Compares each segment with each. Nearly all maps are a list, and going over a list takes fewer steps.
 fn is_within_few(inner: &Map, outer: &Map) -> bool
     ensures { result ≡ is_within inner.now outer.now }
 {
@@ -115,7 +117,7 @@ fn is_within_few(inner: &Map, outer: &Map) -> bool
     }
 }
 
-// Looks for each segment among those in order, which are a large local.
+// Looks for each segment of `inner` among the sorted segments of `outer`, which are a large local variable.
 #[inline(never)]
 fn is_within_many(inner: &Map, outer: &Map) -> bool
     ensures { result ≡ is_within inner.now outer.now }
@@ -134,8 +136,8 @@ fn is_within_many(inner: &Map, outer: &Map) -> bool
         .all(|(key, value)| is_found(outer, segments, key, value))
 }
 
-// Whether a segment is one of the topology, whose segments are also in order. Where the one
-// that is found has another value, there may be others with such a key.
+// Whether the topology has this segment; `segments` are its segments, sorted. If bisection finds the key with
+// another value, another key that is alike may still have this one.
 fn is_found(topology: &Map, segments: &[Segment<'_>], key: &Text, value: &Text) -> bool
     requires { IsPermutation (entries topology.now) (map entry_of segments.now) }
     ensures { result ≡ list_any (λ f. alike key.now f.0 && same_text value.now f.1) (entries topology.now) }
@@ -143,7 +145,7 @@ fn is_found(topology: &Map, segments: &[Segment<'_>], key: &Text, value: &Text) 
     is_among(segments, key, value) || has_segment(topology, key, value)
 }
 
-// Whether bisection finds a segment; it may miss one whose key is like another's.
+// Whether bisection finds the segment. It may miss one if several keys are alike.
 fn is_among(segments: &[Segment<'_>], key: &Text, value: &Text) -> bool
     ensures { result ≡ true → list_any (λ f. alike key.now f.0 && same_text value.now f.1)
         (map entry_of segments.now) ≡ true }
@@ -167,7 +169,8 @@ fn has_segment(topology: &Map, key: &Text, value: &Text) -> bool
     }
 }
 
-/// Whether topologies are equal when their keys are folded. Neither has two keys that are alike.
+/// Whether two topologies have the same segments, up to the case of ASCII letters in keys. No two keys of
+/// `one` may be alike in this way, and no two of `other`.
 pub fn same_topology(one: &Map, other: &Map) -> bool
     requires keys_differ { has_alike_keys one.now ≡ false }
     requires other { has_alike_keys other.now ≡ false }

@@ -1,4 +1,4 @@
-//! Volumes as they are answered.
+//! Volumes as replies describe them.
 
 use crate::capability::Capability;
 use crate::items::Items;
@@ -23,7 +23,7 @@ pub struct VolumeInfo {
 pub struct Entry {
     /// `volume`, field 1.
     pub volume: Option<VolumeInfo>,
-    /// `status.published_node_ids`, field 1 of field 2; `None` where `status` is absent.
+    /// `status.published_node_ids`, field 1 of field 2; `None` if `status` is absent.
     pub nodes: Option<Items<Text>>,
 }
 

@@ -10,15 +10,15 @@ ghost use Rattle.envelope.specs.Texts.{fault_words};
 use crate::kind::{FrameKind, Part};
 use thiserror::Error;
 
-/// The fault of a stream of frames, be they calls ([`FrameFault`]) or replies
+/// The fault that ends a stream of frames: of calls ([`FrameFault`]) or of replies
 /// ([`ReplyFault`](crate::ReplyFault)).
 pub trait Fault: Copy + Drop {
     ghost use Rattle.std.specs.Prelude.{ℕ};
     ghost use Rattle.envelope.specs.declared.kind.FrameKind.{FrameKind};
     ghost use Rattle.envelope.specs.declared.kind.Part.{Part};
 
-    // The kind of the frames, the part that is wrong, where it is, and the fault of an input that ends inside
-    // a frame.
+    // The kind of the frames, the part that breaks a rule, its place, and the fault of an input that ends
+    // inside a frame.
     ghost kind: { FrameKind };
 
     ghost wrong_part: { Self → Part };
@@ -27,11 +27,11 @@ pub trait Fault: Copy + Drop {
 
     ghost cut_at: { ℕ → Self };
 
-    /// The kind of the frames.
+    /// The kind of the frames in the stream.
     fn kind() -> FrameKind
         ensures { result ≡ kind };
 
-    /// The fault of this part at this place.
+    /// Makes the fault of this part at this place. The part must be one that the kind of frame has.
     fn of(part: Part, at: u64) -> Self
         requires { HasPart kind part }
         ensures part { wrong_part result ≡ part }
@@ -39,23 +39,23 @@ pub trait Fault: Copy + Drop {
         ensures missing { part ≡ Missing → result ≡ cut_at at };
 }
 
-/// Why bytes are not a request frame, in the order in which a frame's bytes show it.
+/// The rules that a request frame can break, in the order of the bytes that show it.
 #[derive(Clone, Copy, Debug, PartialEq, Eq)]
 pub enum FrameWhy {
-    /// The two length bytes give 0 or more than 128. The place is the frame's first byte.
+    /// The two length bytes give 0 or more than 128. The place of the fault is the first byte of the frame.
     BadPathLength,
-    /// A byte of the path is not 0x21 to 0x7E. The place is that byte.
+    /// A byte of the path is not 0x21 to 0x7E. The place of the fault is that byte.
     BadPath,
-    /// The flag is not 0 (compression is not supported). The place is the flag.
+    /// The flag is not 0 (compression is not supported). The place of the fault is the flag.
     BadFlag,
-    /// The four length bytes give more than 1,048,576. The place is the first of the four.
+    /// The four length bytes give more than 1,048,576. The place of the fault is the first of the four.
     TooLong,
-    /// The input ends inside a frame. The place is the input's length.
+    /// The input ends inside a frame. The place of the fault is the length of the input.
     EndOfInput,
 }
 
 impl FrameWhy {
-    /// The text of the fault before its place.
+    /// The text of the fault up to the number of the byte, such as `bad flag at byte `.
     pub fn text(self) -> &'static str
         ensures value { result.now ≡ fault_words self }
         ensures short { length result.now ≤ 120 }
@@ -70,7 +70,7 @@ impl FrameWhy {
         }
     }
 
-    /// The reason, by the part that is wrong: a call's frame has no status.
+    /// The rule that a call's frame breaks in this part. The part is not [`Part::Status`]: calls have none.
     pub(crate) fn of(part: Part) -> FrameWhy
         requires { HasPart Calls part }
         ensures { part_of result ≡ part }
@@ -86,13 +86,13 @@ impl FrameWhy {
     }
 }
 
-/// A malformed frame. It ends its stream.
+/// A malformed request frame. The stream cannot be read past it.
 #[derive(Clone, Copy, Debug, PartialEq, Eq, Error)]
 #[error("{}{}", self.why.text(), self.at)]
 pub struct FrameFault {
     /// The rule that the frame breaks.
     pub why: FrameWhy,
-    /// The byte at which it is, counted from 0 over the bytes that were given.
+    /// The place of the fault: the offset of a byte, counted from 0 at the start of the input.
     pub at: u64,
 }
 

@@ -7,7 +7,7 @@ use crate::limits::{MAX_REFUSAL_TEXT_BYTES, REPLY_HEAD_BYTES};
 use itoa::Buffer;
 use std::marker::Model;
 
-/// At most N bytes in an array, which contracts see as the list of these bytes.
+/// An array that holds at most `N` bytes, which contracts see as the list of these bytes.
 #[derive(Drop)]
 pub struct Fixed<const N: usize> {
     array: [u8; N],
@@ -22,10 +22,10 @@ impl<const N: usize> Model for Fixed<N> {
     ghost invariant = { λ f. f.len ≤ N };
 }
 
-/// The frame of a refusal, or all of a reply's frame before its body.
+/// Holds the frame of a refusal, or a reply's frame up to its body.
 pub type FixedFrame = Fixed<168>;
 
-/// A text of one line.
+/// Holds one line of text, of at most 140 bytes.
 pub type FixedText = Fixed<140>;
 
 impl<const N: usize> Fixed<N> {
@@ -55,7 +55,7 @@ impl<const N: usize> Fixed<N> {
         }
     }
 
-    /// The bytes, by reference.
+    /// The bytes, as a slice.
     pub fn bytes(&self) -> &[u8]
         ensures value { result.now ≡ self.now }
         ensures short { length result.now ≤ N }
@@ -64,8 +64,8 @@ impl<const N: usize> Fixed<N> {
     }
 }
 
-/// All that is before the body in the frame of a reply with status 0, for a body of so many bytes:
-/// [`REPLY_HEAD_BYTES`].
+/// Returns the [`REPLY_HEAD_BYTES`] that precede the body in the frame of a reply with status 0, for a body
+/// of `body_len` bytes.
 #[tactic(auto, unfolding(crate::specs::Envelope::reply))]
 pub fn reply_head(body_len: u32) -> FixedFrame
     ensures spelled { (body : List ℕ) → length body ≡ body_len → result ++ body ≡ reply (record {
@@ -81,10 +81,10 @@ pub fn reply_head(body_len: u32) -> FixedFrame
     frame
 }
 
-/// The frame of the reply that refuses a call, with this status code and text.
+/// Returns the frame of the reply that refuses a call with this status code and text.
 ///
-/// The code is not 0. The text has at most [`MAX_REFUSAL_TEXT_BYTES`], each 0x20 to 0x7E. With one of the
-/// status codes of docs/PROTOCOL.md the frame is a reply of the envelope.
+/// The code must not be 0. The text must have at most [`MAX_REFUSAL_TEXT_BYTES`], each 0x20 to 0x7E. If the
+/// code is also one of docs/PROTOCOL.md, "Status codes", the frame is a valid reply.
 #[tactic(auto, unfolding(crate::specs::Envelope::reply))]
 pub fn refusal_frame(code: u8, text: &[u8]) -> FixedFrame
     requires refusal { code ≢ 0 }
@@ -101,9 +101,9 @@ pub fn refusal_frame(code: u8, text: &[u8]) -> FixedFrame
     frame
 }
 
-/// The text, then the number in decimal.
+/// Returns the text followed by the number in decimal.
 ///
-/// The text has at most 120 bytes, each 0x20 to 0x7E, and so has what is made of it.
+/// The text must have at most 120 bytes, each 0x20 to 0x7E. All bytes of the result are in this range too.
 pub fn text_and_number(text: &[u8], n: u64) -> FixedText
     requires short { length text.now ≤ 120 }
     requires printable { All IsTextByte text.now }
@@ -118,7 +118,7 @@ pub fn text_and_number(text: &[u8], n: u64) -> FixedText
     line
 }
 
-/// The text of the refusal of a malformed frame, such as `bad flag at byte 53`.
+/// Returns the text that refuses a malformed frame, such as `bad flag at byte 53`.
 pub fn fault_text(fault: &FrameFault) -> FixedText
     ensures value { result ≡ fault_words fault.now.why ++ decimal fault.now.at }
     ensures short { length result ≤ 140 }

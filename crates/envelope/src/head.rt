@@ -8,7 +8,7 @@ use crate::call::Call;
 use crate::kind::{FrameKind, Part};
 use crate::reply::Reply;
 
-// The length of the text, which the two bytes before it give.
+// The length of the text, from the two bytes before it.
 #[tactic(auto, unfolding(crate::specs::Grammar::text_length))]
 #[inline(always)]
 fn text_length_of(kind: FrameKind, bytes: &[u8]) -> usize
@@ -20,7 +20,7 @@ fn text_length_of(kind: FrameKind, bytes: &[u8]) -> usize
     usize::from(bytes[at]) * 256 + usize::from(bytes[at + 1])
 }
 
-// The length of the body, which the four bytes after the flag give.
+// The length of the body, from the four bytes after the flag.
 #[tactic(auto, unfolding(crate::specs::Grammar::body_length))]
 #[inline(always)]
 fn body_length_of(kind: FrameKind, bytes: &[u8], from: usize) -> usize
@@ -35,17 +35,17 @@ fn body_length_of(kind: FrameKind, bytes: &[u8], from: usize) -> usize
         + usize::from(bytes[from + 3])
 }
 
-/// The lengths in the bytes of a frame before its body.
+/// Where the body of a frame begins and how long it is, read from the bytes before the body.
 #[derive(Clone, Copy)]
 pub struct Head {
-    /// Where the body begins.
+    /// The offset of the body in the frame, in bytes.
     pub body_at: usize,
     /// The length of the body in bytes.
     pub body_length: usize,
 }
 
 impl Head {
-    /// The lengths of a frame, if all bytes before the body are there; otherwise `None`.
+    /// Reads the head of a frame; `None` if not all bytes before the body are there.
     #[inline(always)]
     pub fn read(kind: FrameKind, bytes: &[u8]) -> Option<Head>
         ensures { MatchOption result (length bytes.now < lead kind + 7 + text_length kind bytes.now)
@@ -65,8 +65,8 @@ impl Head {
         })
     }
 
-    /// The length of the whole frame in bytes. The head comes from [`read`](Head::read), so both of its
-    /// lengths are within their bounds.
+    /// The length of the whole frame in bytes. The head must come from [`read`](Head::read), which keeps both
+    /// of its numbers within bounds.
     pub fn frame_bytes(self) -> usize
         requires { (self.body_at < 65544) × (self.body_length < 4294967296) }
         ensures { result ≡ self.body_at + self.body_length }
@@ -75,9 +75,9 @@ impl Head {
     }
 }
 
-/// Whether the bytes are as many as they say that their frame has.
+/// Whether the number of bytes is the length of the frame that they begin.
 ///
-/// Where [`look_at`] finds nothing broken in them, they are then a frame.
+/// If [`look_at`] finds no broken rule in the bytes either, they are exactly one frame.
 #[tactic(auto, unfolding(crate::specs::Head::IsWhole))]
 #[inline(always)]
 pub fn is_whole(kind: FrameKind, bytes: &[u8]) -> bool
@@ -89,30 +89,30 @@ pub fn is_whole(kind: FrameKind, bytes: &[u8]) -> bool
     }
 }
 
-/// A broken rule of a frame, and its place.
+/// A rule of the table that a frame breaks, and the place of the break.
 #[derive(Clone, Copy)]
 pub struct Flaw {
-    /// The part that is wrong.
+    /// The part of the frame that breaks the rule.
     pub part: Part,
-    /// The byte at which it is, counted from the frame's first.
+    /// The offset of the break in the frame, in bytes.
     pub at: usize,
 }
 
-/// The state of the first bytes of a stream's rest.
+/// What the first bytes of the remaining input are.
 #[derive(Clone, Copy)]
 pub enum Look {
-    /// They may yet become a frame.
+    /// The start of a frame, without a broken rule so far.
     Short,
-    /// A whole frame, of this many bytes.
+    /// A whole frame; the number is its length in bytes.
     Whole(usize),
-    /// They break the table, and the last of that many shows it.
+    /// Bytes that break a rule, and the number of bytes up to and including the one that shows the break.
     Broken(Flaw, usize),
 }
 
-/// Looks at bytes whose first `seen` were looked at before and break no rule. Takes the time of the text's
-/// new bytes: the body is not looked at.
+/// Looks for a frame or a broken rule in `bytes`. The first `seen` bytes must have been looked at before,
+/// without a broken rule.
 ///
-/// Takes the time of the text's bytes that are new: none of the body is looked at.
+/// Takes time in proportion to the new bytes of the text. The body is not read.
 #[inline(always)]
 pub fn look_at(kind: FrameKind, bytes: &[u8], seen: usize) -> Look
     requires within { seen ≤ length bytes.now }
@@ -161,7 +161,7 @@ fn broken(part: Part, at: usize, size: usize) -> Look
     Look::Broken(Flaw { part, at }, size)
 }
 
-// The first byte that no text has, of those from here on that the text has.
+// The offset of the first byte from `from` on that is in the text and that no text may have.
 #[inline(always)]
 fn bad_byte(kind: FrameKind, bytes: &[u8], from: usize, end: usize) -> Option<usize>
     ensures { MatchOption result (AreGoodBytes kind bytes.now from end (length bytes.now))
@@ -194,8 +194,8 @@ fn parts(kind: FrameKind, bytes: &[u8]) -> (&[u8], &[u8])
     (text, body)
 }
 
-/// The call of a whole frame, as parts of its bytes: they break nothing ([`look_at`]) and are all there
-/// ([`is_whole`]).
+/// The call of a whole frame, whose path and message borrow from the bytes. The bytes must break no rule
+/// ([`look_at`]) and be complete ([`is_whole`]).
 #[inline(always)]
 pub fn call_of(bytes: &[u8]) -> Call<'_>
     requires { IsUnbroken Calls bytes.now × IsWhole Calls bytes.now }
@@ -205,8 +205,8 @@ pub fn call_of(bytes: &[u8]) -> Call<'_>
     Call { path, message }
 }
 
-/// The reply of a whole frame, as parts of its bytes: they break nothing ([`look_at`]) and are all there
-/// ([`is_whole`]).
+/// The reply of a whole frame, whose text and body borrow from the bytes. The bytes must break no rule
+/// ([`look_at`]) and be complete ([`is_whole`]).
 #[tactic(auto, unfolding(crate::specs::Head::IsWhole))]
 pub fn reply_of(bytes: &[u8]) -> Reply<'_>
     requires { IsUnbroken Replies bytes.now × IsWhole Replies bytes.now }

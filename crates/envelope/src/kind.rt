@@ -8,35 +8,35 @@ use crate::limits::{
     MAX_REPLY_BYTES, MAX_REPLY_HEAD_BYTES, MAX_TEXT_BYTES,
 };
 
-/// The two kinds of frame, which one table reads: a text after its length, a flag, and a body
-/// after its length.
+/// The two kinds of frame. One table reads both: a text after its length, a flag, and a body after its
+/// length.
 #[derive(Clone, Copy)]
 pub enum FrameKind {
-    /// Frames of calls: the text is the path, the body is the message.
+    /// Frames of calls: the text is the method's path, the body is the request message.
     Calls,
-    /// Frames of replies: the status comes before the text.
+    /// Frames of replies: a status comes before the text; the body is the response message.
     Replies,
 }
 
-/// The part of a frame that is wrong.
+/// The part of a frame that breaks a rule.
 #[derive(Clone, Copy)]
 pub enum Part {
-    /// The status of a reply.
+    /// The status of a reply, which is not one of the ten codes.
     Status,
-    /// The length of the text.
+    /// The length of the text, which is out of its range.
     TextLength,
-    /// A byte of the text.
+    /// A byte of the text, which is out of its range.
     Text,
-    /// The flag.
+    /// The flag, which is not 0.
     Flag,
-    /// The length of the body.
+    /// The length of the body, which is out of its range.
     BodyLength,
-    /// The part that is missing when the input ends.
+    /// The part at which the input ends too early.
     Missing,
 }
 
 impl FrameKind {
-    /// The number of bytes before the length of the text.
+    /// The number of bytes before the length of the text: 1 in replies, for the status.
     pub(crate) fn lead(self) -> usize
         ensures value { result ≡ lead self }
         ensures small { result ≤ 1 }
@@ -47,7 +47,7 @@ impl FrameKind {
         }
     }
 
-    /// The least length of a text.
+    /// The least length of a text, in bytes.
     pub(crate) fn least_text(self) -> usize
         ensures { result ≡ least_text self }
     {
@@ -57,7 +57,7 @@ impl FrameKind {
         }
     }
 
-    /// The greatest length of a text, in a frame with this first byte.
+    /// The greatest length of a text in bytes, in a frame whose first byte is `first`.
     pub(crate) fn most_text(self, first: u8) -> usize
         ensures { result ≡ most_text self first }
     {
@@ -68,7 +68,7 @@ impl FrameKind {
         }
     }
 
-    /// The greatest length of a body, in a frame with this first byte.
+    /// The greatest length of a body in bytes, in a frame whose first byte is `first`.
     pub(crate) fn most_body(self, first: u8) -> usize
         ensures { result ≡ most_body self first }
     {
@@ -79,7 +79,7 @@ impl FrameKind {
         }
     }
 
-    /// The least byte of a text.
+    /// The least value that a byte of the text may have.
     pub(crate) fn least_byte(self) -> u8
         ensures { result ≡ least_byte self }
     {
@@ -89,7 +89,7 @@ impl FrameKind {
         }
     }
 
-    /// The most bytes of a frame before its body.
+    /// The most bytes that a frame of this kind may have before its body.
     pub fn most_head(self) -> usize
         ensures { result ≡ most_head self }
     {
@@ -99,7 +99,7 @@ impl FrameKind {
         }
     }
 
-    /// The most bytes of a frame.
+    /// The most bytes that a frame of this kind may have.
     pub fn most_frame(self) -> usize
         ensures { result ≡ most_frame self }
     {
@@ -109,7 +109,8 @@ impl FrameKind {
         }
     }
 
-    /// Whether the first of these bytes should be a status and is none.
+    /// Whether the frame should begin with a status, and `bytes` begins with another number. False if `bytes`
+    /// is empty.
     pub(crate) fn has_bad_status(self, bytes: &[u8]) -> bool
         ensures bad { IsTrue result → HasBadStatus self bytes.now }
         ensures good { (result ≡ false) → HasBadStatus self bytes.now → ⊥ }
@@ -122,7 +123,7 @@ impl FrameKind {
     }
 }
 
-// Whether this is a status code that a reply has.
+// Whether the number is one of the ten status codes.
 fn is_status(number: u8) -> bool
     ensures { result ≡ is_status_number number }
 {

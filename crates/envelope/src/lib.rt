@@ -1,15 +1,17 @@
 //! The envelope: how calls and replies are framed as bytes, and which calls a list of bytes has.
 //!
-//! The envelope is this project's own (docs/PROTOCOL.md, "Envelope"). Calls and replies are one kind of
-//! frame: a text after its length, a flag, and a body after its length; before the text of a reply comes
-//! its status, which says how long text and body may be. So one table reads both: `specs/Envelope.antt`
-//! encodes a frame, `specs/Grammar.antt` says which byte breaks the table and in which part (the break of the
-//! least place is the fault), and `specs/Stream.antt` reads a list of bytes as calls and an end. Each lemma
-//! is proved once, for both kinds; `specs/facts/` has those that are wanted above as well.
+//! The envelope is this project's own (docs/PROTOCOL.md, "Envelope"). Calls and replies share one kind of
+//! frame: the length of a text, the text, a flag, the length of a body, and the body. A reply has its status
+//! before these, and the status bounds the lengths of text and body. So one table reads both:
+//! `specs/Envelope.antt` encodes a frame, `specs/Grammar.antt` defines which byte breaks the table and in
+//! which part (the break at the least place is the fault), and `specs/Stream.antt` reads a list of bytes as
+//! calls and an end. Each lemma is proved once, for both kinds; `specs/facts/` has the lemmas that other
+//! crates use too.
 //!
-//! [`take_frame`] and [`take_reply`] look at a whole rest, and [`put_request`] appends a call. Heads of
-//! replies, refusals and fault texts are made in fixed arrays, without memory. What takes a stream in pieces
-//! is above, in `frames_core`, by [`look_at`], [`Head`], [`call_of`] and [`reply_of`].
+//! [`take_frame`] and [`take_reply`] read the first frame of all remaining input, and [`put_request`] appends
+//! a call. Heads of replies, refusals and fault texts are made in fixed arrays, without allocating. The crate
+//! `frames_core` reads a stream that comes in pieces, with [`look_at`], [`Head`], [`call_of`] and
+//! [`reply_of`].
 //!
 //! ```rust
 //! match take_frame(rest) {

@@ -1,21 +1,21 @@
 //! Lengths of the envelope's parts, in bytes (docs/PROTOCOL.md, "Envelope").
 
-/// The most bytes of a method's path.
+/// The most bytes of the method's path in a request frame.
 pub const MAX_PATH_BYTES: usize = 128;
 
-/// The most bytes of a request message.
+/// The most bytes of the message in a request frame, which is an encoded request.
 pub const MAX_MESSAGE_BYTES: usize = 1_048_576;
 
 /// The most bytes of a request frame before its message: path length, path, flag and message length.
 pub const MAX_HEAD_BYTES: usize = 2 + MAX_PATH_BYTES + 1 + 4;
 
-/// The most bytes of a request frame.
+/// The most bytes of a request frame: the longest head and the longest message.
 pub const MAX_FRAME_BYTES: usize = MAX_HEAD_BYTES + MAX_MESSAGE_BYTES;
 
-/// The most bytes of a reply's text.
+/// The most bytes of the text in a reply, which states why a call was refused.
 pub const MAX_TEXT_BYTES: usize = 1_024;
 
-/// The most bytes of a reply's body.
+/// The most bytes of the body in a reply, which is an encoded response.
 pub const MAX_BODY_BYTES: usize = 4_194_304;
 
 /// The bytes of a reply with status 0 before its body: status, text length, flag and body length.
@@ -24,8 +24,8 @@ pub const REPLY_HEAD_BYTES: usize = 1 + 2 + 1 + 4;
 /// The most bytes of a reply frame before its body: status, text length, text, flag and body length.
 pub const MAX_REPLY_HEAD_BYTES: usize = 1 + 2 + MAX_TEXT_BYTES + 1 + 4;
 
-/// The most bytes of a reply frame: an OK with the longest body.
+/// The most bytes of a reply frame, which a reply with status 0 and the longest body has.
 pub const MAX_REPLY_BYTES: usize = REPLY_HEAD_BYTES + MAX_BODY_BYTES;
 
-/// The most bytes of a text that [`refusal_frame`](crate::refusal_frame) takes.
+/// The most bytes of the text that [`refusal_frame`](crate::refusal_frame) accepts.
 pub const MAX_REFUSAL_TEXT_BYTES: usize = 160;

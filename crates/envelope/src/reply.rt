@@ -1,11 +1,11 @@
-/// A reply: what one reply frame says, borrowed from its bytes.
+/// The parts of one reply frame, borrowed from its bytes.
 #[derive(Clone, Copy, Debug)]
 pub struct Reply<'a> {
-    /// One of the ten status codes of docs/PROTOCOL.md, "Status codes": 0 where the call was done.
+    /// One of the ten status codes of docs/PROTOCOL.md, "Status codes": 0 if the call succeeded.
     pub status: u8,
-    /// Why the call was refused: at most 1,024 bytes, each 0x20 to 0x7E, and none with status 0.
+    /// Why the call was refused: at most 1,024 bytes, each 0x20 to 0x7E. Empty if the status is 0.
     pub text: &'a [u8],
-    /// The response message, in the Protocol Buffers wire format, not looked at here: at most
-    /// 4,194,304 bytes, and none with a status other than 0.
+    /// The response message in the Protocol Buffers wire format, not decoded here: at most 4,194,304 bytes.
+    /// Empty if the status is not 0.
     pub body: &'a [u8],
 }

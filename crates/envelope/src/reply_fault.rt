@@ -8,27 +8,27 @@ use crate::fault::Fault;
 use crate::kind::{FrameKind, Part};
 use thiserror::Error;
 
-/// Why bytes are not a reply frame, in the order in which a frame's bytes show it.
+/// The rules that a reply frame can break, in the order of the bytes that show it.
 #[derive(Clone, Copy, Debug, PartialEq, Eq)]
 pub enum ReplyWhy {
-    /// The status is none of the ten codes. The place is the frame's first byte.
+    /// The status is not one of the ten codes. The place of the fault is the first byte of the frame.
     BadStatus,
-    /// The two length bytes give more than 1,024, or other than 0 with status 0. The place is the
-    /// first of the two.
+    /// The two length bytes give more than 1,024, or not 0 although the status is 0. The place of the fault
+    /// is the first of the two.
     BadTextLength,
-    /// A byte of the text is not 0x20 to 0x7E. The place is that byte.
+    /// A byte of the text is not 0x20 to 0x7E. The place of the fault is that byte.
     BadText,
-    /// The flag is not 0 (compression is not supported). The place is the flag.
+    /// The flag is not 0 (compression is not supported). The place of the fault is the flag.
     BadFlag,
-    /// The four length bytes give more than 4,194,304, or other than 0 with a status other than 0.
-    /// The place is the first of the four.
+    /// The four length bytes give more than 4,194,304, or not 0 although the status is not 0. The place of
+    /// the fault is the first of the four.
     BadBodyLength,
-    /// The input ends inside a frame. The place is the input's length.
+    /// The input ends inside a frame. The place of the fault is the length of the input.
     EndOfInput,
 }
 
 impl ReplyWhy {
-    /// The text of the fault before its place.
+    /// The text of the fault up to the number of the byte, such as `bad status at byte `.
     pub fn text(self) -> &'static str
         ensures { result.now ≡ reply_fault_words self }
     {
@@ -42,7 +42,7 @@ impl ReplyWhy {
         }
     }
 
-    /// The reason, by the part that is wrong.
+    /// The rule that a reply's frame breaks in this part.
     pub(crate) fn of(part: Part) -> ReplyWhy
         ensures { reply_part_of result ≡ part }
     {
@@ -57,13 +57,13 @@ impl ReplyWhy {
     }
 }
 
-/// A malformed reply. It ends its stream.
+/// A malformed reply frame. The stream cannot be read past it.
 #[derive(Clone, Copy, Debug, PartialEq, Eq, Error)]
 #[error("{}{}", self.why.text(), self.at)]
 pub struct ReplyFault {
     /// The rule that the reply breaks.
     pub why: ReplyWhy,
-    /// The byte at which it is, counted from 0 over the bytes that were given.
+    /// The place of the fault: the offset of a byte, counted from 0 at the start of the input.
     pub at: u64,
 }
 

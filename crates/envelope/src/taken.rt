@@ -5,21 +5,21 @@ use crate::fault::{Fault, FrameFault};
 use crate::head::{Look, call_of, look_at};
 use crate::kind::Part;
 
-/// The first frame of a stream's whole rest.
+/// What [`take_frame`] finds at the start of the remaining input.
 #[derive(Clone, Copy, Debug)]
 pub enum Taken<'a> {
-    /// No byte is left.
+    /// The remaining input is empty.
     Nothing,
-    /// A call, and how many bytes its frame has.
+    /// A call, and the length of its frame in bytes.
     Frame(Call<'a>, usize),
-    /// No frame is there. The fault's place is counted from the first of these bytes.
+    /// The bytes do not begin with a frame. The place of the fault is counted from the first of these bytes.
     Fault(FrameFault),
 }
 
-/// The first frame of these bytes, or the fault that is there instead.
+/// Reads the first frame of the bytes, or finds the fault that is there instead.
 ///
-/// The bytes are all that is left of the input, so a frame that has begun and is not whole is the fault
-/// `EndOfInput`. Takes no memory, and looks at no byte of the message.
+/// The bytes must be all of the remaining input: a frame that is not complete is the fault `EndOfInput`. Does
+/// not allocate, and does not read the message.
 pub fn take_frame(bytes: &[u8]) -> Taken<'_>
     ensures { TakesFirst bytes.now result }
 {
@@ -33,7 +33,8 @@ pub fn take_frame(bytes: &[u8]) -> Taken<'_>
     }
 }
 
-/// The length of the first frame in bytes, if any byte is left, or the fault of the rest.
+/// Returns the length of the first frame in bytes; `None` if there are no bytes. Fails with the fault if the
+/// bytes do not begin with a frame.
 pub(crate) fn first_frame<F: Fault>(bytes: &[u8]) -> Result<Option<usize>, F>
     ensures { BeginsWith F.kind F.wrong_part F.place bytes.now result }
 {

@@ -5,22 +5,21 @@ use crate::reply::Reply;
 use crate::reply_fault::ReplyFault;
 use crate::taken::first_frame;
 
-/// The first frame of the whole rest of a stream of replies.
+/// What [`take_reply`] finds at the start of the remaining input.
 #[derive(Clone, Copy, Debug)]
 pub enum TakenReply<'a> {
-    /// No byte is left.
+    /// The remaining input is empty.
     Nothing,
-    /// A reply, and how many bytes its frame has.
+    /// A reply, and the length of its frame in bytes.
     Frame(Reply<'a>, usize),
-    /// No reply is there. The fault's place is counted from the first of these bytes.
+    /// The bytes do not begin with a frame. The place of the fault is counted from the first of these bytes.
     Fault(ReplyFault),
 }
 
-/// The first reply of these bytes, or the fault that is there instead.
+/// Reads the first reply of the bytes, or finds the fault that is there instead.
 ///
-/// The bytes are all that is left of the input, so a frame that has begun and is not whole is the
-/// fault `EndOfInput`.
-/// Takes no memory, and looks at no byte of the body.
+/// The bytes must be all of the remaining input: a frame that is not complete is the fault `EndOfInput`. Does
+/// not allocate, and does not read the body.
 pub fn take_reply(bytes: &[u8]) -> TakenReply<'_>
     ensures { TakesFirstReply bytes.now result }
 {

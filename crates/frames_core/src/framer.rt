@@ -11,27 +11,28 @@ use envelope::{Call, Fault, FrameFault, Part, Reply, ReplyFault, call_of, reply_
 use std::alloc::{AllocError, Global};
 use std::marker::Model;
 
-/// Cuts a stream of bytes that comes in any pieces into its frames, which are calls where `F` is
-/// [`FrameFault`], and replies where it is [`ReplyFault`].
+/// Cuts a stream of bytes, which may come in any pieces, into frames: into calls if `F` is [`FrameFault`],
+/// into replies if `F` is [`ReplyFault`].
 ///
-/// One buffer for the longest frame is reserved by `new`, and no later call takes memory.
-/// It is reserved capacity: appending within it cannot fail, so no other signature has an error for memory.
+/// `new` allocates one buffer for the longest frame, and no later call allocates. Appending within reserved
+/// capacity cannot fail, so no other function returns an error for memory.
 ///
-/// Contracts see it as three things: how many bytes the frames have that were given up (`past`), the bytes
-/// taken since then (`held`), and the fault, once it is known (`fault`). A fault stays for good.
+/// Contracts see a cutter as three values: the length of all frames that were given up (`past`), the bytes
+/// taken since then (`held`), and the fault, once it is known (`fault`). Once a fault is known it never
+/// changes.
 #[derive(Drop)]
 pub struct Cutter<F: Fault> {
     buffer: Vec<u8>,
     past: u64,
     known: Option<F>,
-    // Whether the bytes held are a whole frame, so that its head is not read again.
+    // Whether the held bytes are a whole frame, so that its head is not read again.
     whole: bool,
 }
 
-/// Cuts a stream into its calls: its buffer has [`MAX_FRAME_BYTES`](envelope::MAX_FRAME_BYTES) bytes.
+/// Cuts a stream into calls. Its buffer has [`MAX_FRAME_BYTES`](envelope::MAX_FRAME_BYTES) bytes.
 pub type Framer = Cutter<FrameFault>;
 
-/// Cuts a stream into its replies: its buffer has [`MAX_REPLY_BYTES`](envelope::MAX_REPLY_BYTES) bytes.
+/// Cuts a stream into replies. Its buffer has [`MAX_REPLY_BYTES`](envelope::MAX_REPLY_BYTES) bytes.
 pub type ReplyFramer = Cutter<ReplyFault>;
 
 impl<F: Fault> Model for Cutter<F> {
@@ -50,7 +51,8 @@ impl<F: Fault> Model for Cutter<F> {
 }
 
 impl<F: Fault> Cutter<F> {
-    /// A framer that has taken nothing, with all the memory that it ever takes.
+    /// Makes a framer for a new stream, and allocates all the memory that it will need. Fails if memory is
+    /// refused.
     pub fn new(alloc: Global) -> Result<Cutter<F>, AllocError>
         ensures empty { IfOk result (λ f. f ≡ begun) }
         ensures open { IfOk result (λ f. IsUnfinished F.kind f.held) }
@@ -72,7 +74,7 @@ impl<F: Fault> Cutter<F> {
         self.past + self.buffer.len() as u64
     }
 
-    /// The fault of the stream, once it is known, with its place counted from the start of the stream.
+    /// The fault of the stream; `None` until one is known. Its place is counted from the start of the stream.
     pub fn fault(&self) -> Option<F>
         ensures value { result ≡ self.now.fault }
         ensures exact { MatchOption result (IsUnbroken F.kind self.now.held)
@@ -81,7 +83,7 @@ impl<F: Fault> Cutter<F> {
         self.known
     }
 
-    // The bytes of the frame that is whole, if one is, and what is known where none is.
+    // The bytes of the frame, if it is whole. The clauses state what is known if it is not.
     #[inline(always)]
     fn whole_frame(&self) -> Option<&[u8]>
         ensures value { IfSome result (λ bytes. (bytes.now ≡ self.now.held) × IsUnbroken F.kind bytes.now
@@ -99,7 +101,7 @@ impl<F: Fault> Cutter<F> {
         Some(held)
     }
 
-    /// Gives up the frame that is whole, so that the next one can be taken. Without one nothing changes.
+    /// Discards the whole frame, so that the next one can be taken. Changes nothing if no frame is whole.
     #[inline(always)]
     pub fn next_frame(&mut self)
         ensures given_up { IsFrame F.kind self.old.held
@@ -114,8 +116,8 @@ impl<F: Fault> Cutter<F> {
         }
     }
 
-    /// Says that the input ends here. A frame that has begun and is not whole is then the fault `EndOfInput`;
-    /// otherwise nothing changes.
+    /// Ends the input. If a frame has begun and is not whole, the fault `EndOfInput` becomes known; otherwise
+    /// nothing changes.
     pub fn end(&mut self)
         ensures ends { IsCutShortAs F.kind self.old → self.new ≡ cut_with F.cut_at self.old }
         ensures kept { ¬ IsCutShortAs F.kind self.old → self.new ≡ self.old }
@@ -125,7 +127,7 @@ impl<F: Fault> Cutter<F> {
         }
     }
 
-    // Whether no more bytes are taken: a frame is whole, or a fault is known.
+    // Whether no more bytes are taken, because a frame is whole or a fault is known.
     #[inline(always)]
     fn is_settled(&self) -> bool
         ensures settled { IsTrue result → IsSettledAs F.kind self.now }
@@ -135,21 +137,21 @@ impl<F: Fault> Cutter<F> {
         self.known.is_some() || self.whole_frame().is_some()
     }
 
-    /// Takes bytes of the piece up to the end of one frame, or up to the byte at which a fault is known, and
-    /// says how many.
+    /// Takes bytes of the piece up to the end of one frame, or up to the byte that makes a fault known.
+    /// Returns the number of bytes taken: 0 if a frame is whole or a fault is known already.
     ///
-    /// All bytes taken and the piece are fewer than 2^63.
+    /// The bytes taken since the start of the stream and the piece must be fewer than 2^63 together.
     #[inline(always)]
     pub fn feed(&mut self, piece: &[u8]) -> usize
         requires room { self.old.past + length self.old.held + length piece.now < 2 ^ 63 }
         ensures within { result ≤ length piece.now }
         ensures past { self.new.past ≡ self.old.past }
         ensures held { self.new.held ≡ self.old.held ++ take result piece.now }
-        // It takes the least prefix of the piece that completes a frame or makes a fault known, otherwise
-        // all of it.
+        // Takes the least prefix of the piece that completes a frame or makes a fault known, otherwise the
+        // whole piece.
         ensures least { (k : ℕ) → k < result → IsUnfinished F.kind (self.old.held ++ take k piece.now) }
         ensures all { result < length piece.now → IsSettledAs F.kind self.new }
-        // A fault that it makes known is of the bytes, and not of an end of the input.
+        // A fault that becomes known is of the bytes, and not of an end of the input.
         ensures known { self.old.fault ≡ None
             → IfSome self.new.fault (λ f. IsBreakIn F.kind self.new.past self.new.held (F.wrong_part f)
             (F.place f)) }
@@ -174,7 +176,7 @@ impl<F: Fault> Cutter<F> {
 }
 
 impl Cutter<FrameFault> {
-    /// The call whose frame is whole, if one is, as part of the buffer.
+    /// The call whose frame is whole, borrowed from the buffer; `None` if no frame is whole.
     pub fn frame(&self) -> Option<Call<'_>>
         ensures { MatchOption result (¬ BeginsFrame Calls self.now.held) (λ call. IsCall (bytes_of call)
             × (self.now.held ≡ frame (bytes_of call))) }
@@ -184,7 +186,7 @@ impl Cutter<FrameFault> {
 }
 
 impl Cutter<ReplyFault> {
-    /// The reply whose frame is whole, if one is, as part of the buffer.
+    /// The reply whose frame is whole, borrowed from the buffer; `None` if no frame is whole.
     pub fn reply(&self) -> Option<Reply<'_>>
         ensures { MatchOption result (¬ BeginsFrame Replies self.now.held) (λ r. IsReply (reply_bytes_of r)
             × (self.now.held ≡ reply (reply_bytes_of r))) }

@@ -1,14 +1,14 @@
 //! Streams of calls and replies, cut into their frames as they come, in any pieces.
 //!
-//! What a frame is, and which calls a list of bytes has, is said in `envelope`. Its types and limits have
-//! their names there alone, as `envelope::MAX_MESSAGE_BYTES`: this crate exports none of them again.
-//! `specs/Framer.antt` says what a framer has taken, `specs/Holding.antt` what holds of it, and
-//! `specs/Prefix.antt` what it takes of a piece. [`send`] writes a frame (`specs/Writing.antt`).
+//! The crate `envelope` defines frames and which calls a list of bytes contains. Types and limits such as
+//! `envelope::MAX_MESSAGE_BYTES` have their names there alone: this crate exports none of them again.
+//! `specs/Framer.antt` defines what a framer has taken, `specs/Holding.antt` what is true of the bytes held,
+//! and `specs/Prefix.antt` which bytes of a piece are taken. [`send`] writes a frame (`specs/Writing.antt`).
 //!
-//! [`Framer`] and [`ReplyFramer`] are one [`Cutter`]. It appends what may be a head, looks at it, and cuts
-//! back to where the frame or the fault ends; the body then comes as one block copy into the same buffer, the
-//! only memory that it ever takes. It keeps whether the frame is whole then (`Marks` of
-//! `specs/Holding.antt`), so that its head is not read again.
+//! [`Framer`] and [`ReplyFramer`] are one type, [`Cutter`]. It appends the bytes that may be a head, looks at
+//! them, and removes those after the end of the frame or the fault. It then copies the body in one block into
+//! the same buffer, which is the only memory it allocates. It remembers whether the frame is whole (`Marks`
+//! of `specs/Holding.antt`), so that its head is not read again.
 //!
 //! ```rust
 //! let mut framer = Framer::new(alloc)?;

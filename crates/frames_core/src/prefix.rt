@@ -6,21 +6,21 @@ ghost use Rattle.envelope.specs.Head.{IsShort, most_frame};
 
 use envelope::{Flaw, FrameKind, Head, Look, look_at};
 
-/// The part of a piece that was taken.
+/// The bytes of a piece that [`take_prefix`] took, and what they complete or break.
 #[derive(Clone, Copy)]
 pub(crate) struct Prefix {
     /// The number of bytes taken.
     pub count: usize,
-    /// The rule that the last of them breaks, with its place in the held bytes.
+    /// The rule that the last taken byte breaks, with its place in the held bytes; `None` if none is broken.
     pub flaw: Option<Flaw>,
-    /// Whether the bytes held are then a whole frame.
+    /// Whether the held bytes are now a whole frame.
     pub whole: bool,
 }
 
-/// Takes bytes of the piece up to the end of one frame, or up to the byte that breaks the table.
+/// Takes bytes of the piece up to the end of one frame, or up to the byte that breaks a rule of the table.
 ///
-/// What may be the head is appended, looked at and cut back to where the frame or the break ends; the body
-/// then comes as one copy.
+/// Appends the bytes that may be the head, looks at them, and removes those after the end of the frame or the
+/// break. Then copies the body in one block. The buffer must have room for the longest frame.
 #[inline(always)]
 pub(crate) fn take_prefix(kind: FrameKind, buffer: &mut Vec<u8>, piece: &[u8]) -> Prefix
     requires room { most_frame kind ≤ vec_capacity buffer.old }
@@ -65,7 +65,7 @@ pub(crate) fn take_prefix(kind: FrameKind, buffer: &mut Vec<u8>, piece: &[u8]) -
     }
 }
 
-/// Says in a clause what the type says.
+/// States as a clause what the type `u8` states: each byte is below 256.
 pub(crate) fn each_fits(bytes: &[u8])
     ensures { (k : ℕ) → slice_index bytes.now k < 256 }
 {}
@@ -76,7 +76,7 @@ fn at_most(n: usize, bound: usize) -> usize
     if n < bound { n } else { bound }
 }
 
-// Appends the bytes, for which there is room.
+// Appends the bytes. The buffer must have room for them.
 #[inline(always)]
 fn append(buffer: &mut Vec<u8>, bytes: &[u8])
     requires { vec_len buffer.old + length bytes.now ≤ vec_capacity buffer.old }
@@ -88,7 +88,7 @@ fn append(buffer: &mut Vec<u8>, bytes: &[u8])
     }
 }
 
-// Whether `count` bytes are all the missing ones. No bytes are missing until the length of the body is
+// Whether `count` is the number of missing bytes. No byte counts as missing until the length of the body is
 // known.
 #[inline(always)]
 fn are_all(count: usize, missing: usize) -> bool
@@ -98,7 +98,7 @@ fn are_all(count: usize, missing: usize) -> bool
     missing > 0 && count == missing
 }
 
-// The missing bytes of the body: 0 until its length is known.
+// The number of bytes of the body that are missing: 0 until the length of the body is known.
 #[tactic(auto, unfolding(envelope::specs::Head::IsShort))]
 #[inline(always)]
 fn missing(kind: FrameKind, bytes: &[u8]) -> usize

@@ -1,7 +1,7 @@
 //! Writing a frame.
 //!
-//! A failure is std's `io::Error`, and no type of this project: who sends a frame displays the error, or asks
-//! again, and does nothing else with it.
+//! Errors are std's `io::Error`: code that sends a frame displays the error or sends again, and needs no type
+//! of this project.
 
 ghost use Rattle.std.specs.Prelude.{OnOk};
 ghost use Rattle.std.specs.Io.KnownBytes.{Appends};
@@ -10,7 +10,7 @@ ghost use Rattle.frames_core.specs.Writing.{WrotePrefix};
 use std::io::{self, ErrorKind, Write};
 
 // Writes all of the bytes, or fails after a prefix of them.
-// std's `write_all` says what was written only if all was, and a change store that fails needs the rest.
+// std's `write_all` promises what was written only if all was. A change store that fails needs more.
 #[inline(always)]
 fn put<W: Write>(writer: &mut W, bytes: &[u8]) -> io::Result<()>
     ensures all { OnOk result (Appends (W.contents writer.old) (W.contents writer.new) bytes.now) }
@@ -28,16 +28,16 @@ fn put<W: Write>(writer: &mut W, bytes: &[u8]) -> io::Result<()>
     Ok(())
 }
 
-/// Writes all bytes of a frame, and flushes.
+/// Writes all bytes of a frame, and flushes the writer.
 ///
 /// # Errors
 ///
-/// Where a write or the flush failed, or a write took nothing: then a prefix of the bytes was written, which
-/// may be none or all of them. An interrupted write is a failure.
+/// If a write or the flush fails, or a write takes no byte. A prefix of the bytes was then written, which may
+/// be none or all of them. An interrupted write is an error too.
 ///
 /// # Not promised
 ///
-/// That the bytes are flushed: rows of `test_bytes` show it.
+/// That the bytes are flushed. The rows of `test_bytes` show it.
 #[inline(always)]
 pub fn send<W: Write>(writer: &mut W, frame: &[u8]) -> io::Result<()>
     ensures all { OnOk result (Appends (W.contents writer.old) (W.contents writer.new) frame.now) }

@@ -1,4 +1,4 @@
-//! Entries of maps, which are messages (Protocol Buffers encoding guide, 'Maps').
+//! Entries of maps, which are encoded as messages (Protocol Buffers encoding guide, 'Maps').
 
 ghost use Rattle.std.specs.Prelude.{◌≡◌};
 ghost use Rattle.pbmessage.specs.Schema.{map_entry_schema};
@@ -9,10 +9,10 @@ use crate::slots::{is_text, set_text};
 use csi_types::Text;
 use std::alloc::{AllocError, Global};
 
-/// The package of entries.
+/// The package of [`MapEntry`], for the parameter of [`Message`].
 pub struct Entries;
 
-/// An entry of a map of texts: key 1 and value 2.
+/// An entry of a map of texts: its key, field 1, and its value, field 2.
 pub type MapEntry = (Text, Text);
 
 #[tactic(auto, using(crate::specs::facts::Views::last_after))]

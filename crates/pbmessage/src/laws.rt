@@ -6,8 +6,8 @@ ghost use Rattle.pbmessage.specs.Fields.{fields_of};
 
 use pbwire::laws::spelled;
 
-/// The fields of a payload are those that its bytes encode (Protocol Buffers encoding guide, 'Message
-/// Structure').
+/// The function `fields_of` gives the fields that the bytes encode, if the bytes are a list of fields
+/// (Protocol Buffers encoding guide, 'Message Structure').
 #[inline(always)]
 pub fn fields()
     ensures { (bytes : List ℕ) (es : List WireField) → AreFields es bytes → fields_of bytes ≡ es }

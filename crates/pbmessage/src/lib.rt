@@ -1,14 +1,15 @@
 //! Messages of any type to and from bytes (Protocol Buffers, proto3).
 //!
-//! What bytes mean is a function of *views*: what a list of fields has under each field number, as the
-//! last text, all payloads, the joined fields of an embedded message, the last entry of each key, the member
-//! of a oneof. A message is three short definitions: which view gives each part of its value, its *schema*
-//! (which numbers are of texts and embedded messages), and how the value is written. The trait
-//! [`Message`] carries the reading of any message and the trait [`Written`] its writing. Which messages there
-//! are is said by the crate above.
+//! The value that bytes encode is a function of *views*: what a list of fields has under each field number,
+//! such as the last text, all payloads, the joined fields of an embedded message, the last entry of each key,
+//! the member of a oneof. A message is three short definitions: which view gives each part of its value, its
+//! *schema* (which field numbers are of texts and embedded messages), and how the value is written. The trait
+//! [`Message`] is for decoding messages of any type, and the trait [`Written`] for encoding them. The crate
+//! above defines the messages.
 //!
-//! Reading takes two passes: one looks for faults and takes no memory, so a malformed message is never
-//! answered as want of memory; the other builds. Embedded messages are merged in place and written in place.
+//! Decoding takes two passes. The first looks for faults and takes no memory, so a malformed message is never
+//! refused for lack of memory; the second builds the value. Embedded messages are merged in place and written
+//! in place.
 //!
 //! ```rust
 //! match decode_message::<Package, Message>(alloc, bytes) {

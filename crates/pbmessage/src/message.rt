@@ -1,5 +1,5 @@
-//! Reading a message of any type: first a pass that looks for faults and takes no memory, then one that
-//! builds.
+//! Decoding a message of any type. The first pass looks for faults and takes no memory; the second builds the
+//! value.
 
 ghost use Rattle.std.specs.Prelude.{◌≡◌, ◌↔◌, ℕ, List, [], ◌∷◌, ◌++◌, IsTrue, OnOk, IfOk, IfErr, MatchOption};
 ghost use Rattle.pbwire.specs.Wire.{WireField};
@@ -14,31 +14,33 @@ use pbwire::laws::spelled;
 use pbwire::{Field, Fields, Value};
 use std::alloc::{AllocError, Global};
 
-/// A type that is read from the fields of a message.
+/// A type that is decoded from the fields of a message.
 ///
-/// Its value is a function of what is under each field number, so to read a message is to take its fields
-/// in order. `P` names the package of messages: a type of the crate that says how they are read,
-/// which need not be the one whose types their values are.
+/// The value is a function of what is under each field number, so a message is decoded by taking its fields
+/// in order. `P` names the package of the message. It is a type of the crate that implements this trait, so
+/// the type of the value may belong to another crate.
 pub trait Message<P>: Drop {
-    /// The numbers of texts and embedded messages.
+    /// The field numbers of texts and embedded messages.
     ghost schema: { Schema };
 
-    /// The value, by what is in the message.
+    /// The value, as a function of what the fields have.
     ghost of: { Views → Self };
 
-    /// The value of a message without fields. It takes no memory.
+    /// The value of a message without fields. Takes no memory.
     fn empty(alloc: Global) -> Self
         ensures { result ≡ of no_views };
 
-    /// Whether this payload is good under this number.
+    /// Whether this payload is well-formed under this field number. Other payloads make the message
+    /// malformed.
     fn is_good(number: u32, payload: &[u8]) -> bool
         ensures { IsTrue result ↔ Good schema number payload.now };
 
-    /// Takes one more varint.
+    /// Takes a field that holds a varint into the value.
     fn merge_number(&mut self, number: u32, value: u64)
         ensures { (v : Views) → self.old ≡ of v → self.new ≡ of (with_number number value v) };
 
-    /// Takes one more payload. Where memory is refused it may have been taken in part.
+    /// Takes a field that holds a payload into the value. The payload must be well-formed. If memory is
+    /// refused, a part of it may have been taken.
     fn merge_payload(
         &mut self,
         alloc: Global,
@@ -50,21 +52,21 @@ pub trait Message<P>: Drop {
             → self.new ≡ of (with_payload number payload.now v)) };
 }
 
-/// The text of a malformed message, up to the offset of its field, which follows in decimal.
+/// The text that refuses a malformed message, up to the offset of the field, which follows in decimal.
 pub const MALFORMED_MESSAGE: &str = "malformed message in the field at byte ";
 
-/// Why a message is not read. Want of memory is displayed as [`Reason::OutOfMemory`] is.
+/// Why a message cannot be decoded. `NoMemory` is displayed as [`Reason::OutOfMemory`] is.
 #[derive(Clone, Copy, Debug, PartialEq, Eq, thiserror::Error)]
 pub enum DecodeFault {
-    /// The bytes mean no value: the field at this byte is malformed, holds a text that is not UTF-8, or holds
-    /// an embedded message that is malformed itself. The bytes before it are the longest prefix of the
-    /// message that is a list of good fields.
+    /// The bytes encode no value: the field at this byte is malformed, holds a text that is not UTF-8, or
+    /// holds an embedded message that is malformed itself. The bytes before it are the longest prefix of the
+    /// message that is a list of well-formed fields.
     #[error("{}{at}", MALFORMED_MESSAGE)]
     Malformed {
         /// The offset of the field, in bytes from the start of the message.
         at: usize,
     },
-    /// The bytes mean a value, and there is no memory for it.
+    /// The bytes encode a value, and memory for it was refused.
     #[error("{}", Reason::OutOfMemory)]
     NoMemory,
 }
@@ -96,6 +98,9 @@ fn merge_field<P, M: Message<P>>(
 }
 
 /// The offset at which the bytes stop being a list of good fields, if they do. It takes no memory.
+///
+/// A field is good if it is well-formed and, if the message has a text or an embedded message under its
+/// number, its payload is well-formed too.
 pub fn first_fault<P, M: Message<P>>(bytes: &[u8]) -> Option<usize>
     ensures { MatchOption result (AreGood (GoodField (Good M.schema)) bytes.now)
         (IsRefusedAt (GoodField (Good M.schema)) bytes.now) }
@@ -115,7 +120,8 @@ pub fn first_fault<P, M: Message<P>>(bytes: &[u8]) -> Option<usize>
     None
 }
 
-/// Takes all fields of good bytes. Where memory is refused some may have been taken.
+/// Takes all fields of the bytes into the message. The bytes must be well-formed. If memory is refused, some
+/// fields may have been taken.
 pub fn merge<P, M: Message<P>>(
     message: &mut M,
     alloc: Global,
@@ -134,7 +140,7 @@ pub fn merge<P, M: Message<P>>(
     Ok(())
 }
 
-/// The value of good bytes.
+/// Decodes a message from bytes already known to be well-formed. Fails if memory is refused.
 pub fn read<P, M: Message<P>>(alloc: Global, bytes: &[u8]) -> Result<M, AllocError>
     requires { AreGood (GoodField (Good M.schema)) bytes.now }
     ensures { IfOk result (λ message. message ≡ value_of M.of (fields_of bytes.now)) }
@@ -144,8 +150,12 @@ pub fn read<P, M: Message<P>>(alloc: Global, bytes: &[u8]) -> Result<M, AllocErr
     Ok(message)
 }
 
-/// The value of the bytes. Faults are looked for first, so want of memory is reported only for bytes that
-/// mean a value.
+/// Decodes a message.
+///
+/// # Errors
+///
+/// `Malformed` if the bytes are malformed, which is checked before any memory is taken; `NoMemory` if they
+/// are well-formed and memory is refused.
 #[inline(always)]
 pub fn decode_message<P, M: Message<P>>(alloc: Global, bytes: &[u8]) -> Result<M, DecodeFault>
     ensures ok { IfOk result (Means (GoodField (Good M.schema)) (value_of M.of) bytes.now) }
@@ -161,7 +171,7 @@ pub fn decode_message<P, M: Message<P>>(alloc: Global, bytes: &[u8]) -> Result<M
     }
 }
 
-/// As [`decode_message`], but boxed, so that callers do not move the message.
+/// Decodes a message as [`decode_message`] does, and boxes it, so that callers do not move the message.
 pub fn decode_boxed<P, M: Message<P>>(alloc: Global, bytes: &[u8]) -> Result<Boxed<M>, DecodeFault>
     ensures ok { IfOk result (Means (GoodField (Good M.schema)) (value_of M.of) bytes.now) }
     ensures err { IfErr result (Refuses (GoodField (Good M.schema)) bytes.now) }

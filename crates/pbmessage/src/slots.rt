@@ -1,4 +1,4 @@
-//! Taking one more payload into a part of a message.
+//! Checking one payload, and adding it to a part of a message.
 
 ghost use Rattle.std.specs.Prelude.{◌≡◌, ◌↔◌, ◌++◌, ◌∷◌, [], IsTrue, IsUtf8, IfOk, OnOk};
 ghost use Rattle.pbmessage.specs.Schema.{GoodField, Good, map_entry_schema};
@@ -10,7 +10,7 @@ use crate::message::{Message, first_fault, merge, read};
 use csi_types::{Items, Map, Text};
 use std::alloc::{AllocError, Global};
 
-/// Whether the payload is a text, that is, UTF-8.
+/// Whether the payload is a text: valid UTF-8.
 pub fn is_text(payload: &[u8]) -> bool
     ensures { IsTrue result ↔ IsUtf8 payload.now }
 {
@@ -21,32 +21,34 @@ pub fn is_text(payload: &[u8]) -> bool
     simdutf8::basic::from_utf8(payload).is_ok()
 }
 
-/// A copy of the text.
+/// Copies the payload, which must be UTF-8, to a text. Fails if memory is refused.
 pub fn text(alloc: Global, payload: &[u8]) -> Result<Text, AllocError>
     requires { IsUtf8 payload.now }
     ensures { IfOk result (λ text. text ≡ payload.now) }
 {
-    // The bytes were found to be UTF-8 when the message was looked through for faults.
+    // The pass that looked for faults found these bytes to be UTF-8.
     Text::from_str(alloc, unsafe { std::str::from_utf8_unchecked(payload) })
 }
 
-/// Gives a text another value, in the memory that it has where that is enough.
+/// Sets a text to the payload, which must be UTF-8, in the memory that the text already has if that is
+/// enough. Fails if memory is refused.
 pub fn set_text(slot: &mut Text, payload: &[u8]) -> Result<(), AllocError>
     requires { IsUtf8 payload.now }
     ensures { OnOk result (slot.new ≡ payload.now) }
 {
-    // The bytes were found to be UTF-8 when the message was looked through for faults.
+    // The pass that looked for faults found these bytes to be UTF-8.
     slot.set(unsafe { std::str::from_utf8_unchecked(payload) })
 }
 
-/// Whether the payload, taken alone, is a list of good fields.
+/// Whether the payload, taken alone, is a well-formed message of type `M`.
 pub fn is_message<P, M: Message<P>>(payload: &[u8]) -> bool
     ensures { IsTrue result ↔ AreGood (GoodField (Good M.schema)) payload.now }
 {
     first_fault::<P, M>(payload).is_none()
 }
 
-/// Merges an embedded message with its earlier occurrences.
+/// Merges the payload of an embedded message with earlier occurrences of its field. The payload must be
+/// well-formed. Fails if memory is refused.
 pub fn merge_message<P, M: Message<P>>(
     slot: &mut Option<M>,
     alloc: Global,
@@ -63,7 +65,8 @@ pub fn merge_message<P, M: Message<P>>(
     Ok(())
 }
 
-/// Appends a message of its own to a repeated field.
+/// Appends the message in the payload to a repeated field. The payload must be well-formed. Fails if memory
+/// is refused.
 pub fn push_message<P, M: Message<P>>(
     items: &mut Items<M>,
     alloc: Global,
@@ -77,14 +80,15 @@ pub fn push_message<P, M: Message<P>>(
     Ok(())
 }
 
-/// Whether the payload is an entry of a map of texts: taken alone, a list of good fields.
+/// Whether the payload, taken alone, is a well-formed entry of a map of texts.
 pub fn is_entry(payload: &[u8]) -> bool
     ensures { IsTrue result ↔ AreGood (GoodField (Good map_entry_schema)) payload.now }
 {
     is_message::<Entries, MapEntry>(payload)
 }
 
-/// Enters an entry into a map, over an earlier one of the same key.
+/// Inserts the entry in the payload into a map, replacing an earlier entry with the same key. The payload
+/// must be well-formed. Fails if memory is refused.
 pub fn merge_entry(map: &mut Map, alloc: Global, payload: &[u8]) -> Result<(), AllocError>
     requires { AreGood (GoodField (Good map_entry_schema)) payload.now }
     ensures { OnOk result ((ps : Payloads) → map.old ≡ text_map ps

@@ -1,6 +1,7 @@
-//! Writing a message of any type, in its one encoding.
+//! Encoding a message of any type, in its one encoding.
 //!
-//! An embedded message is written in place: an empty field, its fields after it, and then its length.
+//! An embedded message is written in place: first a field with an empty payload, then the fields of the
+//! message, then the length.
 
 ghost use Rattle.std.specs.Prelude.{◌≡◌, ◌++◌, ◌∷◌, [], ◌≤◌, ◌<◌, ◌^◌, List, OnOk, OnErr, option_to_list, length, take};
 ghost use Rattle.std.specs.FinMap.{empty, entries, insert};
@@ -14,22 +15,23 @@ use pbwire::laws::closed;
 use pbwire::{close_bytes, put_bytes, put_entry, put_varint};
 use std::alloc::AllocError;
 
-/// A message with one encoding, in the package `P` as for [`Message`](crate::Message).
+/// A type whose values have one encoding each. `P` is the package, as for [`Message`](crate::Message).
 pub trait Written<P> {
     /// The fields of the encoding, by their numbers.
     ghost canon: { Self → Rows };
 
-    /// The values that have an encoding. Every written value is one of them.
+    /// The values that have an encoding. `write` succeeds only for these.
     ghost fits: { Self → Type 0 };
 
-    /// Appends the encoding. Where memory is refused a part of it may be there.
+    /// Appends the encoding. If memory is refused, a part of the encoding may have been appended.
     fn write(&self, out: &mut Vec<u8>) -> Result<(), AllocError>
         ensures ok { OnOk result (out.new.items ≡ out.old.items ++ bytes_of (canon self.now)) }
         ensures fitting { OnOk result (fits self.now) }
         ensures kept { Keeps out.old.items out.new.items };
 }
 
-/// Where an encoding was not written whole, removes what is after the first `from` bytes.
+/// Returns `written`. If it is an error, first truncates the vector to its first `from` bytes, which removes
+/// an encoding written in part.
 pub fn whole_or_none(
     out: &mut Vec<u8>,
     from: usize,
@@ -46,7 +48,7 @@ pub fn whole_or_none(
     written
 }
 
-// Appends a text, unless it is empty.
+// Appends a text as field `number`; appends nothing if the text is empty.
 #[tactic(auto, unfolding(crate::specs::Canon::row_fields))]
 fn put_str(out: &mut Vec<u8>, number: u32, text: &str) -> Result<(), AllocError>
     requires { (1 ≤ number) × (number < 2 ^ 29) }
@@ -61,7 +63,7 @@ fn put_str(out: &mut Vec<u8>, number: u32, text: &str) -> Result<(), AllocError>
     put_bytes(out, number, text.as_bytes())
 }
 
-/// Appends a text, unless it is empty.
+/// Appends the text as field `number`; appends nothing if the text is empty.
 pub fn put_text(out: &mut Vec<u8>, number: u32, text: &Text) -> Result<(), AllocError>
     requires { (1 ≤ number) × (number < 2 ^ 29) }
     ensures ok { OnOk result (out.new.items
@@ -72,7 +74,7 @@ pub fn put_text(out: &mut Vec<u8>, number: u32, text: &Text) -> Result<(), Alloc
     put_str(out, number, text.as_str())
 }
 
-/// Appends a text in two parts, unless both are empty.
+/// Appends the text `first` followed by `second` as one field `number`; appends nothing if both are empty.
 pub fn put_joined(
     out: &mut Vec<u8>,
     number: u32,
@@ -91,7 +93,7 @@ pub fn put_joined(
     pbwire::put_joined(out, number, first.as_bytes(), second.as_bytes())
 }
 
-/// Appends texts, also empty ones.
+/// Appends each text as a field `number` of its own, empty texts too.
 #[tactic(auto, unfolding(crate::specs::Canon::row_fields))]
 pub fn put_texts(out: &mut Vec<u8>, number: u32, texts: &Items<Text>) -> Result<(), AllocError>
     requires { (1 ≤ number) × (number < 2 ^ 29) }
@@ -106,7 +108,7 @@ pub fn put_texts(out: &mut Vec<u8>, number: u32, texts: &Items<Text>) -> Result<
     Ok(())
 }
 
-/// Appends a signed number, unless it is 0.
+/// Appends the signed number as field `number`; appends nothing if the value is 0.
 #[tactic(auto, unfolding(crate::specs::Canon::row_fields))]
 pub fn put_signed(out: &mut Vec<u8>, number: u32, value: i64) -> Result<(), AllocError>
     requires { (1 ≤ number) × (number < 2 ^ 29) }
@@ -120,7 +122,7 @@ pub fn put_signed(out: &mut Vec<u8>, number: u32, value: i64) -> Result<(), Allo
     put_varint(out, number, value.cast_unsigned())
 }
 
-/// Appends a flag, unless it is false.
+/// Appends the flag as field `number`; appends nothing if the flag is false.
 #[tactic(auto, unfolding(crate::specs::Canon::row_fields))]
 pub fn put_flag(out: &mut Vec<u8>, number: u32, flag: bool) -> Result<(), AllocError>
     requires { (1 ≤ number) × (number < 2 ^ 29) }
@@ -134,7 +136,7 @@ pub fn put_flag(out: &mut Vec<u8>, number: u32, flag: bool) -> Result<(), AllocE
     put_varint(out, number, 1)
 }
 
-/// Appends an empty message, if there is one.
+/// Appends an empty message as field `number` if `present`; otherwise appends nothing.
 #[tactic(auto, unfolding(crate::specs::Canon::row_fields))]
 pub fn put_presence(out: &mut Vec<u8>, number: u32, present: bool) -> Result<(), AllocError>
     requires { (1 ≤ number) × (number < 2 ^ 29) }
@@ -148,7 +150,7 @@ pub fn put_presence(out: &mut Vec<u8>, number: u32, present: bool) -> Result<(),
     put_bytes(out, number, &[])
 }
 
-/// Appends an embedded message: its tag, its length and its fields.
+/// Appends an embedded message as field `number`: its tag, its length and its fields.
 pub fn put_message<P, M: Written<P>>(
     out: &mut Vec<u8>,
     number: u32,
@@ -167,7 +169,7 @@ pub fn put_message<P, M: Written<P>>(
     close_bytes(out, from)
 }
 
-/// Appends a message, if there is one.
+/// Appends the message as field `number`; appends nothing if it is `None`.
 #[tactic(auto, unfolding(crate::specs::Canon::row_fields))]
 pub fn put_option<P, M: Written<P>>(
     out: &mut Vec<u8>,
@@ -186,7 +188,7 @@ pub fn put_option<P, M: Written<P>>(
     }
 }
 
-/// Appends messages, each as a field of its own.
+/// Appends each message as a field `number` of its own.
 #[tactic(auto, unfolding(crate::specs::Canon::row_fields))]
 pub fn put_messages<P, M: Written<P>>(
     out: &mut Vec<u8>,
@@ -205,7 +207,7 @@ pub fn put_messages<P, M: Written<P>>(
     Ok(())
 }
 
-/// Appends a map, its entries in byte order of their keys.
+/// Appends each entry of the map as a field `number`, in byte order of the keys.
 #[tactic(auto, unfolding(crate::specs::Canon::row_fields))]
 pub fn put_map(out: &mut Vec<u8>, number: u32, map: &Map) -> Result<(), AllocError>
     requires { (1 ≤ number) × (number < 2 ^ 29) }
@@ -220,7 +222,7 @@ pub fn put_map(out: &mut Vec<u8>, number: u32, map: &Map) -> Result<(), AllocErr
     Ok(())
 }
 
-/// Appends a map of one entry, which nothing is copied for.
+/// Appends a map with one entry as field `number`, without copying key or value.
 #[tactic(auto, using(crate::proofs::EntryLemmas::one_entry, crate::proofs::EntryLemmas::one_entry_fits), unfolding(crate::specs::Canon::row_fields))]
 pub fn put_single(out: &mut Vec<u8>, number: u32, key: &str, value: &str) -> Result<(), AllocError>
     requires { (1 ≤ number) × (number < 2 ^ 29) }
@@ -232,7 +234,7 @@ pub fn put_single(out: &mut Vec<u8>, number: u32, key: &str, value: &str) -> Res
     put_map_entry(out, number, key, value)
 }
 
-// Appends an entry of a map, with both its parts, also empty ones.
+// Appends an entry of a map as field `number`. Key and value are both written, even if empty.
 #[tactic(auto, unfolding(crate::specs::Canon::row_fields))]
 fn put_map_entry(out: &mut Vec<u8>, number: u32, key: &str, value: &str) -> Result<(), AllocError>
     requires { (1 ≤ number) × (number < 2 ^ 29) }

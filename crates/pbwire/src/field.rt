@@ -1,4 +1,4 @@
-//! Fields, and what can be wrong with the bytes where one should be.
+//! Fields, and the faults of bytes that should be a field.
 
 use thiserror::Error;
 
@@ -20,22 +20,22 @@ pub enum Value<'a> {
 pub struct Field<'a> {
     /// The field's number, from 1 to 536,870,911.
     pub number: u32,
-    /// The field's value.
+    /// The field's value, in the form of its wire type.
     pub value: Value<'a>,
 }
 
-/// Why no field is at an offset. One reason holds: a tag's goes before its payload's, and the tag's
-/// number before its wire type.
+/// Why there is no field at an offset. Only one reason holds: a fault of the tag counts before a fault of the
+/// payload, and a fault of the tag's number before a fault of its wire type.
 #[derive(Clone, Copy, Debug, PartialEq, Eq, Error)]
 pub enum WireWhy {
-    /// A malformed varint, as tag, value or length: ten bytes are there, and no first bytes of
-    /// them are one ("Base 128 Varints"). A tenth byte above 1 is malformed too.
+    /// The tag, the value or the length is a malformed varint: at least ten bytes are there, and no prefix of
+    /// them is a varint ("Base 128 Varints"). A tenth byte above 1 is malformed too.
     #[error("malformed varint")]
     Varint,
-    /// A tag whose number is 0, or that is 2^32 or more.
+    /// The field number of the tag is 0, or the tag is 2^32 or more.
     #[error("malformed tag")]
     Tag,
-    /// A wire type other than 0, 1, 2 and 5. The groups of wire types 3 and 4 are not read.
+    /// The wire type is not 0, 1, 2 or 5. Groups (wire types 3 and 4) are not supported.
     #[error("unknown wire type")]
     WireType,
     /// The message ends inside the field.
@@ -43,12 +43,12 @@ pub enum WireWhy {
     CutShort,
 }
 
-/// An offset of a message at which a field should be, and none is.
+/// The fault of bytes at an offset where a field should be.
 #[derive(Clone, Copy, Debug, PartialEq, Eq, Error)]
 #[error("{why} at byte {at}")]
 pub struct WireFault {
     /// The rule of the wire format that the bytes break.
     pub why: WireWhy,
-    /// The offset of the field's tag in the message, in bytes.
+    /// The offset of the faulty field's tag in the message, in bytes.
     pub at: usize,
 }

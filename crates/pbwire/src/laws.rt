@@ -1,4 +1,4 @@
-//! Laws of the wire format: each is the contract of a function that does nothing.
+//! Laws of the wire format. Each law is the contract of a function that does nothing.
 
 ghost use Rattle.std.specs.Prelude.{◌≡◌, ◌↔◌, [], ◌∷◌, ◌++◌, ◌-◌, ◌<◌, ◌≤◌, ℕ, List, Ok, Err, All, length, take, drop};
 ghost use Rattle.pbwire.specs.declared.field.WireWhy.{WireWhy};
@@ -7,7 +7,8 @@ ghost use Rattle.pbwire.specs.Reading.{field_at};
 ghost use Rattle.pbwire.specs.Faults.{Faults};
 ghost use Rattle.pbwire.specs.Writing.{varint, spelling, spellings};
 
-/// A field is read exactly where one is encoded, whatever follows it, and takes at least one byte.
+/// A field is read exactly if the bytes begin with an encoding of it, no matter what follows, and takes at
+/// least one byte.
 #[inline(always)]
 pub fn spelled()
     ensures exactly { (bytes rest : List ℕ) (e : WireField) →
@@ -16,8 +17,8 @@ pub fn spelled()
         → length rest < length bytes }
 {}
 
-/// A fault is met, for a reason, exactly where the table of faults has that reason for the bytes. At
-/// most one reason holds of any bytes, and where one does, no prefix of them encodes a field.
+/// Reading fails with a reason exactly if the table of faults has that reason for the bytes. At most one
+/// reason holds for any bytes, and if one does, no prefix of the bytes encodes a field.
 #[inline(always)]
 pub fn faulted()
     ensures reason { (bytes : List ℕ) (why : WireWhy) → (field_at bytes ≡ Err why) ↔ Faults why bytes }
@@ -27,8 +28,8 @@ pub fn faulted()
         Faults why bytes → bytes ≡ first ++ rest → Spells e first → ⊥ }
 {}
 
-/// A message has at most one list of fields, and reading field after field gives it: the message
-/// begins with the list's first field, and goes on with the others.
+/// A message has at most one list of fields, and reading field after field gives that list: the first field
+/// at the start of the message, and the others in order after it.
 #[inline(always)]
 pub fn listed()
     ensures unique { (es others : List WireField) (bytes : List ℕ) → AreFields es bytes
@@ -37,9 +38,9 @@ pub fn listed()
         AreFields (e ∷ es) bytes ↔ ((rest : List ℕ) × (field_at bytes ≡ Ok (e, rest)) × AreFields es rest) }
 {}
 
-/// What is written is read again, whatever follows it; fields that are written in order
-/// are a message with that list; and no other encoding of a field is shorter. A field has an encoding
-/// exactly where its number and what it holds are in range.
+/// A written field is read back, no matter what follows it; fields written in order are the message with
+/// this list of fields; and no other encoding of a field is shorter. A field can be encoded exactly if its
+/// number and its value are in range.
 #[inline(always)]
 pub fn written()
     ensures again { (e : WireField) (more : List ℕ) → FitsField e
@@ -51,8 +52,8 @@ pub fn written()
         → length (spelling e) ≤ length bytes }
 {}
 
-/// A field of an empty payload that ends at `from`, bytes after it, and its length set to theirs, as
-/// [`close_bytes`](crate::close_bytes) sets it, are the field of these bytes.
+/// Appending bytes to a field with an empty payload and then setting its length to theirs, as
+/// [`close_bytes`](crate::close_bytes) does, gives the field that has these bytes as its payload.
 #[inline(always)]
 pub fn closed()
     ensures begins { (number from : ℕ) (old : List ℕ) →
@@ -64,7 +65,7 @@ pub fn closed()
         ≡ old ++ spelling (record { number = number; part = Payload bytes }) }
 {}
 
-/// A number below 128 is a varint of one byte, which is the number.
+/// A number below 128 is encoded as a varint of one byte, which is the number.
 #[inline(always)]
 pub fn short()
     ensures { (n : ℕ) → n < 128 → varint n ≡ n ∷ [] }

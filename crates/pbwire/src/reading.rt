@@ -1,4 +1,4 @@
-//! Reading fields from the left. Each function takes a prefix of the bytes, and gives the rest.
+//! Reading fields from the left. Each function reads a prefix of the bytes and returns the rest.
 
 ghost use Rattle.std.specs.Prelude.{◌≡◌, ◌*◌, ◌^◌, nat_le, if◌then◌else◌, Ok, Err, IsTrue, IsNone};
 ghost use Rattle.pbwire.specs.declared.field.WireWhy.TheVariants as why;
@@ -21,7 +21,7 @@ fn read_varint(bytes: &[u8]) -> Result<(u64, &[u8]), WireWhy>
     read_long_varint(bytes)
 }
 
-// Nine groups hold 63 bits, so the tenth has one.
+// Nine groups hold 63 bits, so the tenth may hold only one.
 fn tenth_group(byte: u8) -> Result<u64, WireWhy>
     ensures { result ≡ if nat_le byte 1 then Ok (2 ^ 63 * byte) else Err why.Varint }
 {
@@ -129,8 +129,8 @@ fn read_field(bytes: &[u8]) -> Result<(Field<'_>, &[u8]), WireWhy>
     ))
 }
 
-/// The fields of a message, from the first to the last or to the first fault. Payloads are borrowed from
-/// the message, and no call takes memory.
+/// The fields of a message, from the first to the last or to the first fault. Payloads are borrowed from the
+/// message, and nothing is allocated.
 #[derive(Drop)]
 pub struct Fields<'a> {
     len: usize,
@@ -152,7 +152,7 @@ impl<'a> Model for Fields<'a> {
 impl<'a> Fields<'a> {
     ghost use Rattle.std.specs.Prelude.{false};
 
-    /// The fields of a whole message. An empty message has none.
+    /// Makes a reader of the fields of a whole message. An empty message has no fields.
     pub fn new(bytes: &'a [u8]) -> Fields<'a>
         ensures { result ≡ record { at = 0; rest = bytes.now; failed = false } }
     {
@@ -163,15 +163,15 @@ impl<'a> Fields<'a> {
         }
     }
 
-    /// The offset after the last field read, in bytes; after a fault, the fault's offset.
+    /// The offset in bytes after the last field read; after a fault, the offset of the fault.
     pub fn at(&self) -> usize
         ensures { result ≡ self.now.at }
     {
         self.len - self.rest.len()
     }
 
-    /// The next field, in the order of the message, whether or not its encoding is the shortest; or
-    /// what is wrong there. `None` at the end of the message, and for good after a fault.
+    /// Returns the next field of the message, whether or not its encoding is the shortest, or the fault that
+    /// is there instead. Returns `None` at the end of the message, and always after a fault.
     #[inline(always)]
     pub fn next_field(&mut self) -> Option<Result<Field<'a>, WireFault>>
         ensures given { seen_next result ≡ (next_of self.old).0 }

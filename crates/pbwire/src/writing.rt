@@ -1,4 +1,4 @@
-//! Writing fields, each in its shortest encoding.
+//! Appending fields, each in its shortest encoding.
 
 ghost use Rattle.std.specs.Prelude.{◌-◌, ◌≡◌, ◌≤◌, ◌<◌, ◌^◌, ◌+◌, ◌*◌, ◌∷◌, ◌++◌, OnOk, OnErr, length, map, take, drop};
 ghost use Rattle.std.specs.Option.{IfSome};
@@ -23,7 +23,7 @@ fn push_varint(out: &mut ArrayVec<u8, 20>, number: u64)
     out.push(rest as u8);
 }
 
-// A tag, and the varint after it: a number, or the length of a payload.
+// A tag and the varint after it, which is a number or the length of a payload.
 #[inline(always)]
 fn head_of(number: u32, wire_type: u64, after: u64) -> ArrayVec<u8, 20>
     requires { wire_type < 8 }
@@ -35,7 +35,7 @@ fn head_of(number: u32, wire_type: u64, after: u64) -> ArrayVec<u8, 20>
     head
 }
 
-// The head of a field of wire type 2 where its tag and its length take a byte each, as they mostly do.
+// The head of a field of wire type 2 if its tag and its length take one byte each, as they mostly do.
 #[inline(always)]
 fn short_head(number: u32, len: usize) -> Option<[u8; 2]>
     ensures { IfSome result (λ head. head ≡ varint (number * 8 + 2) ++ varint len) }
@@ -46,7 +46,8 @@ fn short_head(number: u32, len: usize) -> Option<[u8; 2]>
     Some([number as u8 * 8 + 2, len as u8])
 }
 
-/// A field that holds a number (wire type 0), for a caller that must know its length before it is written.
+/// Encodes a field that holds a number (wire type 0), for a caller that must know the length of the field
+/// before it is written.
 #[inline(always)]
 pub fn varint_field(number: u32, value: u64) -> ArrayVec<u8, 20>
     requires { (1 ≤ number) × (number < 2 ^ 29) }
@@ -55,7 +56,7 @@ pub fn varint_field(number: u32, value: u64) -> ArrayVec<u8, 20>
     head_of(number, 0, value)
 }
 
-/// Appends a field that holds a number (wire type 0). After an `Err` the vector is as it was.
+/// Appends a field that holds a number (wire type 0). If memory is refused, the vector is unchanged.
 pub fn put_varint(out: &mut Vec<u8>, number: u32, value: u64) -> Result<(), AllocError>
     requires { (1 ≤ number) × (number < 2 ^ 29) }
     ensures ok { OnOk result (out.new.items ≡ out.old.items ++ spelling (record {
@@ -67,7 +68,7 @@ pub fn put_varint(out: &mut Vec<u8>, number: u32, value: u64) -> Result<(), Allo
     out.extend_from_slice(varint_field(number, value).as_slice())
 }
 
-// Appends both, or neither.
+// Appends `head` and `bytes`, or neither if memory is refused.
 #[inline(always)]
 fn append_both(out: &mut Vec<u8>, head: &[u8], bytes: &[u8]) -> Result<(), AllocError>
     ensures ok { OnOk result (out.new.items ≡ out.old.items ++ (head.now ++ bytes.now)) }
@@ -78,7 +79,7 @@ fn append_both(out: &mut Vec<u8>, head: &[u8], bytes: &[u8]) -> Result<(), Alloc
     out.extend_from_slice(bytes)
 }
 
-// `put_bytes`, with a head of any length.
+// `put_bytes` for a head of any length.
 #[inline(never)]
 fn put_long_bytes(out: &mut Vec<u8>, number: u32, bytes: &[u8]) -> Result<(), AllocError>
     requires { (1 ≤ number) × (number < 2 ^ 29) }
@@ -92,8 +93,8 @@ fn put_long_bytes(out: &mut Vec<u8>, number: u32, bytes: &[u8]) -> Result<(), Al
     append_both(out, head.as_slice(), bytes)
 }
 
-/// Appends a field that holds bytes (wire type 2): a text, or the bytes of an embedded message. The
-/// vector grows at most once. After an `Err` it is as it was.
+/// Appends a field that holds bytes (wire type 2), such as a text or an embedded message. The vector grows at
+/// most once; if memory is refused, it is unchanged.
 #[inline(always)]
 pub fn put_bytes(out: &mut Vec<u8>, number: u32, bytes: &[u8]) -> Result<(), AllocError>
     requires { (1 ≤ number) × (number < 2 ^ 29) }
@@ -109,7 +110,7 @@ pub fn put_bytes(out: &mut Vec<u8>, number: u32, bytes: &[u8]) -> Result<(), All
     }
 }
 
-// Moves the bytes back, over as many at their end, and writes the head before them.
+// Moves the bytes back by the length of `head`, over the bytes at their end, and writes `head` before them.
 #[inline(always)]
 fn put_before(bytes: &mut [u8], head: &[u8])
     requires { length head.now ≤ length bytes.old }
@@ -133,7 +134,7 @@ fn insert_before(out: &mut Vec<u8>, from: usize, head: &[u8]) -> Result<(), Allo
     Ok(())
 }
 
-// `close_bytes`, where the length takes more than the byte that was kept for it.
+// `close_bytes` for a length that takes more than the one byte reserved for it.
 #[inline(never)]
 fn close_long_bytes(out: &mut Vec<u8>, from: usize, len: usize) -> Result<(), AllocError>
     requires within { (1 ≤ from) × (from + len ≡ length out.old.items) }
@@ -151,10 +152,10 @@ fn close_long_bytes(out: &mut Vec<u8>, from: usize, len: usize) -> Result<(), Al
     Ok(())
 }
 
-/// Ends a field whose payload was appended after it (wire type 2): the field was put with an empty payload,
-/// and all bytes from `from` on, where it ended, become its payload. So an embedded message is written in
-/// place, and its length need not be known before; it moves only where the length takes more than one byte.
-/// After an `Err` the vector is as it was.
+/// Ends a field (wire type 2) whose payload was appended after it. The field was put with an empty payload
+/// and ended at `from`; all bytes from `from` on become its payload. So an embedded message is written in
+/// place, without knowing its length first, and moves only if its length takes more than one byte. If memory
+/// is refused, the vector is unchanged.
 #[inline(always)]
 pub fn close_bytes(out: &mut Vec<u8>, from: usize) -> Result<(), AllocError>
     requires { (1 ≤ from) × (from ≤ length out.old.items) }
@@ -171,7 +172,7 @@ pub fn close_bytes(out: &mut Vec<u8>, from: usize) -> Result<(), AllocError>
     Ok(())
 }
 
-// Two parts after their head, of less than 256 bytes together: the vector grows at most once.
+// Appends `head` and two parts, of less than 256 bytes together. The vector grows at most once.
 fn append_short_joined(
     out: &mut Vec<u8>,
     head: &[u8],
@@ -188,7 +189,7 @@ fn append_short_joined(
     out.extend_from_slice(second)
 }
 
-// As `put_joined`, but what is written before an `Err` stays.
+// `put_joined`, except that if memory is refused, a part of the field may have been appended.
 fn append_joined(
     out: &mut Vec<u8>,
     number: u32,
@@ -209,8 +210,8 @@ fn append_joined(
     close_bytes(out, from)
 }
 
-/// Appends a field that holds bytes in two parts, in their order (wire type 2). After an `Err` the
-/// vector is as it was.
+/// Appends a field whose bytes are `first` followed by `second` (wire type 2). If memory is refused, the
+/// vector is unchanged.
 pub fn put_joined(
     out: &mut Vec<u8>,
     number: u32,
@@ -237,7 +238,7 @@ pub fn put_joined(
     joined
 }
 
-// An entry of less than 128 bytes after its head: the vector grows at most once, and nothing moves.
+// Appends an entry of less than 128 bytes after its head. The vector grows at most once, and nothing moves.
 fn append_short_entry(
     out: &mut Vec<u8>,
     head: &[u8],
@@ -258,7 +259,7 @@ fn append_short_entry(
     out.extend_from_slice(value)
 }
 
-// As `put_entry`, but what is written before an `Err` stays.
+// `put_entry`, except that if memory is refused, a part of the entry may have been appended.
 fn append_entry(out: &mut Vec<u8>, number: u32, key: &[u8], value: &[u8]) -> Result<(), AllocError>
     requires { (1 ≤ number) × (number < 2 ^ 29) }
     ensures ok { OnOk result (out.new.items
@@ -272,8 +273,8 @@ fn append_entry(out: &mut Vec<u8>, number: u32, key: &[u8], value: &[u8]) -> Res
     close_bytes(out, from)
 }
 
-/// Appends one entry of a map of texts: an embedded message with the key as field 1 and the value as
-/// field 2, both also where they are empty. After an `Err` the vector is as it was.
+/// Appends one entry of a map of texts: an embedded message with the key as field 1 and the value as field 2.
+/// Both are written even if they are empty. If memory is refused, the vector is unchanged.
 pub fn put_entry(out: &mut Vec<u8>, number: u32, key: &[u8], value: &[u8]) -> Result<(), AllocError>
     requires { (1 ≤ number) × (number < 2 ^ 29) }
     ensures ok { OnOk result (out.new.items
@@ -293,9 +294,8 @@ pub fn put_entry(out: &mut Vec<u8>, number: u32, key: &[u8], value: &[u8]) -> Re
     written
 }
 
-/// Appends a map of texts: its entries, with keys and values borrowed, in the order in which they come. A
-/// map that is ordered by the bytes of its keys gives them in that order, so that equal maps are
-/// written alike. After an `Err` the vector is as it was.
+/// Appends a map of texts: each entry as [`put_entry`] does, in the order of the iterator. To encode equal
+/// maps alike, pass the entries in byte order of their keys. If memory is refused, the vector is unchanged.
 pub fn put_map<'a, I: Iterator<Item = (&'a [u8], &'a [u8])> + Drop>(
     out: &mut Vec<u8>,
     number: u32,

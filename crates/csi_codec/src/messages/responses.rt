@@ -1,4 +1,4 @@
-//! Responses of several fields: as they are read, and how their parts are written.
+//! Responses of several fields: types to decode them into, and functions to encode them.
 
 ghost use Rattle.std.specs.Prelude.{◌≡◌, ◌++◌, OnOk};
 ghost use Rattle.pbmessage.specs.Canon.{bytes_of};
@@ -14,28 +14,28 @@ use pbmessage::{
 };
 use std::alloc::{AllocError, Global};
 
-/// `GetPluginInfoResponse`.
+/// `GetPluginInfoResponse`: `name`, field 1, and `vendor_version`, field 2.
 #[derive(Drop)]
 pub struct PluginInfo {
     pub name: Text,
     pub version: Text,
 }
 
-/// `ValidateVolumeCapabilitiesResponse`.
+/// `ValidateVolumeCapabilitiesResponse`: `confirmed`, field 1, and `message`, field 2.
 #[derive(Drop)]
 pub struct Validation {
     pub confirmed: Option<Confirmed>,
     pub message: Text,
 }
 
-/// `ListVolumesResponse`.
+/// `ListVolumesResponse`: `entries`, field 1, and `next_token`, field 2.
 #[derive(Drop)]
 pub struct Listing {
     pub entries: Items<Entry>,
     pub token: Text,
 }
 
-/// `GetCapacityResponse`.
+/// `GetCapacityResponse`: `available_capacity`, field 1, and `maximum_volume_size`, field 2, in bytes.
 #[derive(Drop)]
 pub struct FreeCapacity {
     pub available: i64,
@@ -195,8 +195,8 @@ impl Message<Csi> for FreeCapacity {
     }
 }
 
-/// Appends a `GetPluginInfoResponse`. Where memory is refused a part of it may be there, and so for the
-/// others.
+/// Appends a `GetPluginInfoResponse` with this name and vendor version. If memory is refused, a part of it
+/// may have been appended; the same holds for the functions below.
 pub fn put_plugin_info(out: &mut Vec<u8>, name: &Text, version: &Text) -> Result<(), AllocError>
     ensures ok { OnOk result (out.new.items ≡ out.old.items ++ bytes_of (canon_info (record {
       name = name.now;
@@ -210,7 +210,7 @@ pub fn put_plugin_info(out: &mut Vec<u8>, name: &Text, version: &Text) -> Result
     Ok(())
 }
 
-/// Appends a `ValidateVolumeCapabilitiesResponse`.
+/// Appends a `ValidateVolumeCapabilitiesResponse` with `confirmed` and `message` as given.
 pub fn put_validation(
     out: &mut Vec<u8>,
     confirmed: &Option<Confirmed>,
@@ -232,7 +232,7 @@ pub fn put_validation(
     Ok(())
 }
 
-/// Appends a `ListVolumesResponse`.
+/// Appends a `ListVolumesResponse` with these entries and this `next_token`.
 pub fn put_listing(
     out: &mut Vec<u8>,
     entries: &Items<Entry>,
@@ -248,7 +248,7 @@ pub fn put_listing(
     Ok(())
 }
 
-/// Appends a `GetCapacityResponse`.
+/// Appends a `GetCapacityResponse` with this available capacity and maximum volume size, in bytes.
 pub fn put_free_capacity(
     out: &mut Vec<u8>,
     available: i64,

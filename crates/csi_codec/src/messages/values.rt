@@ -1,4 +1,4 @@
-//! Messages of one field or of none.
+//! Messages with one field or none.
 
 ghost use Rattle.std.specs.Prelude.{◌≡◌, ◌%◌, ◌^◌};
 ghost use Rattle.std.specs.Int.{cast_signed, w32};
@@ -16,7 +16,7 @@ use pbmessage::{
 };
 use std::alloc::{AllocError, Global};
 
-/// A message without known fields: its fields are looked through and skipped.
+/// A message without known fields. All its fields are checked and skipped.
 #[derive(Clone, Copy)]
 pub struct NoFields;
 
@@ -111,7 +111,7 @@ impl Message<Csi> for Int64Value {
     }
 }
 
-/// A message of one enum, field 1: `AccessMode`, `PluginCapability.Service` or
+/// A message with one field, the number of an enum (field 1): `AccessMode`, `PluginCapability.Service` or
 /// `ControllerServiceCapability.RPC`.
 pub type EnumValue = i32;
 
@@ -145,7 +145,7 @@ impl Message<Csi> for EnumValue {
     }
 }
 
-/// A message of one embedded message, field 1.
+/// A message with one field, an embedded message (field 1).
 impl<M: Message<Csi>> Message<Csi> for Option<M> {
     ghost schema = { only_schema M.schema };
 
@@ -177,17 +177,17 @@ impl<M: Message<Csi>> Message<Csi> for Option<M> {
     }
 }
 
-/// The low 32 bits, in two's complement.
+/// The low 32 bits of a varint as a signed number, which is how an `int32` or enum field reads them.
 pub fn low_half(value: u64) -> i32
     ensures { result ≡ cast_signed w32 (value % 2 ^ 32) }
 {
     ((value % (1 << 32)) as u32).cast_signed()
 }
 
-/// `PluginCapability` or `ControllerServiceCapability`: the enum's message, field 1.
+/// `PluginCapability` or `ControllerServiceCapability`: field 1 is the message that has the enum.
 pub type ServiceCapability = Option<EnumValue>;
 
-/// A message of one list, field 1: the capabilities of a service.
+/// A message with one repeated field (field 1): the capabilities of a service.
 impl Message<Csi> for Items<ServiceCapability> {
     ghost schema = { types_schema };
 
@@ -279,7 +279,8 @@ impl Written<Csi> for Items<ServiceCapability> {
     }
 }
 
-/// A message of one map, field 1: the segments of a `Topology`, or the context of a publication.
+/// A message with one map (field 1): the segments of a `Topology`, or the `publish_context` of
+/// ControllerPublishVolume.
 impl Message<Csi> for Map {
     ghost schema = { map_schema };
 

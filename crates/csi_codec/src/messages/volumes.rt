@@ -1,4 +1,4 @@
-//! What requests and responses are made of: capabilities, ranges of bytes, topologies, and volumes.
+//! The messages inside requests and responses: capabilities, capacity ranges, topologies and volumes.
 
 ghost use Rattle.std.specs.Prelude.{◌≡◌, ◌++◌, ◌∷◌, [], ℕ, List, OnOk, IfOk};
 ghost use Rattle.std.specs.Int.{cast_signed};
@@ -68,7 +68,7 @@ impl Message<Csi> for Mount {
     }
 }
 
-// The mount with what a further occurrence has.
+// Merges a further occurrence of the message into the mount.
 fn merged(alloc: Global, mut mount: Mount, payload: &[u8]) -> Result<Mount, AllocError>
     requires { AreGood (GoodField (Good mount_schema)) payload.now }
     ensures { IfOk result (λ new. (fs : List WireField) → mount ≡ value_of mount_in fs
@@ -85,8 +85,8 @@ fn set_mount(slot: &mut Access, alloc: Global, mount: Mount) -> Result<(), Alloc
     Ok(())
 }
 
-/// Merges a mount with its earlier occurrences, back to where another member was. Where memory is refused,
-/// no member is set.
+/// Merges a mount into the mount of earlier occurrences; only occurrences after the last other member of the
+/// oneof count. If memory is refused, no member is set.
 fn merge_mount(slot: &mut Access, alloc: Global, payload: &[u8]) -> Result<(), AllocError>
     requires { AreGood (GoodField (Good mount_schema)) payload.now }
     ensures { OnOk result ((ms : List (ℕ × List ℕ)) → slot.old ≡ access (one_of ms)
@@ -337,7 +337,7 @@ impl Written<Csi> for VolumeInfo {
     }
 }
 
-/// `ListVolumesResponse.VolumeStatus`: `published_node_ids`, field 1.
+/// `ListVolumesResponse.VolumeStatus`: `published_node_ids`, field 1, the ids of nodes.
 pub type VolumeStatus = Items<Text>;
 
 impl Message<Csi> for VolumeStatus {

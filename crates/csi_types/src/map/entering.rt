@@ -1,8 +1,8 @@
-//! Entering an entry into a map.
+//! Inserting an entry into a map.
 //!
-//! A map is a list and a tree. The keys of the list rise, and those of the tree are beyond them. So
-//! entries that come in the order of their keys, as they mostly do, need no tree; and an entry
-//! moves at most once, from the list to the tree.
+//! A map is a list and a tree. The keys of the list rise, and all keys of the tree are above them. So entries
+//! that come in the order of their keys, as they mostly do, need no tree, and an entry moves at most once,
+//! from the list to the tree.
 
 ghost use Rattle.std.specs.Prelude.{◌≡◌, ◌<◌, ◌+◌, ◌++◌, ◌∷◌, [], IsFalse, IsTrue, OnErr, OnOk, length};
 ghost use Rattle.std.specs.FinMap.{put};
@@ -14,7 +14,7 @@ use crate::text::Text;
 use std::alloc::AllocError;
 use std::collections::BTreeMap;
 
-/// Gives a key its value, instead of one that it had. Where memory is refused the entries stay.
+/// Sets the value under `key`, replacing any earlier one. If memory is refused, the entries are unchanged.
 pub(super) fn enter(
     listed: &mut Vec<(Text, Text)>,
     tree: &mut BTreeMap<Text, Text>,
@@ -35,7 +35,7 @@ pub(super) fn enter(
     Ok(())
 }
 
-// Whether a key is beyond those of a list.
+// Whether a key is above all keys of a list.
 fn is_beyond(key: &Text, listed: &[(Text, Text)]) -> bool
     requires { IsRising listed.now }
     ensures beyond { IsTrue result → AreBelow key.now listed.now }
@@ -47,7 +47,7 @@ fn is_beyond(key: &Text, listed: &[(Text, Text)]) -> bool
     }
 }
 
-// Appends an entry. A list of one entry takes room for no more, since most have one.
+// Appends an entry. An empty list reserves room for one entry only, since most maps have one.
 fn append(listed: &mut Vec<(Text, Text)>, key: Text, value: Text) -> Result<(), AllocError>
     ensures ok { OnOk result (listed.new.items ≡ listed.old.items ++ (key, value) ∷ []) }
     ensures err { OnErr result (listed.new.items ≡ listed.old.items) }
@@ -59,7 +59,7 @@ fn append(listed: &mut Vec<(Text, Text)>, key: Text, value: Text) -> Result<(), 
     Ok(())
 }
 
-// Moves the entries from a key on to the tree. Where memory is refused some may have been moved.
+// Moves the entries whose keys are not below `key` to the tree. If memory is refused, some may have moved.
 fn move_from(
     key: &Text,
     listed: &mut Vec<(Text, Text)>,
@@ -91,7 +91,7 @@ fn move_last(
     match tree.insert(key, value) {
         Ok(_) => Ok(()),
         Err(refused) => {
-            // The list has kept the room.
+            // The list still has the room for the entry that was popped.
             let Ok(()) = listed.push(refused.value) else {
                 unreachable!()
             };

@@ -11,15 +11,17 @@ use crate::map::Map;
 use crate::text::Text;
 use std::cmp::Ordering;
 
-/// The most segments of a map of 4,096 bytes: a key of no byte, 128 of one and 1,984 of two.
+/// The most segments that a map of 4,096 bytes can have: one with an empty key, 128 with a key of 1 byte and
+/// 1,984 with a key of 2 bytes, all with empty values.
 pub(crate) const MOST_SEGMENTS: usize = 2_113;
 
-/// A segment of a topology. Segments are compared by their keys, with ASCII letters folded.
+/// A segment of a topology. Segments are compared by their keys alone, without regard to the case of ASCII
+/// letters.
 #[derive(Clone, Copy)]
 pub(crate) struct Segment<'m> {
-    /// The key, as the topology has it.
+    /// The key, in the case in which the topology has it.
     pub key: &'m Text,
-    /// The value under that key.
+    /// The value that the topology has under this key.
     pub value: &'m Text,
 }
 
@@ -89,7 +91,8 @@ fn compare_folded(one: &[u8], other: &[u8]) -> Ordering
     folded.cmp(other.iter().map(|byte| byte.to_ascii_lowercase()))
 }
 
-/// Puts the segments of a topology in order.
+/// Fills `segments` with the segments of the topology, sorted by their keys with ASCII letters in lower case.
+/// `segments` must be as long as the topology.
 pub(crate) fn sort_segments<'m>(segments: &mut [Segment<'m>], topology: &'m Map)
     requires { length segments.old ≡ len topology.now }
     ensures all { IsPermutation (entries topology.now) (map entry_of segments.new) }
@@ -99,7 +102,7 @@ pub(crate) fn sort_segments<'m>(segments: &mut [Segment<'m>], topology: &'m Map)
     segments.sort_unstable();
 }
 
-// Puts the segments of a topology in the order of the map.
+// Fills `segments` with the segments of the topology, in byte order of their keys.
 fn put_segments<'m>(segments: &mut [Segment<'m>], topology: &'m Map)
     requires { length segments.old ≡ len topology.now }
     ensures { map entry_of segments.new ≡ entries topology.now }
