@@ -88,23 +88,23 @@ pub enum ConfigFault {
     /// The sizes of all pools add up to more than 2^62 bytes.
     #[error("the bytes of all pools together are above 2^62")]
     AllBytes,
-    /// A pool breaks a rule.
+    /// A pool breaks a rule about its name, its size or its segments.
     #[error("pool {name}: {rule}")]
     Pool {
         /// The name of the pool; its number, counted from 1, if the file gives no name.
         name: Text,
-        /// The first rule that the pool breaks.
+        /// The first rule that the pool breaks, in the order of [`PoolRule`].
         rule: PoolRule,
     },
     /// The configuration has more than 64 nodes.
     #[error("there are more than 64 nodes")]
     TooManyNodes,
-    /// A node breaks a rule.
+    /// A node breaks a rule about its id or its greatest number of volumes.
     #[error("node {id}: {rule}")]
     Node {
         /// The id of the node; its number, counted from 1, if the file gives no id.
         id: Text,
-        /// The first rule that the node breaks.
+        /// The first rule that the node breaks, in the order of [`NodeRule`].
         rule: NodeRule,
     },
 }

@@ -1,4 +1,4 @@
-//! The nodes of a configuration.
+//! The nodes of a configuration, and the checks of their ids and of their greatest numbers of volumes.
 
 ghost use Rattle.std.specs.Prelude.{◌≡◌, take, None, OnOk, IfOk, IfErr, Some};
 ghost use Rattle.std.specs.List.{list_any};

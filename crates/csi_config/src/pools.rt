@@ -1,4 +1,4 @@
-//! The pools of a configuration.
+//! The pools of a configuration, and the checks of their names, sizes and segments.
 
 ghost use Rattle.std.specs.Prelude.{◌≡◌, ◌-◌, ◌^◌, min, take, None, OnOk, IfOk, IfErr, Some};
 ghost use Rattle.std.specs.FinMap.{entries};

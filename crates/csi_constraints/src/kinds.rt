@@ -1,4 +1,4 @@
-//! Whether the values of a row are of the kinds of their columns.
+//! Tests that the values of a row have the types of their columns.
 
 ghost use Rattle.csi_constraints.specs.Kinds.{has_attachment_kinds, has_volume_kinds};
 
