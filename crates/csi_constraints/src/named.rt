@@ -112,7 +112,7 @@ impl<T: RowTrial> Fold for FirstBroken<T> {
 /// Makes a [`RowTrial`] of a [`RowTest`]: a test that cannot fail and takes no memory.
 #[derive(Drop)]
 pub struct InfallibleTest<T> {
-    /// The test that each row is passed to.
+    /// The infallible test, which is called for each row.
     pub test: T,
 }
 

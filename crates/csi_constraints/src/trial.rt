@@ -24,7 +24,7 @@ pub trait RowTrial {
     /// A fact about each row that passes.
     ghost knows: { Self → Values → Type 0 };
 
-    /// When the test takes memory for a row.
+    /// The condition under which the test takes memory for a row.
     ghost takes_memory: { Self → Values → Type 0 };
 
     /// Returns true if the row passes the test.

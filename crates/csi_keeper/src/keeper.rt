@@ -33,9 +33,9 @@ use std::alloc::Global;
 /// # Not promised
 ///
 /// That a call succeeds if memory is available, that memory was refused if a call returns `NoMemory`, and
-/// what calls cost. What a change does if the State does not allow it. That a keeper contains a State at
-/// all: a new keeper does, and each change keeps it so; for a file with rows `csi_adoption::adopt` checks
-/// it.
+/// what calls cost. What a change does if the State does not allow it. That the contents of a keeper are a
+/// State. A new keeper contains a State, and does so after each change; for a file with rows
+/// `csi_adoption::adopt` checks the contents.
 pub trait Keeper {
     // The State, the survivors and the counts of the keeper, as used by contracts.
     ghost model: { Self → Model State };
