@@ -70,7 +70,7 @@ pub enum ConfigFault {
     /// not a letter or digit.
     #[error("plugin name {name}: it is not 1 to 63 ASCII letters, digits, '-' and '.', the first and the last a letter or digit")]
     PluginName {
-        /// The plugin's name, as it was given.
+        /// The plugin's name, as it is in the configuration.
         name: Text,
     },
     /// The plugin's version is empty or has more than 128 bytes.
@@ -79,7 +79,7 @@ pub enum ConfigFault {
     /// The default size or the greatest size of a volume breaks a rule.
     #[error(transparent)]
     Sizes(SizeRule),
-    /// The configuration has no pool.
+    /// The configuration has no pool; it must have at least 1.
     #[error("there is no pool")]
     NoPool,
     /// The configuration has more than 16 pools.
