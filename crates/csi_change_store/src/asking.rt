@@ -96,7 +96,8 @@ pub fn make_frame(alloc: Global) -> Result<Vec<u8>, StoreFault>
     Ok(frame_of(alloc, ChangeStoreCall::Make, &[])?)
 }
 
-/// Makes the frame that asks whether the change store is still the leader. The reply has status 0 if it is.
+/// Makes the frame that asks whether the change store is still the leader. The reply has status 0 if the
+/// store is the leader.
 ///
 /// # Errors
 ///

@@ -17,7 +17,7 @@ const LIMIT: u64 = 1 << 63;
 /// The type of the values in a column.
 #[derive(Clone, Copy)]
 pub(crate) enum CellKind {
-    /// No column has this field number; a field with it is ignored.
+    /// No column has this field number. A field with this number is ignored.
     Skipped,
     Integer,
     Bytes,

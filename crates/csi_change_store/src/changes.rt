@@ -1,4 +1,4 @@
-//! Makes the frame that requests a change.
+//! Makes the frame of a call that requests a change (method `Commit`).
 
 ghost use Rattle.std.specs.Prelude.{◌≡◌, ◌≢◌, ◌++◌, ◌∷◌, ◌<◌, ◌≤◌, [], Err, IfOk, IsErrOf, OnOk, length};
 ghost use Rattle.envelope.specs.Envelope.{frame};
@@ -123,7 +123,7 @@ fn frame_holding(alloc: Global, message: &[u8]) -> Result<Vec<u8>, StoreFault>
     Ok(frame_of(alloc, ChangeStoreCall::Commit, message)?)
 }
 
-/// Makes the frame that requests a change.
+/// Makes the frame of a call that requests a change (method `Commit`).
 ///
 /// # Errors
 ///

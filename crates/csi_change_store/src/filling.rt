@@ -12,7 +12,7 @@ use sqlite::{Alter, Connection};
 use std::alloc::Global;
 
 // Puts all rows of a change store into the tables on a connection. It uses one transaction, so that each
-// page of the tables is written once, whatever the order of the rows.
+// page of the tables is written once, in any order of the rows.
 fn fill<P: Peer, S: Alter>(
     alloc: Global,
     peer: &mut P,

@@ -5,7 +5,7 @@ ghost use Rattle.csi_change_store.specs.Sample.{ReadsSample};
 
 use pbwire::laws::listed;
 
-/// If the rows of pages are the rows of a State, new tables with these rows are the tables of that State.
+/// If pages contain the rows of a State, new tables with these rows represent that State.
 pub fn gives_rows()
     ensures { GivesRows }
 {}

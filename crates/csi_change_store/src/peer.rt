@@ -11,7 +11,7 @@ use frames_core::send;
 use std::alloc::Global;
 use std::io::{Read, Write};
 
-/// The other end of a connection, which keeps the changes of a State.
+/// The program at the other end of a connection, which keeps the changes of a State.
 ///
 /// The promises about the State hold while `doubt`, which never falls, is 0.
 pub trait Peer {

@@ -46,7 +46,7 @@ pub struct RemoteChangeStore<P> {
 }
 
 impl<P: Peer> RemoteChangeStore<P> {
-    /// Makes a change store of a peer. It is not down.
+    /// Makes a change store of a peer. No change has failed yet, so the next change is sent.
     pub fn new(peer: P) -> RemoteChangeStore<P>
         ensures { (result.peer ≡ peer) × (result.is_down ≡ false) }
     {

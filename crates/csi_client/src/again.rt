@@ -30,9 +30,9 @@ pub trait Line {
         ensures sent { exchanged self.old self.new frame.now result };
 }
 
-/// Whether it is unknown if the server executed the call: the connection failed, or ended before the whole
-/// reply was received. A reply with any status is an answer, and so is a malformed reply.
-/// [`Received::NoMemory`] counts as an answer too, since sending the call again would not help.
+/// Returns true if the client cannot know whether the server executed the call: the connection failed, or
+/// ended before the whole reply was received. A reply with any status is an answer, and so is a malformed
+/// reply. [`Received::NoMemory`] counts as an answer too, since sending the call again would not help.
 pub fn is_unanswered(received: &Received) -> bool
     ensures { result ≡ is_unanswered received.now }
 {
@@ -43,7 +43,7 @@ pub fn is_unanswered(received: &Received) -> bool
     }
 }
 
-/// The counts of a line's exchanges.
+/// Counts of the exchanges of a [`Line`].
 #[derive(Clone, Copy, Debug)]
 pub struct Exchanges {
     /// The number of exchanges made, answered or not.

@@ -57,14 +57,14 @@ impl ReceivedReply {
     }
 }
 
-/// The outcome of a wait for the reply to a call.
+/// The outcome of waiting for the reply to a call.
 #[derive(Debug, Drop)]
 pub enum Received {
     /// The reply was received: the first one on the connection.
     Reply(ReceivedReply),
     /// The input ended before the first byte of a reply.
     Nothing,
-    /// The input does not begin with a valid reply.
+    /// The input does not begin with a valid reply. The value is the fault.
     Malformed(ReplyFault),
     /// A read failed before the whole reply was received, or a [`Line`](crate::Line) could not connect or
     /// send.

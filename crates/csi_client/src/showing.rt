@@ -222,9 +222,9 @@ fn halted(halt: Halt) -> ShowEnd
 /// [`put_reply_line`](crate::put_reply_line) and, if the method of the calls is given, the lines of
 /// [`put_body_lines`](crate::put_body_lines).
 ///
-/// A read takes at most 4,096 bytes, and at most 2^32 reads are made. Each reply is written at once and
-/// flushed, by [`send`](crate::send), as soon as its frame is whole. Nothing more is read after a fault,
-/// after a body that cannot be decoded, after a failed write, or after memory was refused.
+/// A read takes at most 4,096 bytes, and at most 2^32 reads are made. Each reply is written in one write
+/// and flushed, by [`send`](crate::send), as soon as its frame is whole. Nothing more is read after a
+/// fault, after a body that cannot be decoded, after a failed write, or after memory was refused.
 pub fn show_all<R: Read, W: Write>(
     alloc: Global,
     method: Option<Method>,

@@ -35,7 +35,7 @@ use csi_machine::laws::{kept, repeat};
 use csi_server::laws::tries;
 use csi_types::laws::{inclusions, overlays};
 
-/// A request that took effect stays in effect, as long as other requests leave its object alone.
+/// A request that took effect remains in effect while other requests leave its object alone.
 ///
 /// Start from a State that has the invariant, with requests that pass the checks of their arguments. A
 /// request is answered OK, or its change exists already. Then others make any requests that leave its
@@ -110,12 +110,12 @@ pub fn made_later(config: &Config)
 /// those requests leaves its object alone. The object of a request that changes nothing need not be left
 /// alone.
 ///
-/// Then there is an order of the requests, which contains each request once. The requests of each client
-/// are in the client's order. Each client hears the answers that its requests get in this order, and the
-/// final State is the State after all of them. The order keeps the real-time order: a request that was
-/// answered comes before each request that was first tried later. The order contains all requests that were
-/// answered and, for each client, at most one request that was tried and not answered. If all requests are
-/// answered, it contains all of them.
+/// Then there is an order of requests in which no request occurs twice. The requests of each client are in
+/// the client's order. Each client hears the answers that its requests get in this order, and the final
+/// State is the State after all of them. The order keeps the real-time order: a request that was answered
+/// comes before each request that was first tried later. The order contains all requests that were answered
+/// and, for each client, at most one request that was tried and not answered. If all requests are answered,
+/// it contains all of them.
 pub fn linearizable(config: &Config)
     ensures begun { (s t : State) (todo : ℕ → List Request) (sessions : Sessions)
         (heard : ℕ → List Report) → IsInvariant config.now s

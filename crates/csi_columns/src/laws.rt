@@ -4,7 +4,7 @@ ghost use Rattle.csi_columns.specs.Encoding.{ReadsBack};
 
 use csi_codec::laws::{read_as_meant, round_trip};
 
-/// Decoding the bytes that a fitting request was encoded to gives the same request.
+/// Encoding a request and decoding the bytes gives the same request, if the request fits.
 #[inline(always)]
 pub fn read_back()
     ensures { ReadsBack }

@@ -16,7 +16,7 @@ use csi_types::Items;
 pub struct Config {
     /// The name and the version of the plugin.
     pub plugin: Plugin,
-    /// The default size and the greatest size of a volume.
+    /// The default size and the greatest size of a volume, in bytes.
     pub sizes: Sizes,
     /// The pools, at least 1 and at most 16, in the order in which a new volume tries them.
     pub pools: Items<Pool>,
@@ -77,7 +77,7 @@ impl Config {
         &self.plugin
     }
 
-    /// The default size and the greatest size of a volume.
+    /// The default size and the greatest size of a volume, in bytes.
     pub fn sizes(&self) -> &Sizes
         ensures { result.now ≡ self.now.sizes }
     {

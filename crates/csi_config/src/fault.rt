@@ -70,7 +70,7 @@ pub enum ConfigFault {
     /// not a letter or digit.
     #[error("plugin name {name}: it is not 1 to 63 ASCII letters, digits, '-' and '.', the first and the last a letter or digit")]
     PluginName {
-        /// The plugin's name, as it was given.
+        /// The plugin's name, as it is in the configuration.
         name: Text,
     },
     /// The plugin's version is empty or has more than 128 bytes.
@@ -79,7 +79,7 @@ pub enum ConfigFault {
     /// The default size or the greatest size of a volume breaks a rule.
     #[error(transparent)]
     Sizes(SizeRule),
-    /// The configuration has no pool.
+    /// The configuration has no pool; it must have at least 1.
     #[error("there is no pool")]
     NoPool,
     /// The configuration has more than 16 pools.
@@ -88,23 +88,23 @@ pub enum ConfigFault {
     /// The sizes of all pools add up to more than 2^62 bytes.
     #[error("the bytes of all pools together are above 2^62")]
     AllBytes,
-    /// A pool breaks a rule.
+    /// A pool breaks a rule about its name, its size or its segments.
     #[error("pool {name}: {rule}")]
     Pool {
         /// The name of the pool; its number, counted from 1, if the file gives no name.
         name: Text,
-        /// The first rule that the pool breaks.
+        /// The first rule that the pool breaks, in the order of [`PoolRule`].
         rule: PoolRule,
     },
     /// The configuration has more than 64 nodes.
     #[error("there are more than 64 nodes")]
     TooManyNodes,
-    /// A node breaks a rule.
+    /// A node breaks a rule about its id or its greatest number of volumes.
     #[error("node {id}: {rule}")]
     Node {
         /// The id of the node; its number, counted from 1, if the file gives no id.
         id: Text,
-        /// The first rule that the node breaks.
+        /// The first rule that the node breaks, in the order of [`NodeRule`].
         rule: NodeRule,
     },
 }

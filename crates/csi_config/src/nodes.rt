@@ -1,4 +1,4 @@
-//! The nodes of a configuration.
+//! The nodes of a configuration, and the checks of their ids and of their greatest numbers of volumes.
 
 ghost use Rattle.std.specs.Prelude.{◌≡◌, take, None, OnOk, IfOk, IfErr, Some};
 ghost use Rattle.std.specs.List.{list_any};
@@ -68,7 +68,7 @@ impl Ruled for Node {
     }
 }
 
-/// Returns the nodes.
+/// Checks the number of the nodes and their ids, and returns the nodes.
 ///
 /// # Errors
 ///
@@ -86,7 +86,7 @@ pub(crate) fn check_ids(nodes: Vec<Node>) -> Result<Vec<Node>, ConfigFault>
     check_rule(NodeRule::IdTwice, known)
 }
 
-/// Returns the nodes.
+/// Checks the greatest number of volumes of each node, and returns the nodes.
 ///
 /// # Errors
 ///

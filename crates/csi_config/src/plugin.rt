@@ -45,7 +45,7 @@ fn is_plugin_name(name: &[u8]) -> bool
     name[0].is_ascii_alphanumeric() && name[name.len() - 1].is_ascii_alphanumeric()
 }
 
-/// Returns the plugin.
+/// Checks the name and the version of the plugin, and returns the plugin.
 ///
 /// # Errors
 ///

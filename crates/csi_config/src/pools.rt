@@ -1,4 +1,4 @@
-//! The pools of a configuration.
+//! The pools of a configuration, and the checks of their names, sizes and segments.
 
 ghost use Rattle.std.specs.Prelude.{◌≡◌, ◌-◌, ◌^◌, min, take, None, OnOk, IfOk, IfErr, Some};
 ghost use Rattle.std.specs.FinMap.{entries};
@@ -107,7 +107,7 @@ impl Ruled for Pool {
     }
 }
 
-/// Returns the pools.
+/// Checks the number of the pools and their names, and returns the pools.
 ///
 /// # Errors
 ///
@@ -139,7 +139,7 @@ fn all_bytes(pools: &[Pool]) -> u64
     sum
 }
 
-/// Returns the pools.
+/// Checks the size of each pool and the sum of the sizes, and returns the pools.
 ///
 /// # Errors
 ///
@@ -157,7 +157,7 @@ pub(crate) fn check_bytes(pools: Vec<Pool>) -> Result<Vec<Pool>, ConfigFault>
     Ok(whole)
 }
 
-/// Returns the pools.
+/// Checks the segments of each pool, and returns the pools.
 ///
 /// # Errors
 ///

@@ -40,7 +40,7 @@ fn place_of<T: Ruled>(rule: T::Rule, items: &[T]) -> Option<usize>
         .position(|(place, item)| T::breaks(rule, items, place, item))
 }
 
-/// Returns the items.
+/// Checks that no item breaks the rule, and returns the items.
 ///
 /// # Errors
 ///

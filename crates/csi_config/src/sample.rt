@@ -1,4 +1,4 @@
-//! The sample configuration.
+//! The sample configuration, which the test vectors use.
 
 ghost use Rattle.std.specs.Prelude.{◌≡◌, IfOk};
 ghost use Rattle.csi_config.specs.Sample.{sample_node, sample_nodes, sample_plugin, sample_pool, sample_pools};

@@ -6,7 +6,7 @@ ghost use Rattle.csi_config.specs.Faults.{broken_sizes, is_whole, sizes_fault};
 use crate::fault::{ConfigFault, SizeRule};
 use csi_types::MAX_POOL_BYTES;
 
-/// 1 MiB: each size is a multiple of this many bytes.
+/// The granularity of sizes in bytes: 1 MiB. The size of each volume and each pool is a multiple of it.
 pub const GRANULE_BYTES: u64 = 1_048_576;
 
 const _: () = prove!(GRANULE_BYTES == 1_048_576);

@@ -20,7 +20,7 @@ use std::alloc::Global;
 /// attachment can coexist with each of them.
 #[derive(Drop)]
 pub struct LastAttachment {
-    /// The number of the volume.
+    /// The number of the attachment's volume.
     pub number: i64,
     /// The attachment; `None` if `cap` or `readonly` of the row cannot be decoded.
     pub attachment: Option<Attachment>,

@@ -12,7 +12,7 @@ pub enum VolumeConstraint {
     /// The name is one that a volume can be created with.
     #[error("its name is not one that a volume can be made with")]
     Name,
-    /// The configuration has the pool.
+    /// The configuration contains the pool of the volume.
     #[error("its pool is not one of the configuration")]
     Pool,
     /// The size in bytes is a positive multiple of 1 MiB.
@@ -33,13 +33,13 @@ pub enum AttachmentConstraint {
     /// `cap` encodes exactly one capability, which is supported.
     #[error("its cap is not the bytes of one supported capability")]
     Cap,
-    /// `readonly` is 0 or 1.
+    /// `readonly` is 0 or 1, the integers for false and true.
     #[error("its readonly is not 0 or 1")]
     Readonly,
     /// The volume exists and has the capability of the attachment.
     #[error("no volume of its number has its capability")]
     Owner,
-    /// The configuration has the node.
+    /// The configuration contains the node of the attachment.
     #[error("its node is not one of the configuration")]
     Node,
     /// The attachment can coexist with each other attachment of its volume.
@@ -53,7 +53,7 @@ pub enum BrokenConstraint {
     /// The next number in `meta` is not between 1 and 2^62, both included.
     #[error("the next number is not 1 to 2^62")]
     Next,
-    /// A row of volumes breaks a constraint.
+    /// A row of volumes breaks one of the constraints for volumes.
     #[error("volume {number}: {constraint}")]
     Volume {
         /// The volume's number, as it is in the row.
@@ -67,7 +67,7 @@ pub enum BrokenConstraint {
         /// The name of the pool whose volumes are too large.
         name: Text,
     },
-    /// A row of attachments breaks a constraint.
+    /// A row of attachments breaks one of the constraints for attachments.
     #[error("volume {number} at node {node}: {constraint}")]
     Attachment {
         /// The volume's number, as it is in the row.
@@ -83,7 +83,7 @@ pub enum BrokenConstraint {
         /// The id of the node with too many attached volumes.
         id: Text,
     },
-    /// There are more than 100,000 volumes.
+    /// There are more than 100,000 rows of volumes.
     #[error("there are more than 100000 volumes")]
     TooManyVolumes,
 }

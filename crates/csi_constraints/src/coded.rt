@@ -13,8 +13,8 @@ use csi_types::{Items, Map};
 use sqlite::{Error, Row};
 use std::alloc::Global;
 
-/// Decodes the capability keys in column `at`, counted from 0; `None` if the value there is not their
-/// canonical bytes.
+/// Decodes the capability keys in column `at`, counted from 0; `None` if the value there is not the
+/// canonical bytes of capabilities.
 pub(crate) fn keys_at(alloc: Global, row: &Row, at: usize) -> Result<Option<Items<CapKey>>, Error>
     ensures value { IfOk result (λ keys. keys ≡ keys_at at row.now) }
     ensures fits { IfOk result (λ keys. IfSome keys FitCaps) }

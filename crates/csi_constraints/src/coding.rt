@@ -73,7 +73,7 @@ fn are_params_of(
 
 // ---- what bytes encode
 
-/// Decodes capability keys; `None` if `bytes` are not the canonical bytes of the keys decoded from them.
+/// Decodes capability keys; `None` if `bytes` are not the canonical bytes of capabilities.
 ///
 /// # Errors
 ///
@@ -136,8 +136,7 @@ pub(crate) fn key_in(alloc: Global, bytes: &[u8]) -> Result<Option<CapKey>, Erro
     }
 }
 
-/// Decodes parameters and mutable parameters; `None` if `bytes` are not the canonical bytes of those
-/// decoded from them.
+/// Decodes parameters and mutable parameters; `None` if `bytes` are not the canonical bytes of parameters.
 ///
 /// # Errors
 ///

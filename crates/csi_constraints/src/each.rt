@@ -11,7 +11,7 @@ use sqlite::{Error, Row};
 /// Several folds of one type over the same rows, for example one fold for each pool or each node.
 #[derive(Drop)]
 pub struct FoldEach<F> {
-    /// The folds. Each row is passed to all of them, in this order.
+    /// The folds. Each row is passed to every fold, in this order.
     pub parts: Vec<F>,
 }
 

@@ -1,4 +1,4 @@
-//! Whether the values of a row are of the kinds of their columns.
+//! Tests that the values of a row have the types of their columns.
 
 ghost use Rattle.csi_constraints.specs.Kinds.{has_attachment_kinds, has_volume_kinds};
 
@@ -6,8 +6,8 @@ use crate::cells::{has_blob, has_integer, has_text};
 use crate::trial::RowTest;
 use sqlite::Row;
 
-/// The number and the bytes of a row of volumes are integers, its name and pool are texts in UTF-8, and
-/// its caps and params are bytes.
+/// The test that the number and the bytes of a row of volumes are integers, its name and pool are texts in
+/// UTF-8, and its caps and params are bytes.
 #[derive(Clone, Copy)]
 pub struct HasVolumeKinds;
 
@@ -24,8 +24,8 @@ impl RowTest for HasVolumeKinds {
     }
 }
 
-/// After the rowid, the number of a row of attachments is an integer, its node is a text in UTF-8, its
-/// cap is bytes, and readonly is an integer.
+/// The test that, after the rowid, the number of a row of attachments is an integer, its node is a text in
+/// UTF-8, its cap is bytes, and readonly is an integer.
 #[derive(Clone, Copy)]
 pub struct HasAttachmentKinds;
 

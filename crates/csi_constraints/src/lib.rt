@@ -1,5 +1,5 @@
-//! The constraints that stored rows must meet, and the scans that test each row by them, in memory that does
-//! not grow with the number of rows.
+//! The constraints that stored rows must meet, and the scans that test each row for these constraints, in
+//! memory that does not grow with the number of rows.
 //!
 //! A scan is a query with a fixed text, and `csi_sql::each_row` hands the rows of its answer to a
 //! `csi_sql::Fold`, in order. A fold has a relation between its value before some rows, the rows, and its
@@ -46,8 +46,8 @@
 //!
 //! # Not promised
 //!
-//! That a scan succeeds, what a fold is after an error, and how much memory a scan takes. Each
-//! part of the row of a scan, and the displayed texts, are shown by rows of `test_tables`.
+//! That a scan succeeds, the state of a fold after an error, and how much memory a scan takes. Tests of
+//! `test_tables` show each column of a scan and the displayed texts.
 #![tactic(auto)]
 
 mod apart;

@@ -19,9 +19,9 @@ use std::alloc::{AllocError, Global};
 /// The name of a row: the number and the text in two of its columns.
 #[derive(Drop)]
 pub struct RowName {
-    /// The integer in the first of the two columns; `None` if the column has none.
+    /// The integer in the first of the two columns; `None` if the value there is not an integer.
     pub number: Option<i64>,
-    /// The UTF-8 text in the second column; `None` if the column has none.
+    /// The text in the second column; `None` if the value there is not a text in UTF-8.
     pub text: Option<Text>,
 }
 
@@ -112,7 +112,7 @@ impl<T: RowTrial> Fold for FirstBroken<T> {
 /// Makes a [`RowTrial`] of a [`RowTest`]: a test that cannot fail and takes no memory.
 #[derive(Drop)]
 pub struct InfallibleTest<T> {
-    /// The test that each row is passed to.
+    /// The infallible test, which is called for each row.
     pub test: T,
 }
 

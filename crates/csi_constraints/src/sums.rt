@@ -1,4 +1,4 @@
-//! Sums over the rows that have a text.
+//! Sums over the rows that have a given text in a column.
 
 ghost use Rattle.std.specs.Prelude.{◌≡◌};
 ghost use Rattle.std.specs.Ordering.{is_eq, nat_cmp};

@@ -8,26 +8,26 @@ use sqlite::{Error, Row};
 
 /// A test of a single row that takes no memory and cannot fail.
 pub trait RowTest {
-    /// Whether a row passes.
+    /// Whether a row with these values passes the test.
     ghost accepts: { Self → Values → Bool };
 
-    /// Whether the row passes.
+    /// Returns true if the row passes the test.
     fn test(&self, row: &Row) -> bool
         ensures { result ≡ accepts self.now row.now };
 }
 
 /// A test of a single row that may take memory.
 pub trait RowTrial {
-    /// Whether a row passes.
+    /// Whether a row with these values passes the test.
     ghost accepts: { Self → Values → Bool };
 
     /// A fact about each row that passes.
     ghost knows: { Self → Values → Type 0 };
 
-    /// When the test takes memory for a row.
+    /// The condition under which the test takes memory for a row.
     ghost takes_memory: { Self → Values → Type 0 };
 
-    /// Whether the row passes.
+    /// Returns true if the row passes the test.
     ///
     /// # Errors
     ///

@@ -1,4 +1,4 @@
-//! Copies of volumes, attachments and keys.
+//! Copies volumes, attachments and capability keys.
 
 ghost use Rattle.std.specs.Prelude.{◌≡◌, IfOk};
 
@@ -7,7 +7,7 @@ use crate::volume::{Attachment, Volume};
 use csi_types::{Items, copy_map};
 use std::alloc::{AllocError, Global};
 
-/// Copies a capability key.
+/// Copies a capability key, with memory of `alloc`.
 ///
 /// # Errors
 ///
@@ -25,7 +25,7 @@ pub fn copy_key(alloc: Global, key: &CapKey) -> Result<CapKey, AllocError>
     })
 }
 
-/// Copies a list of capability keys.
+/// Copies a list of capability keys in order, with memory of `alloc`.
 ///
 /// # Errors
 ///
@@ -40,7 +40,7 @@ pub fn copy_keys(alloc: Global, keys: &Items<CapKey>) -> Result<Items<CapKey>, A
     Ok(copy)
 }
 
-/// Copies a volume with all its fields.
+/// Copies a volume with all its fields, with memory of `alloc`.
 ///
 /// # Errors
 ///
@@ -59,7 +59,7 @@ pub fn copy_volume(alloc: Global, volume: &Volume) -> Result<Volume, AllocError>
     })
 }
 
-/// Copies an attachment with all its fields.
+/// Copies an attachment with all its fields, with memory of `alloc`.
 ///
 /// # Errors
 ///

@@ -20,7 +20,7 @@ use std::alloc::Global;
 /// attachments by number and node.
 ///
 /// A read returns a part of the State and changes nothing. A change is made as a whole or not at all: if it
-/// fails, the State is unchanged, but after a stop of the process the change may turn out to be made. While
+/// fails, the State is unchanged, but a stop of the process may then leave the State with the change. While
 /// the keeper is down, each call except `refusals` returns `Down` and changes nothing; no call returns
 /// `Down` otherwise.
 ///
@@ -34,8 +34,8 @@ use std::alloc::Global;
 ///
 /// That a call succeeds if memory is available, that memory was refused if a call returns `NoMemory`, and
 /// what calls cost. What a change does if the State does not allow it. That the contents of a keeper are a
-/// State at all: a new keeper has a State and each change keeps it one, and for a file with rows
-/// `csi_adoption::adopt` checks it.
+/// State. A new keeper contains a State, and does so after each change; for a file with rows
+/// `csi_adoption::adopt` checks the contents.
 pub trait Keeper {
     // The State, the survivors and the counts of the keeper, as used by contracts.
     ghost model: { Self → Model State };

@@ -16,7 +16,7 @@ pub fn coexist_symmetric()
     ensures { (a b : Attachment) → coexist a b ≡ coexist b a }
 {}
 
-/// A State without volumes has the invariant, whatever number its first volume will get.
+/// A State without volumes has the invariant, with any number for its first volume.
 #[inline(always)]
 pub fn first(config: &Config)
     ensures { (n : ℕ) → 1 ≤ n → n ≤ MAX_NUMBER → IsInvariant config.now (first_state n) }

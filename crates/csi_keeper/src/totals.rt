@@ -14,7 +14,7 @@ use std::collections::BTreeMap;
 pub struct Total {
     /// The number of volumes in the pool.
     pub volumes: u64,
-    /// The sum of the volumes' sizes in bytes.
+    /// The sum of the sizes of the pool's volumes in bytes.
     pub bytes: u128,
 }
 

@@ -1,16 +1,17 @@
-//! Volumes and their attachments, as they are kept.
+//! The form in which keepers keep volumes and attachments.
 
 use crate::capability::CapKey;
 use csi_types::{Items, Map, Text};
 
-/// A volume as it is kept (CSI 1.x, `Volume` and the request that made it).
+/// A volume with all that a keeper stores of it (CSI 1.x, `Volume` and the request that created it).
 #[derive(Debug, Drop)]
 pub struct Volume {
-    /// The number, 1 to 2^62 - 1. No other volume ever has it, also after this one is deleted.
+    /// The number of the volume, 1 to 2^62 - 1. No other volume ever has the same number, not even after
+    /// this volume is deleted.
     pub number: u64,
     /// The name that the volume was created with. No other volume has this name while the volume exists.
     pub name: Text,
-    /// The size in bytes, at most 2^62.
+    /// The size of the volume in bytes, at most 2^62.
     pub bytes: u64,
     /// The name of the pool that the volume takes its bytes from.
     pub pool: Text,

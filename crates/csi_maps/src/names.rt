@@ -1,4 +1,4 @@
-//! The index of names in memory.
+//! The index of names in memory, which finds a volume by its name.
 //!
 //! The index does not copy each name. A name is looked up by its hash; the volume found has that name or
 //! another name with the same hash. If several names have the same hash, the name added first is found by

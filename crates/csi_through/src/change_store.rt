@@ -34,7 +34,7 @@ pub struct KeeperChanges<K> {
 }
 
 impl<K: Keeper> KeeperChanges<K> {
-    /// Makes a change store of a keeper. Its reads are not called from then on.
+    /// Makes a change store of a keeper. From then on the keeper is only changed, not read.
     pub fn new(keeper: K) -> KeeperChanges<K>
         ensures { result.keeper ≡ keeper }
     {

@@ -168,7 +168,7 @@ fn restore_all<K: Keeper>(
 /// # Errors
 ///
 /// The fault of a read, or `NoMemory` if memory is refused. `Refused` also if a number or a size is out of
-/// bounds, which only a store can return that reads back other bytes than were written. So for a State that
+/// bounds; only a store that does not read back what was written returns such a value. So for a State that
 /// has the invariant each `Refused` is the keeper's.
 pub(crate) fn copy_of<K: Keeper>(alloc: Global, keeper: &mut K) -> Result<MemKeeper, StoreFault>
     ensures keeper_unchanged { IsQuiet (K.model keeper.old) (K.model keeper.new) }

@@ -1,4 +1,4 @@
-//! A keeper over a memory and a change store.
+//! A keeper that uses a keeper in memory and a change store.
 
 ghost use Rattle.std.specs.FinMap.{get};
 ghost use Rattle.std.specs.Option.{option_map};
@@ -56,7 +56,7 @@ fn start_change(health: &mut Health, is_current: bool) -> Result<(), StoreFault>
 /// The State is that of the change store, and a stop leaves what the change store leaves. After a failed
 /// change, also if memory was refused, each further call returns `Down`.
 ///
-/// A change that the change store made is made, even if the memory has no room for it: the call returns
+/// If the change store made a change but the memory has no room for the change, the call still returns
 /// `Ok`. The memory is then out of date, so each further read returns `Refused` until the keeper is opened
 /// again. A further change is refused without being tried, and then the keeper is down.
 pub struct Through<M, D> {
@@ -122,10 +122,10 @@ pub struct NotCopied<K> {
 }
 
 impl<K: Keeper> Through<MemKeeper, KeeperChanges<K>> {
-    /// Makes a keeper of a copy of `keeper` in memory, and of `keeper` as the change store. It takes two
-    /// reads for each 1,000 volumes, and one for each volume that is published.
+    /// Makes a keeper of a copy of `keeper` in memory, and of `keeper` as the change store. It takes one
+    /// read for each 1,000 volumes, and one for each volume that is published.
     ///
-    /// The new keeper has each State that `keeper` may have and that has the invariant, and a stop leaves
+    /// Each State with the invariant that `keeper` may have is a State of the new keeper, and a stop leaves
     /// what it would leave of `keeper`. The memory has each change that the change store has.
     ///
     /// # Errors
@@ -151,7 +151,7 @@ impl<K: Keeper> Through<MemKeeper, KeeperChanges<K>> {
 
 impl<D: ChangeStore + Drop> Through<MemKeeper, D> {
     /// Makes a keeper of a copy of `keeper` in memory, and of a change store that has the same State. It
-    /// takes two reads for each 1,000 volumes, and one for each volume that is published.
+    /// takes one read for each 1,000 volumes, and one for each volume that is published.
     ///
     /// # Errors
     ///

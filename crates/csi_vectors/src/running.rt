@@ -25,7 +25,7 @@ pub enum VectorsEnd {
     BadLine(u64),
     /// The limit of 2^64 - 1 lines was reached.
     LinesSpent,
-    /// A read of the file failed.
+    /// A read of the vectors failed for a reason other than memory.
     ReadFailed,
     /// A write or a flush failed, or a write was interrupted. The results of the lines before were written,
     /// and a part of the result of the last line.

@@ -12,7 +12,7 @@ pub enum RowFault {
     /// The row does not have a form that its section knows.
     #[error("not a row")]
     NotRow,
-    /// A word is not bytes in the notation of [`bytes_of`](crate::bytes_of).
+    /// A word cannot be parsed as bytes by [`bytes_of`](crate::bytes_of).
     #[error("not bytes")]
     NotBytes,
     /// An allocation failed while the row was answered.

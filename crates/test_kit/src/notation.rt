@@ -18,7 +18,7 @@ const DEEPEST: u8 = 12;
 /// Why a text cannot be parsed as bytes.
 #[derive(Clone, Copy, Debug, PartialEq, Eq)]
 pub enum NotationFault {
-    /// The text is not in the notation of [`bytes_of`](crate::bytes_of).
+    /// The text is not in the notation that [`bytes_of`](crate::bytes_of) parses.
     NotBytes,
     /// Memory for the bytes was refused.
     NoMemory,

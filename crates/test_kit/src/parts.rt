@@ -29,7 +29,7 @@ pub fn word_at<'w>(words: &[&'w str], place: usize) -> Result<&'w str, RowFault>
     words.get(place).copied().ok_or(RowFault::NotRow)
 }
 
-/// Parses a word as a number.
+/// Parses a word as a decimal number of type `T`.
 ///
 /// # Errors
 ///
@@ -44,7 +44,7 @@ where
     }
 }
 
-/// Parses the word at a place, counted from 0, as a number.
+/// Parses the word at a place, counted from 0, as a decimal number of type `T`.
 ///
 /// # Errors
 ///

@@ -18,7 +18,7 @@ const TRIES: u8 = 2;
 // The text of the fault if the body of a listing cannot be decoded.
 const NO_PAGE: &str = "the body is no page";
 
-/// The reply to a call.
+/// The reply to a call of a test, which is executed over a keeper without a server.
 pub enum Reply {
     /// The call succeeded. The value is the body of its response.
     Done(Vec<u8>),
