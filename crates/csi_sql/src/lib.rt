@@ -15,8 +15,8 @@
 //!   error the tables are as they were; a stop leaves what it could leave before, or the tables after the
 //!   change.
 //! - [`reads`] has one transaction for each read, which is undone: a read returns rows, changes nothing, and
-//!   adds nothing to what a stop may leave. [`values`] decodes the cells of a row as numbers, flags, texts and
-//!   bytes.
+//!   adds nothing to what a stop may leave. [`values`] decodes the cells of a row as numbers, flags, texts
+//!   and bytes.
 //! - [`each_row`] hands the rows of a query to a [`Fold`], in order, and keeps none.
 //! - [`statements`] has the statements with fixed texts, a table a module, inside a transaction that the
 //!   caller ends. The SELECTs of rows are each a variant (`statements/select.rt`).
