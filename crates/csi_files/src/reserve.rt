@@ -88,7 +88,8 @@ impl Drop for Reserve {
 }
 
 impl Reserve {
-    // Memory for an opening that takes this many bytes, held as far as there is memory if it is to be held.
+    // Makes a reserve for an opening that takes this many bytes. If the memory is to be held, as much of it
+    // is held as the system gives.
     #[tactic(auto, using(crate::proofs::ReserveLemmas::no_blocks))]
     fn new(alloc: Global, wanted: usize, is_held: bool) -> Reserve
         ensures wanted { result.wanted ≡ wanted }
@@ -108,7 +109,7 @@ impl Reserve {
         reserve
     }
 
-    // Holds all that the next opening takes.
+    // Holds all memory that the next opening takes.
     #[tactic(auto, using(crate::proofs::ReserveLemmas::one_more))]
     fn fill(&mut self) -> Result<(), AllocError>
         ensures full { OnOk result (IsFull self.new) }
@@ -126,7 +127,7 @@ impl Reserve {
         Ok(())
     }
 
-    // The next opening takes this many bytes more, which are held if memory is held.
+    // Adds this many bytes to the memory that the next opening takes, and holds them if memory is held.
     fn grow(&mut self, bytes: usize) -> Result<(), AllocError>
         ensures full { OnOk result (IsTrue self.old.is_held → IsFull self.new) }
         ensures wanted { OnOk result (self.new.wanted ≡ wanted_with self.old bytes) }
@@ -203,8 +204,8 @@ pub(crate) struct Reserved<'a, S: Alter, O> {
 }
 
 impl<'a, S: Alter, O: Observer> Reserved<'a, S, O> {
-    /// Wraps tables whose reads go to the file. Holds up to `opening` bytes for their next opening, or less
-    /// if memory is refused.
+    /// Wraps tables whose reads go to the file. Holds memory for their next opening, which takes `opening`
+    /// bytes, or as much of it as the system gives.
     pub(crate) fn new(
         alloc: Global,
         tables: Tables<S>,

@@ -11,8 +11,8 @@ use sqlite::{Error, Files, Leftover};
 use sqlite_disk::Disk;
 use std::alloc::Global;
 
-/// Gets notice of the steps of a run before the first call is answered, and after the last call of the first
-/// error of the database.
+/// An observer of a run. It gets notice of each step before the first call is answered and, after the last
+/// call, of the first error of the database.
 pub trait Observer {
     /// Called after new tables were made, in a database that had no table.
     fn made(&self);
@@ -33,7 +33,6 @@ pub trait Observer {
     ///
     /// Count limits at which the process is killed, such as the memory limit of a Linux control group. Limits
     /// at which an allocation fails need not be counted.
-    /// limit of a control group on Linux.
     fn has_room(&self, opening: usize) -> bool;
 }
 

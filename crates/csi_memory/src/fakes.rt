@@ -1,4 +1,4 @@
-//! Keepers that fail when a test wants it.
+//! Keepers for tests, which fail on a chosen call.
 
 ghost use Rattle.std.specs.Prelude.{◌≡◌, ◌≢◌, ◌≤◌, ◌^◌, ◌↔◌, false, Some, Err, IfOk, IsTrue, is_some};
 ghost use Rattle.std.specs.FinMap.{get};

@@ -1,4 +1,4 @@
-//! A keeper of volumes in memory, and one that fails when a test wants it.
+//! A keeper of volumes in memory, and one that fails on a chosen call, for tests.
 //!
 //! [`MemKeeper`] has the ordered maps of `csi_maps` with their indexes, and the running totals of pools.
 //! `specs/Kept.antt` defines which State rows, indexes and totals represent together, and

@@ -27,12 +27,12 @@ use std::collections::{BTreeMap, BTreeSet};
 /// A keeper in memory. It is never down, and refuses a call only if memory is refused; its State is then
 /// unchanged, and it goes on. Its volumes end with it, so a stop leaves nothing.
 ///
-/// Each volume is stored once. For n volumes and m attachments, a search for a volume by its number or name
-/// takes O(log n) time, a read of the attachments of a volume O(log m) and their number, and a page O(log n)
-/// and its entries, with nodes O(log m) more and the number of the nodes; the used bytes of a pool take O(log
-/// p) for p pools. For d nodes with attachments, the count of volumes at one of them takes O(log d), and
-/// their numbers O(log d) and the count; `sizes_in` looks through all volumes. A change takes O(log n + log
-/// m), and `DetachAll` the attachments that it removes. Answers are copies.
+/// Each volume is stored once, and answers are copies. For n volumes, m attachments, p pools and d nodes with
+/// attachments, calls take this time: a volume by its number or name, O(log n); the attachments of a volume,
+/// O(log m) and one step for each; a page, O(log n) and one step for each entry, and with nodes O(log m) more
+/// and one step for each node; the used bytes of a pool, O(log p); the number of volumes at a node, O(log d);
+/// the numbers of the volumes at a node, O(log d) and one step for each; a change, O(log n + log m), and
+/// `DetachAll` one step for each attachment that it removes. `sizes_in` looks through all volumes.
 #[derive(Drop)]
 pub struct MemKeeper {
     next: u64,
