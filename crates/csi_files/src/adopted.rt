@@ -1,4 +1,4 @@
-//! Calls over the tables on a connection.
+//! Serves calls over the tables on a connection.
 
 ghost use Rattle.std.specs.Prelude.{◌≡◌, ◌≤◌, ◌↔◌, false, IfErr, IfOk, IsTrue, OnErr};
 ghost use Rattle.csi_sql.specs.Tables.{no_schema};
@@ -23,7 +23,7 @@ use std::io::{Read, Write};
 ///
 /// # Errors
 ///
-/// The connection, and why its database is refused.
+/// Why the database is refused, with the connection to it.
 pub(crate) fn adopt_tables<S: Alter + Drop, O: Observer>(
     run: &Run<'_, O>,
     conn: Connection<S>,
@@ -54,7 +54,7 @@ pub(crate) fn adopt_tables<S: Alter + Drop, O: Observer>(
 // A copy in memory of the volumes of tables. Each change is made in the tables first.
 type Copied<'a, S, O> = Through<MemKeeper, KeeperChanges<Reserved<'a, S, O>>>;
 
-// The source of the answers to calls.
+// Where calls get their answers from: the copy in memory, or the file.
 #[derive(Drop)]
 enum Source<'a, S: Alter, O> {
     Copy(Copied<'a, S, O>),
@@ -128,7 +128,7 @@ fn give_back<S: Alter, O: Observer>(run: &Run<'_, O>, tables: Tables<S>) -> Conn
     tables.into_connection()
 }
 
-/// Serves calls over adopted tables, and returns their connection. The report has `is_new` as it is given.
+/// Serves calls over adopted tables, and returns the connection to them. `is_new` is copied into the report.
 ///
 /// # Errors
 ///

@@ -1,4 +1,4 @@
-//! Copies a WAL into its database file, after the store over both was given up.
+//! Copies a WAL into its database file, once the store over both files was given up.
 
 ghost use Rattle.std.specs.Prelude.{◌≡◌, ◌<◌, false, length, IfErr, IfOk, IsTrue, OnOk};
 ghost use Rattle.sqlite_wal.specs.Log.{AreUsable, image, state};
@@ -82,12 +82,13 @@ fn copy_long<D: Disk>(
 }
 
 /// Copies the committed frames of the WAL into the database file, which is then complete without the WAL. A
-/// WAL that is too short for both headers stays as it is. `seed` is for the salts of the WAL's next header.
+/// WAL that is too short for its header and the header of a frame is unchanged. `seed` is for the salts of
+/// the WAL's next header.
 ///
 /// # Errors
 ///
-/// If the files name no page size, memory is refused or the disk fails. After an error, and after a crash
-/// during the copy, recovery finds pages that it might have found before.
+/// If the files name no page size, memory is refused or the disk fails. After an error, or after a crash
+/// during the copy, recovery finds the pages that it might have found before.
 pub(crate) fn copy_wal<D: Disk>(
     alloc: Global,
     mut pair: Files<D>,
@@ -105,7 +106,7 @@ pub(crate) fn copy_wal<D: Disk>(
     }
 }
 
-/// The name that the store has for a failure to copy the WAL. If the disk failed, `fault` says how.
+/// Converts an error of copying the WAL to a [`StoreError`]. An I/O error of the disk becomes `fault`.
 pub(crate) fn cause_of(error: wal::Error, fault: StoreError) -> StoreError
     ensures { result ≡ cause_of error fault }
 {
@@ -117,7 +118,7 @@ pub(crate) fn cause_of(error: wal::Error, fault: StoreError) -> StoreError
     }
 }
 
-/// Names a failure of the store as SQLite does.
+/// Converts a failure of the store to SQLite's error code for it.
 pub(crate) fn store_error(cause: StoreError) -> Error
     ensures { result ≡ of_store.store_error cause }
 {

@@ -1,4 +1,4 @@
-//! Gives the files of a connection back, as a stop would leave them or with the WAL copied.
+//! Closes the files of a connection, or gives them back as a stop would leave them.
 
 ghost use Rattle.std.specs.Prelude.{◌≡◌, false, IfErr, IfOk, IsTrue};
 ghost use Rattle.sqlite.specs.Files.{file_state};
@@ -13,8 +13,8 @@ use sqlite_trees::error::StoreError;
 use sqlite_trees::store::Store;
 use std::alloc::Global;
 
-/// The files of a connection, with no further input or output on them. The last commit may still be in the
-/// WAL alone; changes that were not committed are lost.
+/// Returns the files of a connection, without any further input or output on them. The last commit may be in
+/// the WAL alone; changes that were not committed are lost.
 ///
 /// The next opening finds a database that a stop at this moment may have left.
 pub fn leave<D: Disk + Drop>(conn: Connection<FileStore<D>>) -> Files<D>
@@ -23,8 +23,8 @@ pub fn leave<D: Disk + Drop>(conn: Connection<FileStore<D>>) -> Files<D>
     conn.into_store().close()
 }
 
-// As `leave`, and returns true if the store was open. A store that meets a fault shuts itself, and keeps the
-// last commit.
+// Does what `leave` does, and also returns true if the store was open. A store that meets a fault shuts
+// itself, and keeps the last commit.
 fn leave_open<D: Disk + Drop>(conn: Connection<FileStore<D>>) -> (Files<D>, bool)
     ensures left { IsLeft D.Disk conn result.0 }
     ensures open { AreClean D.Disk result.0.log result.0.db → IsTrue result.1
@@ -40,8 +40,8 @@ fn leave_open<D: Disk + Drop>(conn: Connection<FileStore<D>>) -> (Files<D>, bool
 ///
 /// # Errors
 ///
-/// If a fault has shut the store, or the WAL is not copied to its end. The files are then as [`leave`] leaves
-/// them: the last commit is in the WAL, in the database file or in both.
+/// If a fault has shut the store, or if copying the WAL fails. The files are then as [`leave`] leaves them:
+/// the last commit is in the WAL, in the database file or in both.
 pub(crate) fn close<D: Disk + Drop>(
     alloc: Global,
     conn: Connection<FileStore<D>>,
@@ -71,7 +71,7 @@ pub(crate) fn close<D: Disk + Drop>(
     }
 }
 
-/// As [`close`], but the files come back without an error where the WAL is not copied.
+/// Closes a connection as [`close`] does, but returns the files without an error if copying the WAL fails.
 pub(crate) fn close_or_leave<D: Disk + Drop>(
     alloc: Global,
     conn: Connection<FileStore<D>>,

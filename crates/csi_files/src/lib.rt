@@ -1,16 +1,17 @@
 //! A run of calls over a database file and its WAL, from the bytes of both before the run to their bytes
 //! after it.
 //!
-//! A [`Run`] does what `csid` does of files. [`Run::create_and_serve`] takes two files over any disks: it
-//! makes a database where they hold none yet, opens them, adopts their tables, copies the volumes into memory
-//! unless it is not to, serves calls, and closes the files. [`Run::adopt_and_serve`] is the same from an open
-//! connection on, and [`Run::serve_path`] is `create_and_serve` over the files at a path.
+//! A [`Run`] does what `csid` does with files. [`Run::create_and_serve`] takes two files over any disks: it
+//! makes a database if they hold none yet, opens them, adopts their tables, copies the volumes into memory
+//! unless the options forbid a copy, serves calls, and closes the files. [`Run::adopt_and_serve`] is the same
+//! over an open connection, and [`Run::serve_path`] is `create_and_serve` over the files at a path.
 //!
 //! `specs/Files.antt` says which State the bytes of two files have (`HasState`). That is the premise of a run
 //! and its promise, so runs compose: the next run begins from the files that the last one left (`laws`),
 //! unless an opening fails while it reads the schema. `specs/Starting.antt` has the files that a first run
 //! may start from (`MayStart`), and `specs/Serving.antt` the files of a run that did not close them. A stop
-//! is taken for a disk that freezes: the outcomes of a crash of such a disk are the files that a stop leaves.
+//! is modelled as a disk that freezes: the outcomes of a crash of such a disk are the files that a stop
+//! leaves.
 //!
 //! `run.rt` has the parts of a run, its report and its failures. `path.rt` goes from a path to files,
 //! `starting.rt` from files that may hold no database yet to a connection, `serving.rt` from a connection to

@@ -1,4 +1,4 @@
-//! How a database file is made that has none yet.
+//! Makes a database in files that hold none yet.
 
 ghost use Rattle.std.specs.Prelude.{◌≡◌, ◌≢◌, ◌↔◌, ◌<◌, ◌==◌, length, IfErr, IfOk, IsTrue, OnOk};
 ghost use Rattle.std.specs.List.{list_all};
@@ -18,12 +18,13 @@ use sqlite_wal::PageSize;
 use std::alloc::{AllocFailed, Global};
 use std::io::{self, ErrorKind};
 
-// The bytes of a page of a file that is made. A change writes each page whole that it touches, some five of
-// them, and most rows have a few hundred bytes: SQLite's own choice, 4,096, is four times as much to write.
+// The page size of a new database file, in bytes. A change writes each page that it touches as a whole, about
+// five of them, and most rows have a few hundred bytes: with SQLite's default, 4,096, four times as much is
+// written.
 const PAGE_BYTES: usize = 1024;
 
-/// The least bytes of a WAL with a change: its header, and the least frame, which is a header of its own
-/// and a page of 512 bytes.
+/// The smallest size of a WAL with a change, in bytes: the header of the WAL, and the smallest frame, which
+/// is a header of its own and a page of 512 bytes.
 pub const WAL_WITH_FRAME_BYTES: usize = 32 + 24 + 512;
 
 // The first bytes of a first page as earlier releases wrote it, which a stop could tear: its header, and a
@@ -39,13 +40,13 @@ const HEAD: [u8; 108] = *b"SQLite format 3\0\
 /// Why no database was made.
 #[derive(Clone, Copy, Debug)]
 pub enum NotLaidOut {
-    /// The database file is empty, and its WAL is long enough for changes, which would be lost.
+    /// The database file is empty, but its WAL is long enough to have changes, which would be lost.
     Emptied,
     /// The files could not be read or written, or memory was refused.
     Failed(Error),
 }
 
-// Only the first page is written, so no page is kept in memory.
+// The options of an opening in which only the first page is written, so no page is kept in memory.
 fn options(seed: u64) -> Options {
     Options {
         cache_pages: 1,
@@ -55,7 +56,7 @@ fn options(seed: u64) -> Options {
     }
 }
 
-// The pages of files, which are not read yet.
+// Opens the pages of files without reading them.
 fn pages_of<D: Disk>(alloc: Global, pair: Files<D>, seed: u64) -> Result<Pool<D>, Files<D>>
     ensures back { IfErr result (λ left. left ≡ pair) }
     ensures size { IfOk result (λ pool. (state pool).page_size ≡ page_bytes) }
@@ -72,7 +73,7 @@ fn pages_of<D: Disk>(alloc: Global, pair: Files<D>, seed: u64) -> Result<Pool<D>
     }
 }
 
-// Files that are given back, unless a sync of one has failed.
+// Gives the files back; an error if a sync of one of them has failed.
 fn given_back<D: Disk>(pool: Pool<D>) -> Result<Files<D>, (Error, Files<D>)>
     ensures ok { IfOk result (λ pair. ((pair.log, pair.db) ≡ files pool) × IsTrue (D.Disk.is_usable pair.log)
         × IsTrue (D.Disk.is_usable pair.db)) }
@@ -86,7 +87,7 @@ fn given_back<D: Disk>(pool: Pool<D>) -> Result<Files<D>, (Error, Files<D>)>
     }
 }
 
-// Makes an empty database of files that hold none yet, and leaves others as they are.
+// Makes an empty database in files that hold none yet. Other files are unchanged.
 fn make<D: Disk>(alloc: Global, pair: Files<D>, seed: u64) -> Result<Files<D>, (Error, Files<D>)>
     requires log { IsTrue (D.Disk.is_usable pair.log) }
     requires db { IsTrue (D.Disk.is_usable pair.db) }
@@ -112,7 +113,7 @@ enum Lengths {
     Larger,
     // The file is empty, and its WAL may have changes.
     Emptied,
-    // Neither.
+    // Neither: the file has at most one page, and no changes can be in its WAL.
     Short,
 }
 
@@ -143,14 +144,14 @@ fn is_zero(bytes: &[u8]) -> bool
     bytes.iter().all(|byte| *byte == 0)
 }
 
-// A byte of that page.
+// Returns the byte at this place of a new first page.
 fn page_byte(at: usize) -> u8
     ensures { result ≡ page_byte at }
 {
     if at < HEAD.len() { HEAD[at] } else { 0 }
 }
 
-// Whether a new first page begins with these bytes.
+// Returns whether a new first page begins with these bytes.
 fn begins_page(bytes: &[u8]) -> bool
     ensures { IsTrue result ↔ BeginsPage bytes.now }
 {
@@ -162,7 +163,7 @@ fn begins_page(bytes: &[u8]) -> bool
     true
 }
 
-// Whether a stop may have left these bytes of it.
+// Returns whether a stop may have left these bytes of a new first page.
 fn is_torn(bytes: &[u8]) -> bool
     ensures { IsTrue result ↔ IsPart bytes.now }
 {
@@ -173,7 +174,8 @@ fn is_torn(bytes: &[u8]) -> bool
     is_zero(bytes) || (len < PAGE_BYTES && begins_page(bytes))
 }
 
-// Whether a file has no more than that. There is room for all of it.
+// Reads a file into `room`, which is as long as the file, and returns whether the file is what a stop may
+// have left of a new first page.
 fn reads_torn<D: Disk>(file: &mut D, room: &mut [u8]) -> io::Result<bool>
     requires { IsTrue (D.Disk.is_usable file.old) }
     ensures value { IfOk result (λ is. IsTrue (D.Disk.is_clean file.new)
@@ -185,7 +187,7 @@ fn reads_torn<D: Disk>(file: &mut D, room: &mut [u8]) -> io::Result<bool>
     Ok(is_torn(room))
 }
 
-// As above, for a file of `len` bytes.
+// Does what `reads_torn` does, for a file of `len` bytes, in memory of its own.
 fn has_torn<D: Disk>(alloc: Global, file: &mut D, len: usize) -> io::Result<bool>
     requires { IsTrue (D.Disk.is_usable file.old) }
     ensures value { IfOk result (λ is. IsTrue (D.Disk.is_clean file.new) → len ≡ length (D.Disk.seen file.old)
@@ -196,7 +198,7 @@ fn has_torn<D: Disk>(alloc: Global, file: &mut D, len: usize) -> io::Result<bool
     reads_torn(file, bytes.as_mut_slice())
 }
 
-// Whether the database file has no more than that, and no WAL.
+// Returns whether the database file is what a stop may have left of a new first page, and the WAL is empty.
 fn holds_torn<D: Disk>(alloc: Global, pair: &mut Files<D>) -> io::Result<bool>
     requires log { IsTrue (D.Disk.is_usable pair.old.log) }
     requires db { IsTrue (D.Disk.is_usable pair.old.db) }
@@ -213,7 +215,7 @@ fn holds_torn<D: Disk>(alloc: Global, pair: &mut Files<D>) -> io::Result<bool>
     has_torn(alloc, &mut pair.db, len)
 }
 
-// Leaves no byte of it.
+// Cuts the file to 0 bytes, and syncs it.
 fn clear<D: Disk>(db: &mut D) -> io::Result<()>
     requires { IsTrue (D.Disk.is_usable db.old) }
     ensures empty { OnOk result (length (D.Disk.seen db.new) ≡ 0) }
@@ -224,7 +226,7 @@ fn clear<D: Disk>(db: &mut D) -> io::Result<()>
     db.sync()
 }
 
-// Clears a file that has what a stop left of that page.
+// Clears a database file that is what a stop may have left of a new first page. Other files are unchanged.
 fn clear_torn<D: Disk>(alloc: Global, pair: &mut Files<D>) -> io::Result<()>
     requires log { IsTrue (D.Disk.is_usable pair.old.log) }
     requires db { IsTrue (D.Disk.is_usable pair.old.db) }
@@ -242,7 +244,7 @@ fn clear_torn<D: Disk>(alloc: Global, pair: &mut Files<D>) -> io::Result<()>
     Ok(())
 }
 
-// Why it was not cleared.
+// Converts the error of a failed clearing to the reason why no database was made.
 fn failed(error: io::Error) -> NotLaidOut
     ensures { result ≡ not_cleared (error_kind error) }
 {
@@ -252,17 +254,17 @@ fn failed(error: io::Error) -> NotLaidOut
     }
 }
 
-/// Makes an empty database of files that hold none yet: new files, and what a stop left of an earlier call.
-/// Other files stay as they are. After a stop at any place, the next call makes it.
+/// Makes an empty database in files that hold none yet: new files, or what a stop left of an earlier call.
+/// Other files are unchanged. After a stop at any moment, the next call makes the database.
 ///
-/// A first page that an earlier release was stopped in, bytes of 0 or its beginning without a WAL, is cleared
-/// first.
+/// First, the call clears what a stop left of the first page in an earlier release: bytes of 0, or the
+/// beginning of the page without a WAL.
 ///
 /// # Errors
 ///
-/// If the log of an empty file may have changes, if the files cannot be read or written, or for want of
-/// memory. The files come back: unchanged in the first case, otherwise as a stop might have left them. No
-/// files are called corrupt: files that hold no database are left to the opening.
+/// If the WAL of an empty database file may have changes, if the files cannot be read or written, or if
+/// memory is refused. The files come back: unchanged in the first case, otherwise as a stop might have left
+/// them. This function never reports files as corrupt: files that are not a database are left to the opening.
 pub fn lay_out<D: Disk>(
     alloc: Global,
     mut pair: Files<D>,

@@ -1,4 +1,4 @@
-//! Calls over the files at a path.
+//! Serves calls over the files at a path.
 
 ghost use Rattle.std.specs.Prelude.{◌≡◌, false, true, IfErr, IfOk, IsTrue};
 ghost use Rattle.sqlite_std_file.specs.File.{IsFresh, file_is_usable};
@@ -24,25 +24,25 @@ const CANNOT_OPEN: Error = Error::SqliteFailure(ErrorCode::CannotOpen);
 
 const BUSY: Error = Error::SqliteFailure(ErrorCode::DatabaseBusy);
 
-/// The files at a path.
+/// The files at a path, before they are opened.
 ///
 /// It is trusted that these are the files at the path, and that no other program writes to them, as in
 /// `sqlite_std_file::open`.
 pub struct FilesAt<'a, S> {
     /// The operating system, which gives the files.
     pub rt: HostRuntime,
-    /// The path of the database file. Its WAL is next to it. SQLite does not take `:memory:` or a URI for a
-    /// file: neither is opened.
+    /// The path of the database file. Its WAL is next to it. A path that is `:memory:` or begins with `file:`
+    /// is refused, since SQLite would not take it for a file name.
     pub path: &'a str,
-    /// The contents of the files before the run. The clauses of a run hold for any bytes.
+    /// The contents of the files before the run. The contracts of a run hold for any contents.
     pub start: S,
-    /// The most pages of the database file that are kept in memory. An opening looks each row up in the index
-    /// of names, in no order of pages: if fewer pages are kept than this index has, it reads a page again for
-    /// nearly each row.
+    /// The greatest number of pages of the database file that are kept in memory. An opening looks each row
+    /// up in the index of names, in no order of pages: if fewer pages are kept than this index has, the
+    /// opening reads a page again for nearly each row.
     pub cache_pages: usize,
 }
 
-// SQLite's error for files that the operating system did not give.
+// Converts the operating system's failure to open the files to SQLite's error for it.
 fn open_error(cause: OpenError) -> Error
     ensures { result ≡ open_error cause }
 {
@@ -54,7 +54,8 @@ fn open_error(cause: OpenError) -> Error
     }
 }
 
-// The files at a path. Missing files are made. SQLite does not take `:memory:` or a URI for a file.
+// Opens the files at a path, and makes missing files. A path that is `:memory:` or begins with `file:` is
+// refused, since SQLite would not take it for a file name.
 fn files_at<S: Start>(rt: &HostRuntime, path: &str, start: S) -> Result<Files<FileFrom<S>>, Error>
     ensures usable { IfOk result (λ files. IsTrue (file_is_usable S.Start files.log)
         × IsTrue (file_is_usable S.Start files.db)) }
@@ -70,8 +71,8 @@ fn files_at<S: Start>(rt: &HostRuntime, path: &str, start: S) -> Result<Files<Fi
     }
 }
 
-// The options of an opening, with a seed that is drawn at random. It tells the frames of a new WAL from the
-// frames of an old one.
+// The options of an opening, with a random seed. The seed tells the frames of a new WAL from the frames of an
+// old one.
 fn opening(rt: &HostRuntime, cache_pages: usize) -> Result<Options, Error>
     ensures { IfErr result (λ e. e ≡ no_file_error NotSeeded) }
 {
@@ -86,16 +87,16 @@ fn opening(rt: &HostRuntime, cache_pages: usize) -> Result<Options, Error>
 
 impl<O: Observer> Run<'_, O> {
     /// Serves the volume machine over the database file at a path and its WAL, as
-    /// [`create_and_serve`](Run::create_and_serve) does over files.
+    /// [`create_and_serve`](Run::create_and_serve) does over two files.
     ///
     /// # Errors
     ///
-    /// As of [`create_and_serve`](Run::create_and_serve); also `NoFiles`, where the operating system does not
-    /// give the files or no random seed. No call is read then.
+    /// As for [`create_and_serve`](Run::create_and_serve); also `NoFiles`, if the operating system does not
+    /// give the files or a random seed. No call is read then.
     ///
     /// # Not promised
     ///
-    /// What a program and its sockets do around the run.
+    /// What the program that contains the run and its sockets do.
     pub fn serve_path<S: Start, R: Read, W: Write>(
         &self,
         at: FilesAt<'_, S>,

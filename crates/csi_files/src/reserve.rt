@@ -1,10 +1,10 @@
-//! Memory that is kept for the next opening of tables.
+//! Holds memory for the next opening of tables.
 //!
-//! An opening reads each table whole, where calls over a file take a few pages. So tables could grow, call by
-//! call, until no opening of them has enough memory, and no volume could be deleted any more.
+//! An opening reads each table whole, but calls over a file need only a few pages. So tables could grow, call
+//! by call, until no opening of them has enough memory, and then no volume could be deleted any more.
 //!
-//! Where the system refuses memory, blocks are held for the next opening. Memory that is held and not used
-//! does not count for a control group, which ends a process that uses too much: so the observer is asked
+//! On systems that refuse memory, blocks are held for the next opening. A control group ends a process that
+//! uses too much memory, and does not count memory that is held but not used. So the observer is also asked
 //! whether there is room.
 
 ghost use Rattle.std.specs.Prelude.{◌≡◌, ◌≤◌, ◌<◌, true, false, IfErr, IfOk, IsTrue, Ok, OnErr, OnOk, vec_capacity, vec_len};
@@ -25,14 +25,14 @@ use std::alloc::{AllocError, Global};
 // An opening reads each table whole. A row takes this number of bytes, and the bytes of its texts and blobs.
 const ROW_BYTES: usize = 256;
 
-// So does a capability, and the name of its file system.
+// The bytes that an opening takes for a capability, without the name of its file system.
 const CAP_BYTES: usize = 4;
 
 // Memory is held in blocks of this number of bytes.
 const BLOCK_BYTES: usize = 1 << 20;
 
-// The blocks that are left for calls once no more memory can be held: for the pages that they read and write,
-// their frames and their replies.
+// The number of blocks that are left for calls once no more memory can be held: for the pages that calls read
+// and write, their frames and their replies.
 const ROOM_BLOCKS: usize = 4;
 
 // A block of memory that is held and not used. The call is not inlined: a compiler may otherwise see that the
@@ -44,12 +44,12 @@ fn held(alloc: Global, bytes: usize) -> Result<Vec<u8>, AllocError>
     Vec::with_capacity(alloc, bytes)
 }
 
-/// Holds memory for calls, 4 MiB, until it is dropped. Each of its blocks is as large as the longest message,
-/// since free memory is seldom in one piece.
+/// Holds 4 MiB of memory for calls, until the result is dropped. Each of the four blocks is as large as the
+/// longest message, since free memory is seldom in one piece.
 ///
 /// # Errors
 ///
-/// For want of memory.
+/// If memory is refused.
 #[tactic(auto, using(crate::proofs::ReserveLemmas::no_blocks, crate::proofs::ReserveLemmas::one_more))]
 pub(crate) fn room(alloc: Global) -> Result<Vec<Vec<u8>>, AllocError>
     ensures count { IfOk result (λ blocks. vec_len blocks ≡ 4) }
@@ -69,7 +69,7 @@ const STEP_BYTES: usize = 1 << 18;
 struct Reserve {
     alloc: Global,
     blocks: Vec<Vec<u8>>,
-    // The bytes that the next opening takes.
+    // The bytes of memory that the next opening takes.
     wanted: usize,
     // Whether blocks are held for the next opening. They are not while a copy of the volumes is in memory:
     // it is dropped before the next opening, and takes more than that.
@@ -88,7 +88,8 @@ impl Drop for Reserve {
 }
 
 impl Reserve {
-    // Memory for an opening that takes this many bytes, held as far as there is memory if it is to be held.
+    // Makes a reserve for an opening that takes this many bytes. If the memory is to be held, as much of it
+    // is held as the system gives.
     #[tactic(auto, using(crate::proofs::ReserveLemmas::no_blocks))]
     fn new(alloc: Global, wanted: usize, is_held: bool) -> Reserve
         ensures wanted { result.wanted ≡ wanted }
@@ -108,7 +109,7 @@ impl Reserve {
         reserve
     }
 
-    // Holds all that the next opening takes.
+    // Holds all memory that the next opening takes.
     #[tactic(auto, using(crate::proofs::ReserveLemmas::one_more))]
     fn fill(&mut self) -> Result<(), AllocError>
         ensures full { OnOk result (IsFull self.new) }
@@ -126,7 +127,7 @@ impl Reserve {
         Ok(())
     }
 
-    // The next opening takes this many bytes more, which are held if memory is held.
+    // Adds this many bytes to the memory that the next opening takes, and holds them if memory is held.
     fn grow(&mut self, bytes: usize) -> Result<(), AllocError>
         ensures full { OnOk result (IsTrue self.old.is_held → IsFull self.new) }
         ensures wanted { OnOk result (self.new.wanted ≡ wanted_with self.old bytes) }
@@ -188,11 +189,11 @@ fn bytes_of(change: &Change) -> usize
     }
 }
 
-/// Tables, and memory for their next opening. A change that adds to the tables first holds memory for its
-/// rows. If there is no such memory, the change is answered `NoMemory` and not made, and the tables are not
+/// Tables, with memory for their next opening. A change that adds to the tables first holds memory for its
+/// rows. If this memory is refused, the change is answered `NoMemory` and not made, and the tables are not
 /// down. A change that removes rows holds no memory.
 ///
-/// Over tables that are copied into memory, a page is answered `NoMemory` where the observer has no room.
+/// Over tables that are copied into memory, a page is answered `NoMemory` if the observer has no room.
 #[derive(Drop)]
 pub(crate) struct Reserved<'a, S: Alter, O> {
     tables: Tables<S>,
@@ -203,8 +204,8 @@ pub(crate) struct Reserved<'a, S: Alter, O> {
 }
 
 impl<'a, S: Alter, O: Observer> Reserved<'a, S, O> {
-    /// Tables whose reads go to the file. Memory for their next opening, which takes `opening` bytes, is held
-    /// as far as there is memory.
+    /// Wraps tables whose reads go to the file. Holds memory for their next opening, which takes `opening`
+    /// bytes, or as much of it as the system gives.
     pub(crate) fn new(
         alloc: Global,
         tables: Tables<S>,
@@ -223,7 +224,8 @@ impl<'a, S: Alter, O: Observer> Reserved<'a, S, O> {
         }
     }
 
-    /// Tables that are copied into memory, and whose next opening takes `opening` bytes.
+    /// Wraps tables that are to be copied into memory, and holds no memory. Their next opening takes
+    /// `opening` bytes.
     pub(crate) fn for_copy(
         alloc: Global,
         tables: Tables<S>,
@@ -242,14 +244,14 @@ impl<'a, S: Alter, O: Observer> Reserved<'a, S, O> {
         }
     }
 
-    /// Whether every further call is answered `Down`.
+    /// Returns whether the tables are down, and every further call is answered `Down`.
     pub(crate) fn is_down(&self) -> bool
         ensures { result ≡ is_down S.Store self.now.tables }
     {
         self.tables.is_down()
     }
 
-    /// The tables, without the held memory.
+    /// Returns the tables, and frees the held memory.
     pub(crate) fn into_tables(self) -> Tables<S>
         ensures { result ≡ self.entry.tables }
     {

@@ -1,4 +1,4 @@
-//! Calls over two files.
+//! Serves calls over two files that are open.
 
 ghost use Rattle.std.specs.Prelude.{◌≡◌, ◌↔◌, false, IfErr, IfOk, IsTrue};
 ghost use Rattle.sqlite.specs.Files.{file_state};
@@ -50,16 +50,16 @@ impl<O: Observer> Run<'_, O> {
     /// Serves the volume machine over the database of two files that are open: adopts their tables, serves
     /// calls, and closes the files.
     ///
-    /// A database without a table gets new ones, unless the options refuse it. Where memory has no room for a
-    /// copy of the volumes, reads are answered from the file. A change is committed to the file before it is
-    /// answered.
+    /// A database without a table gets new ones, unless the options require tables. If memory has no room for
+    /// a copy of the volumes, reads are answered from the file. A change is committed to the file before its
+    /// call is answered.
     ///
-    /// The clauses hold for any bytes that the files held as they were opened (`Opens`). `seed` is for the
-    /// salts of the WAL's next header.
+    /// The contract holds for any bytes that the files held when they were opened (`Opens`). `seed` is for
+    /// the salts of the WAL's next header.
     ///
     /// # Errors
     ///
-    /// As of [`create_and_serve`](Run::create_and_serve), without `NotOpened`.
+    /// As for [`create_and_serve`](Run::create_and_serve), without `NotOpened`.
     pub fn adopt_and_serve<D: Disk + Drop, R: Read, W: Write>(
         &self,
         conn: Connection<FileStore<D>>,

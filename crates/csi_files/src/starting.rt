@@ -1,4 +1,4 @@
-//! Calls over two files. A database is made first if they hold none.
+//! Serves calls over two files. If the files hold no database, one is made first.
 
 ghost use Rattle.std.specs.Prelude.{◌≡◌, false, IfErr, IfOk, IsTrue};
 ghost use Rattle.sqlite_wal.specs.Reads.{AreClean};
@@ -38,7 +38,7 @@ fn code_of(why: NotLaidOut, fault: StoreError) -> ErrorCode
     }
 }
 
-// Makes a database in files that hold none yet. An error has a name of SQLite's.
+// Makes a database in files that hold none yet. Errors are SQLite's.
 fn made<D: Disk + Drop>(
     alloc: Global,
     files: Files<D>,
@@ -60,35 +60,35 @@ fn made<D: Disk + Drop>(
 }
 
 impl<O: Observer> Run<'_, O> {
-    /// Serves the volume machine over a database file and its WAL: makes a database where they hold none yet,
-    /// opens them, adopts their tables, serves calls, and closes the files.
+    /// Serves the volume machine over a database file and its WAL: makes a database if the files hold none
+    /// yet, opens the files, adopts their tables, serves calls, and closes the files.
     ///
-    /// For each State that the files have before (`HasState`), the table of ends of `csi_server::serve` says
+    /// For each State that the files have before (`HasState`), the table of ends of `csi_server::serve` shows
     /// which bytes are read and written, how the run ends and which calls it counts; the files then have the
-    /// State after the calls. A first run starts from the first State, also after a stop in the middle of the
-    /// making (`MayStart`). Files without a table get new ones, and the first State, unless the options
-    /// refuse them. If memory has no room for a copy of the volumes, reads are answered from the file.
+    /// State after the calls. A first run starts from the first State, also after a stop while the database
+    /// was made (`MayStart`). Files without a table get new tables, and the first State, unless the options
+    /// require tables. If memory has no room for a copy of the volumes, reads are answered from the file.
     ///
-    /// All of that is promised while the disks return the bytes that were written to them (`AreClean`). Over
+    /// All of this is promised while the disks return the bytes that were written to them (`AreClean`). Over
     /// any disk the calls that were read have their replies, in order (`writes`), and after `Ok` the store
-    /// has refused none.
+    /// has refused no call.
     ///
     /// # Errors
     ///
-    /// `NotOpened` and `Refused`: the next run starts as this one would have, and nothing is read or written.
-    /// `Left`, if the store refused a call, and `NotClosed`, if the WAL was not copied into the database
-    /// file: the run is as above, and the files have the State after the calls, or the State that a refused
-    /// call would have made.
+    /// `NotOpened` and `Refused`: the next run starts as this one would have, and no call is read and no
+    /// reply written. `Left`, if the store refused a call, and `NotClosed`, if copying the WAL into the
+    /// database file failed: the run is as above, and the files have the State after the calls, or the State
+    /// that a refused call would have made.
     ///
     /// # Not promised
     ///
-    /// That the disk returns the bytes that were written. That memory is there, and so that a run answers
-    /// `Ok`: tests rule out a body that always answers `NotOpened`. That the volumes are copied into memory
+    /// That the disk returns the bytes that were written. That memory is there, and so that a run returns
+    /// `Ok`: tests rule out a body that always returns `NotOpened`. That the volumes are copied into memory
     /// if memory allows it.
     ///
     /// The files after a stop in the repair of a file in which an earlier release was stopped, and that a
-    /// file that was left half made is never refused for its WAL: rows show both. If an opening fails while
-    /// it reads the schema, the clauses speak of the trees that the store reads, and not of bytes.
+    /// half-made file is never refused for its WAL: rows show both. If an opening fails while it reads the
+    /// schema, the clauses speak of the trees that the store reads, and not of bytes.
     pub fn create_and_serve<D: Disk + Drop, R: Read, W: Write>(
         &self,
         files: Files<D>,

@@ -1,4 +1,4 @@
-//! Requests over any keeper.
+//! Answers requests over any keeper.
 
 ghost use Rattle.std.specs.Prelude.{◌≡◌, ◌≤◌, ◌++◌, length, [], OnOk, OnErr, IfSome, IsTrue, None};
 ghost use Rattle.csi_types.specs.Checks.{checked};
@@ -22,7 +22,7 @@ use csi_types::{CreateVolume, Map, Request};
 use std::alloc::Global;
 
 // Appends the body of a plan's response, and then makes its change. If memory is refused for the body, the
-// State stays; a fault of the keeper removes the body again.
+// State is unchanged; if the keeper returns a fault, the body is removed again.
 #[inline(always)]
 fn finish<K: Keeper, P: Outcome>(
     alloc: Global,
@@ -85,21 +85,22 @@ fn append_creation<K: Keeper>(
     finish(alloc, keeper, creation, out)
 }
 
-/// Answers a request over any keeper by one step of the machine: the plan that the keeper's State
-/// gives the request. The body of its response is appended to `out`, and then its change is made.
+/// Answers a request over any keeper by one step of the machine, the plan of the request in the keeper's
+/// State: appends the body of the response to `out`, and then makes the change.
 ///
-/// A promise of the State holds for each State of the invariant that the keeper may have, while its doubt is
-/// 0. After an answer that moved the State, a stop leaves the State after it.
+/// The promises about the State hold while the keeper's doubt is 0, for each State of the invariant that the
+/// keeper may have. After an answer that changed the State, a stop leaves the changed State.
 ///
 /// # Errors
 ///
-/// What the keeper answers, or want of memory for the body. The State is as before, and so is
-/// `out`, as it is after anything but [`Verdict::Done`]; a stop may then leave the change made.
+/// The fault that the keeper returns, or [`StoreFault::NoMemory`] if memory for the body is refused. The
+/// State is unchanged, but a stop may then leave the change made. `out` is unchanged after an error and after
+/// a refusal.
 ///
 /// # Not promised
 ///
-/// That the keeper or memory does not fail, and how long an answer takes. A request that was
-/// answered with a fault may have been made after all: a stop may leave its change.
+/// That the keeper or memory does not fail, and how long an answer takes. The change of a request that was
+/// answered with a fault may be made after all: a stop may leave the change.
 #[inline(always)]
 pub fn append_answer<K: Keeper>(
     alloc: Global,
@@ -127,7 +128,7 @@ pub fn append_answer<K: Keeper>(
 ///
 /// # Errors
 ///
-/// As of [`append_answer`]; `out` is empty after anything but [`Verdict::Done`].
+/// As for [`append_answer`]. `out` is empty after an error and after a refusal.
 pub fn answer<K: Keeper>(
     alloc: Global,
     config: &Config,

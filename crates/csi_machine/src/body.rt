@@ -10,17 +10,17 @@ use csi_types::{Reason, Response};
 use envelope::MAX_BODY_BYTES;
 use std::alloc::AllocError;
 
-/// The answer to a request.
+/// Whether a request is done or refused.
 #[derive(Clone, Copy, Debug)]
 pub enum Verdict {
     /// The request is done, and the body of its response is written.
     Done,
-    /// The request is refused, for this reason.
+    /// The request is refused, for this reason. No body is written.
     Refused(Reason),
 }
 
-/// Takes the body that begins at `from` back where it has more than [`MAX_BODY_BYTES`], and refuses it with
-/// [`Reason::ReplyTooLarge`].
+/// Checks the body that begins at `from`. A body of more than [`MAX_BODY_BYTES`] is cut off again and refused
+/// with [`Reason::ReplyTooLarge`].
 pub(crate) fn limit_body(out: &mut Vec<u8>, from: usize) -> Verdict
     requires { from ≤ length out.old.items }
     ensures appended { Appended {E = AnyError} (take from out.old.items) out.new.items (Ok result) }
@@ -34,12 +34,12 @@ pub(crate) fn limit_body(out: &mut Vec<u8>, from: usize) -> Verdict
     Verdict::Done
 }
 
-/// Appends the body of a response, or refuses one of more than [`MAX_BODY_BYTES`] with
-/// [`Reason::ReplyTooLarge`]; the vector is then as it was.
+/// Appends the body of a response. A body of more than [`MAX_BODY_BYTES`] is refused with
+/// [`Reason::ReplyTooLarge`], and `out` is unchanged.
 ///
 /// # Errors
 ///
-/// Where memory is refused the vector is as it was.
+/// If memory is refused. `out` is unchanged.
 pub fn append_body(response: &Response, out: &mut Vec<u8>) -> Result<Verdict, AllocError>
     ensures appended { Appended out.old.items out.new.items result }
     ensures reported { IsReported (within (response_bytes response.now)) out.old.items out.new.items result }

@@ -1,5 +1,5 @@
-//! The plan of each request, made by reads alone: its answer, and the one change that it makes. Pages are
-//! answered as they are read.
+//! Plans each request by reads alone: its answer, and the one change that it makes. Pages of a listing are
+//! written as they are read, without a plan.
 #![tactic(auto, using(csi_keeper::specs::facts::Reads::quiet_same, csi_keeper::specs::facts::Reads::quiet_then))]
 
 ghost use Rattle.std.specs.Prelude.{◌≡◌, None, IfErr, IfOk, IfSome, IsTrue};
@@ -27,7 +27,7 @@ use csi_types::Request;
 pub(crate) use listing::append_page;
 use std::alloc::Global;
 
-/// The plan of a request that is not answered as it is read.
+/// Returns the plan of a request. Probe, ListVolumes and CreateVolume are answered without this function.
 pub(crate) fn plan_of<K: Keeper>(
     alloc: Global,
     config: &Config,

@@ -1,11 +1,11 @@
-//! What a configuration has, as far as requests need it.
+//! The properties of a configuration that requests need.
 
 ghost use Rattle.csi_machine.specs.Configured.{IsConfigured};
 
 use csi_config::Config;
 use csi_config::laws::{node_ids_differ, pool_bytes_whole, pool_names_differ, sizes_whole};
 
-/// The laws of a configuration as one fact.
+/// States the laws of a configuration as one fact.
 #[inline(always)]
 pub(crate) fn configured(config: &Config)
     ensures { IsConfigured config.now }

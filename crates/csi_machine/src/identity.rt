@@ -1,5 +1,5 @@
-//! What the plugin is and can do: GetPluginInfo, GetPluginCapabilities, Probe and
-//! ControllerGetCapabilities (CSI specification, the sections of these names).
+//! The calls about the plugin: GetPluginInfo, GetPluginCapabilities, Probe and ControllerGetCapabilities (CSI
+//! specification, the sections of these names).
 
 ghost use Rattle.std.specs.Prelude.{◌≡◌, None, IfOk};
 ghost use Rattle.csi_machine.specs.Identity.{plugin_info, plugin_capabilities, probe, controller_capabilities};
@@ -12,11 +12,11 @@ use csi_config::Config;
 use csi_types::{Items, Response, copy_text};
 use std::alloc::{AllocError, Global};
 
-/// The plan of GetPluginInfo: the name and version of the configuration.
+/// Plans GetPluginInfo: the answer is the name and version in the configuration.
 ///
 /// # Errors
 ///
-/// Where memory was refused.
+/// If memory is refused.
 pub(crate) fn plan_plugin_info(alloc: Global, config: &Config) -> Result<Plan, AllocError>
     ensures none { IfOk result (λ p. p.change ≡ None) }
     ensures value { IfOk result (λ p. p ≡ plugin_info config.now) }
@@ -35,11 +35,11 @@ fn items_of(alloc: Global, types: &[Option<i32>]) -> Result<Items<Option<i32>>, 
     Ok(Items::from_vec(items))
 }
 
-/// The plan of GetPluginCapabilities: `CONTROLLER_SERVICE` and `VOLUME_ACCESSIBILITY_CONSTRAINTS`.
+/// Plans GetPluginCapabilities: the answer is `CONTROLLER_SERVICE` and `VOLUME_ACCESSIBILITY_CONSTRAINTS`.
 ///
 /// # Errors
 ///
-/// Where memory was refused.
+/// If memory is refused.
 pub(crate) fn plan_plugin_capabilities(alloc: Global) -> Result<Plan, AllocError>
     ensures none { IfOk result (λ p. p.change ≡ None) }
     ensures value { IfOk result (λ p. p ≡ plugin_capabilities) }
@@ -48,11 +48,11 @@ pub(crate) fn plan_plugin_capabilities(alloc: Global) -> Result<Plan, AllocError
     Ok(respond(PlannedResponse::of(alloc, Response::PluginCapabilities(types))?))
 }
 
-/// Answers Probe: ready. It is asked so often that its response is not kept as one of a plan.
+/// Appends the answer to Probe, which is always ready. Probes are frequent, so no plan is made for them.
 ///
 /// # Errors
 ///
-/// Where memory was refused; the vector is as it was.
+/// If memory is refused. `out` is unchanged.
 pub(crate) fn append_ready(out: &mut Vec<u8>) -> Result<Verdict, AllocError>
     ensures appended { Appended out.old.items out.new.items result }
     ensures reported { IsReported (reported_of probe.outcome) out.old.items out.new.items result }
@@ -60,13 +60,13 @@ pub(crate) fn append_ready(out: &mut Vec<u8>) -> Result<Verdict, AllocError>
     append_body(&Response::Probe(Some(true)), out)
 }
 
-/// The plan of ControllerGetCapabilities: `CREATE_DELETE_VOLUME`, `PUBLISH_UNPUBLISH_VOLUME`,
+/// Plans ControllerGetCapabilities: the answer is `CREATE_DELETE_VOLUME`, `PUBLISH_UNPUBLISH_VOLUME`,
 /// `LIST_VOLUMES`, `GET_CAPACITY`, `PUBLISH_READONLY`, `LIST_VOLUMES_PUBLISHED_NODES`,
 /// `SINGLE_NODE_MULTI_WRITER` and `MODIFY_VOLUME`.
 ///
 /// # Errors
 ///
-/// Where memory was refused.
+/// If memory is refused.
 pub(crate) fn plan_controller_capabilities(alloc: Global) -> Result<Plan, AllocError>
     ensures none { IfOk result (λ p. p.change ≡ None) }
     ensures value { IfOk result (λ p. p ≡ controller_capabilities) }

@@ -35,7 +35,7 @@ use csi_config::Config;
 use csi_config::laws::{pool_keys_differ, pools_named};
 use csi_types::laws::{equal_topologies, inclusions, overlays};
 
-/// An id names the volume that it was made of, and no other text names that volume.
+/// The id that is made of a volume's number names this volume, and no other text does.
 #[inline(always)]
 #[tactic(auto, using(csi_rules::specs::facts::Ids::id_named, csi_rules::specs::facts::Ids::named_id))]
 pub fn ids()
@@ -43,8 +43,8 @@ pub fn ids()
     ensures only { (t : Text) (n : ℕ) → number_of_id t ≡ Some n → t ≡ id n }
 {}
 
-/// The State after a request meets the invariant, if the State before it does and the request passes the
-/// checks of its arguments. It does not matter whether the request is answered.
+/// The State after a request meets the invariant if the State before the request does and the request passes
+/// the checks of its arguments. This holds whether or not the request is answered.
 #[inline(always)]
 pub fn kept(config: &Config)
     ensures { (s : State) (r : Request) → IsInvariant config.now s → checked r ≡ None
@@ -53,9 +53,9 @@ pub fn kept(config: &Config)
     configured(config);
 }
 
-/// No number is given twice: a request lowers no next number, does not give the number of a deleted volume
-/// again, and changes only the mutable parameters of a volume that stays. It does not matter whether the
-/// request is answered.
+/// No number is given twice: a request never lowers the next number, never gives the number of a deleted
+/// volume again, and changes only the mutable parameters of a volume that exists before and after. This holds
+/// whether or not the request is answered.
 #[inline(always)]
 pub fn numbers(config: &Config)
     ensures { (s : State) (r : Request) → IsInvariant config.now s → checked r ≡ None
@@ -64,19 +64,18 @@ pub fn numbers(config: &Config)
     configured(config);
 }
 
-/// A walk over the pages of a listing, from a State of the invariant (CSI specification,
-/// 'ListVolumes').
+/// A walk over the pages of a listing, from a State of the invariant (CSI specification, 'ListVolumes').
 ///
-/// The first page has an empty token, each next one the token that the page before returned. Other requests
-/// that pass the checks of their arguments come anywhere. No page is refused for its token; each listed
-/// volume existed at its page; no volume is listed twice; and a walk that came to its end has listed each
-/// volume that existed at all of its pages.
+/// The first page has an empty token, and each next page the token that the page before it returned. Other
+/// requests that pass the checks of their arguments may come between the pages. Then no page is refused for
+/// its token; each listed volume existed when its page was read; no volume is listed twice; and a walk that
+/// reached its end has listed each volume that existed at all of its pages.
 ///
 /// # Not promised
 ///
-/// That a walk ends while others add volumes, and that its pages show one moment. A page whose
-/// body no reply holds is refused and is no page of the walk: it is asked for again with its token
-/// and fewer entries.
+/// That a walk ends while other clients add volumes, and that all pages show the same moment. A page that is
+/// too large for a reply is refused and does not count as a page of the walk: the client asks for it again
+/// with the same token and fewer entries.
 #[inline(always)]
 pub fn walk(config: &Config)
     ensures read { (s : State) (calls : List Call) → IsInvariant config.now s → AreChecked calls
@@ -94,14 +93,15 @@ pub fn walk(config: &Config)
     configured(config);
 }
 
-/// What GetCapacity offers is given (CSI specification, 'GetCapacity', `maximum_volume_size`).
+/// A volume of the size that GetCapacity offers can be made (CSI specification, 'GetCapacity',
+/// `maximum_volume_size`).
 ///
-/// From a State of the invariant: where the maximum that is answered is above zero, a pool of the
-/// configuration is chosen for that size under the topology that was asked for. So a create that asks
-/// for that size, by any range whose size it is, with the topology among its terms, is answered a
-/// volume of that size in a pool of the configuration, which exists from then on. Its name must be
-/// new, and neither the count of volumes nor their numbers may be used up. The range that has this
-/// size as both of its limits is such a range.
+/// In a State of the invariant, if the maximum in the answer is above zero, a pool of the configuration is
+/// chosen for this size under the topology of the request. So a create that asks for this size, with the
+/// topology among its terms, is answered with a volume of this size in a pool of the configuration, and the
+/// volume exists from then on. The create may use any range that results in this size, such as a range with
+/// this size as both limits. Its name must be new, and neither the count of volumes nor their numbers may be
+/// used up.
 #[inline(always)]
 pub fn room(config: &Config)
     ensures chosen { (s : State) (g : GetCapacity) (available n : ℕ) → IsInvariant config.now s
@@ -135,8 +135,8 @@ pub fn room(config: &Config)
 
 /// Each request is idempotent (CSI specification, 'Timeouts').
 ///
-/// From a State of the invariant: a request that passes the checks of its arguments, taken again at
-/// once, is answered the same and leaves the same State.
+/// In a State of the invariant, a request that passes the checks of its arguments and is repeated at once
+/// gets the same answer again, and the repetition does not change the State.
 #[inline(always)]
 pub fn repeat(config: &Config)
     ensures { (s : State) (r : Request) → IsInvariant config.now s → checked r ≡ None
@@ -148,15 +148,15 @@ pub fn repeat(config: &Config)
     inclusions();
 }
 
-/// Requests that are tried again until they are answered are each taken once (CSI specification,
-/// 'Timeouts').
+/// Requests that a client repeats until each is answered have the effect of executing each once (CSI
+/// specification, 'Timeouts').
 ///
-/// From a State of the invariant a client tries requests that pass the checks of their arguments, in order,
-/// each again and again until it is answered. A try may be refused inside, or because the store is down, an
-/// answer may be lost, and a stop may end the session between any two tries. Other clients may make requests
-/// that change nothing at any time: Probe, ListVolumes, GetCapacity, ValidateVolumeCapabilities, and the
-/// calls about the plugin. The answers, and each State that may be left in the end, are the answers and the
-/// State of the requests taken once each.
+/// From a State of the invariant, a client sends requests that pass the checks of their arguments, in order,
+/// and tries each again until it is answered. A try may fail with an internal error or because the store is
+/// down, an answer may be lost, and a stop may end the session between any two tries. Other clients may make
+/// requests that change nothing at any time: Probe, ListVolumes, GetCapacity, ValidateVolumeCapabilities, and
+/// the calls about the plugin. The answers, and each State that may be left in the end, are the answers and
+/// the State of executing each request once.
 #[inline(always)]
 pub fn retry(config: &Config)
     ensures { (s t : State) (requests : List Request) (sessions : List (List Try)) (reported : List Report)
@@ -171,11 +171,11 @@ pub fn retry(config: &Config)
     inclusions();
 }
 
-/// There are such lives, of each request and from each State, so [`retry`] does not speak of nothing.
+/// Lives as in [`retry`] exist, for each request and from each State, so [`retry`] is not empty.
 ///
-/// A request is made and its answer is lost; or it is refused inside, and a stop leaves its change all the
-/// same. In the next session it is tried again, and answered. Another client may have asked for something
-/// that changes nothing before.
+/// Either the request is made and its answer is lost, or the request fails with an internal error and a stop
+/// leaves its change all the same. In the next session the client tries the request again, and it is
+/// answered. Before that, another client may make a request that changes nothing.
 #[inline(always)]
 pub fn tried_twice(config: &Config)
     ensures lost { (s : State) (r : Request) → IsLifeOfTwo config.now s r Unanswered }

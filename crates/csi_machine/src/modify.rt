@@ -41,15 +41,15 @@ fn modify_own(alloc: Global, number: u64, own: &Map, given: &Map) -> Result<Plan
     )
 }
 
-/// The plan of ControllerModifyVolume, by reads of the keeper alone.
+/// Plans ControllerModifyVolume, by reads of the keeper alone.
 ///
-/// The given parameters are laid over the volume's own, whether it is published or not. A result of
-/// more than 4,096 bytes is refused. Where the volume has each given one already nothing changes.
-/// For a text that is no volume's id the keeper is not asked.
+/// The given parameters replace or extend the volume's own, whether it is published or not. A result of more
+/// than 4,096 bytes is refused. If the volume already has each given parameter, nothing changes. If the text
+/// is not the id of a volume, the keeper is not read.
 ///
 /// # Errors
 ///
-/// What the keeper answers, or want of memory.
+/// The fault that the keeper returns, or `StoreFault::NoMemory` if memory is refused.
 #[tactic(auto, using(csi_keeper::specs::facts::Reads::quiet_same, csi_keeper::specs::facts::Reads::quiet_then))]
 pub(crate) fn plan_modify<K: Keeper>(alloc: Global, keeper: &mut K, request: &Modify) -> Planning
     ensures bounded { IfOk result (λ p. IfSome p.change IsBounded) }

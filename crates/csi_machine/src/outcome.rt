@@ -1,4 +1,5 @@
-//! The outcome of a request: a body or a refusal, and the one change that is made after the body.
+//! The outcome of a request: a body or a refusal, and at most one change, which is made after the body is
+//! written.
 
 ghost use Rattle.std.specs.Prelude.{◌≡◌, ◌≤◌, ◌++◌, length, IfOk, OnOk, OnErr, IfSome};
 ghost use Rattle.envelope.specs.declared.limits.TheConstants.{MAX_BODY_BYTES};
@@ -12,13 +13,13 @@ use crate::plan::Plan;
 use csi_keeper::{Keeper, StoreFault};
 use std::alloc::{AllocError, Global};
 
-/// The outcome of a request, in a plan.
+/// A plan that can be carried out: its body is appended first, and then its change is made.
 pub(crate) trait Outcome: Drop {
     /// The plan as a value, for contracts.
     ghost plan: { Self → AnyPlan };
 
-    /// Appends the body of the plan's response. A body that no reply holds is a refusal, and then the plan
-    /// makes no change.
+    /// Appends the body of the plan's response. A body that is too large for a reply becomes a refusal, and
+    /// then the plan makes no change.
     fn append(&self, out: &mut Vec<u8>) -> Result<Verdict, AllocError>
         ensures value { IfOk result (λ v. limited (plan self.now) ≡ by_verdict (plan self.now) v) }
         ensures body { OnOk result (out.new.items
@@ -26,7 +27,7 @@ pub(crate) trait Outcome: Drop {
         ensures small { OnOk result (length (body_of (limited (plan self.now)).outcome) ≤ MAX_BODY_BYTES) }
         ensures err { OnErr result (out.new.items ≡ out.old.items) };
 
-    /// Makes the plan's change, if it has one, and gives its verdict.
+    /// Makes the plan's change, if it has one, and returns the plan's verdict.
     fn carry_out<K: Keeper>(self, alloc: Global, keeper: &mut K) -> Result<Verdict, StoreFault>
         requires { IfSome (plan self).change IsBounded }
         ensures { Carries (plan self) (K.model keeper.old) (K.model keeper.new) result };

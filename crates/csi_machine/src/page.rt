@@ -37,7 +37,7 @@ fn put_placed(
     encode_entry(&entry, out)
 }
 
-// Appends the entry of the first volume of a pool. Its place is kept for the others.
+// Appends the entry of the first volume of a pool, and keeps the pool's placement for the later volumes.
 #[inline(never)]
 fn put_first(
     alloc: Global,
@@ -81,16 +81,16 @@ fn put_row(
     }
 }
 
-/// A page that is being written.
+/// A page of a listing that is being written.
 #[derive(Drop)]
 pub(crate) struct Page<'a> {
     pub(crate) alloc: Global,
     pub(crate) config: &'a Config,
     /// The context and topology of each pool met so far, encoded.
     pub(crate) places: Vec<PoolPlacement>,
-    /// The number of its last volume, or the one after which it begins.
+    /// The number of the last volume on the page; while the page is empty, the number after which it begins.
     pub(crate) last: u64,
-    /// Where its entries are appended.
+    /// The body that the entries are appended to.
     pub(crate) body: Vec<u8>,
 }
 
@@ -121,7 +121,7 @@ impl PageFold for Page<'_> {
     }
 }
 
-/// A fold that finds out whether there is a volume.
+/// A fold that finds out whether there is any volume.
 #[derive(Drop)]
 pub(crate) struct AnyVolume {
     /// Whether a volume was met. It begins as `false`.

@@ -1,4 +1,5 @@
-//! What the pools of a configuration give their volumes, encoded when a listing first needs them.
+//! The context and topology that a configuration gives the volumes of each pool, encoded when a listing first
+//! needs them.
 
 ghost use Rattle.std.specs.Prelude.{◌≡◌, ◌↔◌, IfOk, IfSome, IsTrue, find, option_copied};
 ghost use Rattle.csi_types.specs.Maps.{same_text};
@@ -11,14 +12,14 @@ use csi_rules::{context_of, segments_at, topology_of};
 use csi_types::{Map, Text, copy_text};
 use std::alloc::{AllocError, Global};
 
-/// The fields that are the same for all volumes of a pool.
+/// A pool, and the encoded fields that are the same for all of its volumes.
 #[derive(Drop)]
 pub(crate) struct PoolPlacement {
     pub(crate) pool: Text,
     pub(crate) placement: Placement,
 }
 
-/// The context and topology that the configuration gives to every volume of a pool.
+/// Encodes the context and topology that the configuration gives to every volume of a pool.
 pub(crate) fn placement_of(
     alloc: Global,
     config: &Config,
@@ -43,7 +44,7 @@ fn is_of(place: &PoolPlacement, pool: &str) -> bool
     place.pool.as_str() == pool
 }
 
-/// The first place of a pool; `None` before the first volume of the pool.
+/// Returns the placement of a pool; `None` if no volume of the pool was met yet.
 #[inline(always)]
 pub(crate) fn placement_named<'a>(
     places: &'a [PoolPlacement],

@@ -1,4 +1,4 @@
-//! What a request is answered, and the one change that it makes.
+//! The plan of a request: its answer, and the one change that it makes.
 
 ghost use Rattle.std.specs.Prelude.{◌≡◌, IfOk};
 ghost use Rattle.csi_machine.specs.Plan.{make, refuse, respond};
@@ -10,10 +10,10 @@ use csi_keeper::{Change, StoreFault};
 use csi_types::{Boxed, Reason};
 use std::alloc::{AllocError, Global};
 
-/// A plan, or why none was made: what the keeper answered, or want of memory.
+/// A plan; or the fault that the keeper returned, or [`StoreFault::NoMemory`] if memory was refused.
 pub(crate) type Planning = Result<Plan, StoreFault>;
 
-/// The answer to a request, and the change that is made before it.
+/// The answer to a request, and the change to make before the answer is sent.
 pub struct Plan {
     /// The response, or the reason of a refusal, which changes nothing.
     pub outcome: Result<PlannedResponse, Reason>,
@@ -42,7 +42,7 @@ fn verdict_of(outcome: &Result<PlannedResponse, Reason>) -> Verdict
 }
 
 impl Plan {
-    /// The verdict and the change, by value.
+    /// Returns the verdict and the change, and drops the response.
     pub fn into_parts(self) -> (Verdict, Option<Boxed<Change>>)
         ensures { result ≡ (verdict_of self.outcome, self.change) }
     {
@@ -51,7 +51,7 @@ impl Plan {
     }
 }
 
-/// A refusal, which changes nothing.
+/// Returns the plan that refuses a request and changes nothing.
 pub(crate) fn refuse(reason: Reason) -> Plan
     ensures { result ≡ refuse reason }
 {
@@ -61,11 +61,12 @@ pub(crate) fn refuse(reason: Reason) -> Plan
     }
 }
 
-/// A response after a change. The caller knows which change it is, so it is not moved whole.
+/// Returns the plan that makes a change and answers with a response. This function is inlined, so the change,
+/// whose kind the caller knows, is not moved whole.
 ///
 /// # Errors
 ///
-/// Where memory was refused.
+/// If memory is refused.
 #[inline(always)]
 pub(crate) fn make(
     alloc: Global,
@@ -81,7 +82,7 @@ pub(crate) fn make(
     })
 }
 
-/// A response that changes nothing.
+/// Returns the plan that answers with a response and changes nothing.
 pub(crate) fn respond(answer: PlannedResponse) -> Plan
     ensures { result ≡ respond answer }
 {

@@ -1,4 +1,4 @@
-//! What a request is planned by: the State alone.
+//! How a request is planned, by the State alone.
 
 ghost use Rattle.std.specs.Prelude.{◌≡◌, None, IfErr, IfOk, IfSome};
 ghost use Rattle.csi_config.specs.declared.config.Config.{Config as AnyConfig};
@@ -13,15 +13,15 @@ use csi_keeper::Keeper;
 use csi_types::Boxed;
 use std::alloc::Global;
 
-/// A request of one method, or of any.
+/// A request that can be planned: a request of one method, or a request of any method.
 pub(crate) trait Planned {
-    /// The plan that a State gives it.
+    /// The plan of the request in a State.
     ghost planned: { AnyConfig → State → Self → AnyPlan };
 
-    /// The requests about a volume whose id is the id of no volume. They need no State.
+    /// Holds for a request about a volume whose id is not the id of a volume. Its plan needs no State.
     ghost names_none: { Self → Type 0 };
 
-    /// The plan of the request, by reads of the keeper alone. Requests that need no State read nothing.
+    /// Plans the request, by reads of the keeper alone. A request that needs no State reads nothing.
     fn plan<K: Keeper>(&self, alloc: Global, config: &Config, keeper: &mut K) -> Planning
         ensures bounded { IfOk result (λ p. IfSome p.change IsBounded) }
         ensures asks_nothing { names_none self.now
@@ -31,7 +31,7 @@ pub(crate) trait Planned {
             (λ s p. p ≡ planned config.now s self.now) };
 }
 
-// As the request that is kept.
+// Plans the request in the box.
 impl<T: Planned> Planned for Boxed<T> {
     ghost planned = { T.planned };
 

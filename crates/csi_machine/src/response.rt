@@ -12,16 +12,16 @@ use csi_types::{Boxed, Response};
 use std::alloc::{AllocError, Global};
 use std::marker::Model;
 
-// Where a response is.
+// Where a response is kept.
 #[derive(Drop)]
 enum ResponseForm {
-    // In memory of its own.
+    // In memory of the response's own.
     Made(Boxed<Response>),
-    // Nowhere, since it has no field.
+    // Not kept: the response has no field.
     Delete,
     Unpublish,
     Modify,
-    // Nowhere: it says whether the volume is only read.
+    // Not kept but for one flag: whether the publication is read-only.
     Published(bool),
 }
 
@@ -34,7 +34,7 @@ fn flag_text(flag: bool) -> &'static str
     if flag { "true" } else { "false" }
 }
 
-// Appends the response of a publication, or refuses it where no reply holds it.
+// Appends the response of a publication, or refuses a response that is too large for a reply.
 fn append_published(readonly: bool, out: &mut Vec<u8>) -> Result<Verdict, AllocError>
     ensures appended { Appended out.old.items out.new.items result }
     ensures reported { IsReported (within (response_bytes
@@ -45,8 +45,8 @@ fn append_published(readonly: bool, out: &mut Vec<u8>) -> Result<Verdict, AllocE
     Ok(limit_body(out, from))
 }
 
-/// A response. The responses to DeleteVolume, ControllerPublishVolume, ControllerUnpublishVolume and
-/// ControllerModifyVolume take no memory.
+/// A response of any method. The responses to DeleteVolume, ControllerPublishVolume,
+/// ControllerUnpublishVolume and ControllerModifyVolume take no memory.
 #[derive(Drop)]
 pub struct PlannedResponse {
     kept: ResponseForm,
@@ -66,11 +66,11 @@ impl Model for PlannedResponse {
 }
 
 impl PlannedResponse {
-    /// This response, in memory of its own.
+    /// Moves a response into memory of its own.
     ///
     /// # Errors
     ///
-    /// Where memory was refused.
+    /// If memory is refused.
     #[inline(always)]
     pub fn of(alloc: Global, response: Response) -> Result<PlannedResponse, AllocError>
         ensures { IfOk result (λ answer. answer ≡ response) }
@@ -80,7 +80,7 @@ impl PlannedResponse {
         })
     }
 
-    /// The response of a deletion.
+    /// Returns `DeleteVolumeResponse`, which has no fields and takes no memory.
     pub fn deleted() -> PlannedResponse
         ensures { result ≡ response.Delete }
     {
@@ -89,7 +89,7 @@ impl PlannedResponse {
         }
     }
 
-    /// The response of a modification.
+    /// Returns `ControllerModifyVolumeResponse`, which has no fields and takes no memory.
     pub fn modified() -> PlannedResponse
         ensures { result ≡ response.Modify }
     {
@@ -98,7 +98,7 @@ impl PlannedResponse {
         }
     }
 
-    /// The response where a volume is not published any more.
+    /// Returns `ControllerUnpublishVolumeResponse`, which has no fields and takes no memory.
     pub fn unpublished() -> PlannedResponse
         ensures { result ≡ response.Unpublish }
     {
@@ -107,7 +107,7 @@ impl PlannedResponse {
         }
     }
 
-    /// The response of a publication.
+    /// Returns `ControllerPublishVolumeResponse`. Its publish context has the one key `readonly`.
     pub fn published(readonly: bool) -> PlannedResponse
         ensures { result ≡ response.Publish (publication readonly) }
     {
@@ -116,11 +116,11 @@ impl PlannedResponse {
         }
     }
 
-    /// Appends its body, as [`append_body`] does.
+    /// Appends the body of the response, as [`append_body`] does.
     ///
     /// # Errors
     ///
-    /// As of [`append_body`].
+    /// As for [`append_body`].
     pub fn append(&self, out: &mut Vec<u8>) -> Result<Verdict, AllocError>
         ensures appended { Appended out.old.items out.new.items result }
         ensures reported { IsReported (within (response_bytes self.now)) out.old.items out.new.items result }

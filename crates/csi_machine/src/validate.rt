@@ -89,15 +89,15 @@ fn validate_volume(alloc: Global, request: &Validate, volume: &Volume) -> Result
     }
 }
 
-/// The plan of ValidateVolumeCapabilities, by reads of the keeper alone.
+/// Plans ValidateVolumeCapabilities, by reads of the keeper alone.
 ///
-/// The request's capabilities and parameters are confirmed where the volume has the key of each capability,
-/// and the parameters, if any are given, are the volume's. Nothing changes. For a text that is no volume's id
-/// the keeper is not asked.
+/// The answer confirms the request's capabilities and parameters if the volume has the key of each capability
+/// and, if the request has parameters, they are the volume's. Nothing changes. If the text is not the id of a
+/// volume, the keeper is not read.
 ///
 /// # Errors
 ///
-/// What the keeper answers, or want of memory.
+/// The fault that the keeper returns, or `StoreFault::NoMemory` if memory is refused.
 #[tactic(auto, using(csi_keeper::specs::facts::Reads::quiet_same, csi_keeper::specs::facts::Reads::quiet_then))]
 pub(crate) fn plan_validate<K: Keeper>(
     alloc: Global,

@@ -1,4 +1,4 @@
-//! Keepers that fail where a test asks for it.
+//! Keepers for tests, which fail on a chosen call.
 
 ghost use Rattle.std.specs.Prelude.{◌≡◌, ◌≢◌, ◌≤◌, ◌^◌, ◌↔◌, false, Some, Err, IfOk, IsTrue, is_some};
 ghost use Rattle.std.specs.FinMap.{get};
@@ -17,16 +17,16 @@ use csi_keeper::{
 use csi_types::{Items, Text};
 use std::alloc::{AllocError, Global};
 
-// Refuses one of the calls that it is asked for.
+// A counter that refuses one call.
 #[derive(Drop)]
 struct Fuse {
-    // The calls that still pass before the refused one; `None` after the refusal.
+    // The number of calls that still pass before the refused call; `None` after the refusal.
     left: Option<u64>,
     health: Health,
 }
 
 impl Fuse {
-    // Lets a call go by, or refuses it.
+    // Counts a call, and refuses it if its turn has come.
     fn burn(&mut self) -> Result<(), StoreFault>
         ensures counts_calls { self.old.health.is_down ≡ false → (result ≡ (burnt self.old.left).0)
             × (self.new.left ≡ (burnt self.old.left).1) }
@@ -49,13 +49,12 @@ impl Fuse {
     }
 }
 
-/// A keeper in memory that refuses one call: the one with the number that it was made with. Calls
-/// are counted from 0, and [`refusals`](Keeper::refusals) and [`is_down`](FusedMem::is_down) are
-/// none of them.
+/// A keeper in memory that refuses one call, which is chosen by its number. Calls are counted from 0;
+/// [`refusals`](Keeper::refusals) and [`is_down`](FusedMem::is_down) are not counted.
 ///
-/// Where the refused call is a read, the keeper goes on after it. Where it is
-/// [`apply`](Keeper::apply), the change is not made, and each later call is answered `Down`. There
-/// is nothing that a stop leaves.
+/// If the refused call is a read, the keeper goes on after it. If the refused call is
+/// [`apply`](Keeper::apply), the change is not made, and each later call is answered `Down`. A stop leaves
+/// nothing.
 #[derive(Drop)]
 pub struct FusedMem {
     keeper: MemKeeper,
@@ -63,12 +62,12 @@ pub struct FusedMem {
 }
 
 impl FusedMem {
-    /// A State with no volumes, whose first volume gets the number `first`, 1 to 2^62; the call with
-    /// the number `at` is refused.
+    /// Returns a keeper without volumes that refuses the call with the number `at`, counted from 0. The first
+    /// volume gets the number `first`, from 1 to 2^62.
     ///
     /// # Errors
     ///
-    /// Where memory is refused.
+    /// If memory is refused.
     pub fn new(alloc: Global, first: u64, at: u64) -> Result<FusedMem, AllocError>
         requires least { 1 ≤ first }
         requires most { first ≤ 2 ^ 62 }
@@ -85,14 +84,14 @@ impl FusedMem {
         })
     }
 
-    /// Whether every further call is answered `Down`.
+    /// Returns whether the keeper is down, and every further call is answered `Down`.
     pub fn is_down(&self) -> bool
         ensures { result ≡ is_shut self.now }
     {
         self.fuse.health.is_down
     }
 
-    /// The keeper as it is opened again: it keeps what was kept, and refuses nothing.
+    /// Opens the keeper again: returns a keeper with the same volumes that refuses no call.
     pub fn into_keeper(self) -> MemKeeper
         ensures { result ≡ kept self }
     {

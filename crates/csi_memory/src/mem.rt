@@ -24,15 +24,15 @@ use csi_types::{Items, Map, Text, copy_map, copy_text};
 use std::alloc::{AllocError, Global};
 use std::collections::{BTreeMap, BTreeSet};
 
-/// A keeper in memory. It is never down, and refuses nothing but what memory refuses: then it stays
-/// as it was, and goes on. What it keeps ends with it, so there is nothing that a stop leaves.
+/// A keeper in memory. It is never down, and refuses a call only if memory is refused; its State is then
+/// unchanged, and it goes on. Its volumes end with it, so a stop leaves nothing.
 ///
-/// Each volume is there once. For n volumes and m attachments a volume is found by its number or name in
-/// O(log n), the attachments of a volume in O(log m) and their number, and a page in O(log n) and its
-/// entries, for its nodes O(log m) more and their number; what a pool has used costs O(log p) for p pools.
-/// For d nodes where something is attached, the count at one of them costs O(log d), and the numbers there
-/// O(log d) and their number; `sizes_in` looks through all volumes. A change costs O(log n + log m), and
-/// `DetachAll` the attachments that it takes away. What is answered is a copy.
+/// Each volume is stored once, and answers are copies. For n volumes, m attachments, p pools and d nodes with
+/// attachments, calls take this time: a volume by its number or name, O(log n); the attachments of a volume,
+/// O(log m) and one step for each; a page, O(log n) and one step for each entry, and with nodes O(log m) more
+/// and one step for each node; the used bytes of a pool, O(log p); the number of volumes at a node, O(log d);
+/// the numbers of the volumes at a node, O(log d) and one step for each; a change, O(log n + log m), and
+/// `DetachAll` one step for each attachment that it removes. `sizes_in` looks through all volumes.
 #[derive(Drop)]
 pub struct MemKeeper {
     next: u64,
@@ -40,13 +40,13 @@ pub struct MemKeeper {
     names: Names,
     pools: Totals,
     attachments: BTreeMap<(u64, Text), Attachment>,
-    // The numbers of the volumes that are attached at a node, where there are any.
+    // The numbers of the volumes that are attached at a node, for each node with attachments.
     nodes: BTreeMap<Text, BTreeSet<u64>>,
 }
 
 impl MemKeeper {
-    /// A State with no volumes and no attachments, whose first volume gets the number `first`, 1 to
-    /// 2^62.
+    /// Returns a keeper without volumes and attachments, whose first volume gets the number `first`, from 1
+    /// to 2^62.
     pub fn new(alloc: Global, first: u64) -> Result<MemKeeper, AllocError>
         requires least { 1 ≤ first }
         requires most { first ≤ 2 ^ 62 }
@@ -62,7 +62,8 @@ impl MemKeeper {
         })
     }
 
-    /// Gives no number below this one, 1 to 2^62, from now on.
+    /// Raises the next number to `number`, at most 2^62. Changes nothing if the next number is already as
+    /// great.
     #[tactic(auto, using(crate::proofs::KeptLemmas::kept_next))]
     pub fn skip_to(&mut self, number: u64)
         requires { number ≤ 2 ^ 62 }
@@ -71,17 +72,18 @@ impl MemKeeper {
         self.next = self.next.max(number);
     }
 
-    /// Adds a volume that has its number already, which is the next one or a greater one, while none has its
-    /// name. The next number is the one after it. The volume is moved into the rows: of what it owns only its
-    /// pool's name is copied, and its name where that has the hash of another one.
+    /// Adds a volume that already has a number, and sets the next number to the number after it. The volume's
+    /// number must not be below the next number, and no other volume may have its name. The volume is moved
+    /// into the rows: only the name of its pool is copied, and its own name if another name has the same
+    /// hash.
     ///
     /// # Errors
     ///
-    /// Where memory is refused. The volumes stay.
+    /// If memory is refused. The volumes are unchanged.
     ///
     /// # Not promised
     ///
-    /// After want of memory the next number may have risen to that of the volume.
+    /// That the next number is unchanged after an error: it may have risen to the number of the volume.
     pub fn restore(&mut self, alloc: Global, volume: Volume) -> Result<(), AllocError>
         requires number { volume.number < 2 ^ 62 }
         requires bytes { volume.bytes ≤ 2 ^ 62 }

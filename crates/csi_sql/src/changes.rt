@@ -1,6 +1,6 @@
 //! The changes, each in one transaction.
 //!
-//! An error is the one of the statement that failed, or of the commit; nothing was changed then.
+//! An error is the error of the statement that failed, or of the commit. After an error nothing is changed.
 
 ghost use Rattle.std.specs.Prelude.{◌≡◌, ◌+◌, ◌<◌, ◌^◌};
 ghost use Rattle.csi_sql.specs.Transactions.{CommitsOver};
@@ -17,10 +17,10 @@ use crate::statements::meta::{set_next, update_format};
 use crate::statements::volumes::{VolumeRow, delete_volume, insert_volume, update_params};
 use sqlite::{Alter, Error};
 
-/// Adds a volume, and makes its number plus 1 the next number.
+/// Adds the row of a volume, and sets the next number to the volume's number plus 1.
 ///
-/// The number is below 2^62, the size in bytes below 2^63. `caps` and `params` are kept as they are
-/// given. A number or a name that already exists is refused.
+/// The number must be below 2^62 and the size in bytes below 2^63. `caps` and `params` are stored as given. A
+/// number or a name that already exists is refused.
 pub fn add_volume<S: Alter>(
     conn: &mut IdleConnection<S>,
     volume: u64,
@@ -50,8 +50,8 @@ pub fn add_volume<S: Alter>(
     tx.commit()
 }
 
-/// Sets the params of the volume of a number, which is below 2^63. They are kept as they are given,
-/// and the rest of the volume stays. Where no volume has the number the tables stay.
+/// Sets `params` in the row of the volume with this number, which must be below 2^63. `params` is stored as
+/// given. Changes nothing if there is no such row.
 pub fn set_params<S: Alter>(
     conn: &mut IdleConnection<S>,
     volume: u64,
@@ -66,8 +66,8 @@ pub fn set_params<S: Alter>(
     tx.commit()
 }
 
-/// Removes the volume of a number, which is below 2^63. Where no volume has the number the tables stay.
-/// Its attachments are left alone.
+/// Deletes the row of the volume with this number (below 2^63), but not its attachments. Changes nothing if
+/// there is no such row.
 pub fn remove_volume<S: Alter>(conn: &mut IdleConnection<S>, volume: u64) -> Result<(), Error>
     requires volume { volume < 2 ^ 63 }
     ensures { CommitsOver S.Store conn.old conn.new schema (Drops 1 seen_volume (is_numbered volume))
@@ -79,7 +79,7 @@ pub fn remove_volume<S: Alter>(conn: &mut IdleConnection<S>, volume: u64) -> Res
 }
 
 /// Sets the format to [`LATEST_FORMAT`](crate::LATEST_FORMAT). The next number, the volumes and the
-/// attachments stay.
+/// attachments are unchanged.
 pub fn set_format<S: Alter>(conn: &mut IdleConnection<S>) -> Result<(), Error>
     ensures { CommitsOver S.Store conn.old conn.new schema SetsFormat RefusesFormat result }
 {
@@ -88,8 +88,8 @@ pub fn set_format<S: Alter>(conn: &mut IdleConnection<S>) -> Result<(), Error>
     tx.commit()
 }
 
-/// Attaches the volume of a number, which is below 2^63, at a node. `cap` is kept as it is given. A
-/// volume that is attached at the node already is refused.
+/// Adds an attachment of the volume with this number (below 2^63) at a node. `cap` is stored as given. If the
+/// volume is already attached at the node, the change is refused.
 pub fn attach<S: Alter>(
     conn: &mut IdleConnection<S>,
     volume: u64,
@@ -106,8 +106,8 @@ pub fn attach<S: Alter>(
     tx.commit()
 }
 
-/// Detaches the volume of a number, which is below 2^63, from a node. Where it is not attached there
-/// the tables stay.
+/// Deletes the attachment of the volume with this number (below 2^63) at a node. Changes nothing if there is
+/// no such attachment.
 pub fn detach<S: Alter>(conn: &mut IdleConnection<S>, volume: u64, node: &str) -> Result<(), Error>
     requires volume { volume < 2 ^ 63 }
     ensures { CommitsOver S.Store conn.old conn.new schema
@@ -118,7 +118,7 @@ pub fn detach<S: Alter>(conn: &mut IdleConnection<S>, volume: u64, node: &str) -
     tx.commit()
 }
 
-/// Detaches the volume of a number, which is below 2^63, from all nodes.
+/// Deletes all attachments of the volume with this number (below 2^63).
 pub fn detach_all<S: Alter>(conn: &mut IdleConnection<S>, volume: u64) -> Result<(), Error>
     requires volume { volume < 2 ^ 63 }
     ensures { CommitsOver S.Store conn.old conn.new schema (Drops 3 seen_attachment (is_of volume))

@@ -11,36 +11,36 @@ ghost use Rattle.csi_sql.specs.Folding.{FailsForMemory, FoldsOver, RefusesRows};
 use crate::idle_connection::IdleConnection;
 use sqlite::{Alter, Error, ErrorCode, Row};
 
-/// A value made from rows, in order.
+/// A value that is computed from rows, taken in order.
 pub trait Fold {
-    /// The relation between a fold before and after these rows.
+    /// Relates a fold, the rows that it takes, and the fold after these rows.
     ghost folds: { Self → List Values → Self → Type 0 };
 
-    /// Where it asks for memory to take a row; anywhere, if it does not say.
+    /// Holds if the fold may ask for memory to take this row; always, unless an implementation defines it.
     ghost takes_memory: { Self → Values → Type 0 } = { λ _ _. Unit {0} };
 
     /// Takes the next row.
     ///
     /// # Errors
     ///
-    /// Where memory was refused.
+    /// If memory is refused.
     fn add_row(&mut self, row: &Row) -> Result<(), Error>
         ensures folded { OnOk result ((first : Self) (rows : List Values) → folds first rows self.old
             → folds first (rows ++ row.now ∷ []) self.new) }
         ensures memory { FailsForMemory result }
         ensures error_only_if { OnErr result (takes_memory self.old row.now) };
 
-    /// Over no row a fold stays what it is.
+    /// A fold that takes no row is unchanged.
     ghost starts: { (fold : Self) → folds fold [] fold };
 }
 
-/// Folds each row of the answer to a query, and keeps none.
+/// Runs a query and gives each row of its answer to the fold, in order. No row is kept.
 ///
 /// After an error the fold has taken some of the rows.
 ///
 /// # Errors
 ///
-/// Where the query is refused or its rows cannot be read, and what `add_row` answers.
+/// If the query is refused or a row cannot be read, and the error that `add_row` returns.
 pub fn each_row<S: Alter, F: Fold>(
     conn: &mut IdleConnection<S>,
     sql: &str,

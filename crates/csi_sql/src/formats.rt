@@ -1,7 +1,8 @@
-//! The formats of the tables, each by the number that the row of meta keeps.
+//! The formats of the tables. The row of meta keeps the number of the format.
 
-/// The first format: the `params` of a volume are its parameters alone.
+/// The first format, in which the `params` of a volume contain only its parameters.
 pub const FIRST_FORMAT: u32 = 1;
 
-/// The format of a new store: the `params` of a volume are its parameters and its mutable parameters.
+/// The format of a new store, in which the `params` of a volume contain its parameters and its mutable
+/// parameters.
 pub const LATEST_FORMAT: u32 = 2;

@@ -8,9 +8,9 @@ use sqlite::{Alter, Connection};
 use sqlite_schema::schema::Schema;
 use std::marker::Model;
 
-/// A connection on which no transaction is open: each change and each read begins one of its own and ends it.
+/// A connection on which no transaction is open. Each change and each read begins a transaction and ends it.
 ///
-/// A contract sees the connection itself.
+/// In contracts, an idle connection is the connection itself.
 pub struct IdleConnection<S: Alter>(pub(crate) Connection<S>);
 
 impl<S: Alter> Model for IdleConnection<S> {
@@ -33,7 +33,7 @@ impl<S: Alter + Drop> Drop for IdleConnection<S> {
 }
 
 impl<S: Alter> IdleConnection<S> {
-    /// The connection, which has no open transaction, as one that keeps none open.
+    /// Wraps a connection that has no open transaction.
     pub fn new(conn: Connection<S>) -> IdleConnection<S>
         requires idle { conn.in_transaction ≡ false }
         ensures { result ≡ conn }
@@ -49,7 +49,7 @@ impl<S: Alter> IdleConnection<S> {
         self.0.schema()
     }
 
-    /// The connection, for transactions of the caller.
+    /// Returns the connection, so that the caller can begin transactions on it.
     pub fn into_connection(self) -> Connection<S>
         ensures value { result ≡ self }
         ensures idle { result.in_transaction ≡ false }

@@ -11,10 +11,12 @@
 //!   [`is_our_schema`] compares a schema with that of the tables, part by part (`specs/Ours.antt`): it looks
 //!   at no text of a CREATE, only at what it means.
 //! - [`IdleConnection`] is a connection on which no transaction is open. All that follows takes one.
-//! - [`changes`] has one transaction a change. After `Ok` it is made and committed, after an error the tables
-//!   are as they were; a stop leaves what it could leave before, or the tables after the change.
-//! - [`reads`] has a transaction a read, which is undone: it answers rows, leaves the tables, and adds
-//!   nothing to what a stop may leave. [`values`] has the cells of a row as numbers, truths, texts and bytes.
+//! - [`changes`] has one transaction for each change. After `Ok` the change is made and committed, after an
+//!   error the tables are as they were; a stop leaves what it could leave before, or the tables after the
+//!   change.
+//! - [`reads`] has one transaction for each read, which is undone: a read returns rows, changes nothing, and
+//!   adds nothing to what a stop may leave. [`values`] decodes the cells of a row as numbers, flags, texts
+//!   and bytes.
 //! - [`each_row`] hands the rows of a query to a [`Fold`], in order, and keeps none.
 //! - [`statements`] has the statements with fixed texts, a table a module, inside a transaction that the
 //!   caller ends. The SELECTs of rows are each a variant (`statements/select.rt`).
@@ -41,9 +43,9 @@
 //!
 //! # Not promised
 //!
-//! That a statement succeeds; that memory was refused where an error says so, since a store may
-//! report want of memory at any time; which of the three faults of a disk it was; that a number, a
-//! name or a place that is taken is refused, which rows of `test_tables` show.
+//! That a statement succeeds; that memory was refused if an error says so, since a store may report this at
+//! any time; which of the three faults of a disk it was; that a number, a name or a place that already exists
+//! is refused, which rows of `test_tables` show.
 #![tactic(auto)]
 
 pub mod changes;

@@ -1,4 +1,4 @@
-//! The tables of a new store.
+//! Makes the tables of a new store.
 
 ghost use Rattle.std.specs.Prelude.{◌≡◌, [], false};
 ghost use Rattle.csi_sql.specs.Failing.{SqlRefuses};
@@ -58,8 +58,8 @@ fn create_tables<S: Alter>(tx: &mut Transaction<'_, S>) -> Result<(), Error>
 /// Makes the three tables and the first row of meta, in one transaction.
 ///
 /// After `Ok` a store that had no table has these three, with no volume, no attachment, the latest format and
-/// 1 as the next number, and all of it is committed. After an error nothing was made. A stop leaves what it
-/// could leave before, or the tables as they were made.
+/// 1 as the next number, and all of this is committed. After an error nothing was made. A stop leaves what it
+/// could leave before the call, or the new tables.
 pub fn make_tables<S: Alter>(conn: &mut Connection<S>) -> Result<(), Error>
     requires { conn.old.in_transaction ≡ false }
     ensures idle { conn.new.in_transaction ≡ false }

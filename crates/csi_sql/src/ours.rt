@@ -1,4 +1,4 @@
-//! Whether a schema is that of our tables, and nothing else.
+//! Compares a schema with the schema of our three tables.
 
 mod key_check;
 mod parts;
@@ -33,11 +33,11 @@ fn are_indexes(indexes: &[Index]) -> bool
         & is_index(places, b"sqlite_autoindex_attachments_1", 4, 3, &[1, 2])
 }
 
-/// Whether a schema is that of the three tables, as `make_tables` leaves it.
+/// Returns whether a schema is exactly the schema that `make_tables` makes.
 ///
-/// It is exact: each column has its name, kind, default and NOT NULL, each table its keys and its
-/// CHECK, each index its columns, all in the order and in the trees in which they were made, and
-/// there is no further table, index or view.
+/// The comparison is exact: each column has its name, kind, default and NOT NULL, each table its keys and its
+/// CHECK, each index its columns, all in the order and in the trees in which they were made, and there is no
+/// further table, index or view.
 #[tactic(auto, using(crate::proofs::OursLemmas::is_ours, crate::proofs::OursLemmas::has_ours))]
 pub fn is_our_schema(schema: &Schema) -> bool
     ensures true_only_if { IsTrue result → schema.now ≡ our_schema }

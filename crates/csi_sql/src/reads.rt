@@ -1,7 +1,7 @@
 //! The reads, each in a transaction that is undone.
 //!
-//! Numbers that are asked for are below 2^63. A row of a volume has the columns number, name, bytes, pool,
-//! caps and params. An error is the one of the statement that failed.
+//! A number in a query must be below 2^63. A row of a volume has the columns number, name, bytes, pool, caps
+//! and params. An error is the error of the statement that failed.
 
 ghost use Rattle.std.specs.Prelude.{◌≡◌, ◌<◌, ◌^◌, [], ◌∷◌};
 ghost use Rattle.sqlite.specs.declared.types.Value.TheVariants.{Text};
@@ -18,7 +18,7 @@ use crate::statements::select::{Select, select_rows};
 use crate::values::{first, number_at};
 use sqlite::{Alter, Error, Row};
 
-/// The next number, in the one cell of the row, of either format.
+/// Reads the number that the next volume gets, as a row of one cell. Both formats have it.
 pub fn next_number<S: Alter>(conn: &mut IdleConnection<S>) -> Result<Row, Error>
     ensures { ReadsOnly S.Store conn.old conn.new IsNext HasNoNext result }
 {
@@ -39,7 +39,7 @@ fn rows_of<S: Alter>(conn: &mut IdleConnection<S>, read: &Select<'_>) -> Result<
     Ok(rows)
 }
 
-/// The volume of a number; `None` where there is none.
+/// Reads the row of the volume with this number; `None` if there is no such volume.
 pub fn by_number<S: Alter>(conn: &mut IdleConnection<S>, volume: u64) -> Result<Option<Row>, Error>
     requires volume { volume < 2 ^ 63 }
     ensures { ReadsOnly S.Store conn.old conn.new
@@ -50,7 +50,7 @@ pub fn by_number<S: Alter>(conn: &mut IdleConnection<S>, volume: u64) -> Result<
     Ok(first(rows))
 }
 
-/// The volume of a name, byte for byte; `None` where there is none.
+/// Reads the row of the volume with this name, compared byte for byte; `None` if there is no such volume.
 pub fn by_name<S: Alter>(conn: &mut IdleConnection<S>, name: &str) -> Result<Option<Row>, Error>
     ensures { ReadsOnly S.Store conn.old conn.new
         (λ db found. IsFoundBy named_query (db.trees 1) (Text name.now ∷ []) found) NothingRefuses result }
@@ -59,8 +59,8 @@ pub fn by_name<S: Alter>(conn: &mut IdleConnection<S>, name: &str) -> Result<Opt
     Ok(first(rows))
 }
 
-/// The node, the capability and the flag readonly of each attachment of a volume, in byte order of
-/// the nodes.
+/// Reads the node, the capability and the read-only flag of each attachment of a volume, in byte order of the
+/// nodes.
 pub fn attachments<S: Alter>(conn: &mut IdleConnection<S>, volume: u64) -> Result<Vec<Row>, Error>
     requires volume { volume < 2 ^ 63 }
     ensures { ReadsOnly S.Store conn.old conn.new
@@ -79,7 +79,7 @@ pub fn attached_at<S: Alter>(conn: &mut IdleConnection<S>, node: &str) -> Result
     rows_of(conn, &Select::Attached(node))
 }
 
-/// The bytes of each volume of a pool, in rising order of their numbers.
+/// Reads the size in bytes of each volume of a pool, in rising order of the volumes' numbers.
 pub fn sizes_in<S: Alter>(conn: &mut IdleConnection<S>, pool: &str) -> Result<Vec<Row>, Error>
     ensures { ReadsOnly S.Store conn.old conn.new
         (λ db rows. IsShownOf sizes_query (db.trees 1)
@@ -88,7 +88,8 @@ pub fn sizes_in<S: Alter>(conn: &mut IdleConnection<S>, pool: &str) -> Result<Ve
     rows_of(conn, &Select::Sizes(pool))
 }
 
-/// The volumes with a number greater than `after`, in rising order, and of these the first `count`.
+/// Reads the rows of the first `count` volumes with a number greater than `after`, in rising order of their
+/// numbers.
 pub fn page<S: Alter>(
     conn: &mut IdleConnection<S>,
     after: u64,
@@ -106,12 +107,12 @@ pub fn page<S: Alter>(
 pub struct PageRows {
     /// The volumes of the page, in rising order of their numbers.
     pub volumes: Vec<Row>,
-    /// The number and the node of each of their attachments, in rising order of the numbers, and
-    /// then in byte order of the nodes.
+    /// The number and the node of each attachment of these volumes, in rising order of the numbers, and then
+    /// in byte order of the nodes.
     pub places: Vec<Row>,
 }
 
-/// The number in the last row, or `after` where there is none.
+/// Returns the number in the last row, or `after` if there is no row.
 fn last_of(volumes: &[Row], after: u64) -> u64
     requires { after < 2 ^ 63 }
     ensures value { result ≡ last_number after volumes.now }
@@ -123,7 +124,8 @@ fn last_of(volumes: &[Row], after: u64) -> u64
     }
 }
 
-/// The page of `page`, and the nodes that each of its volumes is attached at.
+/// Reads the page that [`page`] reads, and the nodes at which each of its volumes is attached, in one
+/// transaction.
 pub fn page_with_nodes<S: Alter>(
     conn: &mut IdleConnection<S>,
     after: u64,

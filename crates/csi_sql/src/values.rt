@@ -1,4 +1,4 @@
-//! Values that go into a statement, and the cells of a row.
+//! Converts numbers and flags to values of a statement, and decodes the cells of a row.
 
 ghost use Rattle.std.specs.Prelude.{◌≡◌, ◌<◌, ◌^◌, option_copied, slice_get, IfSome};
 ghost use Rattle.sqlite.specs.Order.{column};
@@ -9,7 +9,7 @@ ghost use Rattle.csi_sql.specs.Rows.{bool_value, number_value};
 use sqlite::Row;
 use sqlite::types::ValueRef;
 
-/// A number that a statement is given. SQL's integers end at 2^63.
+/// Converts a number below 2^63 to a value of a statement. SQL's integers end there.
 pub(crate) fn integer(number: u64) -> ValueRef<'static>
     requires { number < 2 ^ 63 }
     ensures { owned result ≡ number_value number }
@@ -17,14 +17,15 @@ pub(crate) fn integer(number: u64) -> ValueRef<'static>
     ValueRef::Int(number as i64)
 }
 
-/// A truth that a statement is given: 0 or 1.
+/// Converts a flag to a value of a statement: 0 for false, 1 for true.
 pub(crate) fn flag(is_true: bool) -> ValueRef<'static>
     ensures { owned result ≡ bool_value is_true }
 {
     ValueRef::Int(if is_true { 1 } else { 0 })
 }
 
-/// The number in a cell, counted from 0; `None` where there is none, or one below 0.
+/// Returns the integer in column `at`, counted from 0; `None` if the value there is not an integer or is
+/// negative.
 pub fn number_at(row: &Row, at: usize) -> Option<u64>
     ensures value { result ≡ as_number (column row.now at) }
     ensures range { IfSome result (λ number. number < 2 ^ 63) }
@@ -35,7 +36,8 @@ pub fn number_at(row: &Row, at: usize) -> Option<u64>
     }
 }
 
-/// The 0 or 1 in a cell, as a truth; `None` where there is neither.
+/// Returns whether the value in column `at`, counted from 0, is 1; `None` if the value there is neither 0 nor
+/// 1.
 pub fn flag_at(row: &Row, at: usize) -> Option<bool>
     ensures { result ≡ as_flag (column row.now at) }
 {
@@ -46,7 +48,7 @@ pub fn flag_at(row: &Row, at: usize) -> Option<bool>
     }
 }
 
-/// The bytes of the text in a cell; `None` where there is no text.
+/// Returns the bytes of the text in column `at`, counted from 0; `None` if the value there is not a text.
 pub fn text_at(row: &Row, at: usize) -> Option<&[u8]>
     ensures { option_copied result ≡ as_text (column row.now at) }
 {
@@ -56,7 +58,7 @@ pub fn text_at(row: &Row, at: usize) -> Option<&[u8]>
     }
 }
 
-/// The bytes of the BLOB in a cell; `None` where there is none.
+/// Returns the bytes of the BLOB in column `at`, counted from 0; `None` if the value there is not a BLOB.
 pub fn blob_at(row: &Row, at: usize) -> Option<&[u8]>
     ensures { option_copied result ≡ as_blob (column row.now at) }
 {
@@ -66,7 +68,7 @@ pub fn blob_at(row: &Row, at: usize) -> Option<&[u8]>
     }
 }
 
-/// The first of the rows, if there is one.
+/// Returns the first of the rows; `None` if there are no rows.
 pub(crate) fn first(rows: Vec<Row>) -> Option<Row>
     ensures { result ≡ slice_get rows.items 0 }
 {

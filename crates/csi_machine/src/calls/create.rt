@@ -155,12 +155,13 @@ fn create_fresh<'a, K: Keeper>(
     Ok(fresh(alloc, config, &rooms, next, request)?)
 }
 
-/// The plan of a create, made by reads of the keeper alone; `no_segments` is an empty map, the segments of
-/// a pool that is not configured.
+/// Plans a create, by reads of the keeper alone. `no_segments` is an empty map, the segments of a pool that
+/// is not configured.
 ///
-/// A volume of the name is answered again if it is as the request asks, and refused otherwise.
-/// Without one a volume is made in the chosen pool, unless the size is out of range, there are too
-/// many volumes, the numbers are used up, or no pool has room, which are asked in this order.
+/// If a volume with this name exists, the answer is that volume if it is as the request asks, and a refusal
+/// otherwise. If there is no such volume, the plan makes one in the chosen pool. The create is refused if the
+/// size is out of range, if there are too many volumes, if the numbers are used up, or if no pool has room;
+/// these are checked in this order.
 pub(crate) fn create<'a, K: Keeper>(
     alloc: Global,
     config: &'a Config,

@@ -29,7 +29,8 @@ fn delete_volume(alloc: Global, number: u64, attachments: &[Attachment]) -> Resu
     )
 }
 
-/// A volume that is attached is refused; a volume that does not exist is answered as deleted.
+/// Plans to delete the volume. A volume that is attached is refused; a volume that does not exist is answered
+/// as deleted.
 impl Planned for DeleteVolume {
     ghost planned = { λ config s r. delete s r };
 

@@ -1,5 +1,5 @@
-//! ListVolumes (CSI specification, 'ListVolumes'). A page is written as it is read: no response of its
-//! entries is made.
+//! ListVolumes (CSI specification, 'ListVolumes'). The entries of a page are written as they are read, and
+//! are not collected in a response first.
 
 ghost use Rattle.std.specs.Prelude.{◌≡◌, ◌++◌, [], Some, Ok, OnOk};
 ghost use Rattle.pbmessage.specs.Kept.{Keeps};
@@ -112,8 +112,9 @@ fn append_after<K: Keeper>(
     Ok(limit_body(out, from))
 }
 
-/// Appends the body of a page, or refuses its token. A page has at most 100 entries; its token is the number
-/// of its last volume, which need not exist any more when the next page is asked for.
+/// Appends the body of a page of at most 100 entries, or refuses the request's token. The token of the next
+/// page is the number of the last volume on this page. This volume may be deleted before the next page is
+/// asked for.
 #[inline(always)]
 pub(crate) fn append_page<K: Keeper>(
     alloc: Global,

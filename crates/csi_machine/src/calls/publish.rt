@@ -27,8 +27,8 @@ fn publish_again(key: &CapKey, readonly: bool, attachment: &Attachment) -> Plan
     refuse(Reason::PublishedOtherwise)
 }
 
-// A volume that exists, what it may be used as, where it is published, and a node with the count of the
-// volumes that are there.
+// A volume that exists: its uses, its attachments, and a node with the number of volumes that are attached
+// there.
 #[derive(Clone, Copy)]
 struct Target<'a> {
     number: u64,
@@ -55,7 +55,7 @@ fn attach(alloc: Global, target: &Target, mine: Attachment) -> Result<Plan, Allo
     make(alloc, answer, Change::Attach(target.number, mine))
 }
 
-/// The attachment at a node.
+/// Returns the attachment at this node, if there is one.
 pub(crate) fn attachment_at<'a>(
     attachments: &'a [Attachment],
     node: &Text,

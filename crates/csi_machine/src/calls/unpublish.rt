@@ -53,7 +53,8 @@ fn detach(
     )
 }
 
-/// A volume that is not published there, or does not exist, is answered as unpublished.
+/// Plans to detach the volume. A volume that is not published at the node, or does not exist, is answered as
+/// unpublished.
 impl Planned for Unpublish {
     ghost planned = { λ config s r. unpublish s r };
 

@@ -14,7 +14,7 @@ use sqlite_sql::ops::{BinaryOp, CompareOp};
 use sqlite_value::keys::Collation;
 use sqlite_value::value::Value;
 
-// The places of the two sides of an `=` at a place.
+// Returns the places of the two operands of the `=` at this place.
 fn sides_at(nodes: &[Op], at: usize) -> Option<(usize, usize)>
     ensures value { IfSome result (λ p. slice_get nodes.now at ≡ Some (Binary (Compare Eq ByBytes) p.0 p.1)) }
     ensures none { result ≡ None → (a b : ℕ)
@@ -63,7 +63,7 @@ fn only_root(roots: &[usize]) -> Option<usize>
     Some(*root)
 }
 
-/// Whether the checks are one, that the first column is 1.
+/// Returns whether there is exactly one CHECK, and it is that the first column equals 1.
 pub(super) fn is_key_check(checks: &Terms) -> bool
     ensures { IsTrue result ↔ checks.now ≡ meta.checks }
 {

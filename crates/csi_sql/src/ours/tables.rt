@@ -1,4 +1,4 @@
-//! Each of the three tables.
+//! Compares each of the three tables with what it should be.
 
 ghost use Rattle.std.specs.Prelude.{◌≡◌, IsTrue};
 ghost use Rattle.csi_sql.specs.Tables.{attachments, meta, volumes};

@@ -1,4 +1,4 @@
-//! The changes of attachments.
+//! The statements that change attachments.
 
 ghost use Rattle.std.specs.Prelude.{◌≡◌, ◌<◌, ◌^◌};
 ghost use Rattle.csi_sql.specs.Transactions.{RunsOver};
@@ -13,8 +13,8 @@ use crate::values::{flag, integer};
 use sqlite::types::ValueRef;
 use sqlite::{Alter, Transaction};
 
-/// Adds the row of an attachment: the number of the volume, which is below 2^63, the node, the
-/// capability as it is given, and the flag readonly. A place that already exists is refused.
+/// Adds the row of an attachment: the number of the volume (below 2^63), the node, the capability as given,
+/// and the read-only flag. If the volume is already attached at the node, the statement is refused.
 pub fn insert_attachment<S: Alter>(
     tx: &mut Transaction<'_, S>,
     volume: u64,
@@ -40,8 +40,8 @@ pub fn insert_attachment<S: Alter>(
     .and(Ok(()))
 }
 
-/// Removes the attachment of a volume, whose number is below 2^63, at a node. Where there is none
-/// there the tables stay.
+/// Deletes the row of the attachment of the volume with this number (below 2^63) at a node. Changes nothing
+/// if there is no such row.
 pub fn delete_attachment<S: Alter>(tx: &mut Transaction<'_, S>, volume: u64, node: &str) -> Changed
     requires { volume < 2 ^ 63 }
     ensures same_reference { tx.new.conn.ghost_name ≡ tx.old.conn.ghost_name }

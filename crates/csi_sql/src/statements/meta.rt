@@ -1,4 +1,4 @@
-//! The statements over meta.
+//! The statements that read and change the row of meta.
 
 ghost use Rattle.std.specs.Prelude.{◌≡◌, ◌<◌, ◌^◌};
 ghost use Rattle.csi_sql.specs.Transactions.{RunsOver};
@@ -11,7 +11,7 @@ use crate::statements::Changed;
 use crate::values::integer;
 use sqlite::{Alter, Error, Row, Transaction};
 
-/// Sets the next number, which is below 2^63. The format stays.
+/// Sets the next number, which must be below 2^63. The format is unchanged.
 pub fn set_next<S: Alter>(tx: &mut Transaction<'_, S>, next: u64) -> Changed
     requires { next < 2 ^ 63 }
     ensures same_reference { tx.new.conn.ghost_name ≡ tx.old.conn.ghost_name }
@@ -22,16 +22,16 @@ pub fn set_next<S: Alter>(tx: &mut Transaction<'_, S>, next: u64) -> Changed
         .and(Ok(()))
 }
 
-/// Sets the format to [`LATEST_FORMAT`](crate::LATEST_FORMAT). The next number stays.
+/// Sets the format to [`LATEST_FORMAT`](crate::LATEST_FORMAT). The next number is unchanged.
 pub fn update_format<S: Alter>(tx: &mut Transaction<'_, S>) -> Changed
     ensures same_reference { tx.new.conn.ghost_name ≡ tx.old.conn.ghost_name }
     ensures runs { RunsOver S.Store tx.old.conn.now tx.new.conn.now schema SetsFormat RefusesFormat result }
 {
-    // No parameter: a number in it would need a promise of which numbers it is given.
+    // The statement has no parameter: a parameter would need a promise of the numbers that it can be.
     tx.execute("UPDATE meta SET format_no = 2", &[]).and(Ok(()))
 }
 
-/// The next number, read from the row of meta.
+/// Reads the number that the next volume gets, as a row of one cell.
 pub(crate) fn select_next<S: Alter>(tx: &mut Transaction<'_, S>) -> Result<Row, Error>
     ensures same_reference { tx.new.conn.ghost_name ≡ tx.old.conn.ghost_name }
     ensures selects { Selects S.Store tx.old.conn.now tx.new.conn.now IsNext HasNoNext result }

@@ -1,7 +1,7 @@
 //! The SELECTs of rows of volumes and of attachments.
 //!
-//! All seven are arms of one function: one clause says what each of them shows, so that the text of a query
-//! is matched with its meaning once.
+//! All seven are arms of one function: one clause of its contract says what each of them shows, so that the
+//! text of a query is matched with its meaning once.
 
 ghost use Rattle.std.specs.Prelude.{◌≡◌};
 ghost use Rattle.csi_sql.specs.Refusing.{NothingRefuses};
@@ -15,19 +15,19 @@ use sqlite::{Alter, Error, Row, Transaction};
 /// A SELECT of rows of one table.
 #[derive(Clone, Copy)]
 pub(crate) enum Select<'a> {
-    /// The volume of a number.
+    /// The row of the volume with this number.
     Numbered(u64),
-    /// The attachments of a volume.
+    /// The attachments of the volume with this number, in byte order of the nodes.
     Nodes(u64),
-    /// The volumes of a name.
+    /// The rows of the volumes with this name.
     Named(&'a str),
-    /// The bytes of each volume of a pool.
+    /// The size in bytes of each volume of this pool, in rising order of the volumes' numbers.
     Sizes(&'a str),
-    /// The number of each volume that is attached at a node.
+    /// The number of each volume that is attached at this node, in rising order.
     Attached(&'a str),
-    /// The first volumes with a greater number.
+    /// The volumes with a number greater than the first argument, at most as many as the second argument.
     Page(u64, u32),
-    /// The number and the node of each attachment with a number beyond the first and up to the last.
+    /// The number and the node of each attachment with a number above the first argument, up to the second.
     Places(u64, u64),
 }
 
@@ -50,7 +50,7 @@ fn text_of(read: &Select<'_>) -> &'static str
     }
 }
 
-/// The rows that a SELECT shows.
+/// Runs a SELECT and returns its rows, in order.
 pub(crate) fn select_rows<S: Alter>(
     tx: &mut Transaction<'_, S>,
     read: &Select<'_>,

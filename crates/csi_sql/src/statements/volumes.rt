@@ -1,4 +1,4 @@
-//! The changes of volumes.
+//! The statements that change volumes.
 
 ghost use Rattle.std.specs.Prelude.{◌≡◌, ◌<◌, ◌^◌};
 ghost use Rattle.csi_sql.specs.Transactions.{RunsOver};
@@ -15,20 +15,20 @@ use crate::values::integer;
 use sqlite::types::ValueRef;
 use sqlite::{Alter, Transaction};
 
-/// A row of volumes, as it is added. Number and bytes are below 2^63.
+/// The row of a volume that is to be added.
 #[derive(Clone, Copy)]
 pub struct VolumeRow<'a> {
-    /// The number of the volume, which no other has.
+    /// The number of the volume, below 2^63. No other volume has this number.
     pub number: u64,
-    /// The name, which no other has.
+    /// The name of the volume. No other volume has this name.
     pub name: &'a str,
     /// The size in bytes, below 2^63.
     pub bytes: u64,
-    /// The pool that it is in.
+    /// The name of the pool that the volume takes its bytes from.
     pub pool: &'a str,
-    /// The capabilities, kept as they are given.
+    /// The encoded capabilities, stored as given.
     pub caps: &'a [u8],
-    /// The params, kept as they are given.
+    /// The encoded parameters, stored as given.
     pub params: &'a [u8],
 }
 
@@ -54,8 +54,8 @@ pub fn insert_volume<S: Alter>(tx: &mut Transaction<'_, S>, row: &VolumeRow<'_>)
     .and(Ok(()))
 }
 
-/// Sets the params of the volume of a number, which is below 2^63; the rest of it stays. Where no
-/// volume has the number the tables stay.
+/// Sets `params` in the row of the volume with this number, which must be below 2^63. Changes nothing if
+/// there is no such row.
 pub fn update_params<S: Alter>(tx: &mut Transaction<'_, S>, volume: u64, params: &[u8]) -> Changed
     requires { volume < 2 ^ 63 }
     ensures same_reference { tx.new.conn.ghost_name ≡ tx.old.conn.ghost_name }
@@ -69,8 +69,8 @@ pub fn update_params<S: Alter>(tx: &mut Transaction<'_, S>, volume: u64, params:
     .and(Ok(()))
 }
 
-/// Takes away the volume of a number, which is below 2^63; its attachments are left alone. Where no
-/// volume has the number the tables stay.
+/// Deletes the row of the volume with this number (below 2^63), but not its attachments. Changes nothing if
+/// there is no such row.
 pub fn delete_volume<S: Alter>(tx: &mut Transaction<'_, S>, volume: u64) -> Changed
     requires { volume < 2 ^ 63 }
     ensures same_reference { tx.new.conn.ghost_name ≡ tx.old.conn.ghost_name }
