@@ -16,8 +16,8 @@ use std::alloc::Global;
 use test_kit::{RowFault, bytes_of, bytes_text};
 use wire::{fields_answer, prefixes_answer, write_answer};
 
-/// The answer to a row: a method's name, a question, and the bytes of a message; or a question without a
-/// method, and its arguments.
+/// Returns the answer to a row: a method's name, a question and the bytes of a message, or a question without
+/// a method and its arguments.
 pub(crate) fn answer(alloc: Global, row: &str) -> Result<String, RowFault> {
     let (name, rest) = first_word(row)?;
     match name {

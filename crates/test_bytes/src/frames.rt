@@ -17,7 +17,7 @@ use spelled::{head_answer, limits_answer, refusal_answer, texts_answer};
 use std::alloc::Global;
 use test_kit::{RowFault, bytes_of, bytes_text};
 
-/// The answer to a row: a question and its arguments.
+/// Returns the answer to a row: a question and its arguments.
 pub(crate) fn answer(alloc: Global, row: &str) -> Result<String, RowFault> {
     let (word, rest) = first_word(row)?;
     match word {

@@ -11,7 +11,7 @@ use test_kit::{
     reply_to,
 };
 
-/// A configuration, and a keeper of the volumes that requests made under it.
+/// A configuration, and the keeper in memory that the requests of the rows read and change.
 pub(crate) struct Bench {
     pub(crate) config: Config,
     pub(crate) keeper: MemKeeper,
@@ -27,7 +27,8 @@ impl Drop for Bench {
 }
 
 impl Bench {
-    /// The sample configuration without volumes.
+    /// Makes a bench of the sample configuration and a keeper without volumes, whose first volume gets the
+    /// number 1.
     pub(crate) fn new(alloc: Global) -> Result<Bench, RowFault> {
         Ok(Bench {
             config: Config::sample(alloc)?,

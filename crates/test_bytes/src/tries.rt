@@ -11,7 +11,7 @@ use test_kit::{RowFault, number_at, word_at, words_of};
 // The frame of a call. Its bytes do not matter to the line.
 const FRAME: &[u8] = b"the frame of a call";
 
-/// The answer to a row: a question and its arguments.
+/// Returns the answer to a row: the question `call` or `pause`, and its arguments.
 pub(crate) fn answer(alloc: Global, row: &str) -> Result<String, RowFault> {
     let words = words_of(alloc, row)?;
     match word_at(&words, 0)? {

@@ -1,4 +1,4 @@
-//! What a keeper keeps, as a text.
+//! The State of a keeper, as a text.
 
 use csi_keeper::{Keeper, StoreFault};
 use std::alloc::Global;
@@ -8,7 +8,8 @@ use test_kit::RowFault;
 // More than any row makes.
 const MOST_VOLUMES: u32 = 100_000;
 
-/// The next number, and each volume with all that is known of it and its attachments.
+/// Returns the State of a keeper as a text: the number that the next volume gets, then each volume with all
+/// its fields and its attachments.
 pub(crate) fn kept<K: Keeper>(alloc: Global, keeper: &mut K) -> Result<String, RowFault> {
     let next = keeper.next_number().map_err(refused)?;
     let volumes = keeper.page(alloc, 0, MOST_VOLUMES).map_err(refused)?;
