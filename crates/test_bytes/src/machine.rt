@@ -65,14 +65,15 @@ impl Bench {
         Ok(format!(in alloc; "{count}")?)
     }
 
-    // Begins again, without volumes.
+    // Begins with a new configuration and a new keeper without volumes.
     fn begin(&mut self, alloc: Global, words: &str) -> Result<String, RowFault> {
         let bench = begun(alloc, words)?;
         *self = bench;
         Ok(String::from_str(alloc, "begun")?)
     }
 
-    // A request again and again: how many are done, and why the last one of the others is not.
+    // Makes a request again and again. The answer has how many are done, and the last reply to one that is
+    // not.
     fn answer_many(&mut self, alloc: Global, words: &str) -> Result<String, RowFault> {
         let (times, rest) = first_word(words)?;
         let (name, notation) = first_word(rest)?;

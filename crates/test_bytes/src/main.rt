@@ -23,7 +23,7 @@ use std::os::unix::net::UnixListener;
 use std::process::ExitCode;
 use test_kit::{AnswerRow, AnswerSection, RowAnswer, RowFault, Rows, answer_rows};
 
-// The exit status without a socket.
+// The exit status if the socket cannot be made, or its file cannot be removed.
 const SOCKET: u8 = 7;
 
 // A section that keeps nothing from row to row.

@@ -11,7 +11,7 @@ use pbwire::{
 use std::alloc::Global;
 use test_kit::{RowFault, bytes_of, bytes_text, number_of, put_part};
 
-// A field has a number below this.
+// Field numbers are less than this.
 const NUMBERS: u32 = 1 << 29;
 
 /// Returns the fields of a message in order, the fault that ends them, if any, and the byte at which the
@@ -30,7 +30,7 @@ pub(crate) fn fields_answer(alloc: Global, notation: &str) -> Result<String, Row
             None => break,
         }
     }
-    // Nothing more comes where the reading stays.
+    // A reader that has stopped gives no further field.
     let at = fields.at();
     let end = match fields.next_field() {
         None => format!(in alloc; "ends at byte {at}")?,
@@ -95,7 +95,7 @@ pub(crate) fn write_answer(alloc: Global, fields: &str) -> Result<String, RowFau
     Ok(hex::encode(alloc, &out)?)
 }
 
-// A number, a word and what the field holds.
+// Appends the field that a text describes: its number, a word for its kind, and its value.
 fn put_field(alloc: Global, out: &mut Vec<u8>, field: &str) -> Result<(), RowFault> {
     let (number, rest) = first_word(field)?;
     let number: u32 = number_of(number)?;
@@ -121,7 +121,7 @@ fn put_field(alloc: Global, out: &mut Vec<u8>, field: &str) -> Result<(), RowFau
     Ok(())
 }
 
-// A message that is written in place.
+// Appends a message as a field: writes the bytes in place, then closes the field.
 fn put_message(
     alloc: Global,
     out: &mut Vec<u8>,

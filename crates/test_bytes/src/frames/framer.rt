@@ -5,7 +5,7 @@ use frames_core::{Framer, ReplyFramer};
 use std::alloc::{AllocError, Global};
 use test_kit::RowFault;
 
-// More bytes than a row has.
+// 2^40, more bytes than any row has.
 const MANY: u64 = 1_099_511_627_776;
 
 /// A framer of calls or of replies.

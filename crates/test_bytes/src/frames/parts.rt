@@ -13,7 +13,7 @@ pub(crate) enum Kind {
     Replies,
 }
 
-// The beginning of bytes, as a text: a frame and its size, or the fault.
+// What bytes begin with, as a text: nothing, a fault, or a frame and its size in bytes.
 #[derive(Drop)]
 enum Part {
     Nothing,

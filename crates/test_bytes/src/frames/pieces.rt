@@ -26,7 +26,7 @@ pub(crate) fn pieces_answer(alloc: Global, kind: Kind, rest: &str) -> Result<Str
     Ok(out)
 }
 
-// Feeds a piece, and shows and gives up each frame that it completes.
+// Feeds a piece to the framer. Appends to `out` each frame that the piece completes, and goes on to the next.
 fn feed_all(
     alloc: Global,
     framer: &mut AnyFramer,

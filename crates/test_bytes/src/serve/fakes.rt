@@ -45,7 +45,7 @@ pub(crate) struct Pieces<'a> {
     size: usize,
     // The number of reads before a read fails; `None` if no read fails.
     fails_after: Option<u64>,
-    // The bytes that still come before a fault is known, if there is one.
+    // The bytes to give until a fault is known; `None` if the stream has no fault.
     until_fault: Option<usize>,
 }
 
@@ -108,7 +108,7 @@ impl<'a> Reader<'a> {
         Reader { pieces, watch }
     }
 
-    // Counts bytes that are given: with the last of them a fault may be known.
+    // Counts `given` bytes. If they make a fault known, notes that the run is over.
     fn count(&mut self, given: usize) {
         if let Some(left) = self.pieces.until_fault {
             let left = left.saturating_sub(given);
@@ -119,7 +119,7 @@ impl<'a> Reader<'a> {
         }
     }
 
-    // Whether this read fails. Counts down to the read that does.
+    // Whether this read fails. Counts down the reads before the failing one.
     fn is_failing(&mut self) -> bool {
         match self.pieces.fails_after {
             Some(0) => {
@@ -222,7 +222,7 @@ impl<'a> Writer<'a> {
         self.bytes
     }
 
-    // Whether this call has its trouble. One call less of the kind is left before it.
+    // Whether the trouble comes at this call. If not, counts down the calls before the trouble.
     fn is_due(&mut self, trouble: Trouble) -> bool {
         if self.takes.trouble != trouble {
             return false;

@@ -5,7 +5,7 @@ use std::alloc::Global;
 use std::fmt::Write;
 use test_kit::RowFault;
 
-// More than any row makes.
+// More volumes than any row makes.
 const MOST_VOLUMES: u32 = 100_000;
 
 /// Returns the State of a keeper as a text: the number that the next volume gets, then each volume with all
@@ -22,7 +22,7 @@ pub(crate) fn kept<K: Keeper>(alloc: Global, keeper: &mut K) -> Result<String, R
     Ok(text)
 }
 
-// These keepers refuse calls only for memory.
+// The keepers of these trials refuse a read only if memory is refused.
 fn refused(_fault: StoreFault) -> RowFault {
     RowFault::NoMemory
 }

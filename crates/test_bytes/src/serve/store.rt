@@ -10,7 +10,7 @@ use csi_server::RunEnd;
 use std::alloc::AllocError;
 use test_kit::RowFault;
 
-// 13, and a text of 13 bytes.
+// The status 13, and a text of 13 bytes.
 pub(super) const STORE_REFUSED: &[u8] = b"\x0d\x00\x0dstore refused\x00\x00\x00\x00\x00";
 
 const STORE_DOWN: &[u8] = b"\x0d\x00\x0dstore is down\x00\x00\x00\x00\x00";
@@ -63,7 +63,8 @@ impl Trials<'_> {
         Err(RowFault::Refused("the store was asked too often"))
     }
 
-    // The number of asking calls known to be refused, after one more refusal.
+    // The index after `call`, the call refused last. Fails if `call` is neither the call refused before it
+    // nor the next one that asks the store.
     fn seen_with(&self, seen: usize, call: usize) -> Result<usize, RowFault> {
         let next = call.saturating_add(1);
         if next == seen || self.first_asking(seen) == Some(call) {
@@ -180,7 +181,7 @@ impl Trials<'_> {
         answered
     }
 
-    // The wanted outcome if the change of a call is refused: the store is down for later calls that ask it.
+    // The wanted outcome if the change of a call is refused: later calls that ask the store find it down.
     fn after_change(&self, call: usize) -> Result<Replies, AllocError> {
         let mut bytes = self.refused_after(call)?;
         let refused = self.put_refused(call.saturating_add(1), STORE_DOWN, &mut bytes)?;

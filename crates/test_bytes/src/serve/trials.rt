@@ -7,7 +7,7 @@ use super::stream::{Stream, refusal};
 use std::alloc::Global;
 use test_kit::RowFault;
 
-// A longer stream is served in pieces alone.
+// The most bytes of a stream that is tried in all ways. A longer stream is tried only in pieces.
 const LONGEST: usize = 4096;
 
 /// A stream, the service that serves it, and as texts the State before the first call and the State after
@@ -96,7 +96,7 @@ impl Trials<'_> {
         )
     }
 
-    // Serves the pieces, and compares what comes.
+    // Serves the pieces, and compares the outcome with the wanted one.
     fn attempt(
         &self,
         trial: Trial,
@@ -121,7 +121,7 @@ impl Trials<'_> {
         Ok(())
     }
 
-    // Two pieces, cut after each byte.
+    // Serves the stream in two parts, cut after each byte in turn.
     fn cuts(&self) -> Result<(), RowFault> {
         for at in 1..self.stream.input.len() {
             let pieces = Pieces::cut_at(self.stream.input.as_slice(), at);
@@ -152,7 +152,7 @@ impl Trials<'_> {
         self.ended(at, End::StreamFault(text.as_str()), frame.as_slice())
     }
 
-    // The input ends after `at` bytes, and the run like this, unless the bytes show a fault.
+    // The input ends after `at` bytes. The run ends with `end`, unless the bytes show a fault.
     fn ended<'w>(&'w self, at: usize, end: End<'w>, last: &'w [u8]) -> Result<(), RowFault> {
         let bytes = self.stream.input.get(..at).unwrap_or(&[]);
         let pieces = Pieces::new(bytes, GREATEST_PIECE);
@@ -164,7 +164,7 @@ impl Trials<'_> {
         self.attempt(trial, pieces, Takes::all(), &wanted)
     }
 
-    // The wanted outcome if only the first bytes come: this end, unless they show a fault.
+    // The wanted outcome if only the first `bytes` bytes come: `end`, unless those bytes show a fault.
     fn front<'w>(&'w self, bytes: usize, end: End<'w>, last: &'w [u8]) -> Wanted<'w> {
         if self.stream.is_faulty_within(bytes) {
             return self.whole();

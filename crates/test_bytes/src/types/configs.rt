@@ -1,5 +1,5 @@
-//! Rows about configurations. If a row does not give them, the plugin is `x` in version 1, both sizes are 1
-//! MiB, the only pool is `p` of 1 MiB without segments, and there are no nodes.
+//! Rows about configurations. Unless a row gives other values, the plugin is `x` in version 1, both sizes are
+//! 1 MiB, the only pool is `p` of 1 MiB without segments, and there are no nodes.
 
 use crate::shown::{displayed, in_rust};
 use csi_config::{Config, ConfigFault, Pool, Sizes};
