@@ -8,7 +8,8 @@ use pbmessage::DecodeFault;
 use std::alloc::Global;
 use test_kit::{RowFault, bytes_of};
 
-/// The answer to a row, a method or `-` and bytes: the lines of the reply that the bytes begin with.
+/// Returns the answer to a row, which has a method or `-`, then bytes: the lines that the client prints for
+/// the first reply in the bytes.
 pub(crate) fn answer(alloc: Global, row: &str) -> Result<Vec<u8>, RowFault> {
     let (name, notation) = first_word(row)?;
     let method = match name {
@@ -25,7 +26,8 @@ fn first_lines(alloc: Global, method: Option<Method>, bytes: &[u8]) -> Result<Ve
     }
 }
 
-/// The lines of a reply.
+/// Returns the lines that the client prints for a reply. The line `malformed` stands for a body that cannot
+/// be decoded as the response of `method`.
 pub(crate) fn lines_of(
     alloc: Global,
     method: Option<Method>,

@@ -16,8 +16,8 @@ use std::alloc::Global;
 use test_kit::{RowFault, bytes_of, bytes_text};
 use wire::{fields_answer, prefixes_answer, write_answer};
 
-/// The answer to a row: a method's name, a question, and the bytes of a message; or a question without a
-/// method, and its arguments.
+/// Returns the answer to a row: a method's name, a question and the bytes of a message, or a question that
+/// needs no method, and its arguments.
 pub(crate) fn answer(alloc: Global, row: &str) -> Result<String, RowFault> {
     let (name, rest) = first_word(row)?;
     match name {
@@ -51,7 +51,7 @@ fn message_answer(
     }
 }
 
-// Bytes that mean nothing are answered with their fault.
+// The answer to a question about a message; the fault if the bytes cannot be decoded.
 fn read_answer<M: Message>(
     alloc: Global,
     message: Result<M, DecodeFault>,
@@ -66,7 +66,7 @@ fn read_answer<M: Message>(
 
 // A request or a response.
 trait Message: Drop {
-    // The answer to a question about the message that was read from these bytes.
+    // The answer to a question about the message, which was decoded from these bytes.
     fn answer(&self, alloc: Global, question: &str, bytes: &[u8]) -> Result<String, RowFault>;
 }
 
@@ -97,7 +97,7 @@ impl Message for Response {
     }
 }
 
-// The answer of the argument checks.
+// The text of the reason for which the argument checks refuse a request, or `passed`.
 fn checked(request: &Request) -> &'static str {
     match check(request) {
         Ok(()) => "passed",
@@ -105,7 +105,7 @@ fn checked(request: &Request) -> &'static str {
     }
 }
 
-// The canonical bytes, or a word if they are the bytes of the row.
+// The canonical bytes in hexadecimal, or `same` if they are the bytes of the row.
 fn compared(alloc: Global, bytes: &[u8], canonical: &[u8]) -> Result<String, RowFault> {
     if canonical == bytes {
         return displayed(alloc, &"same");
@@ -128,7 +128,7 @@ static LIMITS: [(&str, u64); 11] = [
     ("MAX_NUMBER", MAX_NUMBER),
 ];
 
-// The value of a limit.
+// The value of the limit with this name.
 fn limit_answer(alloc: Global, name: &str) -> Result<String, RowFault> {
     for (limit, value) in &LIMITS {
         if *limit == name {

@@ -17,7 +17,7 @@ use spelled::{head_answer, limits_answer, refusal_answer, texts_answer};
 use std::alloc::Global;
 use test_kit::{RowFault, bytes_of, bytes_text};
 
-/// The answer to a row: a question and its arguments.
+/// Returns the answer to a row: a question and its arguments.
 pub(crate) fn answer(alloc: Global, row: &str) -> Result<String, RowFault> {
     let (word, rest) = first_word(row)?;
     match word {
@@ -38,7 +38,7 @@ pub(crate) fn answer(alloc: Global, row: &str) -> Result<String, RowFault> {
     }
 }
 
-// The frame of a call, and whether it is read back.
+// The frame of a call, and whether reading the frame gives the same call.
 fn request_answer(alloc: Global, rest: &str) -> Result<String, RowFault> {
     let (path, notation) = first_word(rest)?;
     let message = bytes_of(alloc, notation)?;
@@ -63,7 +63,7 @@ fn frame_text(alloc: Global, frame: &[u8], is_read: bool) -> Result<String, RowF
     Ok(format!(in alloc; "{}, {read}", bytes_text(alloc, frame)?)?)
 }
 
-// Whether a call of this path and message has a frame.
+// Whether a call with this path and message can be put in a frame.
 fn has_frame(path: &[u8], message: &[u8]) -> bool
     ensures { IsTrue result → IsCall (record { path = path.now; message = message.now }) }
 {

@@ -11,7 +11,7 @@ use test_kit::{
     reply_to,
 };
 
-/// A configuration, and a keeper of the volumes that requests made under it.
+/// A configuration, and the keeper in memory that the requests of the rows read and change.
 pub(crate) struct Bench {
     pub(crate) config: Config,
     pub(crate) keeper: MemKeeper,
@@ -27,7 +27,8 @@ impl Drop for Bench {
 }
 
 impl Bench {
-    /// The sample configuration without volumes.
+    /// Makes a bench of the sample configuration and a keeper without volumes, whose first volume gets the
+    /// number 1.
     pub(crate) fn new(alloc: Global) -> Result<Bench, RowFault> {
         Ok(Bench {
             config: Config::sample(alloc)?,
@@ -64,14 +65,15 @@ impl Bench {
         Ok(format!(in alloc; "{count}")?)
     }
 
-    // Begins again, without volumes.
+    // Begins with a new configuration and a new keeper without volumes.
     fn begin(&mut self, alloc: Global, words: &str) -> Result<String, RowFault> {
         let bench = begun(alloc, words)?;
         *self = bench;
         Ok(String::from_str(alloc, "begun")?)
     }
 
-    // A request again and again: how many are done, and why the last one of the others is not.
+    // Makes a request again and again. The answer has how many are done, and the last reply to one that is
+    // not.
     fn answer_many(&mut self, alloc: Global, words: &str) -> Result<String, RowFault> {
         let (times, rest) = first_word(words)?;
         let (name, notation) = first_word(rest)?;

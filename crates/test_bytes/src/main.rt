@@ -1,6 +1,6 @@
 //! Answers rows about bytes and what they mean: messages, frames, values, replies, requests, streams of calls
-//! that are served, and calls over a Unix socket with both of its ends in this process. What the rows of a
-//! section look like is at its head in the file `stdin` of this crate.
+//! that are served, and calls over a Unix socket with both of its ends in this process. The head of each
+//! section in this crate's file `stdin` describes the rows of the section.
 #![tactic(auto)]
 
 mod client;
@@ -23,7 +23,7 @@ use std::os::unix::net::UnixListener;
 use std::process::ExitCode;
 use test_kit::{AnswerRow, AnswerSection, RowAnswer, RowFault, Rows, answer_rows};
 
-// The exit status without a socket.
+// The exit status if the socket cannot be made, or its file cannot be removed.
 const SOCKET: u8 = 7;
 
 // A section that keeps nothing from row to row.

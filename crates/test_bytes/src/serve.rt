@@ -1,5 +1,5 @@
-//! Rows that put a stream of calls together and try it: it is served again and again, each time with another
-//! part cut short or refused, and the outcome is compared with the outcome that the row wants.
+//! Rows that put a stream of calls together and try it: the program serves the stream again and again, each
+//! time with another part cut short or refused, and compares the outcome with the outcome that the row wants.
 
 mod again;
 mod compared;
@@ -19,7 +19,7 @@ use stream::Stream;
 use test_kit::{AnswerRow, RowAnswer, RowFault, bytes_of};
 use trials::{Trials, kept_after_each};
 
-/// A configuration, and the stream that the rows put together so far.
+/// The configuration that a stream is served under, and the stream that the rows have put together so far.
 #[derive(Drop)]
 pub(crate) struct Streams {
     config: Config,
@@ -27,7 +27,7 @@ pub(crate) struct Streams {
 }
 
 impl Streams {
-    /// The sample configuration, and no stream.
+    /// Starts with the sample configuration and an empty stream.
     pub(crate) fn new(alloc: Global) -> Result<Streams, RowFault> {
         Ok(Streams {
             config: Config::sample(alloc)?,

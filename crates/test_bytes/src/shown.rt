@@ -1,16 +1,15 @@
-//! A value as the text of an answer. A value is passed by reference to a function that does not name its
-//! type.
+//! Turns values into the texts of answers. Each function is generic, and takes its value by reference.
 
 use std::alloc::Global;
 use std::fmt::{Debug, Display};
 use test_kit::RowFault;
 
-/// The value as it is displayed.
+/// Returns the text that a value's `Display` writes.
 pub(crate) fn displayed<T: Display>(alloc: Global, value: &T) -> Result<String, RowFault> {
     Ok(format!(in alloc; "{value}")?)
 }
 
-/// The value in Rust.
+/// Returns the text that a value's `Debug` writes: the value as a Rust expression.
 pub(crate) fn in_rust<T: Debug>(alloc: Global, value: &T) -> Result<String, RowFault> {
     Ok(format!(in alloc; "{value:?}")?)
 }

@@ -14,10 +14,11 @@ use std::net::Shutdown;
 use std::os::unix::net::{UnixListener, UnixStream};
 use test_kit::{AnswerRow, RowAnswer, RowFault, bytes_of, number_of};
 
-/// The file of the socket.
+/// The path of the socket's file, relative to the working directory.
 pub(crate) const PATH: &str = "rows.sock";
 
-/// Calls, each by a connection of its own.
+/// Answers rows that are calls. Each call is sent over a new connection to `listener`, and served with the
+/// configuration and the keeper of `bench`.
 #[derive(Drop)]
 pub(crate) struct Calls<'a> {
     pub(crate) listener: &'a UnixListener,

@@ -11,7 +11,7 @@ use test_kit::{RowFault, number_at, word_at, words_of};
 // The frame of a call. Its bytes do not matter to the line.
 const FRAME: &[u8] = b"the frame of a call";
 
-/// The answer to a row: a question and its arguments.
+/// Returns the answer to a row: the question `call` or `pause`, and its arguments.
 pub(crate) fn answer(alloc: Global, row: &str) -> Result<String, RowFault> {
     let words = words_of(alloc, row)?;
     match word_at(&words, 0)? {
@@ -113,7 +113,7 @@ fn reply_word(reply: &ReceivedReply) -> &'static str {
     "another reply"
 }
 
-// The word of what an exchange gave.
+// The word for the result of an exchange.
 fn word_of(received: &Received) -> &'static str {
     match received {
         Received::Reply(reply) => reply_word(reply),
@@ -131,7 +131,8 @@ fn word_of(received: &Received) -> &'static str {
     }
 }
 
-// A line whose exchanges give what these words say, and the last one from then on.
+// A line whose exchanges have the outcomes that the words name, in order; the last word counts for all later
+// exchanges.
 #[derive(Drop)]
 struct Script<'w> {
     alloc: Global,
@@ -167,7 +168,7 @@ impl Line for Script<'_> {
     }
 }
 
-// The word of what the last exchange gave, and the counts.
+// Calls over a scripted line. The answer has the word for the last result, and the counts of the line.
 fn call_answer(alloc: Global, words: &[&str]) -> Result<String, RowFault> {
     let tries: u32 = number_at(words, 1)?;
     if tries < 1 || tries > 10 || words.len() < 3 {
@@ -198,7 +199,7 @@ fn reported(alloc: Global, line: &Script<'_>, word: &str) -> Result<String, RowF
     Ok(format!(in alloc; "{word}, {made} made, {unanswered} unanswered{frames}")?)
 }
 
-// The milliseconds of a pause.
+// The length of a pause in milliseconds.
 fn pause_answer(alloc: Global, words: &[&str]) -> Result<String, RowFault> {
     let tried: u32 = number_at(words, 1)?;
     let chance: u32 = number_at(words, 2)?;

@@ -12,7 +12,7 @@ use values::{
     over_answer, reason_answer, text_answer,
 };
 
-/// The answer to a row: a question and its arguments.
+/// Returns the answer to a row: a question and its arguments.
 pub(crate) fn answer(alloc: Global, row: &str) -> Result<String, RowFault> {
     let (kind, rest) = first_word(row)?;
     let words = words_of(alloc, rest)?;

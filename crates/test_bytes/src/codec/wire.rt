@@ -11,11 +11,11 @@ use pbwire::{
 use std::alloc::Global;
 use test_kit::{RowFault, bytes_of, bytes_text, number_of, put_part};
 
-// A field has a number below this.
+// Field numbers are less than this.
 const NUMBERS: u32 = 1 << 29;
 
-/// The fields of a message, in order, the fault after them if there is one, and where
-/// the reading stays.
+/// Returns the fields of a message in order, the fault that ends them, if any, and the byte at which the
+/// reader stops.
 pub(crate) fn fields_answer(alloc: Global, notation: &str) -> Result<String, RowFault> {
     let bytes = bytes_of(alloc, notation)?;
     let mut fields = Fields::new(&bytes);
@@ -30,7 +30,7 @@ pub(crate) fn fields_answer(alloc: Global, notation: &str) -> Result<String, Row
             None => break,
         }
     }
-    // Nothing more comes where the reading stays.
+    // A reader that has stopped gives no further field.
     let at = fields.at();
     let end = match fields.next_field() {
         None => format!(in alloc; "ends at byte {at}")?,
@@ -59,7 +59,7 @@ fn field_text(alloc: Global, field: &Field<'_>) -> Result<String, RowFault> {
     })
 }
 
-/// The number of proper prefixes of a field that are cut short at byte 0.
+/// Returns for how many nonempty proper prefixes of a field the reader finds the field at byte 0 cut short.
 pub(crate) fn prefixes_answer(alloc: Global, notation: &str) -> Result<String, RowFault> {
     let bytes = bytes_of(alloc, notation)?;
     let count = cut_short_of(&bytes);
@@ -86,7 +86,7 @@ fn is_cut_short(prefix: &[u8]) -> bool {
     )
 }
 
-/// Fields as they are written, in order.
+/// Returns the bytes of the row's fields in the wire format, in order and in hexadecimal.
 pub(crate) fn write_answer(alloc: Global, fields: &str) -> Result<String, RowFault> {
     let mut out = Vec::new(alloc);
     for field in fields.split(", ") {
@@ -95,7 +95,7 @@ pub(crate) fn write_answer(alloc: Global, fields: &str) -> Result<String, RowFau
     Ok(hex::encode(alloc, &out)?)
 }
 
-// A number, a word and what the field holds.
+// Appends the field that a text describes: its number, a word for its kind, and its value.
 fn put_field(alloc: Global, out: &mut Vec<u8>, field: &str) -> Result<(), RowFault> {
     let (number, rest) = first_word(field)?;
     let number: u32 = number_of(number)?;
@@ -121,7 +121,7 @@ fn put_field(alloc: Global, out: &mut Vec<u8>, field: &str) -> Result<(), RowFau
     Ok(())
 }
 
-// A message that is written in place.
+// Appends a message as a field: writes the bytes in place, then closes the field.
 fn put_message(
     alloc: Global,
     out: &mut Vec<u8>,

@@ -1,11 +1,11 @@
-//! The two framers as one.
+//! One type for the two framers, of calls and of replies.
 
 use super::parts::{Kind, call_fault_text, call_text, reply_fault_text, reply_text};
 use frames_core::{Framer, ReplyFramer};
 use std::alloc::{AllocError, Global};
 use test_kit::RowFault;
 
-// More bytes than a row has.
+// 2^40, more bytes than any row has.
 const MANY: u64 = 1_099_511_627_776;
 
 /// A framer of calls or of replies.
@@ -32,7 +32,11 @@ impl AnyFramer {
         })
     }
 
-    /// Feeds a piece of a short stream. How many bytes of it are taken.
+    /// Feeds a piece of a stream to the framer. Returns how many bytes of the piece the framer took.
+    ///
+    /// # Errors
+    ///
+    /// `NotRow` if the piece has 2^40 bytes or more, or the framer took that many before.
     pub(crate) fn feed(&mut self, piece: &[u8]) -> Result<usize, RowFault> {
         if piece.len() as u64 >= MANY {
             return Err(RowFault::NotRow);
@@ -44,7 +48,7 @@ impl AnyFramer {
         }
     }
 
-    /// The bytes taken of the stream.
+    /// Returns how many bytes of the stream the framer has taken.
     pub(crate) fn taken(&self) -> u64 {
         match self {
             AnyFramer::Calls(framer) => framer.taken(),
@@ -66,7 +70,7 @@ impl AnyFramer {
         }
     }
 
-    /// The call or the reply that is complete, as a text.
+    /// Returns the complete call or reply in the framer as a text; `None` if the framer has no complete one.
     pub(crate) fn frame_text(&self, alloc: Global) -> Result<Option<String>, RowFault> {
         match self {
             AnyFramer::Calls(framer) => match framer.frame() {
@@ -80,7 +84,7 @@ impl AnyFramer {
         }
     }
 
-    /// The fault that is known, as a text.
+    /// Returns the text of the fault that the framer found; `None` if it found no fault.
     pub(crate) fn fault_text(&self, alloc: Global) -> Result<Option<String>, RowFault> {
         match self {
             AnyFramer::Calls(framer) => match framer.fault() {

@@ -6,14 +6,14 @@ use std::alloc::Global;
 use std::str;
 use test_kit::{RowFault, bytes_of, bytes_text, put_part};
 
-/// Whose frames a stream has.
+/// Whether the frames of a stream are calls or replies.
 #[derive(Clone, Copy)]
 pub(crate) enum Kind {
     Calls,
     Replies,
 }
 
-// The beginning of bytes, as a text: a frame and its size, or the fault.
+// What bytes begin with, as a text: nothing, a fault, or a frame and its size in bytes.
 #[derive(Drop)]
 enum Part {
     Nothing,
@@ -21,7 +21,7 @@ enum Part {
     Frame(String, usize),
 }
 
-/// The frames of a whole rest, in order, and how it ends.
+/// Returns the frames in the row's bytes, in order, then how the bytes end: a fault, or `nothing`.
 pub(crate) fn parts_answer(alloc: Global, kind: Kind, notation: &str) -> Result<String, RowFault> {
     let bytes = bytes_of(alloc, notation)?;
     let mut out = String::new(alloc);
@@ -46,7 +46,8 @@ pub(crate) fn parts_answer(alloc: Global, kind: Kind, notation: &str) -> Result<
     Ok(out)
 }
 
-/// The number of proper prefixes of a frame that are an input that ends early.
+/// Returns for how many nonempty proper prefixes of a frame the fault is the early end of the input, at the
+/// length of the prefix.
 pub(crate) fn prefixes_answer(
     alloc: Global,
     kind: Kind,
@@ -95,7 +96,8 @@ fn reply_part(alloc: Global, bytes: &[u8], from: u64) -> Result<Part, RowFault> 
     })
 }
 
-/// The text of a fault of bytes that begin at this place of a stream of calls.
+/// Returns the text of a fault in a stream of calls. The fault was found in bytes that begin at byte `from`
+/// of the stream; the text has the fault's place in the stream.
 pub(crate) fn call_fault_text(
     alloc: Global,
     fault: FrameFault,
@@ -108,7 +110,8 @@ pub(crate) fn call_fault_text(
     displayed(alloc, &placed)
 }
 
-/// The text of a fault of bytes that begin at this place of a stream of replies.
+/// Returns the text of a fault in a stream of replies. The fault was found in bytes that begin at byte `from`
+/// of the stream; the text has the fault's place in the stream.
 pub(crate) fn reply_fault_text(
     alloc: Global,
     fault: ReplyFault,
@@ -121,14 +124,15 @@ pub(crate) fn reply_fault_text(
     displayed(alloc, &placed)
 }
 
-/// A call: its path and its message.
+/// Returns a call as a text: its path, then the bytes of its message.
 pub(crate) fn call_text(alloc: Global, call: Call<'_>) -> Result<String, RowFault> {
     let path = text_of(call.path)?;
     let message = bytes_text(alloc, call.message)?;
     Ok(format!(in alloc; "{path} {message}")?)
 }
 
-/// A reply: its status, its text and its body.
+/// Returns a reply as a text: its status, its text (`-` if empty, `long` above 64 bytes), then the bytes of
+/// its body.
 pub(crate) fn reply_text(alloc: Global, reply: Reply<'_>) -> Result<String, RowFault> {
     let text = match reply.text.len() {
         0 => "-",
@@ -139,7 +143,11 @@ pub(crate) fn reply_text(alloc: Global, reply: Reply<'_>) -> Result<String, RowF
     Ok(format!(in alloc; "{} {text} {body}", reply.status)?)
 }
 
-/// Bytes as the text that they are.
+/// Returns the bytes as a UTF-8 text.
+///
+/// # Errors
+///
+/// `NotBytes` if the bytes are not UTF-8.
 pub(crate) fn text_of(bytes: &[u8]) -> Result<&str, RowFault> {
     match str::from_utf8(bytes) {
         Ok(text) => Ok(text),

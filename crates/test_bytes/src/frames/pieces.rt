@@ -7,7 +7,8 @@ use crate::words::first_word;
 use std::alloc::Global;
 use test_kit::{RowFault, bytes_of, number_of, put_part};
 
-/// The frames of a stream that comes in pieces of a size, and how it ends.
+/// Returns the frames of a stream that comes in pieces of the row's size, then how the stream ends: a fault,
+/// or `nothing`.
 pub(crate) fn pieces_answer(alloc: Global, kind: Kind, rest: &str) -> Result<String, RowFault> {
     let (size, notation) = first_word(rest)?;
     let size: usize = number_of(size)?;
@@ -25,7 +26,7 @@ pub(crate) fn pieces_answer(alloc: Global, kind: Kind, rest: &str) -> Result<Str
     Ok(out)
 }
 
-// Feeds a piece, and shows and gives up each frame that it completes.
+// Feeds a piece to the framer. Appends to `out` each frame that the piece completes, and goes on to the next.
 fn feed_all(
     alloc: Global,
     framer: &mut AnyFramer,
@@ -55,8 +56,9 @@ fn put_end(alloc: Global, framer: &AnyFramer, out: &mut String) -> Result<(), Ro
     }
 }
 
-/// The results of steps of a framer: `next`, `end`, or bytes that it is fed. For fed bytes the number
-/// taken is shown; at the end the bytes taken in all, and a frame, a fault or neither.
+/// Returns the results of steps of a framer. A step is `next`, `end`, or bytes to feed; the result of feeding
+/// is how many of the bytes the framer took. After the last step come the number of bytes taken in all, and
+/// the complete frame, the fault or `nothing`.
 pub(crate) fn steps_answer(alloc: Global, kind: Kind, steps: &str) -> Result<String, RowFault> {
     let mut framer = AnyFramer::new(alloc, kind)?;
     let mut out = String::new(alloc);

@@ -10,13 +10,13 @@ use envelope::{
 use std::alloc::Global;
 use test_kit::{RowFault, bytes_text, number_of, put_part};
 
-/// The bytes before a body of this length.
+/// Returns the bytes of a reply that come before a body of this length.
 pub(crate) fn head_answer(alloc: Global, length: &str) -> Result<String, RowFault> {
     let length: u32 = number_of(length)?;
     bytes_text(alloc, reply_head(length).bytes())
 }
 
-/// The refusal of a call as one of an unknown method, with a status.
+/// Returns the reply that refuses a call with this status, which is not 0, and the text `unknown method`.
 pub(crate) fn refusal_answer(alloc: Global, status: &str) -> Result<String, RowFault> {
     let status: u8 = number_of(status)?;
     if status == 0 {
@@ -25,7 +25,8 @@ pub(crate) fn refusal_answer(alloc: Global, status: &str) -> Result<String, RowF
     bytes_text(alloc, refusal_frame(status, b"unknown method").bytes())
 }
 
-/// The text of each fault at a place, as it is sent. It is displayed so, too.
+/// Returns the text that a server sends for each kind of fault at byte `at`. After a text that differs from
+/// the fault's `Display` comes `displayed otherwise`.
 pub(crate) fn texts_answer(alloc: Global, at: &str) -> Result<String, RowFault> {
     let at: u64 = number_of(at)?;
     let mut out = String::new(alloc);
@@ -45,8 +46,8 @@ pub(crate) fn texts_answer(alloc: Global, at: &str) -> Result<String, RowFault> 
     Ok(out)
 }
 
-/// The limits of the envelope: of a call its path, message, head and frame; of a reply its text, body,
-/// head without and with a text, frame, and the text that refuses.
+/// Returns the limits of the envelope in bytes: for the path, message, head and frame of a call; for the
+/// text, body, head without a text, head with a text, and frame of a reply; and for the text of a refusal.
 pub(crate) fn limits_answer(alloc: Global) -> Result<String, RowFault> {
     let mut out = String::new(alloc);
     for limit in [

@@ -8,8 +8,12 @@ use csi_memory::MemKeeper;
 use test_kit::RowFault;
 
 impl Trials<'_> {
-    /// Each call is done, and writing its reply fails at once. It is sent again, with those after it,
-    /// to a second run over the same keeper.
+    /// Loses the reply to each call in turn: the first run does the call, but fails to write its reply. A
+    /// second run over the same keeper serves the call and all later calls again.
+    ///
+    /// # Errors
+    ///
+    /// If a second run has another outcome than the wanted one, or memory is refused.
     pub(crate) fn again(&self) -> Result<(), RowFault> {
         for call in 0..self.stream.calls.len() {
             self.again_from(call)?;

@@ -4,49 +4,51 @@ use csi_server::RunEnd;
 use std::alloc::{AllocError, Global};
 use test_kit::RowFault;
 
-/// The wanted end of a run.
+/// How a run should end.
 #[derive(Clone, Copy)]
 pub(crate) enum End<'a> {
     Done,
-    /// At a fault of this text.
+    /// The run ends at a fault in the stream. The value is the text of the fault.
     StreamFault(&'a str),
     ReadFailed,
     WriteFailed,
 }
 
-/// The wanted outcome of a run.
+/// The outcome that a run should have.
 #[derive(Clone, Copy)]
 pub(crate) struct Wanted<'a> {
     pub(crate) end: End<'a>,
-    /// The replies, which are written first.
+    /// The whole replies, which the run writes first.
     pub(crate) replies: &'a [u8],
-    /// The bytes after them, up to the end.
+    /// The bytes that the run writes after the whole replies: the answer to a fault, the beginning of a
+    /// reply, or none.
     pub(crate) last: &'a [u8],
-    /// The State after the run.
+    /// The State of the keeper after the run, as a text.
     pub(crate) kept: &'a str,
 }
 
-/// The outcome of a run.
+/// The outcome that a run had.
 #[derive(Drop)]
 pub(crate) struct Served {
     pub(crate) end: RunEnd,
     pub(crate) written: Vec<u8>,
-    /// All that a keeper keeps then, which was new before.
+    /// The State of the keeper after the run, as a text.
     pub(crate) kept: String,
 }
 
-/// The name of a trial: its words, and a number.
+/// The name of a trial in a report: words, and the number of the byte, call or write at which the trial
+/// differs from the others.
 #[derive(Clone, Copy)]
 pub(crate) struct Trial {
     pub(crate) name: &'static str,
     pub(crate) number: u64,
 }
 
-/// Compares an outcome with the wanted one.
+/// Compares the outcome of a trial with the wanted outcome.
 ///
 /// # Errors
 ///
-/// Where they differ, or memory is refused.
+/// If the outcomes differ, or memory is refused.
 pub(crate) fn compare(
     alloc: Global,
     trial: Trial,

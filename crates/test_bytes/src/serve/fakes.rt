@@ -1,11 +1,11 @@
-//! A reader and a writer that take their time, and fail where they are set to.
+//! A reader and a writer that move few bytes at a time, and fail at a set call.
 
 use std::alloc::Global;
 use std::cell::Cell;
 use std::io;
 use std::io::{ErrorKind, Read, Write};
 
-/// The most bytes that the server reads at once, and so the greatest piece.
+/// The size in bytes of the buffer of each read of the server, and so of the greatest piece.
 pub(crate) const GREATEST_PIECE: usize = 4096;
 
 /// The state that the reader and the writer of one run share.
@@ -15,12 +15,12 @@ pub(crate) struct Watch {
     is_flushed: Cell<bool>,
     // Whether a fault is known, or writing failed.
     is_over: Cell<bool>,
-    // Whether a read was made after that.
+    // Whether a read was made after a fault was known or writing failed.
     has_read_on: Cell<bool>,
 }
 
 impl Watch {
-    /// Nothing was read or written.
+    /// The state before anything is read or written.
     pub(crate) fn new() -> Watch {
         Watch {
             is_flushed: Cell::new(true),
@@ -35,7 +35,8 @@ impl Watch {
     }
 }
 
-/// Bytes, and how a reader gives them: in pieces, where one read may fail.
+/// The bytes of a stream, and how a reader gives them: in pieces of a set size, with at most one failing
+/// read.
 #[derive(Clone, Copy)]
 pub(crate) struct Pieces<'a> {
     bytes: &'a [u8],
@@ -44,12 +45,12 @@ pub(crate) struct Pieces<'a> {
     size: usize,
     // The number of reads before a read fails; `None` if no read fails.
     fails_after: Option<u64>,
-    // The bytes that still come before a fault is known, if there is one.
+    // The bytes to give until a fault is known; `None` if the stream has no fault.
     until_fault: Option<usize>,
 }
 
 impl<'a> Pieces<'a> {
-    /// Pieces of at most `size` bytes.
+    /// Pieces of at most `size` bytes. No read fails.
     pub(crate) fn new(bytes: &'a [u8], size: usize) -> Pieces<'a> {
         Pieces {
             bytes,
@@ -60,7 +61,8 @@ impl<'a> Pieces<'a> {
         }
     }
 
-    /// A first piece of at most `first` bytes.
+    /// A first piece of at most `first` bytes, then pieces of at most [`GREATEST_PIECE`] bytes. No read
+    /// fails.
     pub(crate) fn cut_at(bytes: &'a [u8], first: usize) -> Pieces<'a> {
         Pieces {
             bytes,
@@ -71,7 +73,7 @@ impl<'a> Pieces<'a> {
         }
     }
 
-    /// Pieces of one byte. After `pieces` of them a read fails.
+    /// Pieces of one byte. The read after the first `pieces` of them fails.
     pub(crate) fn failing(bytes: &'a [u8], pieces: u64) -> Pieces<'a> {
         Pieces {
             bytes,
@@ -82,7 +84,8 @@ impl<'a> Pieces<'a> {
         }
     }
 
-    /// The same pieces; their first `known_at` bytes show a fault.
+    /// Returns the same pieces for a stream whose first `known_at` bytes show a fault; `None` if the stream
+    /// has no fault.
     pub(crate) fn with_fault_at(self, known_at: Option<usize>) -> Pieces<'a> {
         Pieces {
             until_fault: known_at,
@@ -91,8 +94,8 @@ impl<'a> Pieces<'a> {
     }
 }
 
-/// Gives pieces to a server whose reads have the right size, and that has flushed its earlier output. Any
-/// other read fails.
+/// A reader that gives pieces to a server. A read fails if its buffer does not have [`GREATEST_PIECE`] bytes,
+/// or if the server has written bytes that it has not flushed.
 #[derive(Drop)]
 pub(crate) struct Reader<'a> {
     pieces: Pieces<'a>,
@@ -100,12 +103,12 @@ pub(crate) struct Reader<'a> {
 }
 
 impl<'a> Reader<'a> {
-    /// A reader of these pieces.
+    /// Makes a reader that gives these pieces, and reports reads after the end of a run to `watch`.
     pub(crate) fn new(pieces: Pieces<'a>, watch: &'a Watch) -> Reader<'a> {
         Reader { pieces, watch }
     }
 
-    // Counts bytes that are given: with the last of them a fault may be known.
+    // Counts `given` bytes. If they make a fault known, notes that the run is over.
     fn count(&mut self, given: usize) {
         if let Some(left) = self.pieces.until_fault {
             let left = left.saturating_sub(given);
@@ -116,7 +119,7 @@ impl<'a> Reader<'a> {
         }
     }
 
-    // Whether this read fails. Counts down to the read that does.
+    // Whether this read fails. Counts down the reads before the failing one.
     fn is_failing(&mut self) -> bool {
         match self.pieces.fails_after {
             Some(0) => {
@@ -158,20 +161,20 @@ impl Read for Reader<'_> {
     }
 }
 
-/// The trouble of a writer at a set call.
+/// What goes wrong at one call of a writer.
 #[derive(Clone, Copy, PartialEq, Eq)]
 pub(crate) enum Trouble {
-    /// No trouble.
+    /// Nothing goes wrong.
     Never,
-    /// The write fails.
+    /// A write fails.
     Write,
-    /// The write takes nothing.
+    /// A write takes no bytes, and returns 0.
     Nothing,
-    /// The flush fails.
+    /// A flush fails.
     Flush,
 }
 
-/// The behaviour of a writer: a limit of bytes a write, and trouble once, at a given call of its kind.
+/// The behaviour of a writer: the most bytes that it takes in one write, and the trouble that it has once.
 #[derive(Clone, Copy)]
 pub(crate) struct Takes {
     size: usize,
@@ -180,12 +183,13 @@ pub(crate) struct Takes {
 }
 
 impl Takes {
-    /// All bytes of each write.
+    /// A writer that takes all bytes of each write, without trouble.
     pub(crate) fn all() -> Takes {
         Takes::troubled(usize::MAX, Trouble::Never, 0)
     }
 
-    /// `size` bytes a write, with trouble after `after` calls of its kind.
+    /// A writer that takes at most `size` bytes of each write, and has the trouble once: after `after`
+    /// flushes for [`Trouble::Flush`], after `after` writes for the others.
     pub(crate) fn troubled(size: usize, trouble: Trouble, after: u64) -> Takes {
         Takes {
             size,
@@ -195,7 +199,7 @@ impl Takes {
     }
 }
 
-/// A writer that keeps the bytes it takes.
+/// A writer that keeps in memory the bytes that it takes.
 #[derive(Drop)]
 pub(crate) struct Writer<'a> {
     takes: Takes,
@@ -204,7 +208,7 @@ pub(crate) struct Writer<'a> {
 }
 
 impl<'a> Writer<'a> {
-    /// A writer that has taken nothing.
+    /// Makes a writer that has taken no bytes yet.
     pub(crate) fn new(alloc: Global, takes: Takes, watch: &'a Watch) -> Writer<'a> {
         Writer {
             takes,
@@ -213,12 +217,12 @@ impl<'a> Writer<'a> {
         }
     }
 
-    /// The bytes that the writer took.
+    /// Returns all bytes that the writer took, in order.
     pub(crate) fn into_bytes(self) -> Vec<u8> {
         self.bytes
     }
 
-    // Whether this call has its trouble. One call less of the kind is left before it.
+    // Whether the trouble comes at this call. If not, counts down the calls before the trouble.
     fn is_due(&mut self, trouble: Trouble) -> bool {
         if self.takes.trouble != trouble {
             return false;

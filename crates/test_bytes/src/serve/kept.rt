@@ -1,14 +1,15 @@
-//! What a keeper keeps, as a text.
+//! The State of a keeper, as a text.
 
 use csi_keeper::{Keeper, StoreFault};
 use std::alloc::Global;
 use std::fmt::Write;
 use test_kit::RowFault;
 
-// More than any row makes.
+// More volumes than any row makes.
 const MOST_VOLUMES: u32 = 100_000;
 
-/// The next number, and each volume with all that is known of it and its attachments.
+/// Returns the State of a keeper as a text: the number that the next volume gets, then each volume with all
+/// its fields and its attachments.
 pub(crate) fn kept<K: Keeper>(alloc: Global, keeper: &mut K) -> Result<String, RowFault> {
     let next = keeper.next_number().map_err(refused)?;
     let volumes = keeper.page(alloc, 0, MOST_VOLUMES).map_err(refused)?;
@@ -21,7 +22,7 @@ pub(crate) fn kept<K: Keeper>(alloc: Global, keeper: &mut K) -> Result<String, R
     Ok(text)
 }
 
-// These keepers refuse calls only for memory.
+// The keepers of these trials refuse a read only if memory is refused.
 fn refused(_fault: StoreFault) -> RowFault {
     RowFault::NoMemory
 }

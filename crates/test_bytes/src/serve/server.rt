@@ -13,21 +13,22 @@ use test_kit::RowFault;
 // The most bytes of a name and of a version.
 const MAX_NAME_BYTES: usize = 128;
 
-/// The service under test.
+/// The service that serves the stream of a trial.
 #[derive(Clone, Copy)]
 pub(crate) enum Server<'a> {
-    /// All calls, under a configuration.
+    /// Serves the calls of all methods, under this configuration.
     Volumes(&'a Config),
-    /// The two calls that say what a plugin is.
+    /// Serves `Probe` and `GetPluginInfo` alone, with this name and version of the plugin.
     Identity { name: &'a str, version: &'a str },
 }
 
 impl Server<'_> {
-    /// Serves a stream over a keeper in memory, which is new.
+    /// Serves a stream over a new keeper in memory, and returns the outcome.
     ///
     /// # Errors
     ///
-    /// A name that is too long, or memory is refused for what comes before or after the run.
+    /// If the name or the version is longer than 128 bytes, the server reads after a fault was known or
+    /// writing failed, or memory is refused before or after the run.
     pub(crate) fn run(
         self,
         alloc: Global,
@@ -38,11 +39,12 @@ impl Server<'_> {
         self.run_on(alloc, &mut keeper, pieces, takes)
     }
 
-    /// Serves a stream over a keeper, and reads the keeper's State.
+    /// Serves a stream over a keeper, and returns the outcome with the keeper's State after the run.
     ///
     /// # Errors
     ///
-    /// A name that is too long, or memory is refused after the run.
+    /// If the name or the version is longer than 128 bytes, the server reads after a fault was known or
+    /// writing failed, or memory is refused after the run.
     pub(crate) fn run_on<K: Keeper>(
         self,
         alloc: Global,
@@ -58,11 +60,12 @@ impl Server<'_> {
         })
     }
 
-    /// Serves a stream over a keeper. Returns the end of the run, and the bytes that were written.
+    /// Serves a stream over a keeper. Returns how the run ended, and the bytes that the server wrote.
     ///
     /// # Errors
     ///
-    /// A name that is too long, or a read after a fault was known or writing failed.
+    /// If the name or the version is longer than 128 bytes, or the server reads after a fault was known or
+    /// writing failed.
     pub(crate) fn run_over<K: Keeper>(
         self,
         alloc: Global,

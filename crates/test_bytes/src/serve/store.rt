@@ -10,16 +10,16 @@ use csi_server::RunEnd;
 use std::alloc::AllocError;
 use test_kit::RowFault;
 
-// 13, and a text of 13 bytes.
+// The status 13, and a text of 13 bytes.
 pub(super) const STORE_REFUSED: &[u8] = b"\x0d\x00\x0dstore refused\x00\x00\x00\x00\x00";
 
 const STORE_DOWN: &[u8] = b"\x0d\x00\x0dstore is down\x00\x00\x00\x00\x00";
 
-/// More calls of the store than any row makes.
+/// More calls of the store than the stream of any row makes.
 pub(super) const MOST_CALLS: u64 = 1_000_000;
 
-/// A run over a store that refuses a call: its end, the bytes that were written, and the count of refusals of
-/// the store.
+/// A run over a store that refuses a call: how the run ended, the bytes that the server wrote, and how many
+/// refusals the keeper counted.
 #[derive(Drop)]
 pub(super) struct Run {
     end: RunEnd,
@@ -27,7 +27,8 @@ pub(super) struct Run {
     refusals: u64,
 }
 
-/// The outcome of a run over a store that refuses a call.
+/// The outcome of a run over a store that refuses a call, how many refusals the keeper counted, and whether
+/// the store is down after the run.
 #[derive(Drop)]
 pub(super) struct Refused {
     pub(super) served: Served,
@@ -44,12 +45,12 @@ struct Replies {
 }
 
 impl Trials<'_> {
-    /// Each call of the store is refused in turn, and then none. Each call of the stream that asks
-    /// the store is refused so at least once, and no other is.
+    /// Refuses each call of the store in turn, one in each run, until a run has no refused call. Each call of
+    /// the stream that asks the store must be refused in at least one run, and no other call may be refused.
     ///
     /// # Errors
     ///
-    /// The first run with another outcome than the wanted one.
+    /// If a run has another outcome than the wanted one, or memory is refused.
     pub(crate) fn store(&self) -> Result<(), RowFault> {
         let mut seen = 0;
         for at in 0..MOST_CALLS {
@@ -62,7 +63,8 @@ impl Trials<'_> {
         Err(RowFault::Refused("the store was asked too often"))
     }
 
-    // The number of asking calls known to be refused, after one more refusal.
+    // The index after `call`, the call refused last. Fails if `call` is neither the call refused before it
+    // nor the next one that asks the store.
     fn seen_with(&self, seen: usize, call: usize) -> Result<usize, RowFault> {
         let next = call.saturating_add(1);
         if next == seen || self.first_asking(seen) == Some(call) {
@@ -88,12 +90,12 @@ impl Trials<'_> {
         self.judge(trial, &self.serve_refusing(at)?)
     }
 
-    /// The call whose read or change was refused, or `None` if no call was refused and the outcome is the
-    /// usual one.
+    /// Compares the outcome of a run with the wanted outcome. Returns the call of the stream whose read or
+    /// change was refused, or `None` if no call was refused.
     ///
     /// # Errors
     ///
-    /// The difference from the wanted outcome.
+    /// If the outcome or the number of refusals differs from the wanted one, or memory is refused.
     pub(super) fn judge(&self, trial: Trial, came: &Refused) -> Result<Option<usize>, RowFault> {
         if came.refusals == 0 {
             compare(self.alloc, trial, &came.served, &self.whole())?;
@@ -129,7 +131,7 @@ impl Trials<'_> {
     ///
     /// # Errors
     ///
-    /// Memory is refused before the run.
+    /// If the server reads after a fault was known or writing failed.
     pub(super) fn run_over<K: Keeper>(&self, keeper: &mut K) -> Result<Run, RowFault> {
         let pieces = self.whole_pieces();
         let (end, written) = self
@@ -142,11 +144,12 @@ impl Trials<'_> {
         })
     }
 
-    /// The outcome of a run, with whether the store is down and the State of a keeper after it.
+    /// Returns the outcome of a run, with the State that `keeper` has after the run, and whether the store is
+    /// down.
     ///
     /// # Errors
     ///
-    /// Memory is refused.
+    /// If memory is refused.
     pub(super) fn look<K: Keeper>(
         &self,
         run: Run,
@@ -166,7 +169,8 @@ impl Trials<'_> {
         })
     }
 
-    /// The number of calls that were answered as usual, before the first other answer.
+    /// Returns how many calls, from the first on, have their usual replies in `written`, the bytes that the
+    /// server wrote.
     pub(super) fn answered(&self, written: &[u8]) -> usize {
         let mut answered = 0;
         for call in 0..self.stream.calls.len() {
@@ -177,7 +181,7 @@ impl Trials<'_> {
         answered
     }
 
-    // The wanted outcome if the change of a call is refused: the store is down for later calls that ask it.
+    // The wanted outcome if the change of a call is refused: later calls that ask the store find it down.
     fn after_change(&self, call: usize) -> Result<Replies, AllocError> {
         let mut bytes = self.refused_after(call)?;
         let refused = self.put_refused(call.saturating_add(1), STORE_DOWN, &mut bytes)?;
@@ -188,8 +192,8 @@ impl Trials<'_> {
         })
     }
 
-    /// Puts the replies to the calls from this one on, with this refusal for each call that asks the store.
-    /// Returns the number of refusals.
+    /// Appends to `bytes` the replies to the calls from index `behind` on: `refusal` for each call that asks
+    /// the store, the usual reply for any other call. Returns the number of refusals.
     pub(super) fn put_refused(
         &self,
         behind: usize,

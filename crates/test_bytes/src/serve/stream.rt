@@ -2,12 +2,13 @@
 
 use std::alloc::{AllocError, Global};
 
-/// A call: where its frame ends in the stream, and its reply in the output.
+/// A call of a stream: the byte at which its frame ends in the input, and the byte at which its reply ends in
+/// the output.
 #[derive(Clone, Copy)]
 pub(crate) struct Call {
     pub(crate) frame_end: usize,
     pub(crate) reply_end: usize,
-    /// Whether the store is asked for it.
+    /// Whether the server asks the store to answer the call.
     pub(crate) asks: bool,
 }
 
@@ -15,13 +16,14 @@ pub(crate) struct Call {
 #[derive(Drop)]
 pub(crate) struct StreamFault {
     pub(crate) text: String,
-    /// The bytes of the stream that make the fault known.
+    /// The number of bytes of the input after which the fault is known.
     pub(crate) known_at: usize,
-    /// The frame that answers it.
+    /// The reply frame that answers the fault.
     pub(crate) frame: Vec<u8>,
 }
 
-/// Calls, and perhaps a fault after them. The output has the replies to the calls.
+/// A stream of calls, perhaps with a fault after them. `input` has the bytes to serve, and `output` the
+/// wanted replies to the calls.
 pub(crate) struct Stream {
     pub(crate) input: Vec<u8>,
     pub(crate) output: Vec<u8>,
@@ -41,7 +43,7 @@ impl Drop for Stream {
 }
 
 impl Stream {
-    /// A stream of nothing.
+    /// Makes a stream without calls and without a fault.
     pub(crate) fn new(alloc: Global) -> Stream {
         Stream {
             input: Vec::new(alloc),
@@ -51,7 +53,7 @@ impl Stream {
         }
     }
 
-    /// Appends a call and its reply.
+    /// Appends the frame of a call to the input, and its wanted reply to the output.
     pub(crate) fn put_call(
         &mut self,
         asks: bool,
@@ -68,7 +70,7 @@ impl Stream {
         Ok(())
     }
 
-    /// Appends bytes whose last one shows a fault.
+    /// Appends bytes to the input, the last of which shows a fault with this text.
     pub(crate) fn put_fault(
         &mut self,
         alloc: Global,
@@ -80,13 +82,13 @@ impl Stream {
         Ok(())
     }
 
-    /// Appends bytes after a fault, which are not read.
+    /// Appends bytes to the input after a fault. The server must not answer them.
     pub(crate) fn put_after(&mut self, bytes: &[u8]) -> Result<(), AllocError> {
         self.input.extend_from_slice(bytes)?;
         Ok(())
     }
 
-    /// The number of whole calls in the first bytes.
+    /// Returns how many calls have their whole frame within the first `bytes` bytes of the input.
     pub(crate) fn calls_within(&self, bytes: usize) -> usize {
         self.calls
             .iter()
@@ -94,7 +96,8 @@ impl Stream {
             .count()
     }
 
-    /// Where the frames of the first calls end, and their replies.
+    /// Returns where the first `calls` calls end: the byte after their frames in the input, and the byte
+    /// after their replies in the output.
     pub(crate) fn ends_of(&self, calls: usize) -> (usize, usize) {
         let last = calls.checked_sub(1).and_then(|last| self.calls.get(last));
         match last {
@@ -103,13 +106,14 @@ impl Stream {
         }
     }
 
-    /// The replies to the first calls.
+    /// Returns the replies to the first `calls` calls.
     pub(crate) fn replies(&self, calls: usize) -> &[u8] {
         let (_, end) = self.ends_of(calls);
         self.output.get(..end).unwrap_or(&[])
     }
 
-    /// The reply to a call, and after all calls the frame that answers the fault, if there is one.
+    /// Returns the reply to the call with this index, counted from 0. At the index after the last call,
+    /// returns the frame that answers the fault, which is empty if the stream has no fault.
     pub(crate) fn reply(&self, call: usize) -> &[u8] {
         if call == self.calls.len() {
             return self.fault_frame();
@@ -119,7 +123,7 @@ impl Stream {
         self.output.get(start..end).unwrap_or(&[])
     }
 
-    /// The frame that answers the fault, if there is one.
+    /// Returns the frame that answers the fault; empty if the stream has no fault.
     pub(crate) fn fault_frame(&self) -> &[u8] {
         match &self.fault {
             Some(fault) => fault.frame.as_slice(),
@@ -127,7 +131,8 @@ impl Stream {
         }
     }
 
-    /// The number of bytes that make the fault known, if there is one.
+    /// Returns the number of bytes of the input after which the fault is known; `None` if the stream has no
+    /// fault.
     pub(crate) fn fault_known_at(&self) -> Option<usize> {
         match &self.fault {
             Some(fault) => Some(fault.known_at),
@@ -135,7 +140,7 @@ impl Stream {
         }
     }
 
-    /// Whether the first bytes make the fault known.
+    /// Whether the first `bytes` bytes of the input make the fault known; false if the stream has no fault.
     pub(crate) fn is_faulty_within(&self, bytes: usize) -> bool {
         match self.fault_known_at() {
             Some(known_at) => known_at <= bytes,
@@ -152,7 +157,7 @@ fn fault_of(alloc: Global, text: &str, known_at: usize) -> Result<StreamFault, A
     })
 }
 
-/// The reply frame that answers a fault: the status 3 and a text.
+/// Returns the reply frame that answers a fault: the status 3, this text, and no body.
 pub(crate) fn refusal(alloc: Global, text: &str) -> Result<Vec<u8>, AllocError> {
     let length = u16::try_from(text.len()).unwrap_or(u16::MAX);
     let mut frame = Vec::from_slice(alloc, &[3])?;

@@ -9,11 +9,12 @@ use csi_through::{KeeperChanges, Through};
 use test_kit::RowFault;
 
 impl Trials<'_> {
-    /// Each change is refused in turn by the log, and then none. The memory answers the reads.
+    /// Refuses each change of the log in turn, one in each run, until a run has no refused change. The memory
+    /// answers the reads.
     ///
     /// # Errors
     ///
-    /// The first run with another outcome than the wanted one.
+    /// If a run has another outcome than the wanted one, or memory is refused.
     pub(crate) fn change_store(&self) -> Result<(), RowFault> {
         for at in 0..MOST_CALLS {
             let trial = Trial {
@@ -40,12 +41,12 @@ impl Trials<'_> {
         self.look(run, is_down, &mut change_store)
     }
 
-    /// Each read is refused in turn by the memory, and each change that the log has made. The log has each
-    /// change that was answered OK.
+    /// Refuses each call of the memory in turn, one in each run: each read, and each change that the log has
+    /// already made. The log must have each change that was answered with OK.
     ///
     /// # Errors
     ///
-    /// The first run with another outcome than the wanted one.
+    /// If a run has another outcome than the wanted one, or memory is refused.
     pub(crate) fn memory(&self) -> Result<(), RowFault> {
         for at in 0..MOST_CALLS {
             if !self.refuse_in_memory(at)? {

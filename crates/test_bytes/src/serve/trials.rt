@@ -7,10 +7,11 @@ use super::stream::{Stream, refusal};
 use std::alloc::Global;
 use test_kit::RowFault;
 
-// A longer stream is served in pieces alone.
+// The most bytes of a stream that is tried in all ways. A longer stream is tried only in pieces.
 const LONGEST: usize = 4096;
 
-/// A stream, its server, and the States after none of its calls, after the first one, and so on.
+/// A stream, the service that serves it, and as texts the State before the first call and the State after
+/// each call, in order.
 #[derive(Clone, Copy)]
 pub(crate) struct Trials<'a> {
     pub(crate) alloc: Global,
@@ -19,7 +20,7 @@ pub(crate) struct Trials<'a> {
     pub(crate) kept: &'a [String],
 }
 
-/// The States after none of the calls of a stream, after the first one, and so on.
+/// Returns the State before the first call of a stream, and the State after each call, in order.
 pub(crate) fn kept_after_each(
     alloc: Global,
     server: Server<'_>,
@@ -36,11 +37,12 @@ pub(crate) fn kept_after_each(
 }
 
 impl Trials<'_> {
-    /// Makes all trials, and names them.
+    /// Makes all trials of the stream, and returns a text that names them. A stream of more than 4096 bytes
+    /// is tried only in pieces.
     ///
     /// # Errors
     ///
-    /// The first that differs.
+    /// If a trial has another outcome than the wanted one, or memory is refused.
     pub(crate) fn all(&self) -> Result<&'static str, RowFault> {
         self.pieces()?;
         if self.stream.input.len() > LONGEST {
@@ -65,7 +67,7 @@ impl Trials<'_> {
         }
     }
 
-    /// The State after the first calls.
+    /// Returns the State after the first `calls` calls, as a text; empty if the stream has fewer calls.
     pub(crate) fn kept_after(&self, calls: usize) -> &str {
         match self.kept.get(calls) {
             Some(text) => text.as_str(),
@@ -73,7 +75,7 @@ impl Trials<'_> {
         }
     }
 
-    /// The wanted outcome of the whole stream.
+    /// Returns the outcome that serving the whole stream should have.
     pub(crate) fn whole(&self) -> Wanted<'_> {
         let end = match &self.stream.fault {
             Some(fault) => End::StreamFault(fault.text.as_str()),
@@ -87,14 +89,14 @@ impl Trials<'_> {
         }
     }
 
-    /// The stream in the greatest pieces.
+    /// Returns the whole stream in pieces of at most [`GREATEST_PIECE`] bytes.
     pub(crate) fn whole_pieces(&self) -> Pieces<'_> {
         Pieces::new(self.stream.input.as_slice(), GREATEST_PIECE).with_fault_at(
             self.stream.fault_known_at(),
         )
     }
 
-    // Serves the pieces, and compares what comes.
+    // Serves the pieces, and compares the outcome with the wanted one.
     fn attempt(
         &self,
         trial: Trial,
@@ -119,7 +121,7 @@ impl Trials<'_> {
         Ok(())
     }
 
-    // Two pieces, cut after each byte.
+    // Serves the stream in two parts, cut after each byte in turn.
     fn cuts(&self) -> Result<(), RowFault> {
         for at in 1..self.stream.input.len() {
             let pieces = Pieces::cut_at(self.stream.input.as_slice(), at);
@@ -150,7 +152,7 @@ impl Trials<'_> {
         self.ended(at, End::StreamFault(text.as_str()), frame.as_slice())
     }
 
-    // The input ends after `at` bytes, and the run like this, unless the bytes show a fault.
+    // The input ends after `at` bytes. The run ends with `end`, unless the bytes show a fault.
     fn ended<'w>(&'w self, at: usize, end: End<'w>, last: &'w [u8]) -> Result<(), RowFault> {
         let bytes = self.stream.input.get(..at).unwrap_or(&[]);
         let pieces = Pieces::new(bytes, GREATEST_PIECE);
@@ -162,7 +164,7 @@ impl Trials<'_> {
         self.attempt(trial, pieces, Takes::all(), &wanted)
     }
 
-    // The wanted outcome if only the first bytes come: this end, unless they show a fault.
+    // The wanted outcome if only the first `bytes` bytes come: `end`, unless those bytes show a fault.
     fn front<'w>(&'w self, bytes: usize, end: End<'w>, last: &'w [u8]) -> Wanted<'w> {
         if self.stream.is_faulty_within(bytes) {
             return self.whole();

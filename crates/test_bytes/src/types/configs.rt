@@ -1,5 +1,5 @@
-//! Rows about configurations. What a row does not give is the plugin `x` in version 1, both sizes 1 MiB, the
-//! pool `p` of 1 MiB without segments, and no node.
+//! Rows about configurations. Unless a row gives other values, the plugin is `x` in version 1, both sizes are
+//! 1 MiB, the only pool is `p` of 1 MiB without segments, and there are no nodes.
 
 use crate::shown::{displayed, in_rust};
 use csi_config::{Config, ConfigFault, Pool, Sizes};
@@ -9,7 +9,8 @@ use test_kit::{RowFault, map_of, nodes_of, number_at, plugin_of, pools_of};
 
 const MEBIBYTE: u64 = 1_048_576;
 
-/// The fault of a configuration with the values of these words, or a word if it has no fault.
+/// Returns the text of the fault of a configuration, or `faultless`. `kind` names the part of the
+/// configuration that the words give: `plugin`, `sizes`, `pools`, `segments` or `nodes`.
 pub(crate) fn config_answer(alloc: Global, kind: &str, words: &[&str]) -> Result<String, RowFault> {
     match config_of(alloc, kind, words)? {
         Ok(_) => displayed(alloc, &"faultless"),
@@ -60,7 +61,7 @@ fn one_pool(alloc: Global, bytes: u64, segments: Map) -> Result<Vec<Pool>, RowFa
     Ok(pools)
 }
 
-/// The value of the sample.
+/// Returns the sample configuration as a Rust expression.
 pub(crate) fn sample_answer(alloc: Global) -> Result<String, RowFault> {
     in_rust(alloc, &Config::sample(alloc)?)
 }

@@ -50,7 +50,7 @@ const REASONS: [Reason; 36] = [
     Reason::StoreDown,
 ];
 
-/// Of `code NUMBER`: the name.
+/// Answers `code NUMBER` with the name of the status code with this number, or `no code`.
 pub(crate) fn code_answer(alloc: Global, words: &[&str]) -> Result<String, RowFault> {
     match Code::of(number_at(words, 0)?) {
         Some(code) => displayed(alloc, &code.name()),
@@ -58,7 +58,7 @@ pub(crate) fn code_answer(alloc: Global, words: &[&str]) -> Result<String, RowFa
     }
 }
 
-/// Of `reason NAME`: the status code's number and the text.
+/// Answers `reason NAME` with the number of the reason's status code, and the reason's text.
 pub(crate) fn reason_answer(alloc: Global, words: &[&str]) -> Result<String, RowFault> {
     let name = word_at(words, 0)?;
     for reason in REASONS {
@@ -69,7 +69,7 @@ pub(crate) fn reason_answer(alloc: Global, words: &[&str]) -> Result<String, Row
     Err(RowFault::NotRow)
 }
 
-/// Of `method PATH`: the method.
+/// Answers `method PATH` with the method that has this path, or `no method`.
 pub(crate) fn method_answer(alloc: Global, words: &[&str]) -> Result<String, RowFault> {
     let path = text_at(alloc, words, 0)?;
     match method_of(path.as_bytes()) {
@@ -78,7 +78,7 @@ pub(crate) fn method_answer(alloc: Global, words: &[&str]) -> Result<String, Row
     }
 }
 
-/// Of `name TEXT`: why no volume may have the name.
+/// Answers `name TEXT` with the reason why no volume may have this name, or `passed`.
 pub(crate) fn name_answer(alloc: Global, words: &[&str]) -> Result<String, RowFault> {
     let name = text_at(alloc, words, 0)?;
     match name_reason(name.as_str()) {
@@ -91,13 +91,13 @@ fn bytes_after<T: AsStr>(text: &T) -> usize {
     text.as_str().len()
 }
 
-/// Of `text TEXT`: the text in a column of eight characters, and its bytes.
+/// Answers `text TEXT` with the text, at the right of a column of eight characters, and its length in bytes.
 pub(crate) fn text_answer(alloc: Global, words: &[&str]) -> Result<String, RowFault> {
     let text = text_at(alloc, words, 0)?;
     Ok(format!(in alloc; "[{text:>8}] of {} bytes", bytes_after(&text))?)
 }
 
-/// Of `list TEXT ..`: its texts as they come out.
+/// Answers `list TEXT ..` with the texts of the list, in the order in which the list is iterated.
 pub(crate) fn list_answer(alloc: Global, words: &[&str]) -> Result<String, RowFault> {
     let texts = texts_of(alloc, words)?;
     let mut reported = String::new(alloc);
@@ -107,7 +107,8 @@ pub(crate) fn list_answer(alloc: Global, words: &[&str]) -> Result<String, RowFa
     Ok(reported)
 }
 
-/// Of `map KEY VALUE ..`: the entries of a copy, as they come out.
+/// Answers `map KEY VALUE ..` with the entries of a copy of the map, in the order in which the copy is
+/// iterated.
 pub(crate) fn map_answer(alloc: Global, words: &[&str]) -> Result<String, RowFault> {
     entries_reported(alloc, &copy_map(alloc, &map_of(alloc, words)?)?)
 }
@@ -120,8 +121,8 @@ fn entries_reported(alloc: Global, map: &Map) -> Result<String, RowFault> {
     Ok(reported)
 }
 
-/// Of `over KEY VALUE .. under KEY VALUE ..`: the entries of the second map with the first laid over it, as
-/// they come out, and their bytes; and whether the second had each of the first.
+/// Answers `over KEY VALUE .. under KEY VALUE ..`: lays the first map over the second, and returns the
+/// entries of the result, their length in bytes, and whether the second map had each entry of the first.
 pub(crate) fn over_answer(alloc: Global, words: &[&str]) -> Result<String, RowFault> {
     let parts = words.iter().position(|word| *word == "under");
     let place = parts.ok_or(RowFault::NotRow)?;
@@ -137,8 +138,8 @@ pub(crate) fn over_answer(alloc: Global, words: &[&str]) -> Result<String, RowFa
     Ok(format!(in alloc; "{reported} of {} bytes; {had} each", map_bytes(&laid))?)
 }
 
-/// Of `capability none`, `capability block` or `capability mount TYPE GROUP MODE FLAG ..`: the value of a
-/// copy.
+/// Answers `capability none`, `capability block` or `capability mount TYPE GROUP MODE FLAG ..` with a copy of
+/// the capability as a Rust expression.
 pub(crate) fn capability_answer(alloc: Global, words: &[&str]) -> Result<String, RowFault> {
     let capability = capability_of(alloc, words)?;
     in_rust(alloc, &copy_capability(alloc, &capability)?)
