@@ -1,4 +1,4 @@
-//! Tables in memory are adopted, read, given back and adopted again.
+//! Adopts tables in memory, reads them, gives them back and adopts them again.
 
 ghost use Rattle.std.specs.Prelude.{◌≡◌, false};
 
@@ -13,7 +13,8 @@ use sqlite::{Alter, Connection};
 use std::alloc::Global;
 use test_kit::RowFault;
 
-/// The answer to a row: whether our tables are made first, the configuration, and the statements.
+/// Answers a row: begins a database as the row names it, runs the statements of the row, and adopts the
+/// tables twice under the configuration of the row.
 pub(crate) fn answer(alloc: Global, row: &str) -> Result<String, RowFault> {
     let (how, statements) = row.split_once(" |").ok_or(RowFault::NotRow)?;
     let (start, config) = how.split_once(' ').ok_or(RowFault::NotRow)?;
@@ -21,7 +22,7 @@ pub(crate) fn answer(alloc: Global, row: &str) -> Result<String, RowFault> {
     adopt_twice(alloc, without_tables(alloc)?, &config, start, statements)
 }
 
-// Begins a database so, after these statements.
+// Begins a database as `start` names it, and runs the statements.
 fn begin<S: Alter>(conn: &mut Connection<S>, start: &str, statements: &str) -> Result<(), RowFault>
     requires { conn.old.in_transaction ≡ false }
 {
@@ -40,7 +41,7 @@ fn begin<S: Alter>(conn: &mut Connection<S>, start: &str, statements: &str) -> R
     Ok(())
 }
 
-// The answers of two adoptions: tables that begin like this are adopted, given back, and adopted again.
+// Adopts the tables, gives them back and adopts them again. Returns the answers of both adoptions.
 fn adopt_twice<S: Alter + Drop>(
     alloc: Global,
     mut conn: Connection<S>,
@@ -64,7 +65,7 @@ fn both(alloc: Global, first: String, format: String, second: String) -> Result<
     Ok(format!(in alloc; "{first}, and then {second}")?)
 }
 
-// The format that the tables have, where it was the first one.
+// The format of the tables as a text, or an empty text if the tables did not begin with format 1.
 fn format_of<S: Alter>(
     alloc: Global,
     conn: &mut Connection<S>,
@@ -80,7 +81,7 @@ fn format_of<S: Alter>(
     Ok(format!(in alloc; ", in format {format}")?)
 }
 
-// The State of adopted tables or the fault, and the connection.
+// Adopts the tables, and returns their State or the fault as a text, and the connection.
 fn reported<S: Alter>(
     alloc: Global,
     conn: Connection<S>,

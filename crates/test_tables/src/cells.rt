@@ -5,7 +5,8 @@ use sqlite::types::ValueRef;
 use std::alloc::{AllocError, Global};
 use std::str;
 
-/// A cell: a number, a text between quotation marks, or bytes in hexadecimal after an x.
+/// Returns the cell of a row with index `at` as a text: a number, a text between quotation marks, bytes in
+/// hexadecimal after an x, `real` or `NULL`; `none` if the row has no such cell.
 pub(crate) fn cell_text(alloc: Global, row: &Row, at: usize) -> Result<String, AllocError> {
     match row.get_ref(at) {
         Ok(ValueRef::Int(number)) => format!(in alloc; "{number}"),
@@ -34,7 +35,7 @@ pub(crate) fn put_row(out: &mut String, alloc: Global, row: &Row) -> Result<(), 
     Ok(())
 }
 
-/// The text of rows; `none` without a row.
+/// Returns the text of rows, or `none` if the text is empty.
 pub(crate) fn or_none(mut text: String) -> Result<String, AllocError> {
     if text.is_empty() {
         text.push_str("none")?;

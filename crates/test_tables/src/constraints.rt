@@ -15,7 +15,7 @@ use std::alloc::Global;
 use std::fmt::{Display, Write};
 use test_kit::{RowFault, number_at, word_at, words_of};
 
-/// The answer to a row: the constraint, and the statements that make the rows.
+/// Answers a row: makes our tables, runs the statements of the row, and tests its constraint.
 pub(crate) fn answer(alloc: Global, row: &str) -> Result<String, RowFault> {
     let (constraint, statements) = row.split_once(" | ").ok_or(RowFault::NotRow)?;
     let config = Config::sample(alloc)?;
@@ -25,7 +25,7 @@ pub(crate) fn answer(alloc: Global, row: &str) -> Result<String, RowFault> {
     look(alloc, &mut idle(conn)?, &config, constraint)
 }
 
-// Whether the rows of our tables meet a constraint.
+// Tests whether the rows of our tables meet a constraint.
 fn look<S: Alter>(
     alloc: Global,
     conn: &mut IdleConnection<S>,
@@ -161,7 +161,7 @@ fn ask_attachments<S: Alter>(
     }
 }
 
-// The answer whether all rows of a scan meet a constraint.
+// Tests whether all rows of a scan meet a constraint.
 fn ask<S: Alter, T: RowTrial + Drop>(
     alloc: Global,
     conn: &mut IdleConnection<S>,
@@ -184,18 +184,18 @@ fn ask<S: Alter, T: RowTrial + Drop>(
     reported(alloc, &fold.found, words)
 }
 
-// The words for a row that breaks a constraint.
+// How the answer describes a row that breaks a constraint.
 #[derive(Clone, Copy)]
 enum Words {
-    // The name of the row.
+    // With the name of the row.
     Row,
-    // The cells of a constraint of volumes.
+    // With the text of a constraint of volumes.
     Volume(VolumeConstraint),
-    // The cells of a constraint of attachments.
+    // With the text of a constraint of attachments.
     Attachment(AttachmentConstraint),
 }
 
-// The answer that rows meet a constraint, or the name of the first row that does not.
+// Returns `holds` if the rows meet a constraint, or describes the first row that does not.
 fn reported(alloc: Global, found: &Option<RowName>, words: Words) -> Result<String, RowFault> {
     match found {
         Some(row) => broken_text(alloc, row, words),
@@ -203,7 +203,8 @@ fn reported(alloc: Global, found: &Option<RowName>, words: Words) -> Result<Stri
     }
 }
 
-// A row without what the words say of it is named by what it has.
+// Describes a row that breaks a constraint. If the words need a cell that the row lacks, the row is named by
+// the cells that it has.
 fn broken_text(alloc: Global, row: &RowName, words: Words) -> Result<String, RowFault> {
     match (words, row.number, &row.text) {
         (Words::Volume(constraint), Some(number), _) => {

@@ -7,7 +7,8 @@ use sqlite::{Alter, Connection, Error as SqlError, ErrorCode, MemStore};
 use std::alloc::Global;
 use test_kit::RowFault;
 
-/// Why a row has no answer where the database refused.
+/// Returns the fault of a row for an error of the database: [`RowFault::NoMemory`] if memory was refused,
+/// otherwise [`RowFault::Refused`].
 pub(crate) fn refused(error: SqlError) -> RowFault {
     match error {
         SqlError::SqliteFailure(ErrorCode::OutOfMemory) => RowFault::NoMemory,
@@ -15,7 +16,7 @@ pub(crate) fn refused(error: SqlError) -> RowFault {
     }
 }
 
-/// A database without tables.
+/// Opens a new database in memory, without tables.
 pub(crate) fn without_tables(alloc: Global) -> Result<Connection<MemStore>, RowFault>
     ensures { IfOk result (λ conn. conn.in_transaction ≡ false) }
 {
@@ -29,7 +30,7 @@ pub(crate) fn make<S: Alter>(conn: &mut Connection<S>) -> Result<(), RowFault>
     make_tables(conn).map_err(refused)
 }
 
-/// The connection, where no transaction was left open on it.
+/// Returns the connection as an idle one; [`RowFault::Refused`] if a transaction is open on it.
 pub(crate) fn idle<S: Alter + Drop>(conn: Connection<S>) -> Result<IdleConnection<S>, RowFault> {
     if !conn.is_autocommit() {
         return Err(RowFault::Refused("refused"));

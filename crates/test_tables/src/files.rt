@@ -13,7 +13,7 @@ use test_kit::{
     AnswerRow, RowAnswer, RowFault, bytes_of, bytes_text, number_at, word_at, words_of,
 };
 
-/// The files of the rows before, and the bytes of a database file that is made.
+/// The state between rows: the files that earlier rows left, and the bytes of a new database file.
 #[derive(Drop)]
 pub(crate) struct Bench<D> {
     stops: stops::Bench<D>,
@@ -21,7 +21,7 @@ pub(crate) struct Bench<D> {
 }
 
 impl<D: TestDisk> Bench<D> {
-    /// A bench over new, empty files.
+    /// Makes a bench over new, empty files.
     pub(crate) fn new(alloc: Global) -> Result<Bench<D>, RowFault> {
         Ok(Bench {
             stops: stops::Bench::new(alloc)?,
@@ -29,13 +29,13 @@ impl<D: TestDisk> Bench<D> {
         })
     }
 
-    // The bytes that a database file has once it is made.
+    // Sets the bytes that a new database file must have.
     fn set_page(&mut self, alloc: Global, bytes: &str) -> Result<String, RowFault> {
         self.page = bytes_of(alloc, bytes)?;
         Ok(format!(in alloc; "{} bytes", self.page.len())?)
     }
 
-    // The result of laying out a database over a log and a file with these bytes.
+    // Lays out a database over a log and a file with these bytes, and returns the outcome.
     fn lay(&self, alloc: Global, words: &str) -> Result<String, RowFault> {
         let (log, db) = words.split_once(" / ").ok_or(RowFault::NotRow)?;
         let log = bytes_of(alloc, log)?;
@@ -45,7 +45,7 @@ impl<D: TestDisk> Bench<D> {
         Ok(format!(in alloc; "{laid}")?)
     }
 
-    // Calls over the files, and the replies to them.
+    // Serves calls over the files, and returns the outcome and the replies.
     fn serve(
         &mut self,
         alloc: Global,
@@ -61,8 +61,8 @@ impl<D: TestDisk> Bench<D> {
         Ok(format!(in alloc; "{outcome}: {}", bytes_text(alloc, &replies)?)?)
     }
 
-    // As above, but the database file lies: reads return one byte with other bits, the byte at this distance
-    // after the first place that has a text. The files stay as they are.
+    // Serves calls like `serve`, but the database file lies: reads return one byte with some bits flipped,
+    // the byte at this distance after the first place of a text. The files are unchanged.
     fn lie(&mut self, alloc: Global, row: &str) -> Result<String, RowFault> {
         let (lie, calls) = row.split_once(" / ").ok_or(RowFault::NotRow)?;
         let words = words_of(alloc, lie)?;

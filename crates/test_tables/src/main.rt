@@ -1,6 +1,6 @@
 //! Answers rows about tables: statements and scans over them, the constraints of their rows, the volume
 //! machine over them, their adoption, tables in files whose disk stopped in a call, and runs from files to
-//! files. The file `stdin` of this crate says at the head of each section how its rows look.
+//! files. In the file `stdin` of this crate, the comment at the head of each section describes its rows.
 #![tactic(auto)]
 
 mod adoption;
@@ -21,7 +21,7 @@ use std::io::Write;
 use std::process::ExitCode;
 use test_kit::{AnswerRow, AnswerSection, RowAnswer, RowFault, Rows, answer_rows};
 
-// A section that keeps nothing from row to row.
+// A section that keeps no state between rows.
 #[derive(Clone, Copy)]
 enum Plain {
     Scans,
@@ -74,8 +74,8 @@ impl AnswerSection for Sections {
     }
 }
 
-// Answers the rows of a section that could begin. The large values that sections keep are owned here, where
-// their types are not written out.
+// Answers the rows of a section, or returns the fault if the section could not begin. This function owns the
+// large values that sections keep, because their types are not written out here.
 fn answer<W: Write, R: AnswerRow + Drop>(
     rt: &HostRuntime,
     rows: &mut Rows<'_, W>,

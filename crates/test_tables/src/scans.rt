@@ -1,4 +1,4 @@
-//! Scans tables in memory.
+//! Scans of tables in memory.
 
 ghost use Rattle.std.specs.Prelude.{◌≡◌, false};
 
@@ -16,7 +16,8 @@ use std::alloc::Global;
 use std::fmt::Write;
 use test_kit::{RowFault, number_at, word_at, words_of};
 
-/// The answer to a row: how a database begins, the statements that come first, and the scan.
+/// Answers a row: begins a database as the row names it, runs the statements of the row, and then makes its
+/// scan.
 pub(crate) fn answer(alloc: Global, row: &str) -> Result<String, RowFault> {
     let (start, rest) = row.split_once(" | ").ok_or(RowFault::NotRow)?;
     let (question, statements) = rest.split_once(" | ").ok_or(RowFault::NotRow)?;
@@ -25,7 +26,7 @@ pub(crate) fn answer(alloc: Global, row: &str) -> Result<String, RowFault> {
     ask(alloc, &mut idle(conn)?, question)
 }
 
-// Begins a database so, after these statements.
+// Begins a database that is empty or has our tables, and runs the statements; `-` means none.
 fn begin<S: Alter>(conn: &mut Connection<S>, start: &str, statements: &str) -> Result<(), RowFault>
     requires { conn.old.in_transaction ≡ false }
 {
@@ -50,7 +51,7 @@ fn is_ours<S: Alter>(alloc: Global, conn: &IdleConnection<S>) -> Result<String, 
     Ok(String::from_str(alloc, word)?)
 }
 
-// Scans the rows of our tables.
+// Answers a question about our tables.
 fn ask<S: Alter>(
     alloc: Global,
     conn: &mut IdleConnection<S>,
@@ -71,7 +72,7 @@ fn ask<S: Alter>(
     }
 }
 
-// Each row.
+// Returns each row of a scan as a text.
 fn shown<S: Alter>(
     alloc: Global,
     conn: &mut IdleConnection<S>,
@@ -85,7 +86,7 @@ fn shown<S: Alter>(
     Ok(or_none(fold.text)?)
 }
 
-// Whether each row has an integer in a column, and each is above those before it.
+// Whether each row has an integer in a column that is greater than the integers of all rows before.
 fn judged<S: Alter>(
     alloc: Global,
     conn: &mut IdleConnection<S>,
@@ -102,7 +103,7 @@ fn judged<S: Alter>(
     Ok(String::from_str(alloc, word)?)
 }
 
-// A sum for each of the texts in the last word, which have a comma between them.
+// Makes a sum for each of the texts in the last word, which are separated by commas.
 fn sums_of(alloc: Global, words: &[&str]) -> Result<Vec<TextSum>, RowFault> {
     let (weight, place) = match word_at(words, 1)? {
         "count" => (Weight::One, 2),

@@ -10,7 +10,8 @@ use test_kit::RowFault;
 // More volumes than any row makes.
 const MOST_VOLUMES: u32 = 100;
 
-/// The next number, each volume with its mutable parameters and its nodes, and what each pool has used.
+/// Returns the State of a keeper as a text: the next number, each volume with its mutable parameters and its
+/// nodes, and the bytes and the number of volumes of each pool.
 pub(crate) fn state_text<K: Keeper>(
     alloc: Global,
     config: &Config,

@@ -11,14 +11,15 @@ use sqlite::{Alter, Connection, Error as SqlError, MemStore, Row};
 use std::alloc::Global;
 use test_kit::{AnswerRow, RowAnswer, RowFault, bytes_of, number_at, put_part, word_at, words_of};
 
-/// A database between two rows. It does not know how it is stored, and nor do the proofs of its rows.
+/// The state between rows: a database in any store. The proofs about its rows do not look into the type of
+/// the store.
 #[derive(Drop)]
 pub(crate) struct Bench<S: Alter + Drop> {
     // The connection; `None` only while a row is answered.
     conn: Option<IdleConnection<S>>,
 }
 
-/// A database in memory, without tables.
+/// Makes a database in memory, without tables.
 pub(crate) fn in_memory(alloc: Global) -> Result<Bench<MemStore>, RowFault> {
     Ok(Bench {
         conn: Some(IdleConnection::new(without_tables(alloc)?)),
@@ -35,7 +36,7 @@ impl<S: Alter + Drop> AnswerRow for Bench<S> {
     }
 }
 
-// The answer to a row, and the connection.
+// Answers a row, and returns the answer and the connection.
 fn answer<S: Alter + Drop>(
     alloc: Global,
     mut conn: IdleConnection<S>,
@@ -54,7 +55,7 @@ fn answer<S: Alter + Drop>(
     }
 }
 
-// Answers the rows that are no change and no read.
+// Answers the rows `make`, `first` and `meta`, which are not changes or reads of `csi_sql`.
 fn on_connection<S: Alter>(
     alloc: Global,
     conn: &mut Connection<S>,
@@ -143,7 +144,7 @@ fn detach<S: Alter>(
     }
 }
 
-// At most one row.
+// Reads at most one row: a volume, or the next number.
 fn find<S: Alter>(
     alloc: Global,
     conn: &mut IdleConnection<S>,
@@ -182,7 +183,7 @@ fn page<S: Alter>(
     both(alloc, &page.volumes, &page.places)
 }
 
-// Gives the tables the first format, which no statement of the crate does.
+// Sets the format of the tables to 1, which no statement of `csi_sql` does.
 fn take_first_format<S: Alter>(conn: &mut Connection<S>) -> Result<(), SqlError>
     requires { conn.old.in_transaction ≡ false }
     ensures { conn.new.in_transaction ≡ false }
@@ -192,7 +193,7 @@ fn take_first_format<S: Alter>(conn: &mut Connection<S>) -> Result<(), SqlError>
     tx.commit()
 }
 
-// The rows of meta: the key, the format and the next number of each.
+// Reads the rows of the table `meta`: the key, the format and the next number of each.
 fn meta<S: Alter>(conn: &mut Connection<S>) -> Result<Vec<Row>, SqlError>
     requires { conn.old.in_transaction ≡ false }
     ensures { conn.new.in_transaction ≡ false }
@@ -228,7 +229,7 @@ fn rows_text(alloc: Global, rows: &[Row]) -> Result<String, RowFault> {
     Ok(or_none(text)?)
 }
 
-// The number of each volume.
+// The numbers of the volumes as a text.
 fn numbers_text(alloc: Global, volumes: &[Row]) -> Result<String, RowFault> {
     let mut text = String::new(alloc);
     for row in volumes {

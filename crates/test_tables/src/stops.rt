@@ -1,5 +1,5 @@
-//! A call is made again and again over the tables in two files, each time with the disk stopping at a later
-//! call of its own, and what the next start finds is compared.
+//! Makes a call many times over the tables in two files. Each time the disk stops later, and the State that
+//! the next start finds is compared with the State of a run without a stop.
 
 mod disks;
 mod runs;
@@ -21,29 +21,29 @@ use test_kit::{AnswerRow, RowAnswer, RowFault, bytes_of, number_at};
 use trials::{Trials, Way};
 use troubled::{Trouble, lying};
 
-/// The state that a database is left in.
+/// How a run leaves the files of a database.
 #[derive(Clone, Copy)]
 pub(crate) enum Ending {
-    /// The connection was closed.
+    /// The connection is closed.
     Closed,
-    /// The committed changes are in the WAL alone.
+    /// The connection is not closed, so that the committed changes are only in the WAL.
     Open,
-    /// Closed, with tables of format 1.
+    /// The tables are set to format 1, and the connection is closed.
     Older,
 }
 
-/// The sample configuration, and the two files.
+/// The state between rows: the sample configuration, and the two files of a database.
 #[derive(Drop)]
 pub(crate) struct Bench<D> {
     config: Config,
     files: Files<Memory>,
-    // A database was made in the files.
+    // Whether a database was made in the files.
     is_made: bool,
     of: PhantomData<D>,
 }
 
 impl<D: TestDisk> Bench<D> {
-    /// A bench over new, empty files.
+    /// Makes a bench over new, empty files.
     pub(crate) fn new(alloc: Global) -> Result<Bench<D>, RowFault> {
         Ok(Bench {
             config: Config::sample(alloc)?,
@@ -53,7 +53,9 @@ impl<D: TestDisk> Bench<D> {
         })
     }
 
-    /// Serves calls by `csi_files` over the files and reports the outcome. The database file may lie.
+    /// Serves calls with `csi_files` over copies of the files, and returns the outcome as a text. Without a
+    /// `lie`, the bench then keeps the copies as the run leaves them. With a `lie`, the copy of the database
+    /// file lies, and the files of the bench are unchanged.
     pub(crate) fn serve(
         &mut self,
         alloc: Global,
@@ -78,7 +80,8 @@ impl<D: TestDisk> Bench<D> {
         Ok(outcome?)
     }
 
-    /// The first place of a text in the database file.
+    /// Returns the offset of the first occurrence of a text in the database file; [`RowFault::NotRow`] if the
+    /// text does not occur.
     pub(crate) fn place_of(&self, text: &[u8]) -> Result<usize, RowFault> {
         let bytes = self.files.db.bytes();
         for at in 0..bytes.len() {
@@ -89,7 +92,7 @@ impl<D: TestDisk> Bench<D> {
         Err(RowFault::NotRow)
     }
 
-    /// The answer of a row.
+    /// Answers a row; its first word names what is done with the files.
     pub(crate) fn answer(&mut self, alloc: Global, row: &str) -> Result<String, RowFault> {
         let (word, rest) = row.split_once(' ').ok_or(RowFault::NotRow)?;
         match word {
@@ -110,7 +113,7 @@ impl<D: TestDisk> Bench<D> {
         }
     }
 
-    // Files without a database: a database file with these bytes, and an empty log.
+    // Sets the files to an empty log and a database file with these bytes, in which no database was made.
     fn set_files(&mut self, alloc: Global, bytes: &str) -> Result<String, RowFault> {
         let bytes = bytes_of(alloc, bytes)?;
         self.files = Files {
@@ -121,7 +124,7 @@ impl<D: TestDisk> Bench<D> {
         Ok(format!(in alloc; "{} bytes", bytes.len())?)
     }
 
-    // New files with the tables, after these calls.
+    // Makes new files with tables, and serves the calls over them. Returns the State after the calls.
     fn begin(&mut self, alloc: Global, calls: &str, ending: Ending) -> Result<String, RowFault> {
         let calls = bytes_of(alloc, calls)?;
         let disks = new_disks::<D>(alloc, NEVER);
@@ -131,7 +134,7 @@ impl<D: TestDisk> Bench<D> {
         Ok(made.after)
     }
 
-    // The outcome of a call over the files, or over new ones if no database was made in them.
+    // The outcome of a call over the files, or over new files if no database was made in the files.
     fn outcome_of(&self, alloc: Global, call: &[u8]) -> Result<Outcome, RowFault> {
         if self.is_made {
             outcome_of::<D>(alloc, &self.config, &self.files, call)
@@ -140,8 +143,8 @@ impl<D: TestDisk> Bench<D> {
         }
     }
 
-    // Stops in a call. The words are how many calls of the disk a run stops later than the last one, and the
-    // call.
+    // Makes the runs of a call that stop. The words are the step, which is the number of calls of the disk by
+    // which each run stops later than the last, and the call.
     fn stop(&mut self, alloc: Global, words: &str, way: Way) -> Result<String, RowFault> {
         let (step, call) = words.split_once(' ').ok_or(RowFault::NotRow)?;
         let step = number_at(&[step], 0)?;

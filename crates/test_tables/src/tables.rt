@@ -16,7 +16,7 @@ use std::mem;
 use test_kit::{AnswerRow, RowAnswer, RowFault, bytes_of, reply_to};
 use words::numbers_in_words;
 
-/// The sample configuration, and a keeper of the volumes that requests made under it.
+/// The state between rows: the sample configuration, and the tables with the volumes that requests made.
 #[derive(Drop)]
 pub(crate) struct Bench {
     config: Config,
@@ -24,7 +24,7 @@ pub(crate) struct Bench {
 }
 
 impl Bench {
-    /// A bench without volumes.
+    /// Makes a bench without volumes.
     pub(crate) fn new(alloc: Global) -> Result<Bench, RowFault> {
         Ok(Bench {
             config: Config::sample(alloc)?,
@@ -47,7 +47,7 @@ impl AnswerRow for Bench {
     }
 }
 
-// New tables, and a keeper over them.
+// Makes new tables in a new database in memory.
 fn new_tables(alloc: Global) -> Result<Tables<MemStore>, RowFault> {
     match Tables::make(alloc, without_tables(alloc)?) {
         Ok(tables) => Ok(tables),
@@ -55,7 +55,7 @@ fn new_tables(alloc: Global) -> Result<Tables<MemStore>, RowFault> {
     }
 }
 
-// New tables take the place of those before.
+// Replaces the tables by new ones.
 fn begin<T: Drop>(
     alloc: Global,
     tables: &mut T,
@@ -65,8 +65,8 @@ fn begin<T: Drop>(
     Ok(String::from_str(alloc, "begun")?)
 }
 
-// Makes the tables where they exist, which is refused, and shows the next number that the rows of
-// the connection that was given back still have. New ones take their place.
+// Makes the tables a second time, which is refused, and shows the next number that the returned connection
+// still has. Replaces the tables by new ones.
 fn remake<S: Alter + Drop>(
     alloc: Global,
     tables: &mut Tables<S>,
@@ -84,7 +84,7 @@ fn next_in<S: Alter>(alloc: Global, conn: &mut IdleConnection<S>) -> Result<Stri
     numbers_in_words(alloc, &[next.get(0).map_err(refused)?])
 }
 
-// A request, a page of a listing in words, or a call of the keeper itself.
+// Answers a row: a request, a page of a listing in words, or a direct call of the keeper.
 fn reported<K: Keeper>(
     alloc: Global,
     config: &Config,

@@ -4,7 +4,8 @@ use csi_config::Config;
 use std::alloc::Global;
 use test_kit::{RowFault, config_with};
 
-/// The configuration of a name: a pool of 10 MiB, or a small one of 1 MiB, and p2 of 4 MiB.
+/// Returns the configuration with this name; [`RowFault::NotRow`] if no configuration has the name. `sample`
+/// has the pools p1 of 10 MiB and p2 of 4 MiB. In `small`, p1 has 1 MiB; in `renamed`, p1 is named p7.
 pub(crate) fn config_named(alloc: Global, name: &str) -> Result<Config, RowFault> {
     match name {
         "sample" => config_with(alloc, &["p1", "10485760", "p2", "4194304"]),

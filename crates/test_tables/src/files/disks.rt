@@ -6,29 +6,28 @@ ghost use Rattle.sqlite_disk.specs.Tally.{both_counts};
 use sqlite_disk::{Crash, Disk, Fuse, Memory, Tally, digest_of};
 use std::io::{self, ErrorKind};
 
-/// Where a disk lies: the byte at this place is returned with these bits turned.
+/// A lie of a disk: each read of the byte at offset `at` returns it with `bits` flipped.
 #[derive(Clone, Copy)]
 pub(crate) struct Lie {
     pub(crate) at: usize,
     pub(crate) bits: u8,
 }
 
-/// A disk that is full after a number of writes: each later write fails, and changes nothing. It may also
-/// return another byte than was written: a read that is tested by a digest finds that, any other read does
-/// not.
+/// A disk that is full after a number of writes: each later write fails and changes nothing. With a [`Lie`],
+/// reads return a wrong byte: `read_checked` detects the wrong byte by its digest, and `read_at` does not.
 #[derive(Drop)]
 pub(crate) struct Faulty<D: Disk> {
     inner: D,
     writes_left: u64,
     refused: u64,
     lie: Option<Lie>,
-    // Reads that a test by a digest found wrong, and other reads that failed.
+    // The number of reads that a digest found wrong, and the number of other reads that failed.
     caught: u64,
     failed: u64,
 }
 
 impl<D: Disk> Faulty<D> {
-    /// A disk that has room for this many writes, and lies at a place, if one is given.
+    /// Makes a disk over `inner` that is full after `writes` writes, and lies if `lie` is given.
     pub(crate) fn new(inner: D, writes: u64, lie: Option<Lie>) -> Faulty<D> {
         Faulty {
             inner,
@@ -41,7 +40,7 @@ impl<D: Disk> Faulty<D> {
     }
 }
 
-// Turns the bits of a byte, where it is one of these, which begin at a place.
+// Flips the bits of the lie's byte if the byte is in `buf`, which was read at offset `at`.
 fn turn(lie: Option<Lie>, at: usize, buf: &mut [u8]) {
     let Some(Lie { at: place, bits }) = lie else {
         return;
@@ -142,17 +141,17 @@ impl<D: Crash> Crash for Faulty<D> {
     }
 }
 
-/// A disk over a file in memory that may have troubles. The sections are generic over it, so that their
-/// proofs do not look into its type.
+/// A disk over a file in memory that can stop, be full or lie. The sections are generic over this trait, so
+/// that their proofs do not look into the type of the disk.
 pub(crate) trait TestDisk: Crash + Drop {
-    /// A disk that stops after `calls` calls, is full after `writes` writes, and lies at a place, if one is
-    /// given.
+    /// Makes a disk over `file` that stops after `calls` calls, is full after `writes` writes, and lies if
+    /// `lie` is given.
     fn over(file: Memory, calls: u64, writes: u64, lie: Option<Lie>) -> Self;
 
-    /// The file in memory below the troubles.
+    /// Returns the file in memory that the disk writes to.
     fn memory(&self) -> &Memory;
 
-    /// Whether a write found no room.
+    /// Whether a write has failed because the disk was full.
     fn is_full(&self) -> bool;
 }
 

@@ -1,4 +1,4 @@
-//! The making of a database in files that hold none yet.
+//! Makes databases in files that do not contain one yet.
 
 ghost use Rattle.std.specs.Prelude.{IfOk, IsTrue};
 ghost use Rattle.sqlite_disk.specs.Memory.{memory_is_usable};
@@ -11,10 +11,11 @@ use test_kit::RowFault;
 
 const SEED: u64 = 1;
 
-// The least log that has a change: its header, and a frame of a page of 512 bytes.
+// The bytes of the shortest log with a change: the header, and a frame with a page of 512 bytes.
 const FRAME_BYTES: usize = 32 + 24 + 512;
 
-/// The counts of files by their outcome.
+/// The number of pairs of files for each outcome: a database was made, the files were kept as they were, the
+/// files were refused as [`NotLaidOut::Emptied`] and are unchanged, or anything else.
 #[derive(Clone, Copy)]
 pub(crate) struct Laid {
     made: usize,
@@ -50,7 +51,7 @@ impl fmt::Display for Laid {
     }
 }
 
-/// A file that has these bytes.
+/// Makes a file in memory with these bytes, all synchronised.
 pub(crate) fn holding(alloc: Global, bytes: &[u8]) -> Result<Memory, RowFault>
     ensures { IfOk result (λ file. IsTrue (memory_is_usable file)) }
 {
@@ -61,8 +62,8 @@ pub(crate) fn holding(alloc: Global, bytes: &[u8]) -> Result<Memory, RowFault>
     Ok(file)
 }
 
-/// Lays files with these bytes out, and counts what comes of them. `page` is what a database file has that
-/// was made.
+/// Lays out a database in a pair of files with these bytes, and counts the outcome in `laid`. `page` is the
+/// content of a new database file.
 pub(crate) fn lay(
     alloc: Global,
     page: &[u8],
@@ -90,7 +91,8 @@ pub(crate) fn lay(
     Ok(())
 }
 
-/// Lays out a file of each prefix of these bytes, from the empty one to all of them.
+/// Lays out a database file with each prefix of these bytes, from the empty one to all of them, and counts
+/// the outcomes. The log is empty.
 pub(crate) fn lay_each(alloc: Global, page: &[u8], bytes: &[u8]) -> Result<Laid, RowFault> {
     let mut laid = Laid::none();
     for len in 0..=bytes.len() {
@@ -99,7 +101,7 @@ pub(crate) fn lay_each(alloc: Global, page: &[u8], bytes: &[u8]) -> Result<Laid,
     Ok(laid)
 }
 
-// Another byte instead of one.
+// Returns a copy of the bytes in which the byte at index `at` is changed.
 fn with_odd(alloc: Global, bytes: &[u8], at: usize) -> Result<Vec<u8>, RowFault> {
     let mut odd = Vec::from_slice(alloc, bytes)?;
     if at < odd.len() {
@@ -108,7 +110,8 @@ fn with_odd(alloc: Global, bytes: &[u8], at: usize) -> Result<Vec<u8>, RowFault>
     Ok(odd)
 }
 
-/// Lays out a file of these bytes for each of the bytes, with that byte replaced.
+/// Lays out, for each of these bytes, a database file with all of them in which that byte is changed, and
+/// counts the outcomes. The log is empty.
 pub(crate) fn lay_odd(alloc: Global, page: &[u8], bytes: &[u8]) -> Result<Laid, RowFault> {
     let mut laid = Laid::none();
     for at in 0..bytes.len() {

@@ -9,10 +9,10 @@ use sqlite_disk::{Disk, Files};
 use std::alloc::{AllocError, Global};
 use test_kit::RowFault;
 
-// The seed of the salts in the log, on which no answer depends.
+// The seed of the salts in the log. No answer depends on the seed.
 const SEED: u64 = 7;
 
-// Nothing reports how calls are served.
+// An observer that reports nothing.
 struct Unheard;
 
 impl Observer for Unheard {
@@ -53,7 +53,7 @@ fn report_text(alloc: Global, word: &str, report: &RunReport) -> Result<String, 
     )
 }
 
-// Why a database was refused.
+// The reason why a database was refused, as a text.
 fn refusal_text(alloc: Global, refusal: &Refusal) -> Result<String, AllocError> {
     match refusal {
         Refusal::Blank => String::from_str(alloc, "blank"),
@@ -62,7 +62,7 @@ fn refusal_text(alloc: Global, refusal: &Refusal) -> Result<String, AllocError> 
     }
 }
 
-// Why files were not closed after calls.
+// The reason why files were not closed after calls, as a text.
 fn failure_text<D: Disk + Drop>(
     alloc: Global,
     failure: &RunFailure<D>,
@@ -76,11 +76,12 @@ fn failure_text<D: Disk + Drop>(
     }
 }
 
-/// Serves calls over files, and says what that came to. The files come back as they are then.
+/// Serves calls over files with `csi_files`. Returns the outcome as a text, and the files as the run leaves
+/// them.
 ///
 /// # Errors
 ///
-/// Where no files come back, as none do that were not given.
+/// If the run does not give the files back.
 pub(crate) fn served_by<D: Disk + Drop>(
     alloc: Global,
     config: &Config,

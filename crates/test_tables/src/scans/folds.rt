@@ -5,7 +5,7 @@ use csi_sql::Fold;
 use sqlite::{Error, Row};
 use std::alloc::Global;
 
-/// The rows as a text.
+/// A fold that appends each row to a text.
 #[derive(Drop)]
 pub(crate) struct Showing {
     /// The allocator of the text.

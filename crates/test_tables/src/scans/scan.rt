@@ -1,4 +1,4 @@
-//! Which scan is taken.
+//! The scans that rows name.
 
 use crate::database::refused;
 use csi_constraints::{scan_attachments, scan_meta, scan_owners, scan_places, scan_volumes};
@@ -6,7 +6,7 @@ use csi_sql::{Fold, IdleConnection, is_our_schema};
 use sqlite::Alter;
 use test_kit::RowFault;
 
-/// A scan over our tables.
+/// A scan over our tables; each variant is one of the `scan_` functions of `csi_constraints`.
 #[derive(Clone, Copy)]
 pub(crate) enum Scan {
     Meta,
@@ -17,7 +17,7 @@ pub(crate) enum Scan {
 }
 
 impl Scan {
-    /// The scan of a name.
+    /// Returns the scan with this name; [`RowFault::NotRow`] if no scan has the name.
     pub(crate) fn named(name: &str) -> Result<Scan, RowFault> {
         match name {
             "meta" => Ok(Scan::Meta),
@@ -29,7 +29,7 @@ impl Scan {
         }
     }
 
-    /// Folds each row that the scan shows, over our tables alone.
+    /// Folds each row of the scan; [`RowFault::Refused`] if the database has other tables than ours.
     pub(crate) fn over<S: Alter, F: Fold>(
         self,
         conn: &mut IdleConnection<S>,

@@ -1,4 +1,4 @@
-//! The two files of a database, in memory, which stop after a number of their calls.
+//! The two files of a database, in memory, which stop after a number of calls.
 
 ghost use Rattle.std.specs.Prelude.{◌≡◌, false, IfOk};
 
@@ -14,38 +14,39 @@ use test_kit::RowFault;
 // The seed of the salts in the log. No answer depends on it.
 const SEED: u64 = 7;
 
-/// More calls than a run makes, so that neither file stops.
+/// The numbers of calls for files that never stop: more than a run makes.
 pub(crate) const NEVER: (u64, u64) = (u64::MAX, u64::MAX);
 
-/// The file that stops.
+/// Which of the two files stops.
 #[derive(Clone, Copy)]
 pub(crate) enum Which {
-    /// The log.
+    /// The log stops.
     Log,
-    /// The database file.
+    /// The database file stops.
     Database,
-    /// Each of the two, after this number of its own calls.
+    /// Both files stop, each after [`Stop::calls`] calls of its own.
     Both,
 }
 
-/// The moment of a stop, and the fate of the writes before it.
+/// When a run stops, and what happens to the writes before the stop.
 #[derive(Clone, Copy)]
 pub(crate) struct Stop {
     /// The file that stops, or both.
     pub(crate) which: Which,
-    /// After this number of calls of the disk.
+    /// The number of calls before the stop; with [`Trouble::Fills`], the number of writes.
     pub(crate) calls: u64,
-    /// The connection is closed in the end, and not dropped.
+    /// Whether the connection is closed at the end; otherwise it is dropped.
     pub(crate) closes: bool,
-    /// Whether unsynchronised writes are lost.
+    /// Whether unsynchronised writes are lost; otherwise they are kept.
     pub(crate) loses: bool,
-    /// The trouble of the files in a run of `csi_files`. Without one, tables are adopted on a connection to
-    /// files that stop.
+    /// The trouble of the files in a run of `csi_files`. If `None`, `csi_files` is not run: the tables are
+    /// adopted on a connection to files that stop.
     pub(crate) trouble: Option<Trouble>,
 }
 
 impl Stop {
-    /// After how many calls the log and the database file stop.
+    /// Returns the numbers of calls after which the log and the database file stop; `u64::MAX` for a file
+    /// that never stops.
     pub(crate) fn calls_of_each(self) -> (u64, u64) {
         match self.which {
             Which::Log => (self.calls, u64::MAX),
@@ -76,7 +77,7 @@ impl fmt::Display for Stop {
     }
 }
 
-/// Two empty files.
+/// Makes an empty log and an empty database file in memory.
 pub(crate) fn new_files(alloc: Global) -> Files<Memory> {
     Files {
         log: Memory::new(alloc),
@@ -84,7 +85,7 @@ pub(crate) fn new_files(alloc: Global) -> Files<Memory> {
     }
 }
 
-// Files that stop after these numbers of calls of the log and of the database file.
+// Makes disks over files; the log stops after `calls.0` calls, and the database file after `calls.1`.
 fn fused<D: TestDisk>(files: Files<Memory>, calls: (u64, u64)) -> Files<D> {
     Files {
         log: D::over(files.log, calls.0, u64::MAX, None),
@@ -92,22 +93,23 @@ fn fused<D: TestDisk>(files: Files<Memory>, calls: (u64, u64)) -> Files<D> {
     }
 }
 
-/// Two new files that stop after these numbers of calls.
+/// Makes an empty log that stops after `calls.0` calls, and an empty database file that stops after `calls.1`
+/// calls.
 pub(crate) fn new_disks<D: TestDisk>(alloc: Global, calls: (u64, u64)) -> Files<D> {
     fused(new_files(alloc), calls)
 }
 
-// A file with the same bytes, all synchronised.
+// Returns a copy of a file, all synchronised.
 fn copied(alloc: Global, file: &Memory) -> Result<Memory, RowFault> {
     let mut copy = Memory::new(alloc);
-    // A file in memory refuses nothing but memory.
+    // A file in memory fails only if memory is refused.
     if copy.write_at(0, file.bytes()).is_err() || copy.sync().is_err() {
         return Err(RowFault::NoMemory);
     }
     Ok(copy)
 }
 
-/// Files with the same bytes, all synchronised.
+/// Returns copies of a log and a database file, all synchronised.
 pub(crate) fn copied_files(
     alloc: Global,
     log: &Memory,
@@ -120,8 +122,8 @@ pub(crate) fn copied_files(
     })
 }
 
-/// Files with the same bytes, all synchronised, which stop after these numbers of calls of the log and of the
-/// database file.
+/// Returns copies of files, all synchronised. The copy of the log stops after `calls.0` calls, and the copy
+/// of the database file after `calls.1` calls.
 pub(crate) fn copies<D: TestDisk>(
     alloc: Global,
     files: &Files<Memory>,
@@ -140,7 +142,7 @@ pub(crate) fn has_stopped<D: TestDisk>(disks: &mut Files<D>) -> bool {
     !disks.may_be_used() || disks.log.len().is_err() || disks.db.len().is_err()
 }
 
-/// The files that the next start finds.
+/// Returns copies of the files that the next start finds, without the unsynchronised writes if `loses`.
 pub(crate) fn left_of<D: TestDisk>(
     alloc: Global,
     disks: &mut Files<D>,
@@ -153,7 +155,7 @@ pub(crate) fn left_of<D: TestDisk>(
     copied_files(alloc, disks.log.memory(), disks.db.memory())
 }
 
-// Opens the database in two files, or gives back why it cannot be opened, and the files.
+// Opens the database in two files, or returns the files and the error if the database cannot be opened.
 fn open<D: Disk + Drop>(
     alloc: Global,
     files: Files<D>,
@@ -169,12 +171,12 @@ fn open<D: Disk + Drop>(
     }
 }
 
-/// Makes tables ones of format 1, which have no mutable parameters.
+/// Sets the format of the tables to 1, in which volumes have no mutable parameters.
 pub(crate) fn make_older<S: Alter>(conn: &mut Connection<S>) -> Result<(), RowFault> {
     run(conn, "UPDATE meta SET format_no = 1")
 }
 
-// Ends a connection, and gives its files back: closed, or as a stop leaves them.
+// Ends a connection, and returns its files: closed if `closes`, otherwise as a stop leaves them.
 fn end<D: Disk + Drop>(conn: Connection<FileStore<D>>, closes: bool) -> Files<D> {
     if !closes {
         return conn.into_store().close();
@@ -185,15 +187,15 @@ fn end<D: Disk + Drop>(conn: Connection<FileStore<D>>, closes: bool) -> Files<D>
     }
 }
 
-/// A task over a database, on any disk.
+/// A task that runs on a connection to a database, on any disk.
 pub(crate) trait Task {
-    /// Does it, and gives the connection back.
+    /// Runs the task on the connection, and returns the connection.
     fn run<S: Alter + Drop>(&mut self, conn: Connection<S>) -> Connection<S>
         requires { conn.in_transaction ≡ false };
 }
 
-/// Opens files, does a task over them, and gives them back, closed or as a stop leaves them; or says why they
-/// cannot be opened.
+/// Opens the database in the files and runs a task on it. Returns the files, closed if `closes` and otherwise
+/// as a stop leaves them, and the error if the database cannot be opened.
 pub(crate) fn over<D: Disk + Drop, T: Task>(
     alloc: Global,
     files: Files<D>,

@@ -1,4 +1,4 @@
-//! One run over files that stop, and what the next start finds of them.
+//! One run over files that stop, and the State that the next start finds in the files.
 
 use super::disks::{Stop, copies, has_stopped, left_of};
 use super::serving::{Outcome, outcome_of, serve_files, unlike};
@@ -10,20 +10,20 @@ use sqlite_disk::{Files, Memory};
 use std::alloc::{AllocError, Global};
 use test_kit::RowFault;
 
-// The status of a reply after the store failed.
+// The status code of a reply to a call in which the store failed.
 const INTERNAL: u8 = 13;
 
-/// A call, and its reply and State over files that do not stop.
+/// A call, the files before the call, and the outcome of the call if no file stops.
 #[derive(Clone, Copy)]
 pub(crate) struct Wanted<'a> {
     pub(crate) alloc: Global,
     pub(crate) config: &'a Config,
     /// The files before the call.
     pub(crate) files: &'a Files<Memory>,
-    /// A database was made in them.
+    /// Whether a database was made in the files.
     pub(crate) is_made: bool,
     pub(crate) call: &'a [u8],
-    /// The reply to it, and the States before and after it.
+    /// The reply to the call, and the States before and after the call, if no file stops.
     pub(crate) whole: &'a Outcome,
 }
 
@@ -43,19 +43,19 @@ pub(crate) struct Found {
     pub(crate) outcome: Outcome,
 }
 
-/// The facts of a run that are compared.
+/// The outcome of a run with a stop, compared with a run without one.
 #[derive(Clone, Copy)]
 pub(crate) struct Came {
-    /// The call had its reply.
+    /// Whether the call got the same reply as without a stop, and the reply is not empty.
     pub(crate) is_answered: bool,
-    /// The State before the call was found.
+    /// Whether the next start found the State before the call.
     pub(crate) is_before: bool,
-    /// The State after it was found.
+    /// Whether the next start found the State after the call.
     pub(crate) is_after: bool,
 }
 
 impl Wanted<'_> {
-    /// A run over files with a stop.
+    /// Makes the call over copies of files with this stop, and returns the reply and the files after the run.
     pub(crate) fn run<D: TestDisk>(
         &self,
         files: &Files<Memory>,
@@ -67,7 +67,7 @@ impl Wanted<'_> {
         }
     }
 
-    // A run of `csi_files` over files with a trouble.
+    // Makes the call in a run of `csi_files` over copies of files with a trouble.
     fn run_troubled<D: TestDisk>(
         &self,
         files: &Files<Memory>,
@@ -91,8 +91,8 @@ impl Wanted<'_> {
         })
     }
 
-    // The next run of `csi_files` over files that are left answers the call as it is answered where nothing
-    // stops.
+    // Checks that the next run of `csi_files` over the files gives the same reply to the call as a run
+    // without a stop.
     fn runs_again<D: TestDisk>(&self, stop: Stop, files: &Files<Memory>) -> Result<(), RowFault> {
         let mut reply = Vec::new(self.alloc);
         let (outcome, _) = self.serve::<D>(files, self.call, &mut reply)?;
@@ -102,7 +102,7 @@ impl Wanted<'_> {
         Err(unlike(self.alloc, &stop, &outcome))
     }
 
-    // A run of `csi_files` over copies of files, and the files after it.
+    // Serves calls with `csi_files` over copies of files. Returns the outcome, and the files after the run.
     fn serve<D: TestDisk>(
         &self,
         files: &Files<Memory>,
@@ -136,7 +136,7 @@ impl Wanted<'_> {
         })
     }
 
-    // The outcome of the next start after a run of `csi_files` in trouble.
+    // Returns the outcome of the next start after a run of `csi_files` with a trouble.
     fn find_after_trouble<D: TestDisk>(
         &self,
         stop: Stop,
@@ -151,7 +151,8 @@ impl Wanted<'_> {
         outcome_of::<D>(self.alloc, self.config, &opened, self.call)
     }
 
-    /// The outcome of the next start.
+    /// Starts again over the files that a stop left, and makes the same call. Returns the outcome;
+    /// [`RowFault::Differs`] if the files cannot be opened or adopted.
     pub(crate) fn find<D: TestDisk>(
         &self,
         stop: Stop,
@@ -167,11 +168,11 @@ impl Wanted<'_> {
         }
     }
 
-    /// The facts of a run.
+    /// Compares the reply and the State after a run with those of a run without a stop.
     ///
     /// # Errors
     ///
-    /// Where something was found that must not be.
+    /// If the reply or the State is not allowed after this stop, or if memory is refused.
     pub(crate) fn judge(
         &self,
         stop: Stop,
@@ -197,7 +198,7 @@ impl Wanted<'_> {
         Err(self.unlike(stop, reply, found)?)
     }
 
-    // Whether a reply is the reply of a disk that does not stop, or none, or says that the store failed.
+    // Whether a reply is empty, the same as without a stop, or the error of a store that failed.
     fn is_reply(&self, reply: &[u8]) -> bool {
         reply.is_empty()
             || reply == self.whole.replies.as_slice()

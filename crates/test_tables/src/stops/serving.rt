@@ -16,10 +16,10 @@ use std::alloc::Global;
 use std::fmt;
 use test_kit::RowFault;
 
-/// The replies to calls over files that never stop, and the State before and after them.
+/// The replies to calls over files that never stop, and the States before and after the calls.
 #[derive(Drop)]
 pub(crate) struct Outcome {
-    /// The State that the tables are adopted with.
+    /// The State after the tables are adopted and before the calls.
     pub(crate) before: String,
     /// The replies, as the bytes of their frames.
     pub(crate) replies: Vec<u8>,
@@ -38,7 +38,7 @@ fn serve_calls<K: Keeper>(
     serve(alloc, config, keeper, &mut reader, replies);
 }
 
-// Calls, and the replies to them. Over tables that are not adopted they have none.
+// A task that serves calls, and appends the replies. If the tables cannot be adopted, it serves no call.
 #[derive(Drop)]
 struct Serving<'a> {
     alloc: Global,
@@ -65,8 +65,8 @@ impl Task for Serving<'_> {
     }
 }
 
-/// Opens files, adopts the tables and answers the calls, and gives the files back. What it cannot open or
-/// adopt it does not answer.
+/// Opens files, adopts the tables, answers the calls, and returns the files. If the files cannot be opened or
+/// the tables cannot be adopted, no call is answered.
 pub(crate) fn serve_files<D: Disk + Drop>(
     alloc: Global,
     config: &Config,
@@ -84,7 +84,7 @@ pub(crate) fn serve_files<D: Disk + Drop>(
     over(alloc, files, closes, &mut serving).0
 }
 
-/// A result that was not wanted, and the wanted one.
+/// Returns [`RowFault::Differs`] with the text `what: why`, or [`RowFault::NoMemory`] if memory is refused.
 pub(crate) fn unlike<W: fmt::Display, T: fmt::Display>(
     alloc: Global,
     what: &W,
@@ -96,7 +96,7 @@ pub(crate) fn unlike<W: fmt::Display, T: fmt::Display>(
     }
 }
 
-// Answers calls, and returns the State before and after them.
+// Answers calls, and returns the replies and the States before and after the calls.
 fn answered<K: Keeper>(
     alloc: Global,
     config: &Config,
@@ -113,7 +113,7 @@ fn answered<K: Keeper>(
     })
 }
 
-// Calls over tables that must be adopted, and what came of them.
+// A task that serves calls over tables that must be adopted, and keeps the outcome.
 #[derive(Drop)]
 struct Reporting<'a> {
     alloc: Global,
@@ -150,7 +150,8 @@ impl Task for Reporting<'_> {
     }
 }
 
-/// The outcome of calls over files, and the files as this ending leaves them.
+/// Opens files, adopts the tables and answers the calls. Returns the outcome, and the files as `ending`
+/// leaves them.
 pub(crate) fn left_by<D: Disk + Drop>(
     alloc: Global,
     config: &Config,
@@ -173,7 +174,7 @@ pub(crate) fn left_by<D: Disk + Drop>(
     }
 }
 
-/// The outcome of calls over copies of files.
+/// Returns the outcome of calls over copies of files.
 pub(crate) fn outcome_of<D: TestDisk>(
     alloc: Global,
     config: &Config,

@@ -1,4 +1,4 @@
-//! Stops at each call of the disk.
+//! Runs of a call that stop at each call of the disk.
 
 use super::disks::{Stop, Which, are_same};
 use super::runs::{Came, Found, Left, Wanted};
@@ -11,7 +11,8 @@ use test_kit::RowFault;
 // More calls of the disk than any row makes.
 const MOST_CALLS: u64 = 1_000_000;
 
-/// The outcomes that some run of a row had.
+/// Which outcomes at least one run of a row had: the State before the call was found, the State after the
+/// call was found, or the call was answered.
 #[derive(Clone, Copy)]
 pub(crate) struct Seen {
     before: bool,
@@ -43,16 +44,16 @@ impl fmt::Display for Seen {
     }
 }
 
-/// The kind of stop.
+/// When the disk stops in the runs of a row.
 #[derive(Clone, Copy)]
 pub(crate) enum Way {
-    /// In the call alone.
+    /// The disk stops anywhere from the opening to the end of the call. The next start does not stop.
     Once,
-    /// In the call, and the next start stops at the same place.
+    /// Like `Once`, but the next start also stops, after the same number of calls.
     Twice,
-    /// In the call, or as the connection is closed after it.
+    /// The disk stops anywhere from the opening to the close of the connection after the call.
     Closing,
-    /// Anywhere in a run of `csi_files`, from the opening to the close.
+    /// The disk has this trouble anywhere in a run of `csi_files`, from the opening to the close.
     Running(Trouble),
 }
 
@@ -65,21 +66,21 @@ impl Way {
     }
 }
 
-/// The runs of a call.
+/// The runs of a call with stops, and their outcomes so far.
 #[derive(Drop)]
 pub(crate) struct Trials<'a> {
     wanted: Wanted<'a>,
     // The number of calls between the stops of two runs.
     step: u64,
     way: Way,
-    // The last State that was found. Most calls of a disk are reads, and files with the same bytes are not
-    // opened again.
+    // The last files that a run left, with their outcome. Most calls of a disk are reads, and files with the
+    // same bytes are not opened again.
     found: Option<Found>,
     seen: Seen,
 }
 
 impl<'a> Trials<'a> {
-    /// The trials of a row, before the first run.
+    /// Returns the trials of a row in the state before the first run.
     pub(crate) fn new(wanted: Wanted<'a>, step: u64, way: Way) -> Trials<'a> {
         Trials {
             wanted,
@@ -94,12 +95,15 @@ impl<'a> Trials<'a> {
         }
     }
 
-    /// The disk stops at each of its calls, or with a step above 1 at every `step`-th: first the log, then
-    /// the database file, then both. Writes that were not synchronised are kept, and then lost.
+    /// Makes all runs, and returns which outcomes they had. The first run stops at the first call of the
+    /// disk, and each later run stops `step` calls later than the last, until a run does not stop. First the
+    /// log stops, then the database file, then both; each time unsynchronised writes are first kept and then
+    /// lost.
     ///
     /// # Errors
     ///
-    /// The first stop after which something is found that must not be.
+    /// [`RowFault::Differs`] for the first stop after which the reply or the State is not allowed. Also if
+    /// memory is refused, or if the disk stops in each of a million runs.
     pub(crate) fn all<D: TestDisk>(mut self) -> Result<Seen, RowFault> {
         for which in [Which::Log, Which::Database, Which::Both] {
             self.stops_of::<D>(which, false)?;
@@ -108,7 +112,7 @@ impl<'a> Trials<'a> {
         Ok(self.seen)
     }
 
-    // Each run stops later than the last one, until one does not stop.
+    // Makes runs, each of which stops later than the last, until a run does not stop.
     fn stops_of<D: TestDisk>(&mut self, which: Which, loses: bool) -> Result<(), RowFault> {
         let closes = matches!(self.way, Way::Closing);
         let mut calls: u64 = 0;
@@ -128,7 +132,7 @@ impl<'a> Trials<'a> {
         Err(RowFault::NotRow)
     }
 
-    // The files after a second start, if there is one.
+    // The files after a second start that stops, or the given files if the way has no such start.
     fn left_again<D: TestDisk>(
         &self,
         files: Files<Memory>,
@@ -152,7 +156,7 @@ impl<'a> Trials<'a> {
         Ok(is_stopped)
     }
 
-    // Looks for what the next start finds of files, where it was not found last.
+    // Finds the outcome of the next start over files, unless the last files had the same bytes.
     fn find<D: TestDisk>(&mut self, stop: Stop, files: Files<Memory>) -> Result<(), RowFault> {
         let files = self.left_again::<D>(files, stop)?;
         if !self.is_found(&files) {

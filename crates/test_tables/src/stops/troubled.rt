@@ -1,5 +1,5 @@
-//! The two files of a database, in memory, with troubles: they stop after a number of calls, are full after a
-//! number of writes, or lie.
+//! The two files of a database, in memory, with troubles: the files stop after a number of calls, are full
+//! after a number of writes, or lie.
 
 use super::disks::{Stop, copied_files};
 use crate::files::disks::{Lie, TestDisk};
@@ -7,16 +7,16 @@ use sqlite_disk::{Disk, Files, Memory};
 use std::alloc::Global;
 use test_kit::RowFault;
 
-/// The trouble of a disk.
+/// A trouble of a disk; it begins after the number of calls or writes that a [`Stop`] gives.
 #[derive(Clone, Copy)]
 pub(crate) enum Trouble {
-    /// Each call fails from some call on.
+    /// Each call fails after that number of calls.
     Freezes,
-    /// Each write fails from some write on.
+    /// Each write fails after that number of writes.
     Fills,
 }
 
-/// Files with the same bytes, all synchronised, that have this trouble.
+/// Returns copies of files, all synchronised, that have this trouble from `stop` on.
 pub(crate) fn troubled<D: TestDisk>(
     alloc: Global,
     files: &Files<Memory>,
@@ -36,7 +36,7 @@ pub(crate) fn troubled<D: TestDisk>(
     })
 }
 
-/// Files with the same bytes; the database file lies if `lie` says so.
+/// Returns copies of files, all synchronised. The copy of the database file lies if `lie` is given.
 pub(crate) fn lying<D: TestDisk>(
     alloc: Global,
     files: &Files<Memory>,
@@ -49,12 +49,12 @@ pub(crate) fn lying<D: TestDisk>(
     })
 }
 
-// Whether a disk has failed a call.
+// Whether a disk has failed a call or a write.
 fn has_failed<D: TestDisk>(disk: &mut D) -> bool {
     disk.is_full() || !disk.may_be_used() || disk.len().is_err()
 }
 
-/// Whether a trouble has come.
+/// Whether one of the files has stopped or has failed a write because it is full.
 pub(crate) fn have_failed<D: TestDisk>(disks: &mut Files<D>) -> bool {
     has_failed(&mut disks.log) || has_failed(&mut disks.db)
 }

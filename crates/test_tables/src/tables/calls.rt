@@ -1,4 +1,4 @@
-//! Calls of a keeper itself, without the machine.
+//! Direct calls of a keeper, without the volume machine.
 
 ghost use Rattle.std.specs.Prelude.{IfOk};
 ghost use Rattle.csi_keeper.specs.State.{IsBounded};
@@ -11,7 +11,7 @@ use csi_types::{Items, MAX_MAP_BYTES, Map, Text, map_bytes};
 use std::alloc::{AllocError, Global};
 use test_kit::{RowFault, number_at, word_at, words_of};
 
-/// Makes the call of a row, and shows its answer.
+/// Calls the method of the keeper that a row names, and returns the answer as a text.
 pub(crate) fn call<K: Keeper>(
     alloc: Global,
     keeper: &mut K,
@@ -107,7 +107,7 @@ fn change(alloc: Global, words: &[&str]) -> Result<Change, RowFault>
     }
 }
 
-// Other mutable parameters: of one key, or none.
+// Makes a change that sets the mutable parameters of a volume: to one key and its value, or to none.
 fn set(alloc: Global, words: &[&str]) -> Result<Change, RowFault>
     ensures { IfOk result IsBounded }
 {
@@ -146,7 +146,7 @@ fn volume(alloc: Global, words: &[&str]) -> Result<Volume, RowFault>
     })
 }
 
-// A block device for one writer.
+// Makes an attachment to a node, as a block device with access mode 1 (`SINGLE_NODE_WRITER`).
 fn attachment(alloc: Global, node: &str) -> Result<Attachment, AllocError> {
     Ok(Attachment {
         node: Text::from_str(alloc, node)?,

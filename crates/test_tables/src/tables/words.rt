@@ -1,4 +1,4 @@
-//! What a keeper answers, in words.
+//! The answers of a keeper as texts.
 
 use csi_keeper::{Attachment, CapKey, Kind, Volume};
 use csi_types::{Items, Map, Text};
@@ -29,8 +29,8 @@ fn put_params(text: &mut String, params: &Map, sign: &str) -> Result<(), RowFaul
     Ok(())
 }
 
-/// Volumes: of each its number, name, bytes and pool, what it may be used as, its parameters, and those
-/// that can be changed, with `:=` between.
+/// Returns volumes as a text: the number, name, bytes, pool and capabilities of each, the parameters as
+/// `key=value`, and the mutable parameters as `key:=value`.
 pub(crate) fn volumes_in_words(alloc: Global, volumes: &[Volume]) -> Result<String, RowFault> {
     let mut text = String::from_str(alloc, "volumes")?;
     for volume in volumes {
@@ -44,7 +44,7 @@ pub(crate) fn volumes_in_words(alloc: Global, volumes: &[Volume]) -> Result<Stri
     Ok(text)
 }
 
-/// Attachments: of each its node, and what the volume is used as there.
+/// Returns attachments as a text: the node and the capability of each, and `readonly` if it is read-only.
 pub(crate) fn attachments_in_words(
     alloc: Global,
     attachments: &[Attachment],
@@ -60,7 +60,7 @@ pub(crate) fn attachments_in_words(
     Ok(text)
 }
 
-/// Numbers with a space before each.
+/// Returns numbers as a text: `numbers`, and each number after a space.
 pub(crate) fn numbers_in_words(alloc: Global, numbers: &[u64]) -> Result<String, RowFault> {
     let mut text = String::from_str(alloc, "numbers")?;
     for number in numbers {
@@ -76,7 +76,7 @@ fn put_nodes(text: &mut String, nodes: &Items<Text>) -> Result<(), RowFault> {
     Ok(())
 }
 
-/// The nodes of each volume of a page.
+/// Returns the nodes of each volume of a page as a text; the nodes of each volume follow a semicolon.
 pub(crate) fn nodes_in_words(alloc: Global, nodes: &[Items<Text>]) -> Result<String, RowFault> {
     let mut text = String::from_str(alloc, "nodes")?;
     for nodes in nodes {
