@@ -280,7 +280,8 @@ MISSPELT = [
         ["volumes", "--jsn"],
         ("unexpected argument '--jsn' found", "a similar argument exists: '--json'"),
     ),
-    (["volums"], ("unrecognized subcommand 'volums'", "some similar subcommands exist: 'volume', 'volumes'")),
+    (["creat"], ("unrecognized subcommand 'creat'", "a similar subcommand exists: 'create'")),
+    (["volumez"], ("unrecognized subcommand 'volumez'", "some similar subcommands exist: 'volumes', 'volume'")),
 ]
 
 

@@ -3,7 +3,7 @@
 use crate::json::topologies;
 use crate::sizes::size_text;
 use crate::words::{pool_of, topology_word};
-use command_line::{Table, put_next, put_word, word};
+use command_line::{Table, put_next, word};
 use csi_types::{Entry, VolumeInfo};
 use serde_json::{Value, json};
 use std::alloc::{AllocError, Global};
@@ -48,8 +48,8 @@ impl<'e> Group<'e> {
     fn ids_word(&self, alloc: Global) -> Result<String, AllocError> {
         let mut out = String::new(alloc);
         for id in &self.ids {
-            put_next(&mut out, ",", "")?;
-            put_word(&mut out, id)?;
+            let id = word(alloc, id)?;
+            put_next(&mut out, ",", id.as_str())?;
         }
         Ok(out)
     }
