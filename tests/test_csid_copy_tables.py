@@ -7,7 +7,7 @@ import stat
 import subprocess
 
 from tests.support.frames import controller, reply
-from tests.support.processes import SECONDS, TOP, run
+from tests.support.processes import SECONDS, TOP, no_byte, run
 from tests.support.rows import CsidTest
 from tests.support.tables import A, NEXT_9, NO_DATABASE, POOL, Tables, next_is, volume, volume_fault
 
@@ -160,8 +160,8 @@ class CopyTablesTest(CsidTest):
 
     def test_full_disk_leaves_nothing(self):
         self.tables.new()
-        limited = ["prlimit", "--fsize=1024", self.csid, "--copy-tables", self.tables.path]
-        out, err, status = run([*limited, "--to", self.copied.path])
+        words = [self.csid, "--copy-tables", self.tables.path, "--to", self.copied.path]
+        out, err, status = run(words, preexec_fn=no_byte, restore_signals=False)
         self.assertEqual((out, status), (b"", 4))
         self.assertEqual(err, "csid: %s.new: File too large (os error 27)\n" % self.copied.path)
         self.assertEqual(names(self.place), [])

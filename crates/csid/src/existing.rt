@@ -1,6 +1,7 @@
 //! Checks of a file of tables and its WAL before they are opened: whether the file has tables, and whether
 //! new tables may be made in it.
 
+use crate::room::memory_limit;
 use csi_files::WAL_WITH_FRAME_BYTES;
 use std::fs::{self, File};
 use std::io::{self, ErrorKind, Read};
@@ -22,9 +23,12 @@ const OPENING_FACTOR: u64 = 6;
 // The fewest pages that an opening may keep in memory.
 const LEAST_CACHE_PAGES: u64 = 2000;
 
-// An opening may keep half of the pages of a file. The index of names, whose pages it reads in no order, has
-// a third of the pages. `OPENING_FACTOR` counts the pages that are kept.
+// An opening keeps at most half of the pages of a file, and the pages take at most a 32nd of a limit on the
+// process's memory. The index of names, whose pages it reads in no order, has a third of the pages.
+// `OPENING_FACTOR` counts the pages that are kept.
 const CACHE_SHARE: u64 = 2;
+
+const LIMIT_SHARE: u64 = 32;
 
 /// Why `csid` refuses the file at the path given for its tables.
 #[derive(Clone, Copy, Debug, Error)]
@@ -137,6 +141,19 @@ pub(crate) struct OpeningLimits {
     pub(crate) cache_pages: usize,
 }
 
+// The most pages of a file with `count` pages that an opening keeps in memory.
+fn cache_pages(rt: &HostRuntime, count: u64, page_bytes: u64) -> u64 {
+    let share = count / CACHE_SHARE;
+    if share <= LEAST_CACHE_PAGES {
+        return LEAST_CACHE_PAGES;
+    }
+    let most = match memory_limit(rt) {
+        Some(limit) => (limit / LIMIT_SHARE).checked_div(page_bytes).unwrap_or(0),
+        None => share,
+    };
+    share.min(most).max(LEAST_CACHE_PAGES)
+}
+
 /// The limits of an opening, by the size of the file and of its WAL.
 pub(crate) fn opening_limits(rt: &HostRuntime, path: &str) -> OpeningLimits {
     let none = Pages { bytes: 0, free: 0 };
@@ -145,7 +162,7 @@ pub(crate) fn opening_limits(rt: &HostRuntime, path: &str) -> OpeningLimits {
     let count = bytes.checked_div(pages.bytes).unwrap_or(0);
     OpeningLimits {
         bytes: bytes.saturating_mul(OPENING_FACTOR) as usize,
-        cache_pages: LEAST_CACHE_PAGES.max(count / CACHE_SHARE) as usize,
+        cache_pages: cache_pages(rt, count, pages.bytes) as usize,
     }
 }
 

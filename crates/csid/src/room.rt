@@ -148,6 +148,12 @@ fn address_space_limit(rt: &HostRuntime) -> Option<u64> {
     None
 }
 
+/// The lowest limit on the memory of the process, in bytes, of its control groups and of its address space;
+/// `None` if the system reports no limit.
+pub(crate) fn memory_limit(rt: &HostRuntime) -> Option<u64> {
+    lower(group_limit(rt), address_space_limit(rt))
+}
+
 // The bytes of a control group's limit that the volumes may take: all but the bytes left for calls.
 fn group_room(limit: u64) -> u64 {
     limit.saturating_sub(limit / 8).saturating_sub(CALL_BYTES)
