@@ -281,7 +281,10 @@ MISSPELT = [
         ("unexpected argument '--jsn' found", "a similar argument exists: '--json'"),
     ),
     (["creat"], ("unrecognized subcommand 'creat'", "a similar subcommand exists: 'create'")),
-    (["volumez"], ("unrecognized subcommand 'volumez'", "some similar subcommands exist: 'volumes', 'volume'")),
+    (
+        ["volumez"],
+        ("unrecognized subcommand 'volumez'", "some similar subcommands exist: 'volumes', 'volume'"),
+    ),
 ]
 
 
