@@ -148,10 +148,30 @@ fn address_space_limit(rt: &HostRuntime) -> Option<u64> {
     None
 }
 
-/// The lowest limit on the memory of the process, in bytes, of its control groups and of its address space;
-/// `None` if the system reports no limit.
+// The number at the beginning of a text, after white space.
+fn number_in(text: &str) -> Option<u64> {
+    text.split_whitespace().next()?.parse().ok()
+}
+
+// The limit in a line of `/proc/self/limits`, if it limits the address space or the data of the process.
+fn limit_of_process(line: &str) -> Option<u64> {
+    if let Some(rest) = line.strip_prefix("Max address space") {
+        return number_in(rest);
+    }
+    number_in(line.strip_prefix("Max data size")?)
+}
+
+/// The lowest limit on the memory of the process, in bytes: of its control groups, its address space and its
+/// data (`ulimit -d`). `None` if the system reports no limit.
 pub(crate) fn memory_limit(rt: &HostRuntime) -> Option<u64> {
-    lower(group_limit(rt), address_space_limit(rt))
+    let mut lowest = group_limit(rt);
+    let Ok(lines) = fs::read_to_string(rt, "/proc/self/limits") else {
+        return lowest;
+    };
+    for line in lines.as_str().lines() {
+        lowest = lower(lowest, limit_of_process(line));
+    }
+    lowest
 }
 
 // The bytes of a control group's limit that the volumes may take: all but the bytes left for calls.
