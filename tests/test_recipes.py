@@ -522,7 +522,7 @@ class KubernetesChangeTest(RecipeTest):
     def test_pod_stays_where_the_check_refuses_the_change(self):
         out, line, status = self.changes(1)
         self.assertEqual((out, status), ("", 4))
-        self.assertIn("pool p1: its volumes have more bytes than it has\n", line)
+        self.assertIn("pool p1: its volumes have more bytes than it has", line)
         self.assertEqual(self.place.control.runs("csid"), self.before)
 
     def test_volumes_of_a_pod_that_serves_are_shown(self):

@@ -102,7 +102,7 @@ type front struct {
 	stop    chan os.Signal
 	// Failures of what takes connections.
 	failed chan error
-	// That nothing was answered by csid. Without --standby it is never said.
+	// That nothing was answered by csid. It is said with --standby alone, and never with --node.
 	silent chan error
 }
 

@@ -25,7 +25,7 @@ const (
 
 // standBy makes the socket once csid is ready, and serves until csid has answered nothing for the
 // time of --standby. An orchestrator's sidecars wait for a missing socket, but end if their first
-// Probe is answered UNAVAILABLE.
+// Probe is answered UNAVAILABLE. With a node plugin the socket exists from the start.
 func (f *front) standBy() int {
 	if err := startMonitor(f.handler, f.asked, f.failed); err != nil {
 		return f.fails(err, noSocket)
