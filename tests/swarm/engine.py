@@ -152,6 +152,6 @@ class Engine:
 
     def kill(self, name):
         """Kills the process of this name, once it runs. Returns its id."""
-        wait(lambda: self.run("pidof", name).returncode == 0, SECONDS, pause=0.05)
         script = "process=$(pidof %s) && kill -KILL $process && echo $process" % name
+        wait(lambda: self.run("pidof", name).returncode == 0, SECONDS, pause=0.05)
         return self.run("sh", "-c", script, check=True).stdout

@@ -3,15 +3,15 @@
 import time
 
 GREETING = "hello"
-# The scope, the sharing and the kind of a volume, and the capability that csid keeps.
+# The scope, the sharing and the kind of a volume, and the access mode that csid keeps.
 FORMS = [
-    ("single", "none", "mount", "mount:SINGLE_NODE_WRITER"),
-    ("single", "readonly", "mount", "mount:SINGLE_NODE_READER_ONLY"),
-    ("single", "onewriter", "mount", "mount:SINGLE_NODE_WRITER"),
-    ("single", "all", "mount", "mount:SINGLE_NODE_WRITER"),
-    ("multi", "readonly", "mount", "mount:MULTI_NODE_READER_ONLY"),
-    ("multi", "onewriter", "block", "block:MULTI_NODE_SINGLE_WRITER"),
-    ("multi", "all", "block", "block:MULTI_NODE_MULTI_WRITER"),
+    ("single", "none", "mount", "SINGLE_NODE_WRITER"),
+    ("single", "readonly", "mount", "SINGLE_NODE_READER_ONLY"),
+    ("single", "onewriter", "mount", "SINGLE_NODE_WRITER"),
+    ("single", "all", "mount", "SINGLE_NODE_WRITER"),
+    ("multi", "readonly", "mount", "MULTI_NODE_READER_ONLY"),
+    ("multi", "onewriter", "block", "MULTI_NODE_SINGLE_WRITER"),
+    ("multi", "all", "block", "MULTI_NODE_MULTI_WRITER"),
 ]
 # What csid refuses: a node may write while others have the file system mounted.
 UNSUPPORTED = [("multi", "onewriter", "mount", None), ("multi", "all", "mount", None)]
@@ -108,9 +108,11 @@ def form_checks(swarm):
     yield "csid has the same", swarm.agree, True
     for name, form in zip(names, FORMS):
         row = swarm.rows()[name]
-        found = row["capabilities"], row["parameters"]
-        yield "%s, with an option" % name, lambda: found, ([form[3]], {"tier": "fast"})
-    swarm.remove(*swarm.volumes())
+        found = [(each["access"], each["mode"]) for each in row["capabilities"]], row["parameters"]
+        yield "%s, with an option" % name, lambda: found, ([form[2:]], {"tier": "fast"})
+    # A volume that is not created stays in the list of Swarm without --force.
+    swarm.remove("--force", *("-".join(form[:3]) for form in UNSUPPORTED))
+    swarm.remove(*names)
     yield "all are removed", swarm.both, ({}, {})
 
 
