@@ -22,6 +22,7 @@ PROGRAMS = {
     "csictl": "crates/csictl/out/csictl",
     "csid-etcd": "go/etcd/out/csid-etcd",
     "front": "go/front/out/front",
+    "node-plugin": "go/node/out/node-plugin",
 }
 
 
