@@ -166,7 +166,7 @@ def value_rows(programs):
                     for option in values
                 }
                 yield "after the options of %s %s" % (name, command), found, {
-                    option: ([], value in ("FILE", "PATH")) for option, value in values.items()
+                    option: ([], value in ("FILE", "PATH", "COPY")) for option, value in values.items()
                 }
 
 

@@ -10,7 +10,7 @@ SUBCOMMANDS = {
     "csid": ["pipe", "serve"],
     "csictl": [
         *["show", "frame", "call", "vectors"],
-        *["volumes", "nodes", "pools", "volume", "create", "publish", "unpublish", "delete"],
+        *["status", "volumes", "nodes", "pools", "volume", "create", "publish", "unpublish", "delete"],
     ],
     "csid-front": [],
     "csid-etcd": [],
