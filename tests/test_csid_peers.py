@@ -3,6 +3,8 @@
 import contextlib
 import os
 import socket
+import subprocess
+import sys
 import threading
 import time
 
@@ -20,6 +22,15 @@ from tests.support.processes import SECONDS, has_ended, run, wait
 from tests.support.rows import CsidTest
 from tests.support.server import IDLE, SLOW, Server
 from tests.support.tables import BLOCK_CAPS, MANY, Tables, next_is
+
+# Sends the same calls over a socket that it has by its number.
+SENDER = """
+import socket, sys
+peer, calls = socket.socket(fileno=int(sys.argv[1])), bytes.fromhex(sys.argv[2]) * 1000
+peer.setblocking(True)
+while True:
+    peer.sendall(calls)
+"""
 
 PREEMPTED = "csid: a connection that kept another one waiting was closed\n"
 
@@ -150,17 +161,22 @@ class PeersTest(CsidTest):
         self.addCleanup(server.end)
         return self.peers.enter_context(server.connect())
 
+    def send_always(self, peer):
+        """Sends calls without a pause, from a process of its own: the test itself would hold up a thread.
+        Returns after the first replies wait to be read, so that csid always has a call to answer.
+        """
+        words = [sys.executable, "-c", SENDER, str(peer.fileno()), frame(PROBE).hex()]
+        sender = subprocess.Popen(words, pass_fds=[peer.fileno()], stderr=subprocess.DEVNULL)
+        self.addCleanup(sender.wait, SECONDS)
+        self.addCleanup(sender.kill)
+        peer.recv(1, socket.MSG_PEEK)
+        time.sleep(0.2)
+
     def test_busy_peer_is_closed_between_two_calls_after_a_minute(self):
         """It always sends calls, and each reply is whole. A peer without others that wait is not closed."""
-
-        def send():
-            with contextlib.suppress(OSError):
-                while True:
-                    busy.sendall(frame(PROBE) * 1000)
-
-        alone, busy = self.connect_alone(), self.connect(frame(PROBE) * 1000)
+        alone, busy = self.connect_alone(), self.connect()
         alone.sendall(frame(PROBE))
-        threading.Thread(target=send, daemon=True).start()
+        self.send_always(busy)
         other, came, begin = self.connect(frame(PROBE)), 0, time.monotonic()
         with contextlib.suppress(OSError):
             while piece := busy.recv(1 << 16):
