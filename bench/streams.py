@@ -1,7 +1,6 @@
-"""Streams of calls for the benches, with the replies that csid must give (docs/PROTOCOL.md,
-docs/MACHINE.md), which are worked out here: over one
-pool of 2^62 bytes without segments, with the volumes v1, v2 .. of 1 MiB in the order of their numbers, and
-the node n1.
+"""Streams of calls for the benches, with the replies that csid must give (docs/PROTOCOL.md, docs/MACHINE.md),
+which are worked out here: over one pool of 2^62 bytes without segments, with the volumes v1, v2 .. of 1 MiB
+in the order of their numbers, and the node n1.
 """
 import contextlib
 import sqlite3
@@ -22,10 +21,7 @@ bytes = %d
 [[node]]
 id = "n1"
 max_volumes = 100000
-""" % (
-    GREATEST_BYTES,
-    POOL_BYTES,
-)
+""" % (GREATEST_BYTES, POOL_BYTES)
 WRITER = bytes.fromhex("0a11 0a08 726561646f6e6c79 1205 66616c7365")
 BLOCK = bytes.fromhex("1a06 0a00 1a020801")
 
@@ -66,9 +62,8 @@ def volume_id(number):
 
 def volume(number):
     """The volume of that number as it is answered: 1 MiB of the pool 'p', without topology."""
-    return part(
-        1, bytes.fromhex("08808040") + part(2, volume_id(number)) + part(3, part(1, b"pool") + part(2, b"p"))
-    )
+    context = part(3, part(1, b"pool") + part(2, b"p"))
+    return part(1, bytes.fromhex("08808040") + part(2, volume_id(number)) + context)
 
 
 def short_name(number):
@@ -90,9 +85,8 @@ def create(number, name=short_name):
 
 
 def publish(number):
-    return call(b"ControllerPublishVolume", part(1, volume_id(number)) + part(2, b"n1") + BLOCK), reply(
-        WRITER
-    )
+    message = part(1, volume_id(number)) + part(2, b"n1") + BLOCK
+    return call(b"ControllerPublishVolume", message), reply(WRITER)
 
 
 def unpublish(number):
@@ -105,22 +99,18 @@ def delete(number):
 
 def capacity(standing):
     """The free bytes while `standing` volumes exist."""
-    return call(b"GetCapacity", b""), reply(
-        b"\x08" + varint(POOL_BYTES - standing * MIB) + part(2, b"\x08" + varint(GREATEST_BYTES))
-    )
+    free = b"\x08" + varint(POOL_BYTES - standing * MIB)
+    return call(b"GetCapacity", b""), reply(free + part(2, b"\x08" + varint(GREATEST_BYTES)))
 
 
 def page(after, entries, last, published=()):
     """A page of volumes that all exist, after the volume of that number, of `last` in all."""
     token = part(2, b"%d" % after) if after else b""
     first, end = after + 1, min(after + entries, last)
-    body = b"".join(
-        part(1, volume(number) + part(2, part(1, b"n1") if number in published else b""))
-        for number in range(first, end + 1)
-    )
-    return call(b"ListVolumes", b"\x08" + varint(entries) + token), reply(
-        body + (part(2, b"%d" % end) if end < last else b"")
-    )
+    body = b"".join(part(1, volume(number) + part(2, part(1, b"n1") if number in published else b""))
+                    for number in range(first, end + 1))
+    more = part(2, b"%d" % end) if end < last else b""
+    return call(b"ListVolumes", b"\x08" + varint(entries) + token), reply(body + more)
 
 
 def probes(count):
@@ -146,14 +136,8 @@ def mix(standing, rounds, with_capacity=True):
         body = b"".join(part(1, volume(other) + part(2, b"")) for other in range(after + 1, standing + 1))
         body += part(1, volume(number) + part(2, part(1, b"n1")))
         listing = call(b"ListVolumes", b"\x08\x0a" + part(2, b"%d" % after)), reply(body)
-        yield from [
-            create(number),
-            publish(number),
-            listing,
-            *[capacity(standing + 1)] * with_capacity,
-            unpublish(number),
-            delete(number),
-        ]
+        yield from [create(number), publish(number), listing, *[capacity(standing + 1)] * with_capacity,
+                    unpublish(number), delete(number)]
 
 
 def asked(calls):
@@ -169,8 +153,6 @@ def fill(csid, config, path, count):
     """Makes a file of tables by csid, and puts `count` volumes into it by the C library of SQLite."""
     subprocess.run([csid, "pipe", "--config", config, "--tables", path], stdin=subprocess.DEVNULL, check=True)
     with contextlib.closing(sqlite3.connect(path)) as database, database:
-        database.executemany(
-            "INSERT INTO volumes VALUES (?, ?, 1048576, 'p', ?, x'')",
-            ((n, "v%d" % n, BLOCK) for n in range(1, count + 1)),
-        )
+        database.executemany("INSERT INTO volumes VALUES (?, ?, 1048576, 'p', ?, x'')",
+                             ((n, "v%d" % n, BLOCK) for n in range(1, count + 1)))
         database.execute("UPDATE meta SET next_number = ?", (count + 1,))

@@ -8,9 +8,8 @@ import re
 
 import streams
 
-STDIN = os.path.join(
-    os.path.dirname(os.path.dirname(os.path.abspath(__file__))), "crates", "test_bytes", "stdin"
-)
+TOP = os.path.dirname(os.path.dirname(os.path.abspath(__file__)))
+STDIN = os.path.join(TOP, "crates", "test_bytes", "stdin")
 BEGIN = "@ codec\n"
 SECTION = "# Hostile messages"
 
@@ -60,8 +59,10 @@ def expand(text, count=0):
         elif first in "([":
             end = closing(text, at + 1)
             inside = text[at + 1 : end]
-            part = expand(inside, count) if first == "(" else None
-            part = streams.varint(len(part)) + part if first == "(" else None
+            part = None
+            if first == "(":
+                part = expand(inside, count)
+                part = streams.varint(len(part)) + part
         elif first == "#":
             end = at + 1
             part = bytes(count >> 6 * place & 63 for place in reversed(range(int(text[end]))))
@@ -100,12 +101,8 @@ MOUNTS = "[1a(12(0a(#3)) 1a(0801))]*80600"
 
 
 def shuffled(count):
-    """Keys of a letter and a sign, a digit or a letter. Their order by bytes differs from the order of their
-    folded letters.
-    """
-    second = [
-        character for character in map(chr, range(33, 127)) if character != '"' and not character.isupper()
-    ]
+    """Keys of a letter and a sign, whose order by bytes is not the order of their folded letters."""
+    second = [it for it in map(chr, range(33, 127)) if it != '"' and not it.isupper()]
     keys = [one + other for other in second for one in "hijklmnopqrstuvwxyzabcdefg"][:count]
     for place, key in enumerate(keys):
         upper = (7 * place + place // 3 + place // 26) % 2 == 0
@@ -118,11 +115,9 @@ MARKED = SEVEN + '[0a(0a("z" #1))]*26'
 LARGE = SEVEN + "[0a(0a(#2))]*2035"
 
 # The reply: a volume of the pool p1, or a refusal.
-VOLUME = (
-    '0a(08808040 12("vol-%d") 1a(0a("pool") 12("p1")) 2a('
-    + SEVEN.replace('"))', '") 1200)')
-    + '0a(0a("h") 12("1"))))'
-)
+VOLUME = ('0a(08808040 12("vol-%d") 1a(0a("pool") 12("p1")) 2a('
+          + SEVEN.replace('"))', '") 1200)')
+          + '0a(0a("h") 12("1"))))')
 NO_ROOM = (8, "no room in the topology")
 OTHER = (6, "volume exists and is not compatible")
 
@@ -132,56 +127,28 @@ CREATES = [
     ("116,000 preferred of one key", [], NAMED + BLOCK + "3a([12(0a(0a(#3)))]*116000)", 1),
     ("116,000 requisite of one key", [], NAMED + BLOCK + "3a([0a(0a(0a(#3)))]*116000)", NO_ROOM),
     ("262,000 preferred of an empty key", [], NAMED + BLOCK + "3a([12(0a())]*262000)", 1),
-    (
-        "23,000 preferred with seven keys and one more",
-        [],
-        NAMED + BLOCK + "3a([12(" + SEVEN + '0a(0a("z" #3)))]*23000)',
-        1,
-    ),
+    ("23,000 preferred with seven keys and one more", [],
+     NAMED + BLOCK + "3a([12(" + SEVEN + '0a(0a("z" #3)))]*23000)', 1),
     ("5,400 preferred of 32 keys", [], NAMED + BLOCK + "3a([12(" + FEW + ")]*5400)", 1),
     ("5,200 preferred of 33 keys", [], NAMED + BLOCK + "3a([12(" + MARKED + ")]*5200)", 1),
     ("5,200 requisite of 33 keys", [], NAMED + BLOCK + "3a([0a(" + MARKED + ")]*5200)", NO_ROOM),
     ("84 preferred of 2,042 keys", [], NAMED + BLOCK + "3a([12(" + LARGE + ")]*84)", 1),
     ("84 requisite of 2,042 keys", [], NAMED + BLOCK + "3a([0a(" + LARGE + ")]*84)", NO_ROOM),
-    (
-        "5,200 preferred of 33 keys out of order",
-        [],
-        NAMED + BLOCK + "3a([12(" + SEVEN + shuffled(26) + ")]*5200)",
-        1,
-    ),
-    (
-        "700 preferred of 240 keys out of order",
-        [],
-        NAMED + BLOCK + "3a([12(" + SEVEN + shuffled(233) + ")]*700)",
-        1,
-    ),
-    (
-        "100 preferred of 1,700 keys out of order",
-        [],
-        NAMED + BLOCK + "3a([12(" + SEVEN + shuffled(1700) + ")]*100)",
-        1,
-    ),
+    ("5,200 preferred of 33 keys out of order", [],
+     NAMED + BLOCK + "3a([12(" + SEVEN + shuffled(26) + ")]*5200)", 1),
+    ("700 preferred of 240 keys out of order", [],
+     NAMED + BLOCK + "3a([12(" + SEVEN + shuffled(233) + ")]*700)", 1),
+    ("100 preferred of 1,700 keys out of order", [],
+     NAMED + BLOCK + "3a([12(" + SEVEN + shuffled(1700) + ")]*100)", 1),
     ("80,600 mounts", [], NAMED + MOUNTS, 1),
     ("80,600 mounts, again", [NAMED + MOUNTS], NAMED + MOUNTS, 1),
-    (
-        "7,400 mounts of long types, again",
-        [NAMED + "[%s]*7400" % LONG_TYPE],
-        NAMED + "[%s]*7400" % LONG_TYPE,
-        1,
-    ),
+    ("7,400 mounts of long types, again", [NAMED + "[%s]*7400" % LONG_TYPE], NAMED + "[%s]*7400" % LONG_TYPE,
+     1),
     ("131,000 times one block, again", [NAMED + MOUNTS], NAMED + "[%s]*131000" % BLOCK, OTHER),
-    (
-        "116,000 requisite of one key, again",
-        [NAMED + BLOCK],
-        NAMED + BLOCK + "3a([0a(0a(0a(#3)))]*116000)",
-        OTHER,
-    ),
-    (
-        "84 requisite of 2,042 keys, again",
-        [NAMED + BLOCK],
-        NAMED + BLOCK + "3a([0a(" + LARGE + ")]*84)",
-        OTHER,
-    ),
+    ("116,000 requisite of one key, again", [NAMED + BLOCK], NAMED + BLOCK + "3a([0a(0a(0a(#3)))]*116000)",
+     OTHER),
+    ("84 requisite of 2,042 keys, again", [NAMED + BLOCK], NAMED + BLOCK + "3a([0a(" + LARGE + ")]*84)",
+     OTHER),
 ]
 
 

@@ -34,18 +34,11 @@ class Failure(Exception):
 
 class Part:
     """One part that a program uses: its version and licence, its origin, the files with the licence's text,
-    and its own parts.
-    """
+    and its own parts."""
 
     def __init__(self, name, version, licence, source, files, needs=()):
-        self.name, self.version, self.licence, self.source, self.files, self.needs = (
-            name,
-            version,
-            licence,
-            source,
-            files,
-            needs,
-        )
+        self.name, self.version, self.licence, self.source, self.files, self.needs = (name, version, licence,
+                                                                                      source, files, needs)
 
 
 # The Rattle kit.
@@ -100,9 +93,7 @@ def licence_files(folder):
 
 
 def licence_of(files):
-    """The known licence of texts: one, or the choice that Rust crates give. For other sets of texts it is
-    unknown which one applies to which file.
-    """
+    """The licence of texts: one, or the choice that Rust crates give. Of other sets it is unknown."""
     known = [next((short for short, words in TEXTS if words in read(it)), UNKNOWN) for it in files]
     if [os.path.basename(it) for it in files] == ["LICENSE-APACHE", "LICENSE-MIT"]:
         return " OR ".join(known)
@@ -112,11 +103,9 @@ def licence_of(files):
 def source_of(folder, name):
     """What a crate of the kit says that it follows."""
     path = os.path.join(folder, "README.md")
-    found = (
-        re.search(r"Rust crate `%s` (\d[\w.]*\d)" % re.escape(name), read(path))
-        if os.path.isfile(path)
-        else None
-    )
+    found = (re.search(r"Rust crate `%s` (\d[\w.]*\d)" % re.escape(name), read(path))
+             if os.path.isfile(path)
+             else None)
     said = ", which follows the Rust crate %s %s" % (name, found.group(1)) if found else ""
     return "a crate of %s-%s%s" % (*kit_name(), said)
 
@@ -157,26 +146,15 @@ GO = {"csid-front": "go/front", "csid-etcd": "go/etcd"}
 
 def go_folders(program):
     """The folders of the packages that a program in Go is made of, its own left out."""
-    listed = said(
-        os.path.join(TOP, "go", "go"),
-        "list",
-        "-deps",
-        "-f",
-        "{{.Dir}}",
-        ".",
-        cwd=os.path.join(TOP, GO[program]),
-    )
+    listed = said(os.path.join(TOP, "go", "go"), "list", "-deps", "-f", "{{.Dir}}", ".",
+                  cwd=os.path.join(TOP, GO[program]))
     return sorted({os.path.realpath(it) for it in listed.split("\n") if it and not it.startswith(TOP)})
 
 
 def debian_names(folders):
-    """The Debian packages that files of these folders are from. Each folder has sources, and those are in one
-    package.
-    """
-    sources = [
-        os.path.join(it, next(name for name in sorted(os.listdir(it)) if name.endswith((".go", ".s"))))
-        for it in folders
-    ]
+    """The Debian packages of the sources in these folders. Those of a folder are in one package."""
+    sources = [os.path.join(it, next(name for name in sorted(os.listdir(it)) if name.endswith((".go", ".s"))))
+               for it in folders]
     return sorted(
         {line.split(":")[0] for line in said("dpkg-query", "--search", *sources).split("\n") if line}
     )
@@ -193,7 +171,5 @@ def debian_part(name):
 
 
 def go_parts(program):
-    """Debian's packages of the sources that a program in Go is made of: Go's own library, and those that it
-    imports.
-    """
+    """Debian's packages of the sources of a program in Go: Go's own library, and those that it imports."""
     return [debian_part(it) for it in debian_names(go_folders(program))]

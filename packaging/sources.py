@@ -1,13 +1,13 @@
 """The files of the repository."""
 import os
+import pathlib
 
 TOP = os.path.dirname(os.path.dirname(os.path.realpath(__file__)))
 
 
 def read(*path):
     """The text of a file, by its path from the top or from the root."""
-    with open(os.path.join(TOP, *path), encoding="utf-8") as file:
-        return file.read()
+    return pathlib.Path(TOP, *path).read_text(encoding="utf-8")
 
 
 def version():

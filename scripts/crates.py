@@ -5,6 +5,7 @@ gets a folder of its own with links to the files of the crates that it reads, an
 built of them.
 """
 import os
+import pathlib
 import shutil
 
 PARTS = ("src", "specs", "proofs")
@@ -43,8 +44,7 @@ def weight(name):
     for part in PARTS:
         for at, _, names in os.walk(f"crates/{name}/{part}"):
             for it in names:
-                with open(f"{at}/{it}", "rb") as file:
-                    lines += file.read().count(b"\n")
+                lines += pathlib.Path(f"{at}/{it}").read_bytes().count(b"\n")
     return lines
 
 
@@ -69,9 +69,7 @@ def link(source, to):
 
 
 def make_stage(stage, name, lines, uses):
-    """Makes a folder with a crate's line of crates.txt and all that the crate uses, built. Returns where the
-    crate itself belongs.
-    """
+    """Makes a folder with all that a crate uses, built. Returns where the crate itself belongs."""
     room = f"{stage}/crates/{name}"
     os.makedirs(room)
     with open(f"{stage}/crates.txt", "w", encoding="utf-8") as file:

@@ -1,8 +1,8 @@
 """The functions of the crates, by the lines of their sources, and the wrong bodies that are kept:
-scripts/try-edits says what they are.
-"""
+scripts/try-edits says what they are."""
 import collections
 import os
+import pathlib
 import re
 
 HEAD = re.compile(r"( *)(?:pub(?:\([a-z]+\))? )?(?:const )?fn (\w+)")
@@ -29,9 +29,7 @@ def module_of(file):
 
 
 def function_at(file, text, number):
-    """Returns the function that a line of a file is in, its attributes too, or None where it is in none.
-    Lines are counted from 1.
-    """
+    """Returns the function of a line of a file, counted from 1, with its attributes; or None."""
     lines = text.split("\n")
     while number < len(lines) and lines[number - 1].lstrip().startswith("#["):
         number += 1
@@ -68,8 +66,7 @@ def type_at(lines, start, indent):
 def block_name(head):
     """Returns the checker's name of the impl with a head, from the text after the word `impl`: the type, and
     the trait with its arguments, as in `AdoptFaultFromSqlError`; or the type with its arguments, unless these
-    are only the impl's own parameters, as in `Through+MemKeeper+D`.
-    """
+    are only the impl's own parameters, as in `Through+MemKeeper+D`."""
     given, rest = split_brackets(head.strip())
     own = {it.partition(":")[0].strip() for it in parts_of(given)}
     trait, is_of_trait, of = rest.strip().rpartition(" for ")
@@ -134,8 +131,7 @@ class Edit:
 
     def apply(self, texts):
         """Applies its texts to the crate's files, and returns whether each old text was in its file
-        exactly once. Files that are not in `texts` are read.
-        """
+        exactly once. Files that are not in `texts` are read."""
         changed = {}
         for file, old, new in self.pairs:
             text = changed.get(file) or texts.get(file) or read(f"crates/{self.crate}/{file}")
@@ -155,8 +151,7 @@ class Edit:
 
     def functions(self):
         """Returns the functions that it changes, by path, or none where it changes more than functions and
-        their own proofs.
-        """
+        their own proofs."""
         found = {}
         for file, old, _ in self.pairs:
             if file.startswith("proofs/"):
@@ -170,8 +165,7 @@ class Edit:
 
 
 def read(path):
-    with open(path, encoding="utf-8") as file:
-        return file.read()
+    return pathlib.Path(path).read_text(encoding="utf-8")
 
 
 def edits_in(crate):

@@ -19,8 +19,7 @@ def name_of(test):
 
 
 def failed(result):
-    """The names of the tests that failed; an empty list for a failure outside tests, such as a class's setup.
-    """
+    """The names of the tests that failed; empty for a failure outside tests, as of a class's setup."""
     names = {name_of(test) for test, _ in result.failures + result.errors}
     return [] if None in names else sorted(names)
 

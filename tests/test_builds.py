@@ -2,59 +2,19 @@
 
 import contextlib
 import os
+import pathlib
 import shutil
 import signal
 import subprocess
 import sys
 
-from tests.support.processes import TOP, wait
+from tests.support.processes import TOP, fixture, wait
 from tests.support.rows import RowTest
 
 
 # The longest time of a build that proves nothing.
 SECONDS = 60
-CRATES = """# Two are above one, a program is above both, and one is alone.
-low: kit_crate
-left: low
-right: low
-upper : left right
-csid: upper kit_crate
-csictl: upper
-alone:
-"""
-# What rt leaves is a file of the crate's name. It writes down where it was called, how, and what it found
-# there: the crates of crates.txt, those that are built, its own sources, what an earlier call has left, and
-# what comes in.
-RT = """#!/bin/bash
-if [ "$*" = ci ]; then
-  echo "ci" >>"$CALLS"
-  [ "$FAULTY" != csid ] || { echo "3 passed, 1 failed"; exit 1; }
-  mkdir -p crates/csid/out crates/csictl/out
-  echo "4 passed, 0 failed"
-  exit 0
-fi
-name=$(basename "$PWD")
-built=$(cd .. && for it in */out/rlib/*; do [ -e "$it" ] && basename "$it"; done | sort | paste -sd ' ')
-listed=$(sed 's/ *:.*//' ../../crates.txt | sort | paste -sd ' ')
-echo "$name|${*/--jobs=*/}|$listed|$built|$(ls src)|$(ls out 2>/dev/null | paste -sd ' ')|$(cat)" >>"$CALLS"
-[ "$name" != "$FAULTY" ] || { echo "no proof of $name"; exit 1; }
-mkdir -p out/rlib
-echo "$name" >"out/rlib/$name"
-"""
-# What serves on the socket of its words: csid itself, or an rt that runs its sources. It writes down how it
-# was called, and a SIGINT, which is not for it.
-SERVER = """#!/usr/bin/env python3
-import os, signal, socket, sys
-def note(line):
-    with open(os.environ["CALLS"], "a") as calls:
-        calls.write(line + "\\n")
-signal.signal(signal.SIGINT, lambda *_: note("interrupted"))
-note("%s %d" % (" ".join(sys.argv[1:]), os.getpid()))
-served = socket.socket(socket.AF_UNIX)
-served.bind(sys.argv[sys.argv.index("--socket") + 1])
-sys.stderr.write("csid: v.db: volumes 0\\n")
-signal.pause()
-"""
+CRATES, RT, SERVER = [fixture("builds/" + name).decode() for name in ("crates.txt.txt", "rt", "server")]
 # A Probe, and csid's reply to it, worked out from docs/PROTOCOL.md.
 PROBE = b"\x00\x16/csi.v1.Identity/Probe\x00\x00\x00\x00\x00"
 SENT = "sent 00162f6373692e76312e4964656e746974792f50726f62650000000000: /csi.v1.Identity/Probe\n"
@@ -88,8 +48,7 @@ class Place:
 
     def write(self, name, text, mode=0o644):
         os.makedirs(os.path.dirname(self.path(name)), exist_ok=True)
-        with open(self.path(name), "w", encoding="utf-8") as file:
-            file.write(text)
+        pathlib.Path(self.path(name)).write_text(text, encoding="utf-8")
         os.chmod(self.path(name), mode)
 
     def variables(self, rt="bin", faulty=""):
@@ -112,26 +71,18 @@ class Place:
     def run(self, *words, rt="bin", faulty="", typed=""):
         """What a script ends with, and the calls of rt."""
         self.write("calls", "")
-        done = subprocess.run(
-            [sys.executable, *words] if words[0] == "./build" else words,
-            cwd=self.folder,
-            env=self.variables(rt, faulty),
-            input=typed,
-            capture_output=True,
-            text=True,
-            timeout=SECONDS,
-        )
+        done = subprocess.run([sys.executable, *words] if words[0] == "./build" else words, cwd=self.folder,
+                              env=self.variables(rt, faulty), input=typed, capture_output=True, text=True,
+                              timeout=SECONDS)
         with open(self.calls, encoding="utf-8") as file:
             return done.returncode, done.stdout, done.stderr, file.read().splitlines()
 
     def left(self):
         """What a build has left next to the crates' files."""
-        return sorted(
-            "%s/%s" % (os.path.relpath(at, self.folder), it)
-            for at, _, names in os.walk(self.path("crates"))
-            for it in names
-            if "/out" in at
-        )
+        return sorted("%s/%s" % (os.path.relpath(at, self.folder), it)
+                      for at, _, names in os.walk(self.path("crates"))
+                      for it in names
+                      if "/out" in at)
 
 
 def take_sigint():
@@ -147,15 +98,12 @@ def end_group(pid):
 def runs(pid):
     """Whether a process is there that has not ended."""
     try:
-        with open("/proc/%d/stat" % pid) as file:
-            return file.read().rsplit(") ", 1)[1][0] != "Z"
+        return pathlib.Path("/proc/%d/stat" % pid).read_text().rsplit(") ", 1)[1][0] != "Z"
     except FileNotFoundError:
         return False
 
 
 class BuildsTest(RowTest):
-    """./build and ./run with an rt that is played, over crates that have nothing in them."""
-
     def setUp(self):
         super().setUp()
         self.place = Place(self.folder)
@@ -214,11 +162,8 @@ class BuildsTest(RowTest):
         self.assertEqual(self.place.run("./build", faulty="csid")[::3], (1, ["ci"]))
         no_kit = "'rt' is not on the PATH: the Rattle toolchain is needed (README.md, 'Build, run, test')\n"
         for script in ["build", "run"]:
-            self.check(
-                "./%s without the kit" % script,
-                self.place.run("./" + script, rt="none"),
-                (1, "", "%s: %s" % (script, no_kit), []),
-            )
+            self.check("./%s without the kit" % script, self.place.run("./" + script, rt="none"),
+                       (1, "", "%s: %s" % (script, no_kit), []))
 
     def test_run(self):
         """The built program is run if no source is newer, otherwise the sources."""
@@ -227,20 +172,15 @@ class BuildsTest(RowTest):
         for path in ["crates.txt", "crates/low/src/lib.rt", "crates/csid/src/main.rt"]:
             for seconds, is_built in [(-10, True), (10, False)]:
                 date = os.stat(program).st_mtime + seconds
-                for other in [
-                    os.path.join(at, it)
-                    for at, _, names in os.walk(self.place.path("crates"))
-                    for it in names
-                    if "/out" not in at
-                ] + [self.place.path("crates.txt")]:
+                for other in [os.path.join(at, it)
+                              for at, _, names in os.walk(self.place.path("crates"))
+                              for it in names
+                              if "/out" not in at] + [self.place.path("crates.txt")]:
                     os.utime(other, (date - 20, date - 20))
                 os.utime(self.place.path(path), (date, date))
                 _, out, error, calls = self.place.run("./run", "serve", "x")
-                self.check(
-                    "%s %+d s" % (path, seconds),
-                    (out, len(calls)),
-                    ("csid serve x\n", 0) if is_built else ("", 1),
-                )
+                self.check("%s %+d s" % (path, seconds), (out, len(calls)),
+                           ("csid serve x\n", 0) if is_built else ("", 1))
                 if not is_built:
                     self.check("it is said", "not proved" in error, True)
                     words = "try --seconds 1000000000 -- serve x"
@@ -248,25 +188,16 @@ class BuildsTest(RowTest):
 
     def test_probe(self):
         """Without words ./run shows the call and the reply."""
-        with open(self.place.path("crates/csid/stdin"), "wb") as file:
-            file.write(PROBE)
+        pathlib.Path(self.place.path("crates/csid/stdin")).write_bytes(PROBE)
         for reply, wanted in REPLIES:
             self.place.build("#!/bin/sh\ncmp - crates/csid/stdin && printf '%s'\n" % reply)
-            done = subprocess.run(
-                ["./run"],
-                cwd=self.folder,
-                env=self.place.variables(),
-                stdin=subprocess.DEVNULL,
-                capture_output=True,
-                text=True,
-                timeout=SECONDS,
-            )
+            done = subprocess.run(["./run"], cwd=self.folder, env=self.place.variables(),
+                                  stdin=subprocess.DEVNULL, capture_output=True, text=True, timeout=SECONDS)
             self.check("the reply %r" % reply, (done.stdout, done.returncode), (SENT + wanted, 0))
 
     def test_serve(self):
         """./run serve says when csid serves, and ends it and removes its socket by SIGINT to all processes,
-        as a terminal gives it, and by SIGTERM to itself.
-        """
+        as a terminal gives it, and by SIGTERM to itself."""
         words = ["serve", "--socket", "a.sock", "--tables", "v.db", "--idle", "60"]
         whole = ["serve", "--socket", self.place.path("a.sock"), "--tables", self.place.path("v.db")]
         tried = "try --seconds 1000000000 -- %s --idle 60" % " ".join(whole)
@@ -282,16 +213,9 @@ class BuildsTest(RowTest):
         what = "%s, by %s" % ("the program" if is_built else "the sources", number.name)
         self.place.write("calls", "")
         with open(self.place.path("said"), "w+") as said:
-            run = subprocess.Popen(
-                ["./run", *words],
-                cwd=self.folder,
-                env=self.place.variables(),
-                stdin=subprocess.DEVNULL,
-                stdout=subprocess.DEVNULL,
-                stderr=said,
-                start_new_session=True,
-                preexec_fn=take_sigint,
-            )
+            run = subprocess.Popen(["./run", *words], cwd=self.folder, env=self.place.variables(),
+                                   stdin=subprocess.DEVNULL, stdout=subprocess.DEVNULL, stderr=said,
+                                   start_new_session=True, preexec_fn=take_sigint)
             self.addCleanup(end_group, run.pid)
 
             def lines():
@@ -305,8 +229,7 @@ class BuildsTest(RowTest):
             (os.killpg if number == signal.SIGINT else os.kill)(run.pid, number)
             self.check("its status: " + what, run.wait(SECONDS), 0)
             self.check("its last line: " + what, lines()[-1], "run: ended; %s is removed" % socket)
-        with open(self.place.calls) as calls:
-            call, _, pid = calls.read().rstrip("\n").rpartition(" ")
+        call, _, pid = pathlib.Path(self.place.calls).read_text().rstrip("\n").rpartition(" ")
         self.check("how it was called: " + what, call, asked)
         self.check("nothing is left: " + what, (os.path.exists(socket), runs(int(pid))), (False, False))
 

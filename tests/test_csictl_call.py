@@ -10,23 +10,12 @@ import sys
 import threading
 import time
 
-from tests.support.csictl import (
-    CREATE,
-    EXISTS,
-    IDENTITY,
-    Line,
-    READY,
-    Server,
-    VOL_1,
-    call,
-    ok,
-    refusal,
-    run,
-    text,
-)
+from tests.support.csictl import (CREATE, EXISTS, IDENTITY, Line, READY, Server, VOL_1, call, ok, refusal,
+                                  run, text)
+from tests.support.data import tables
 from tests.support.peers import CLOSED, RESET, SILENT, Peer
 from tests.support.processes import SECONDS, copy_for_nobody
-from tests.support.rows import CsictlTest
+from tests.support.rows import CsictlTest, each
 
 
 # Begins a call, says so, and waits.
@@ -44,87 +33,13 @@ time.sleep(60)
 CUT_SHORT, GARBAGE = READY[:5], b"HTTP/1.1 400 Bad Request\r\n"
 # Heads of frames of HTTP/2 on stream 0: SETTINGS with one setting, as grpc-go begins, and without one (RFC
 # 9113, 4.1 and 6.5).
-SETTINGS, NO_SETTINGS = (
-    bytes.fromhex("000006 04 00 00000000 000500004000"),
-    bytes.fromhex("000000 04 00 00000000"),
-)
-OTHER_SOCKET = ": a gRPC socket (HTTP/2): give the socket of csid, or the one that the front has by --control"
-NO_REPLY, NOT_READ, LATE, AT_BYTE_5 = (
-    "closed without a reply",
-    "a read failed",
-    "no reply within the time of --timeout",
-    "end of input at byte 5",
-)
+SETTINGS, NO_SETTINGS = (bytes.fromhex("000006 04 00 00000000 000500004000"),
+                         bytes.fromhex("000000 04 00 00000000"))
+NO_REPLY, NOT_READ, LATE, AT_BYTE_5 = ("closed without a reply", "a read failed",
+                                       "no reply within the time of --timeout", "end of input at byte 5")
 SHOWN = "0 OK 0a020801\nready true\n"
-STORE_REFUSED = refusal(13, "store refused")
 
-# Each row: what it shows, words, what the server does on each connection, standard output, the reasons of the
-# further tries, the last line on standard error (of the socket, where a colon leads it), status. A connection
-# more than these is none: the row fails.
-TRIED = [
-    ("answered at once", ["--tries", "5"], [READY], SHOWN, [], "", 0),
-    (
-        "as many tries and seconds as there can be",
-        ["--tries", "10", "--timeout", "86400"],
-        [READY],
-        SHOWN,
-        [],
-        "",
-        0,
-    ),
-    ("without --tries once", [], [CLOSED], "", [], ": closed without a reply", 5),
-    ("once", ["--tries", "1"], [CLOSED], "", [], ": closed without a reply", 5),
-    ("closed twice", ["--tries", "3"], [CLOSED, CLOSED, READY], SHOWN, [NO_REPLY, NO_REPLY], "", 0),
-    (
-        "each fault once",
-        ["--tries", "4"],
-        [CLOSED, CUT_SHORT, RESET, READY],
-        SHOWN,
-        [NO_REPLY, AT_BYTE_5, NOT_READ],
-        "",
-        0,
-    ),
-    (
-        "closed each time",
-        ["--tries", "3"],
-        [CLOSED, CLOSED, CLOSED],
-        "",
-        [NO_REPLY, NO_REPLY],
-        ": closed without a reply",
-        5,
-    ),
-    ("at last cut short", ["--tries", "2"], [CLOSED, CUT_SHORT], "", [NO_REPLY], "end of input at byte 5", 3),
-    ("at last reset", ["--tries", "2"], [CUT_SHORT, RESET], "", [AT_BYTE_5], ": a read failed", 5),
-    (
-        "a refusal is an answer",
-        ["--tries", "5"],
-        [refusal(6, EXISTS)],
-        "6 ALREADY_EXISTS %s\n" % EXISTS,
-        [],
-        "",
-        1,
-    ),
-    ("so is a refusal inside", ["--tries", "5"], [STORE_REFUSED], "13 INTERNAL store refused\n", [], "", 1),
-    (
-        "so it is after a try",
-        ["--tries", "5"],
-        [RESET, STORE_REFUSED],
-        "13 INTERNAL store refused\n",
-        [NOT_READ],
-        "",
-        1,
-    ),
-    ("so is what is no reply", ["--tries", "5"], [GARBAGE], "", [], "bad status at byte 0", 3),
-    ("so is how a gRPC server begins", ["--tries", "5"], [SETTINGS], "", [], OTHER_SOCKET, 3),
-    ("so is the shortest such begin", ["--tries", "5"], [NO_SETTINGS], "", [], OTHER_SOCKET, 3),
-    ("another frame of HTTP/2", [], [bytes.fromhex("000004 03 00")], "", [], "bad text length at byte 1", 3),
-    ("a longer one", [], [bytes.fromhex("000106 04 00")], "", [], "bad text length at byte 1", 3),
-    ("less than its head", [], [bytes.fromhex("000006")], "", [], "bad text length at byte 1", 3),
-    ("another flag", [], [bytes.fromhex("000000 01 00")], "", [], "bad flag at byte 3", 3),
-    ("a reply in time", ["--timeout", "10"], [READY], SHOWN, [], "", 0),
-    ("silent", ["--timeout", "1"], [SILENT], "", [], ": no reply within the time of --timeout", 5),
-    ("silent, then not", ["--tries", "2", "--timeout", "3"], [SILENT, READY], SHOWN, [LATE], "", 0),
-]
+ROWS = tables("csictl_call", globals())
 
 
 def waits(path):
@@ -139,8 +54,6 @@ PROBE = call(IDENTITY + "Probe", "")
 
 
 class CallTest(CsictlTest):
-    """`csictl call`."""
-
     def call(self, path, *words, **how):
         """What csictl shows of a call to a socket."""
         return text(run([self.csictl, "call", "--socket", path, "--method", *words], input=b"", **how))
@@ -307,15 +220,14 @@ class PeerTest(CallTest):
     def test_bytes_after_the_reply_are_ignored(self):
         self.assertEqual(self.ask_pieces(READY + b"\x01\x02\x03"), (SHOWN, "", 0))
 
-    def test_fault_of_the_reply_is_reported(self):
-        for name, pieces, out, error, status in [
-            ("closed without a reply", [], "", "csictl: PATH: closed without a reply\n", 5),
-            ("cut short", [READY[:5]], "", "csictl: end of input at byte 5\n", 3),
-            ("malformed", [GARBAGE], "", "csictl: bad status at byte 0\n", 3),
-            ("a body that is no response", [ok("0a")], "0 OK 0a\n", Line("csictl: "), 3),
-        ]:
-            with self.subTest(name=name):
-                self.assertEqual(self.ask_pieces(*pieces), (out, error, status))
+    @each([
+        ("closed without a reply", [], "", "csictl: PATH: closed without a reply\n", 5),
+        ("cut short", [READY[:5]], "", "csictl: end of input at byte 5\n", 3),
+        ("malformed", [GARBAGE], "", "csictl: bad status at byte 0\n", 3),
+        ("a body that is no response", [ok("0a")], "0 OK 0a\n", Line("csictl: "), 3),
+    ])
+    def test_fault_of_the_reply_is_reported(self, name, pieces, out, error, status):
+        self.assertEqual(self.ask_pieces(*pieces), (out, error, status))
 
     def test_connection_that_is_closed_before_the_call_is_read_is_reported(self):
         """The close resets the connection."""
@@ -388,10 +300,8 @@ class PlaceTest(CallTest):
         path = self.serve().path
         csid = "ln -s %s /run/csid/csid.sock" % path
         control = "mkdir /run/csid-front && ln -s %s /run/csid-front/control.sock" % path
-        neither = (
-            "csictl: no socket: give --socket PATH, or CSID_SOCKET in the environment; neither"
-            " /run/csid-front/control.sock nor /run/csid/csid.sock exists\n"
-        )
+        neither = ("csictl: no socket: give --socket PATH, or CSID_SOCKET in the environment; neither"
+                   " /run/csid-front/control.sock nor /run/csid/csid.sock exists\n")
         absent = "csictl: no.sock: No such file or directory (os error 2)\n"
         for name, made, variable, wanted in [
             ("none", "true", "", ("", neither, 2)),
@@ -423,22 +333,19 @@ LARGE = [
 class TriesTest(CallTest):
     """A call that is tried again, or whose time is over."""
 
-    def test_call_is_tried_as_often_as_asked(self):
-        for name, words, deeds, out, reasons, last, status in TRIED:
-            with self.subTest(name=name):
-                peer = Peer(self.folder, deeds)
-                came = self.call(peer.path, "Probe", *words)
-                error = "".join(
-                    "csictl: %s: %s: try %d of %s\n" % (peer.path, why, turn, words[1])
-                    for turn, why in enumerate(reasons, 2)
-                )
-                if last:
-                    error += "csictl: %s%s\n" % (peer.path if last.startswith(":") else "", last)
-                self.assertEqual(came, (out, error, status))
-                self.assertEqual(peer.end(), [PROBE] * len(deeds))
-                # Half of each pause is fixed: 50 ms, and twice as much after each try.
-                for turn, pause in enumerate(peer.pauses()):
-                    self.assertGreaterEqual(pause, 0.05 * (1 << turn))
+    @each(ROWS["TRIED"])
+    def test_call_is_tried_as_often_as_asked(self, name, words, deeds, out, reasons, last, status):
+        peer = Peer(self.folder, deeds)
+        came = self.call(peer.path, "Probe", *words)
+        error = "".join("csictl: %s: %s: try %d of %s\n" % (peer.path, why, turn, words[1])
+                        for turn, why in enumerate(reasons, 2))
+        if last:
+            error += "csictl: %s%s\n" % (peer.path if last.startswith(":") else "", last)
+        self.assertEqual(came, (out, error, status))
+        self.assertEqual(peer.end(), [PROBE] * len(deeds))
+        # Half of each pause is fixed: 50 ms, and twice as much after each try.
+        for turn, pause in enumerate(peer.pauses()):
+            self.assertGreaterEqual(pause, 0.05 * (1 << turn))
 
     def test_missing_socket_is_tried_again(self):
         path = os.path.join(self.folder, "nobody.sock")

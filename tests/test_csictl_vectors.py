@@ -4,7 +4,7 @@ import os
 
 from tests.support.csictl import IDENTITY, Line, READY, call, run, text
 from tests.support.processes import write
-from tests.support.rows import CsictlTest
+from tests.support.rows import CsictlTest, each
 
 PROBE, ANSWER = call(IDENTITY + "Probe", "").hex(), READY.hex()
 # Each row: what it shows, the file, standard output, the line that is no vector, the status.
@@ -27,19 +27,16 @@ ROWS = [
 
 
 class VectorsTest(CsictlTest):
-    """`csictl vectors`."""
-
     def setUp(self):
         super().setUp()
         self.path = os.path.join(self.folder, "vectors")
 
-    def test_each_vector_has_a_line(self):
-        for name, content, out, number, status in ROWS:
-            with self.subTest(name=name):
-                write(self.path, content if isinstance(content, bytes) else content.encode())
-                error = "csictl: %s: line %d is no vector\n" % (self.path, number) if number else ""
-                came = run([self.csictl, "vectors", self.path], input=b"")
-                self.assertEqual(text(came), (out, error, status))
+    @each(ROWS)
+    def test_each_vector_has_a_line(self, name, content, out, number, status):
+        write(self.path, content if isinstance(content, bytes) else content.encode())
+        error = "csictl: %s: line %d is no vector\n" % (self.path, number) if number else ""
+        came = run([self.csictl, "vectors", self.path], input=b"")
+        self.assertEqual(text(came), (out, error, status))
 
     def test_full_output_is_reported(self):
         write(self.path, b"none - -\n")

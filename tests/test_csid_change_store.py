@@ -11,7 +11,6 @@ import os
 import resource
 import socket
 import subprocess
-import tempfile
 import threading
 import time
 from unittest import mock
@@ -19,8 +18,10 @@ from unittest import mock
 from tests.support import change_stores
 from tests.support.change_stores import COMMIT, MAKE, OK, READ, KeptChangeStore, meta, page
 from tests.support.configs import LARGE_POOL
-from tests.support.processes import SECONDS, wait, write
-from tests.support.rows import CsidTest
+from tests.support.data import tables
+from tests.support.processes import SECONDS, wait
+from tests.support.rows import CsidTest, each
+from tests.support.server import Served, received
 from tests.vectors import messages as v
 
 
@@ -74,7 +75,7 @@ def commit(*parts):
     return COMMIT, b"".join(parts)
 
 
-class Server:
+class Server(Served):
     """csid on a socket over a played log."""
 
     def __init__(self, csid, folder, *replies, words=(), log=PlayedStore):
@@ -82,35 +83,12 @@ class Server:
         self.log = log(self.log_path)
         if replies:
             self.log.replies += replies
-        self.said = tempfile.TemporaryFile()
-        self.process = subprocess.Popen(
-            [csid, "serve", "--socket", self.path, "--log", self.log_path, *words],
-            stdin=subprocess.DEVNULL,
-            stdout=subprocess.DEVNULL,
-            stderr=self.said,
-        )
-        assert wait(
-            lambda: self.lines().count("\n") >= 1 or self.process.poll() is not None
-        ), "csid says nothing"
-
-    def connect(self):
-        peer = socket.socket(socket.AF_UNIX)
-        peer.settimeout(SECONDS)
-        peer.connect(self.path)
-        return peer
-
-    def ask(self, *calls):
-        """All that comes back for calls on a connection of their own."""
-        with self.connect() as peer:
-            try:
-                peer.sendall(b"".join(calls))
-                peer.shutdown(socket.SHUT_WR)
-                return received(peer)
-            except (BrokenPipeError, ConnectionResetError):
-                return b""
+        self.begin([csid, "serve", "--socket", self.path, "--log", self.log_path, *words],
+                   stdout=subprocess.DEVNULL)
+        assert wait(lambda: self.lines() or self.process.poll() is not None), "csid says nothing"
 
     def lines(self):
-        return os.pread(self.said.fileno(), 1 << 20, 0).decode().replace(self.log_path, "LOG")
+        return super().lines().replace(self.log_path, "LOG")
 
     def end(self):
         """Ends csid and the change store. Returns what csid wrote."""
@@ -122,119 +100,31 @@ class Server:
         return self.lines()
 
 
-def received(peer):
-    replies = b""
-    try:
-        while piece := peer.recv(1 << 16):
-            replies += piece
-    except ConnectionResetError:
-        pass
-    return replies
-
-
 def has(volumes, attachments, number):
-    return "csid: LOG: volumes %d, attachments %d, next number %d, format 2\n" % (
-        volumes,
-        attachments,
-        number,
-    )
+    counts = volumes, attachments, number
+    return "csid: LOG: volumes %d, attachments %d, next number %d, format 2\n" % counts
 
 
 MODE = v.num(1, 1)
 CREATE = v.create(v.txt(1, "a"), v.unhex("1a060a001a020801"))
-MADE = v.reply(
-    v.unhex("0a24 08808040 1205 766f6c2d31 1a0a 0a04706f6f6c 12027031 2a0b 0a09 0a047a6f6e65 120161")
-)
-PUBLISH = v.publish(v.txt(1, "vol-1"), v.txt(2, "n1"), v.unhex("1a060a001a020801"))
+MADE = v.CREATED
 NO_STORE, DOWN = v.refusal(13, "store refused"), v.refusal(13, "store is down")
-# A volume with parameters and mutable parameters, that was asked for by two capabilities.
-RICH = v.create(
-    v.txt(1, "rich"),
-    v.msg(2, v.num(1, 3 * MIB)),
-    v.msg(3, v.msg(2, v.txt(1, "ext4")), v.msg(3, MODE)),
-    v.msg(3, v.msg(1), v.msg(3, MODE)),
-    v.entry(4, "k", "v"),
-    v.entry(8, "m", "w"),
-)
-RICH_ROW = [
-    v.num(1, 2),
-    v.txt(2, "rich"),
-    v.num(3, 3 * MIB),
-    v.txt(4, "p1"),
-    v.msg(5, BLOCK, MOUNT),
-    v.msg(6, v.unhex("22060a016b120176 42060a016d120177")),
-]
+RICH_ROW = [v.num(1, 2), v.txt(2, "rich"), v.num(3, 3 * MIB), v.txt(4, "p1"), v.msg(5, BLOCK, MOUNT),
+            v.msg(6, v.unhex("22060a016b120176 42060a016d120177"))]
 # A create longer than the buffer of a socket that is not read. It is given up after a piece that was sent in
 # part, and a piece that was not sent.
-LARGE = v.create(
-    v.txt(1, "large"), *[v.msg(3, v.msg(2, v.txt(1, "%06d" % it)), v.msg(3, MODE)) for it in range(20_000)]
-)
-UNKNOWN = (
-    "csid: LOG: a change was refused by the change store, or nobody knows of it, or there was no memory; from"
-    " then on the connection was answered that the store is down\n"
-)
+LARGE = v.create(v.txt(1, "large"),
+                 *[v.msg(3, v.msg(2, v.txt(1, "%06d" % it)), v.msg(3, MODE)) for it in range(20_000)])
+UNKNOWN = ("csid: LOG: a change was refused by the change store, or nobody knows of it, or there was no"
+           " memory; from then on the connection was answered that the store is down\n")
 ADDED = commit(v.msg(1, v.num(1, 1), v.txt(2, "a"), v.num(3, MIB), v.txt(4, "p1"), v.msg(5, BLOCK), v.msg(6)))
-
-NOT_HELD = (
-    "csid: LOG: there was no memory for a change that was made; from then on the connection was answered that"
-    " the store refused its calls\n"
-)
-
-# Each row: what it shows, the rows before it, calls, what the log is asked for, how many of the replies are
-# OK.
-CHANGES = [
-    ("a volume is added", [], [CREATE], [ADDED]),
-    ("a volume that stands is not added again", [], [CREATE, CREATE], [ADDED]),
-    ("a volume with all that it may have", [meta(2), volume(1, "a")], [RICH], [commit(v.msg(1, *RICH_ROW))]),
-    (
-        "a volume is removed",
-        [meta(2), volume(1, "a")],
-        [v.delete(v.txt(1, "vol-1"))],
-        [commit(v.msg(2, v.num(1, 1)))],
-    ),
-    (
-        "a volume that does not stand is not removed",
-        [meta(2), volume(1, "a")],
-        [v.delete(v.txt(1, "vol-2"))],
-        [],
-    ),
-    (
-        "a volume is attached",
-        [meta(2), volume(1, "a")],
-        [PUBLISH],
-        [commit(v.msg(3, v.num(1, 1), v.txt(2, "n1"), v.msg(3, BLOCK), v.num(4, 0)))],
-    ),
-    (
-        "a volume is attached for reading only",
-        [meta(2), volume(1, "a", caps=v.unhex("1a060a001a020803"))],
-        [v.publish(v.txt(1, "vol-1"), v.txt(2, "n2"), v.unhex("1a060a001a020803"), v.num(4, 1))],
-        [commit(v.msg(3, v.num(1, 1), v.txt(2, "n2"), v.msg(3, v.unhex("1a060a001a020803")), v.num(4, 1)))],
-    ),
-    (
-        "a volume is detached at a node",
-        [meta(2), volume(1, "a"), attachment(1, "n1")],
-        [v.unpublish(v.txt(1, "vol-1"), v.txt(2, "n1"))],
-        [commit(v.msg(4, v.num(1, 1), v.txt(2, "n1")))],
-    ),
-    (
-        "a volume is detached at all nodes",
-        [meta(2), volume(1, "a"), attachment(1, "n1")],
-        [v.unpublish(v.txt(1, "vol-1"))],
-        [commit(v.msg(5, v.num(1, 1)))],
-    ),
-    (
-        "mutable parameters are set",
-        [meta(2), volume(1, "a", params=v.unhex("22060a016b120176 42060a016d120177"))],
-        [v.modify(v.txt(1, "vol-1"), v.entry(3, "n", "x"))],
-        [commit(v.msg(6, v.num(1, 1), v.msg(2, v.unhex("42060a016d120177 42060a016e120178"))))],
-    ),
-]
+NOT_HELD = ("csid: LOG: there was no memory for a change that was made; from then on the connection was"
+            " answered that the store refused its calls\n")
 
 
 class DeafStore(PlayedStore):
     """A log that answers a read of its rows and whether it leads, and then reads nothing: a short change goes
-    out, and has no reply.
-    """
+    out, and has no reply."""
 
     def __init__(self, path):
         self.over = threading.Event()
@@ -279,12 +169,9 @@ def stalled(csid, folder, log, call):
 def nobody(csid, folder):
     """csid over a socket that does not exist: it goes on, and answers no call."""
     path = os.path.join(folder, "csid.sock")
-    process = subprocess.Popen(
-        [csid, "serve", "--socket", path, "--log", os.path.join(folder, "none"), "--connections", "1"],
-        stdin=subprocess.DEVNULL,
-        stdout=subprocess.DEVNULL,
-        stderr=subprocess.DEVNULL,
-    )
+    process = subprocess.Popen([csid, "serve", "--socket", path, "--log", os.path.join(folder, "none"),
+                                "--connections", "1"], stdin=subprocess.DEVNULL, stdout=subprocess.DEVNULL,
+                               stderr=subprocess.DEVNULL)
     with socket.socket(socket.AF_UNIX) as peer:
         peer.settimeout(SECONDS)
         wait(lambda: peer.connect_ex(path) == 0)
@@ -295,104 +182,11 @@ def nobody(csid, folder):
     return came, status
 
 
-# Each row: the fault, the pages of the change store, the line.
-MALFORMED = "its rows are malformed"
-KIND = "volume 1: a value is not of the kind of its column"
-REFUSED = [
-    ("a malformed reply", [v.unhex("01")], "bad status at byte 0"),
-    ("a malformed body", [v.reply(v.unhex("0b"))], MALFORMED),
-    ("a malformed row", [v.reply(v.msg(2, v.unhex("08")))], MALFORMED),
-    ("a number from 2^63 on", [page(meta(1), volume(1 << 63, "a"))], MALFORMED),
-    ("a name that is a number", [page(meta(1), v.msg(2, v.num(1, 1), v.num(2, 7)))], MALFORMED),
-    ("a number twice", [page(meta(3), volume(1, "a"), volume(1, "b"))], "volume 1: UNIQUE constraint failed"),
-    ("a name twice", [page(meta(3), volume(1, "a"), volume(2, "a"))], "volume 2: UNIQUE constraint failed"),
-    (
-        "an attachment twice",
-        [page(meta(3), volume(1, "a"), attachment(1, "n1"), attachment(1, "n1"))],
-        "volume 1: UNIQUE constraint failed",
-    ),
-    ("no row of meta", [page(volume(1, "a"))], "meta has no row with the number of a format"),
-    (
-        "the first format",
-        [page(meta(2, 1), volume(1, "a"))],
-        "its rows have format 1, and a change store has those of format 2",
-    ),
-    ("a later format", [page(meta(2, 3))], "the tables have format 3, and the latest known is 2"),
-    ("a name that is no text", [page(meta(2), volume(1, b"\xff"))], KIND),
-    ("a pool that is no text", [page(meta(2), volume(1, "a", pool=b"\xff"))], KIND),
-    ("a node that is no text", [page(meta(2), volume(1, "a"), attachment(1, b"\xff"))], KIND),
-    ("a row of meta that is no message", [page(v.num(1, 1))], MALFORMED),
-    ("a token that no message holds", [page(meta(1), token=b"t" * MIB)], "the database refused a read"),
-    ("a next number of 0", [page(meta(0))], "the next number is not 1 to 2^62"),
-    (
-        "a number that was not given yet",
-        [page(meta(2), volume(2, "a"))],
-        "volume 2: its number is not from 1 to below the next number",
-    ),
-    (
-        "an unknown pool",
-        [page(meta(2), volume(1, "a", pool="p3"))],
-        "volume 1: its pool is not one of the configuration",
-    ),
-    (
-        "a pool that is overcommitted",
-        [page(meta(4), volume(1, "a", 8 * MIB), volume(2, "b", 8 * MIB))],
-        "pool p1: its volumes have more bytes than it has",
-    ),
-    (
-        "no capabilities",
-        [page(meta(2), volume(1, "a", caps=b""))],
-        "volume 1: its caps are not the bytes of supported capabilities in order",
-    ),
-    (
-        "malformed parameters",
-        [page(meta(2), volume(1, "a", params=v.unhex("0a0161")))],
-        "volume 1: its params are not the bytes of parameters of at most 4096 bytes",
-    ),
-    (
-        "an attachment without a capability",
-        [page(meta(2), volume(1, "a"), attachment(1, "n1", b""))],
-        "volume 1 at node n1: its cap is not the bytes of one supported capability",
-    ),
-    (
-        "a readonly of 2",
-        [page(meta(2), volume(1, "a"), attachment(1, "n1", readonly=2))],
-        "volume 1 at node n1: its readonly is not 0 or 1",
-    ),
-    (
-        "an unknown node",
-        [page(meta(2), volume(1, "a"), attachment(1, "n9"))],
-        "volume 1 at node n9: its node is not one of the configuration",
-    ),
-    (
-        "an attachment of no volume",
-        [page(meta(2), attachment(1, "n1"))],
-        "volume 1 at node n1: no volume of its number has its capability",
-    ),
-    (
-        "two writers",
-        [page(meta(2), volume(1, "a"), attachment(1, "n1"), attachment(1, "n2"))],
-        "volume 1 at node n2: the volume is attached at another node too, and the two cannot have it"
-        " together",
-    ),
-    (
-        "a node that is full",
-        [
-            page(
-                meta(4),
-                *[volume(it, str(it)) for it in (1, 2, 3)],
-                *[attachment(it, "n1") for it in (1, 2, 3)],
-            )
-        ],
-        "node n1: more volumes are attached there than it can have",
-    ),
-]
+ROWS = tables("csid_change_store", globals())
 NO_LEAD = "csid: the change store does not lead any more\n"
 
 
 class PlayedTest(CsidTest):
-    """`csid serve --log` over a change store that is played."""
-
     def serve(self, *replies, **how):
         server = Server(self.csid, self.folder, *replies, **how)
         self.addCleanup(server.end)
@@ -400,14 +194,10 @@ class PlayedTest(CsidTest):
 
 
 class StartTest(PlayedTest):
-    """What csid reads at its start, in pages, and what it says of it."""
-
     def serve_three_pages(self):
-        return self.serve(
-            page(meta(9), volume(1, "a"), token=b"one"),
-            page(volume(3, "c", pool="p2"), token=b"\xff\0"),
-            page(attachment(1, "n1"), attachment(3, "n1")),
-        )
+        return self.serve(page(meta(9), volume(1, "a"), token=b"one"),
+                          page(volume(3, "c", pool="p2"), token=b"\xff\0"),
+                          page(attachment(1, "n1"), attachment(3, "n1")))
 
     def test_empty_log_is_given_its_first_row(self):
         server = self.serve(page(), OK)
@@ -457,8 +247,7 @@ class StartTest(PlayedTest):
 
 class RefusedStartTest(PlayedTest):
     """A change store that is missing or refuses its rows: csid closes the connection without a reply, and
-    tries again for the next one.
-    """
+    tries again for the next one."""
 
     def waiting(self, holder):
         text = "waiting for the lock, which %s holds" % holder
@@ -480,12 +269,11 @@ class RefusedStartTest(PlayedTest):
         self.assertEqual(server.ask(v.probe()), b"")
         self.assertEqual(server.end(), of_n2 + of_n3 + of_n2 + has(0, 0, 1) + of_n2)
 
-    def test_rows_that_are_no_volumes_are_refused(self):
-        for name, replies, line in REFUSED:
-            with self.subTest(name=name):
-                server = self.serve(*replies)
-                came = server.ask(v.probe())
-                self.assertEqual((came, server.end().split("\n")[0]), (b"", "csid: LOG: " + line))
+    @each(ROWS["REFUSED"])
+    def test_rows_that_are_no_volumes_are_refused(self, name, replies, line):
+        server = self.serve(*replies)
+        came = server.ask(v.probe())
+        self.assertEqual((came, server.end().split("\n")[0]), (b"", "csid: LOG: " + line))
 
     def test_missing_socket_of_the_store_is_no_reason_to_end(self):
         self.assertEqual(nobody(self.csid, self.folder), (b"", 0))
@@ -494,16 +282,15 @@ class RefusedStartTest(PlayedTest):
 class ChangeTest(PlayedTest):
     """How csid sends a change to the change store, and what it replies if that fails."""
 
-    def test_change_is_sent_once_and_answered_after_the_reply_of_the_store(self):
-        for name, rows, calls, wanted in CHANGES:
-            with self.subTest(name=name):
-                first = [page(*rows)] if rows else [page(), OK]
-                server = self.serve(*first, *[OK] * len(wanted))
-                server.log.take()
-                replies = server.ask(*calls)
-                self.assertEqual(server.log.take(), wanted)
-                self.assertEqual(replies[:1], b"\0")
-                server.end()
+    @each(ROWS["CHANGES"])
+    def test_change_is_sent_once_and_answered_after_the_reply_of_the_store(self, name, rows, calls, wanted):
+        first = [page(*rows)] if rows else [page(), OK]
+        server = self.serve(*first, *[OK] * len(wanted))
+        server.log.take()
+        replies = server.ask(*calls)
+        self.assertEqual(server.log.take(), wanted)
+        self.assertEqual(replies[:1], b"\0")
+        server.end()
 
     def test_change_that_fails_is_refused_with_all_later_ones(self):
         """The next connection reads the rows again."""
@@ -532,19 +319,15 @@ class ChangeTest(PlayedTest):
             ("a reply byte by byte", DrippingStore, CREATE),
         ]
         with concurrent.futures.ThreadPoolExecutor() as pool:
-            late = [
-                (name, pool.submit(stalled, self.csid, os.path.join(self.folder, name), store, call))
-                for name, store, call in changes
-            ]
+            late = [(name, pool.submit(stalled, self.csid, os.path.join(self.folder, name), store, call))
+                    for name, store, call in changes]
             for name, came in late:
                 with self.subTest(name=name):
                     self.assertEqual(came.result(), (NO_STORE, True, has(0, 0, 1) + UNKNOWN))
 
 
 class LeadTest(PlayedTest):
-    """A change store that does not lead any more, or ends its connection: csid answers no later call from
-    memory.
-    """
+    """A change store that does not lead any more, or has gone: no later call is answered from memory."""
 
     def serve_two(self):
         """csid over a store whose volume is another one when it is read again."""
@@ -603,8 +386,7 @@ class SlowReaderTest(CsidTest):
 
     def setUp(self):
         super().setUp()
-        config = os.path.join(self.folder, "config.toml")
-        write(config, LARGE_POOL)
+        config = self.configure(LARGE_POOL)
         words = ["--config", config]
         self.server = Server(self.csid, self.folder, words=words, log=self.change_store)
         self.addCleanup(self.server.end)
@@ -643,9 +425,7 @@ class SlowReaderTest(CsidTest):
 
 
 class StarvingStore(KeptChangeStore):
-    """A change store that limits the memory of csid to what it has, while csid waits for its reply to a
-    change.
-    """
+    """A change store that limits the memory of csid to what it has, before it answers a change."""
 
     csid = None
 
@@ -676,8 +456,7 @@ class ShortMemoryTest(CsidTest):
         super().setUp()
         # The C library returns freed buffers to the system, and takes no memory in advance (mallopt(3)).
         self.enterContext(mock.patch.dict(os.environ, MALLOC_MMAP_THRESHOLD_="65536", MALLOC_TOP_PAD_="0"))
-        config = os.path.join(self.folder, "config.toml")
-        write(config, LARGE_POOL)
+        config = self.configure(LARGE_POOL)
         self.server = Server(self.csid, self.folder, words=["--config", config], log=self.change_store)
         self.addCleanup(self.server.end)
 

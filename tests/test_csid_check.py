@@ -2,6 +2,7 @@
 
 import contextlib
 import os
+import pathlib
 import shutil
 import sqlite3
 import subprocess
@@ -10,20 +11,14 @@ import threading
 from tests.support.configs import FAULTS, LARGE_POOL, NODES, REFUSED, SAMPLE, pools, sample
 from tests.support.frames import ASKED, CREATE_A, NO_MEMORY, VOLUME_1, WRITE_FAILED, controller, reply
 from tests.support.processes import NOT_THERE, SECONDS, TOP, run, small_memory, write
-from tests.support.rows import CsidTest
+from tests.support.rows import CsidTest, each
 from tests.support.server import MISSING, WITHOUT
 from tests.support.tables import A, NO_DATABASE, NO_FILE, Tables, volume
 
 
 class CheckConfigTest(CsidTest):
-    """`csid --check-config`."""
-
-    def setUp(self):
-        super().setUp()
-        self.config = os.path.join(self.folder, "config.toml")
-
     def check_config(self, text):
-        write(self.config, text)
+        self.configure(text)
         return run([self.csid, "--check-config", self.config])
 
     def line(self, why):
@@ -34,12 +29,8 @@ class CheckConfigTest(CsidTest):
         for name, text, out, error in [
             ("the sample", SAMPLE, summary, ""),
             ("no nodes", sample((NODES, b"")), b"name pools.example.org, pools 2, nodes 0\n", ""),
-            (
-                "another name, and three pools more",
-                sample((b"pools.example.org", b"a")) + pools(3),
-                b"name a, pools 5, nodes 2\n",
-                "",
-            ),
+            ("another name, and three pools more", sample((b"pools.example.org", b"a")) + pools(3),
+             b"name a, pools 5, nodes 2\n", ""),
             ("an unknown key", b"zone = 3\n" + SAMPLE, summary, self.line("the key 'zone' is not known")),
         ]:
             with self.subTest(name=name):
@@ -54,7 +45,7 @@ class CheckConfigTest(CsidTest):
     def test_missing_configuration_is_refused(self):
         missing = (b"", self.line(NOT_THERE), 3)
         self.assertEqual(run([self.csid, "--check-config", self.config]), missing)
-        self.assertEqual(Tables(self.csid, self.folder).new().check(self.config), missing)
+        self.assertEqual(self.tables.new().check(self.config), missing)
 
 
 class CheckTablesTest(CsidTest):
@@ -62,10 +53,6 @@ class CheckTablesTest(CsidTest):
 
     # What the calls of ASKED leave.
     SUMMARY = (b"volumes 1, attachments 0, next number 3, format 2\n", "", 0)
-
-    def setUp(self):
-        super().setUp()
-        self.tables = Tables(self.csid, self.folder)
 
     def fill(self):
         """Tables with a volume, and a link to them."""
@@ -81,10 +68,9 @@ class CheckTablesTest(CsidTest):
         return came
 
     def test_path_that_is_no_file_is_refused(self):
-        for path, line in ("", "the path of the tables is empty"), (
-            self.folder,
-            self.folder + ": Is a directory (os error 21)",
-        ):
+        for path, line in ("", "the path of the tables is empty"), (self.folder,
+                                                                    self.folder
+                                                                    + ": Is a directory (os error 21)"):
             with self.subTest(path=path):
                 self.assertEqual(run([self.csid, "--check-tables", path]), (b"", "csid: %s\n" % line, 4))
 
@@ -151,27 +137,23 @@ class CheckTablesTest(CsidTest):
         self.assertEqual(out.count(b"vol-3"), 1)
 
     def test_tables_of_format_1_are_summarized(self):
-        config = os.path.join(self.folder, "config.toml")
-        write(config, LARGE_POOL)
+        config = self.configure(LARGE_POOL)
         for count in 0, 1, 1000:
             with self.subTest(volumes=count):
-                shutil.copy(
-                    os.path.join(TOP, "tests", "stored", "format-1-%d.db" % count), self.tables.clear().path
-                )
+                shutil.copy(os.path.join(TOP, "tests", "stored", "format-1-%d.db" % count),
+                            self.tables.clear().path)
                 summary = b"volumes %d, attachments 0, next number %d, format 1\n" % (count, count + 1)
                 self.assertEqual(self.check_kept(self.tables, config), (summary, "", 0))
 
 
 def feed(path, contents, copies):
     """Gives pipes the bytes that csid reads of them: the head and the journal, and for each copy the file,
-    the WAL, the file again, and the header of the WAL. Each is opened after the end of another.
-    """
+    the WAL, the file again, and the header of the WAL. Each is opened after the end of another."""
     reads = [("", contents[0][:105]), ("-journal", b"")]
     for before, after in copies:
         reads += [("", contents[before]), ("-wal", b""), ("", contents[after]), ("-wal", b"")]
     for ending, content in reads:
-        with open(path + ending, "wb") as pipe:
-            pipe.write(content)
+        pathlib.Path(path + ending).write_bytes(content)
 
 
 class ChangingFileTest(CsidTest):
@@ -181,8 +163,7 @@ class ChangingFileTest(CsidTest):
         """The tables, and what a check says where each copy finds one content first, and then another one."""
         contents = []
         for rows in A, A + volume(2, "'b'"):
-            with open(Tables(self.csid, self.folder).new().script(rows).path, "rb") as file:
-                contents.append(file.read())
+            contents.append(pathlib.Path(self.tables.new().script(rows).path).read_bytes())
         self.assertEqual(len(contents[0]), len(contents[1]))
         tables = Tables(self.csid, self.folder, "changing.db")
         for ending in "", "-journal", "-wal":
@@ -190,17 +171,16 @@ class ChangingFileTest(CsidTest):
         threading.Thread(target=feed, args=(tables.path, contents, copies), daemon=True).start()
         return tables, tables.check()
 
-    def test_file_that_changes_is_copied_again(self):
-        for name, copies, count in [
-            ("once", [(0, 1), (1, 1)], 2),
-            ("twice", [(0, 1), (1, 0), (0, 0)], 1),
-            ("nine times", [(0, 1)] * 9 + [(1, 1)], 2),
-        ]:
-            with self.subTest(name=name):
-                tables, came = self.check_changing(copies)
-                summary = b"volumes %d, attachments 0, next number 9, format 2\n" % count
-                self.assertEqual(came, (summary, "", 0))
-                tables.clear()
+    @each([
+        ("once", [(0, 1), (1, 1)], 2),
+        ("twice", [(0, 1), (1, 0), (0, 0)], 1),
+        ("nine times", [(0, 1)] * 9 + [(1, 1)], 2),
+    ])
+    def test_file_that_changes_is_copied_again(self, name, copies, count):
+        tables, came = self.check_changing(copies)
+        summary = b"volumes %d, attachments 0, next number 9, format 2\n" % count
+        self.assertEqual(came, (summary, "", 0))
+        tables.clear()
 
     def test_file_that_always_changes_is_given_up(self):
         tables, came = self.check_changing([(0, 1)] * 10)

@@ -3,6 +3,7 @@
 import contextlib
 import itertools
 import os
+import pathlib
 import sqlite3
 import threading
 
@@ -17,17 +18,14 @@ class Moment:
     """What a file, its WAL and the tables in them have at one moment."""
 
     def __init__(self, path, volumes):
-        with open(path, "rb") as file:
-            self.database = file.read()
-        with open(path + "-wal", "rb") as file:
-            self.wal = file.read()
+        self.database = pathlib.Path(path).read_bytes()
+        self.wal = pathlib.Path(path + "-wal").read_bytes()
         self.volumes = volumes
 
 
 def moments(path):
     """A writer's moments in order, and how long its WAL was after the first of two commits. Both commits are
-    in the WAL alone; they are in the file too; the WAL has begun again with a third commit.
-    """
+    in the WAL alone; they are in the file too; the WAL has begun again with a third commit."""
     writer = sqlite3.connect(path, isolation_level=None)
     writer.execute("PRAGMA wal_autocheckpoint = 0")
 
@@ -55,19 +53,15 @@ class CopyTest(CsidTest):
 
     def feed(self, path, reads):
         """Gives csid what it reads of pipes, each opened after the end of another: first the head of the file
-        and its journal.
-        """
+        and its journal."""
         reads = [("", self.moments[0].database[:105]), ("-journal", b"")] + reads
         # (what csid does not read any more is left when the folder goes)
         with contextlib.suppress(OSError):
             for ending, content in reads:
-                with open(path + ending, "wb") as pipe:
-                    pipe.write(content)
+                pathlib.Path(path + ending).write_bytes(content)
 
     def reads(self, file, low, high, again, header):
-        """The reads of one copy: the file, the WAL in two pieces, the file again, and the header of the WAL,
-        each at a moment.
-        """
+        """The reads of one copy: the file, the WAL in two pieces, the file, and the head of the WAL."""
         return [
             ("", file.database),
             ("-wal", low.wal[: self.cut] + high.wal[self.cut :]),
@@ -100,12 +94,10 @@ class CopyTest(CsidTest):
 
     def test_wal_that_begins_again_behind_its_first_piece_is_read_again(self):
         """The piece that was read has the first commit alone, and the file has both already: a copy joined of
-        them would lack a volume.
-        """
+        them would lack a volume."""
         _, copied, begun = self.moments
-        self.assertEqual(
-            self.count("joined", (copied, copied, begun, begun, begun), [begun] * 5), self.found(3)
-        )
+        self.assertEqual(self.count("joined", (copied, copied, begun, begun, begun), [begun] * 5),
+                         self.found(3))
 
     def test_file_that_is_written_all_the_time_is_refused(self):
         one, other, _ = self.moments

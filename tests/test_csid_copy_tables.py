@@ -1,6 +1,7 @@
 """`csid --copy-tables` copies the tables of a file, as committed at one moment, into a new file."""
 
 import os
+import pathlib
 import shutil
 import sqlite3
 import stat
@@ -36,13 +37,10 @@ def names(folder):
 
 
 def content(path):
-    with open(path, "rb") as file:
-        return file.read()
+    return pathlib.Path(path).read_bytes()
 
 
 class CopyTablesTest(CsidTest):
-    """`csid --copy-tables`."""
-
     def setUp(self):
         super().setUp()
         self.tables = Tables(self.csid, self.folder, "volumes.db")
@@ -112,18 +110,23 @@ class CopyTablesTest(CsidTest):
 
     def test_file_that_exists_is_not_replaced(self):
         self.tables.new()
-        with open(self.copied.path, "wb") as file:
-            file.write(b"kept")
-        self.assertEqual(
-            self.copy(), self.refused(self.copied.path, "it exists already, and is not replaced")
-        )
+        pathlib.Path(self.copied.path).write_bytes(b"kept")
+        self.assertEqual(self.copy(),
+                         self.refused(self.copied.path, "it exists already, and is not replaced"))
         self.assertEqual(content(self.copied.path), b"kept")
         self.assertEqual(names(self.place), ["copy.db"])
 
+    def test_name_that_comes_to_be_during_the_copy_is_not_replaced(self):
+        """A link to nothing is no file that exists, and it has the name."""
+        self.tables.new()
+        os.symlink("nowhere", self.copied.path)
+        self.assertEqual(self.copy(), self.refused(self.copied.path, FILE_EXISTS))
+        self.assertEqual(names(self.place), ["copy.db"])
+        self.assertEqual(os.readlink(self.copied.path), "nowhere")
+
     def test_what_an_earlier_copy_left_is_not_replaced(self):
         self.tables.new()
-        with open(self.copied.path + ".new", "wb") as file:
-            file.write(b"kept")
+        pathlib.Path(self.copied.path + ".new").write_bytes(b"kept")
         self.assertEqual(self.copy(), self.refused(self.copied.path + ".new", FILE_EXISTS))
         self.assertEqual(content(self.copied.path + ".new"), b"kept")
         self.assertEqual(names(self.place), ["copy.db.new"])
@@ -142,8 +145,7 @@ class CopyTablesTest(CsidTest):
 
     def test_configuration_judges_the_tables(self):
         config = os.path.join(self.folder, "config.toml")
-        with open(config, "w") as file:
-            file.write(CONFIG)
+        pathlib.Path(config).write_text(CONFIG)
         self.tables.new().script(volume(1, pool="'p9'") + NEXT_9)
         self.assertEqual(self.copy("--config", config), (ONE, "", 0))
 
@@ -153,8 +155,7 @@ class CopyTablesTest(CsidTest):
         self.assertEqual(names(self.place), [])
 
     def test_file_that_is_no_database_is_refused(self):
-        with open(self.tables.path, "wb") as file:
-            file.write(b"x" * 5000)
+        pathlib.Path(self.tables.path).write_bytes(b"x" * 5000)
         self.assertEqual(self.copy(), self.refused(self.tables.path, NO_DATABASE))
         self.assertEqual(names(self.place), [])
 

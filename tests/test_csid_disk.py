@@ -3,62 +3,27 @@
 import contextlib
 import os
 import re
+import shlex
 import shutil
 import socket
 import sqlite3
 import subprocess
 
 from tests.support.configs import sample
-from tests.support.frames import (
-    CREATE_A,
-    CREATE_B,
-    ONE,
-    PROBE,
-    READY,
-    READ_FAILED,
-    VOLUME_1,
-    VOLUME_2,
-    controller,
-    fault,
-    frame,
-    refusal,
-    reply,
-)
-from tests.support.processes import (
-    SECONDS,
-    fill,
-    little_room,
-    no_byte,
-    no_room,
-    read,
-    run,
-    small_disk,
-    write,
-)
-from tests.support.rows import CsidTest
+from tests.support.frames import (CREATE_A, CREATE_B, ONE, PROBE, READY, READ_FAILED, VOLUME_1, VOLUME_2,
+                                  controller, fault, frame, refusal, reply)
+from tests.support.processes import SECONDS, fill, little_room, no_byte, no_room, read, run, small_disk, write
+from tests.support.rows import CsidTest, each
 from tests.support.server import DOWN, NEW, Server
-from tests.support.tables import (
-    BLOCK_CAPS,
-    DAMAGED,
-    FULL,
-    IO_FAILED,
-    LOCKED,
-    MANY,
-    MIB,
-    NO_DATABASE,
-    Tables,
-    cell,
-    next_is,
-    pairs,
-)
+from tests.support.tables import (BLOCK_CAPS, DAMAGED, FULL, IO_FAILED, LOCKED, MANY, MIB, NO_DATABASE,
+                                  Tables, cell, next_is, pairs)
 
 
 def mounts(count):
     """As many capabilities of a create, each a mount of a file system with a name of 120 letters."""
     names = [b"%0120d" % number for number in range(count)]
-    return b"".join(
-        bytes.fromhex("1a 80 01 12 7a 0a 78") + name + bytes.fromhex("1a 02 08 01") for name in names
-    )
+    return b"".join(bytes.fromhex("1a 80 01 12 7a 0a 78") + name + bytes.fromhex("1a 02 08 01")
+                    for name in names)
 
 
 CREATE, MORE = controller("CreateVolume", CREATE_A), controller("CreateVolume", CREATE_B)
@@ -68,10 +33,6 @@ REFUSED, IS_DOWN = refusal(13, "store refused"), refusal(13, "store is down")
 
 class DiskTest(CsidTest):
     """csid over tables in the folder of the test."""
-
-    def setUp(self):
-        super().setUp()
-        self.tables = Tables(self.csid, self.folder)
 
     def begin(self, tables, call, answer):
         """csid that has answered a call, and waits for another one."""
@@ -86,11 +47,9 @@ class DiskTest(CsidTest):
         out, error = process.communicate(calls, timeout=SECONDS)
         return out, error.decode(), process.returncode
 
-    def configure(self):
+    def configure_much(self):
         """A configuration with a large pool."""
-        config = os.path.join(self.folder, "config.toml")
-        write(config, sample((b"10485760", b"%d" % (20000 * MIB))))
-        return config
+        return self.configure(sample((b"10485760", b"%d" % (20000 * MIB))))
 
 
 class LockTest(DiskTest):
@@ -136,9 +95,7 @@ class KillTest(DiskTest):
         self.assertEqual(self.tables.ask("PRAGMA integrity_check"), [("ok",)])
 
     def test_salts_of_a_log_are_drawn_at_random(self):
-        """So frames of an older WAL are never taken for a newer WAL's ("Database File Format" of
-        SQLite, 4.1).
-        """
+        """So frames of an older WAL are never taken for new ones ("Database File Format", 4.1)."""
         salts = []
         for name in "one.db", "two.db":
             tables = Tables(self.csid, self.folder, name)
@@ -149,8 +106,7 @@ class KillTest(DiskTest):
 
 
 class ReplacementTest(DiskTest):
-    """The file is deleted, or replaced by another one, while csid has it open: it goes on over the old one.
-    """
+    """The file is deleted or replaced while csid has it open: it goes on over the old one."""
 
     def setUp(self):
         super().setUp()
@@ -255,24 +211,22 @@ class FullDiskTest(DiskTest):
         out = run([self.csid, "--list-tables", tables.path])[0]
         return re.findall(rb"^vol-\d+", out, re.M)
 
-    def test_both_files_have_what_was_committed_after_a_refusal(self):
+    @each([("small", CREATE_A, [b"vol-1"]), ("large", CREATE_A + mounts(100), [])])
+    def test_both_files_have_what_was_committed_after_a_refusal(self, name, first, alone):
         """The file alone has it unless the disk has no room for the pages that it lacks; then it may have
-        some of them, and is refused.
-        """
-        for name, first, alone in [("small", CREATE_A, [b"vol-1"]), ("large", CREATE_A + mounts(100), [])]:
-            tables = Tables(self.csid, self.disk, name + ".db").new()
-            self.refuse_on_full_disk(tables, first)
-            for kind, ends, wanted in [("both", ["", "-wal"], [b"vol-1"]), ("alone", [""], alone)]:
-                with self.subTest(create=name, files=kind):
-                    copy = Tables(self.csid, self.folder, "%s-%s.db" % (name, kind))
-                    for end in ends:
-                        shutil.copy(tables.path + end, copy.path + end)
-                    self.assertEqual(self.listed(copy), wanted)
+        some of them, and is refused."""
+        tables = Tables(self.csid, self.disk, name + ".db").new()
+        self.refuse_on_full_disk(tables, first)
+        for kind, ends, wanted in [("both", ["", "-wal"], [b"vol-1"]), ("alone", [""], alone)]:
+            with self.subTest(create=name, files=kind):
+                copy = Tables(self.csid, self.folder, "%s-%s.db" % (name, kind))
+                for end in ends:
+                    shutil.copy(tables.path + end, copy.path + end)
+                self.assertEqual(self.listed(copy), wanted)
 
     def test_server_goes_on_and_serves_changes_once_there_is_room(self):
         """No restart, and a line for each connection that was refused."""
-        server = Server(self.csid, self.folder, tables=self.tables.path)
-        self.addCleanup(server.end)
+        server = self.serve(tables=self.tables.path)
         begun = server.line(NEW) + server.has(0, 0, 1)
         down = server.line("the database refused a call: " + FULL) + server.line(DOWN)
         self.assertEqual(server.ask(CREATE), reply(VOLUME_1))
@@ -292,8 +246,7 @@ class FullDiskTest(DiskTest):
 
     def test_server_makes_new_tables_once_there_is_room(self):
         filler = fill(self.disk)
-        server = Server(self.csid, self.folder, tables=self.tables.path)
-        self.addCleanup(server.end)
+        server = self.serve(tables=self.tables.path)
         full = server.line(FULL)
         self.assertEqual(server.lines(), full)
         self.assertEqual(server.ask(LISTING), b"")
@@ -323,7 +276,7 @@ class RefusedCommitTest(DiskTest):
 
     def test_change_is_kept_where_the_log_cannot_be_copied(self):
         """The file has more bytes than there is room for. The commit is in the log."""
-        config = self.configure()
+        config = self.configure_much()
         self.tables.new().script(MANY % (10000, BLOCK_CAPS) + next_is(10001))
         out, error, status = self.run_limited(little_room, MORE, config)
         line = "csid: %s: %s\n" % (self.tables.path, IO_FAILED)
@@ -338,11 +291,11 @@ class RefusedReadTest(DiskTest):
 
     def check_reads(self, wanted, said, *words):
         """Reads of a volume beyond the page that are answered so, and what csid says then."""
-        config, listing = self.configure(), controller("ListVolumes", bytes.fromhex("0801 1204") + b"2000")
+        config = self.configure_much()
+        listing = controller("ListVolumes", bytes.fromhex("0801 1204") + b"2000")
         params = "UPDATE volumes SET params = %s;" % cell(pairs(4, b"k", 4090))
         self.tables.new().script(MANY % (4000, BLOCK_CAPS) + params + next_is(4001))
-        server = Server(self.csid, self.folder, "--config", config, *words)
-        self.addCleanup(server.end)
+        server = self.serve("--config", config, *words)
         begun = server.lines()
         with server.connect() as peer:
             peer.sendall(frame(PROBE))
@@ -366,6 +319,33 @@ class RefusedReadTest(DiskTest):
         self.check_reads(page, [])
 
 
+class RefusedCopyTest(DiskTest):
+    """A read that fails while the volumes of a connection are copied into memory."""
+
+    def serve_once(self, *injected):
+        """The reads of a csid that serves one connection, what the connection is answered, and the lines."""
+        trace, traced = (os.path.join(self.folder, name) for name in ("trace", "traced"))
+        command = ["strace", "-f", "-o", trace, "-e", "trace=pread64", *injected, self.csid]
+        write(traced, b'#!/bin/sh\nexec %s "$@"\n' % shlex.join(command).encode())
+        os.chmod(traced, 0o755)
+        if shutil.which("strace") is None or run([traced, "--version"])[2] != 0:
+            self.skipTest("strace cannot be run here")
+        server = Server(traced, self.folder, "--config", self.configure_much(), "--connections", "1")
+        self.addCleanup(server.end)
+        answer = server.ask(frame(PROBE))
+        server.process.wait(SECONDS)
+        return read(trace).count(b"pread64("), answer, server.end()[0].splitlines()
+
+    def test_cause_is_reported(self):
+        params = "UPDATE volumes SET params = %s;" % cell(pairs(4, b"k", 4090))
+        self.tables.new().script(MANY % (1000, BLOCK_CAPS) + params + next_is(1001))
+        reads, answer, lines = self.serve_once()
+        self.assertEqual(answer, READY)
+        failed = self.serve_once("-e", "inject=pread64:error=EIO:when=%d" % reads)
+        said = ["the database refused a call: " + IO_FAILED, "the database refused a read"]
+        self.assertEqual(failed[1:], (b"", lines + ["csid: %s: %s" % (self.tables.path, it) for it in said]))
+
+
 SYNCS, WRITES = ("fsync", "fdatasync"), ("write", "pwrite64", "writev", "pwritev")
 
 
@@ -386,9 +366,7 @@ class SyncTest(DiskTest):
         return re.findall(r"(\w+)\((\d+)<([^>]*)>", read(self.trace).decode())
 
     def test_reply_is_written_after_a_sync_of_its_commit(self):
-        """The last step of the log before a reply is a sync, after a write. From the second reply on it is
-        the only one.
-        """
+        """The last step of the log before a reply is a sync after a write, and later the only sync."""
         creates = [CREATE_A.replace(b"\x0a\x01a", b"\x0a\x01" + name) for name in (b"a", b"b", b"c")]
         answers = [reply(VOLUME_1.replace(b"vol-1", b"vol-%d" % number)) for number in (1, 2, 3)]
         calls = b"".join(controller("CreateVolume", it) for it in creates)

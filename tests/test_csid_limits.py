@@ -10,18 +10,16 @@ from tests.support.configs import LARGE_POOL
 from tests.support.frames import BLOCK, PROBE, READY, controller, frame
 from tests.support.processes import write
 from tests.support.rows import CsidTest
-from tests.support.server import NO_COPY, Server
-from tests.support.tables import BLOCK_CAPS, MANY, MIB, SHORT_ENTRIES, Tables, next_is
+from tests.support.server import NO_COPY
+from tests.support.tables import BLOCK_CAPS, MANY, MIB, SHORT_ENTRIES, next_is
 
 
 def own_group():
     """The folder of this process's control group for memory, and the name of the file of a limit in it."""
     with open("/proc/self/cgroup", encoding="ascii") as lines:
         groups = dict(line.rstrip("\n").split(":", 2)[1:] for line in lines)
-    for root, controllers, name in (
-        ("/sys/fs/cgroup/memory", "memory", "memory.limit_in_bytes"),
-        ("/sys/fs/cgroup", "", "memory.max"),
-    ):
+    for root, controllers, name in (("/sys/fs/cgroup/memory", "memory", "memory.limit_in_bytes"),
+                                    ("/sys/fs/cgroup", "", "memory.max")):
         folder = root + groups.get(controllers, "")
         if os.path.exists(os.path.join(folder, name)):
             return folder, name
@@ -37,9 +35,7 @@ def write_limit(path, limit):
 
 @contextlib.contextmanager
 def memory_group(limit):
-    """A new control group with a limit, and what makes a process its member. Where no group can be made, the
-    test is skipped.
-    """
+    """A new control group with a limit: what makes a process its member, or a skipped test."""
     parent, name = own_group()
     folder = os.path.join(parent, "csid-test-%d" % os.getpid())
     try:
@@ -62,20 +58,14 @@ class LimitedTest(CsidTest):
 
     def setUp(self):
         super().setUp()
-        self.config = os.path.join(self.folder, "config.toml")
-        write(self.config, LARGE_POOL.replace(b"2147483648", b"%d" % (20_000 * MIB)))
-        self.tables = Tables(self.csid, self.folder)
+        self.configure(LARGE_POOL.replace(b"2147483648", b"%d" % (20_000 * MIB)))
 
-    def serve(self):
-        server = Server(self.csid, self.folder, "--config", self.config, preexec_fn=self.enter)
-        self.addCleanup(server.end)
-        return server
+    def serve_limited(self):
+        return self.serve("--config", self.config, preexec_fn=self.enter)
 
     def creates(self, first, count):
-        return [
-            controller("CreateVolume", b"\x0a\x06%06d" % number + BLOCK + self.parameters)
-            for number in range(first, first + count)
-        ]
+        return [controller("CreateVolume", b"\x0a\x06%06d" % number + BLOCK + self.parameters)
+                for number in range(first, first + count)]
 
     def deletes(self, first, count):
         names = map(name_of, range(first, first + count))
@@ -91,7 +81,7 @@ class AddressSpaceTest(LimitedTest):
         resource.setrlimit(resource.RLIMIT_AS, (40 * MIB, 40 * MIB))
 
     def test_volumes_are_deleted_after_creates_were_refused(self):
-        server = self.serve()
+        server = self.serve_limited()
         came = server.answers(self.creates(1, 6000))
         made = came.count(0)
         self.assertEqual((1000 < made < 6000, came), (True, [0] * made + [13] * (6000 - made)))
@@ -111,38 +101,36 @@ class GroupTest(LimitedTest):
 
     def fill(self, count):
         """New tables with this many volumes."""
-        self.tables.new().script(
-            MANY % (count, BLOCK_CAPS)
-            + "UPDATE volumes SET params = x'%s';" % SHORT_ENTRIES.hex()
-            + next_is(count + 1)
-        )
+        self.tables.new().script(MANY % (count, BLOCK_CAPS)
+                                 + "UPDATE volumes SET params = x'%s';" % SHORT_ENTRIES.hex()
+                                 + next_is(count + 1))
 
     def test_creates_are_refused_before_the_limit_ends_csid(self):
-        server = self.serve()
+        server = self.serve_limited()
         came = server.answers(self.creates(1, 1500))
         made = came.count(0)
         self.assertEqual((100 < made < 1500, came), (True, [0] * made + [13] * (1500 - made)))
         self.assertEqual(server.process.poll(), None)
 
     def test_volumes_are_deleted_after_creates_were_refused(self):
-        server = self.serve()
+        server = self.serve_limited()
         made = server.answers(self.creates(1, 1500)).count(0)
         self.assertEqual(server.answers(self.deletes(1, made)), [0] * made)
         self.assertEqual(server.answers(self.creates(2001, 100)), [0] * 100)
 
     def test_file_whose_copy_does_not_fit_is_served_from_the_file(self):
         self.fill(2000)
-        server = self.serve()
+        server = self.serve_limited()
         self.assertEqual(server.ask(frame(PROBE)), READY)
         self.assertEqual(server.lines(), server.has(2000, 0, 2001) + server.line(NO_COPY))
 
     def test_volumes_of_a_file_whose_copy_does_not_fit_are_deleted(self):
         self.fill(2000)
-        server = self.serve()
+        server = self.serve_limited()
         self.assertEqual(server.answers(self.deletes(1, 2000)), [0] * 2000)
 
     def test_file_that_fits_is_copied(self):
         self.fill(300)
-        server = self.serve()
+        server = self.serve_limited()
         self.assertEqual(server.ask(frame(PROBE)), READY)
         self.assertEqual(server.lines(), server.has(300, 0, 301))

@@ -9,24 +9,11 @@ import threading
 
 from tests.support.configs import sample
 from tests.support.frames import BLOCK, MODE_NAMES, NO_MEMORY, WRITE_FAILED, controller
-from tests.support.processes import SECONDS, TOP, memory_of_20_mib, run, small_memory, write
-from tests.support.rows import CsidTest
+from tests.support.processes import SECONDS, TOP, fixture, memory_of_20_mib, run, small_memory, write
+from tests.support.rows import CsidTest, each
 from tests.support.server import MISSING, WITHOUT
-from tests.support.tables import (
-    A,
-    BLOCK_CAPS,
-    LARGE_CAPS,
-    MANY,
-    MIB,
-    NO_DATABASE,
-    NO_FILE,
-    Tables,
-    attachment,
-    block,
-    cell,
-    next_is,
-    volume,
-)
+from tests.support.tables import (A, BLOCK_CAPS, LARGE_CAPS, MANY, MIB, NO_DATABASE, NO_FILE, Tables,
+                                  attachment, block, cell, next_is, volume)
 
 # Capabilities as cells have them: a mount of any file system with mode 1, and one of ext4 with mode 5.
 MOUNT = "1a0612001a020801"
@@ -35,87 +22,15 @@ EXT4 = "1a0c12060a04" + b"ext4".hex() + "1a020805"
 # Parameters k=v and l=a b, and the mutable parameter m= of no bytes.
 PARAMS = "22060a016b120176" + "22080a016c12036120 62".replace(" ", "") + "42050a016d1200"
 
-ROWS = "".join(
-    [
-        volume(1, "'pvc-1'", 3 << 30, "'ssd'"),
-        volume(2, "'a b'", 1536 << 20, "'hdd'", cell(MOUNT + EXT4), cell(PARAMS)),
-        volume(7, "'pvc-\"7\"'", 5 * MIB, "'ssd'"),
-        volume(8, "'ä' || char(10)", 1 << 62, "'hdd'"),
-        attachment(1, "'n1'"),
-        attachment(2, "'n2'", cell(EXT4)),
-        attachment(2, "'n1'", cell(EXT4)),
-        attachment(8, "'n,1'"),
-        next_is(9),
-    ]
-)
-
-TABLE = (
-    "ID     NAME       POOL  SIZE     CAPABILITIES                                           PA"
-    "RAMETERS   MUTABLE  NODES\n"
-    "vol-1  pvc-1      ssd   3 GiB    block:SINGLE_NODE_WRITER                               - "
-    "           -        n1\n"
-    "vol-2  a%20b      hdd   1.5 GiB  mount:SINGLE_NODE_WRITER,ext4:MULTI_NODE_MULTI_WRITER  k="
-    "v,l=a%20b  m=       n1,n2\n"
-    'vol-7  pvc-"7"    ssd   5 MiB    block:SINGLE_NODE_WRITER                               - '
-    "           -        -\n"
-    "vol-8  %C3%A4%0A  hdd   4 EiB    block:SINGLE_NODE_WRITER                               - "
-    "           -        n,1\n"
-    """
-POOL  VOLUMES  SIZE
-hdd   2        4294967297.5 GiB
-ssd   2        3077 MiB
-
-NODE  VOLUMES  SIZE
-n,1   1        4 EiB
-n1    2        4.5 GiB
-n2    1        1.5 GiB
-"""
-)
-
-
-def entry(number, name, pool, size, nodes, capabilities=None, parameters=None, mutable=None):
-    """A volume as the document has it."""
-    return {
-        "id": "vol-%d" % number,
-        "name": name,
-        "pool": pool,
-        "bytes": size,
-        "capabilities": capabilities or [{"access": "block", "mode": "SINGLE_NODE_WRITER"}],
-        "parameters": parameters or {},
-        "mutableParameters": mutable or {},
-        "nodes": nodes,
-    }
-
-
-DOCUMENT = {
-    "volumes": [
-        entry(1, "pvc-1", "ssd", 3 << 30, ["n1"]),
-        entry(
-            2,
-            "a b",
-            "hdd",
-            1536 << 20,
-            ["n1", "n2"],
-            [
-                {"access": "mount", "fsType": "", "mode": "SINGLE_NODE_WRITER"},
-                {"access": "mount", "fsType": "ext4", "mode": "MULTI_NODE_MULTI_WRITER"},
-            ],
-            {"k": "v", "l": "a b"},
-            {"m": ""},
-        ),
-        entry(7, 'pvc-"7"', "ssd", 5 * MIB, []),
-        entry(8, "ä\n", "hdd", 1 << 62, ["n,1"]),
-    ],
-    "pools": [
-        {"name": "hdd", "volumes": 2, "bytes": (1 << 62) + (1536 << 20)},
-        {"name": "ssd", "volumes": 2, "bytes": (3 << 30) + 5 * MIB},
-    ],
-    "nodes": [
-        {"id": "n,1", "volumes": 1, "bytes": 1 << 62},
-        {"id": "n1", "volumes": 2, "bytes": (3 << 30) + (1536 << 20)},
-        {"id": "n2", "volumes": 1, "bytes": 1536 << 20},
-    ],
-}
+ROWS = "".join([volume(1, "'pvc-1'", 3 << 30, "'ssd'"),
+                volume(2, "'a b'", 1536 << 20, "'hdd'", cell(MOUNT + EXT4), cell(PARAMS)),
+                volume(7, "'pvc-\"7\"'", 5 * MIB, "'ssd'"),
+                volume(8, "'ä' || char(10)", 1 << 62, "'hdd'"),
+                attachment(1, "'n1'"),
+                attachment(2, "'n2'", cell(EXT4)),
+                attachment(2, "'n1'", cell(EXT4)),
+                attachment(8, "'n,1'"),
+                next_is(9)])
 
 # A mount of a file system with a space in its name.
 ODD = "1a0b 1205 0a03 612062 1a020801".replace(" ", "")
@@ -123,37 +38,16 @@ ODD = "1a0b 1205 0a03 612062 1a020801".replace(" ", "")
 ODD_MAPS = "220a 0a03612062 1203632064 4205 0a0120 1200".replace(" ", "")
 
 # Each text that a row has, with a space in it: of a name, a pool, a file system, a key, a value and a node.
-SPACES = (
-    volume(1, "'a b'", MIB, "'p 1'", cell(ODD), cell(ODD_MAPS))
-    + attachment(1, "'n 1'", cell(ODD))
-    + next_is(2)
-)
-ESCAPED = b"""\
-ID     NAME   POOL   SIZE   CAPABILITIES              PARAMETERS   MUTABLE  NODES
-vol-1  a%20b  p%201  1 MiB  a%20b:SINGLE_NODE_WRITER  a%20b=c%20d  %20=     n%201
-
-POOL   VOLUMES  SIZE
-p%201  1        1 MiB
-
-NODE   VOLUMES  SIZE
-n%201  1        1 MiB
-"""
-
-EMPTY = b"""\
-ID  NAME  POOL  SIZE  CAPABILITIES  PARAMETERS  MUTABLE  NODES
-
-POOL  VOLUMES  SIZE
-
-NODE  VOLUMES  SIZE
-"""
-
+SPACES = (volume(1, "'a b'", MIB, "'p 1'", cell(ODD), cell(ODD_MAPS))
+          + attachment(1, "'n 1'", cell(ODD))
+          + next_is(2))
+TABLE, ESCAPED, EMPTY = [fixture("listing/%s.txt" % name) for name in ("table", "escaped", "empty")]
+DOCUMENT = json.loads(fixture("listing/document.json"))
 # Where a listing cannot be read that has no row yet.
 FIRST = "from the first volume on"
 
 
 class ListedTest(CsidTest):
-    """`csid --list-tables`."""
-
     def listed(self, tables, *options, **how):
         return run([self.csid, "--list-tables", tables.path] + list(options), **how)
 
@@ -171,21 +65,21 @@ class ListTest(ListedTest):
 
     def test_table(self):
         """Each volume is a row, in the order of numbers, and each pool and node that has some another."""
-        tables = Tables(self.csid, self.folder).new().script(ROWS)
+        tables = self.tables.new().script(ROWS)
         kept = tables.files()
-        self.check("all", self.listed(tables), (TABLE.encode(), "", 0))
+        self.check("all", self.listed(tables), (TABLE, "", 0))
         self.check("none", self.listed(Tables(self.csid, self.folder, "new.db").new()), (EMPTY, "", 0))
         self.check("none that is chosen", self.listed(tables, "--name", "pvc"), (EMPTY, "", 0))
         self.check("to the byte as it was", tables.files(), kept)
 
     def test_escaped_words(self):
         """A space ends no word of a row, whichever column it is in."""
-        tables = Tables(self.csid, self.folder).new().script(SPACES)
+        tables = self.tables.new().script(SPACES)
         self.check("a space in each text", self.listed(tables), (ESCAPED, "", 0))
 
     def test_modes(self):
         """Each access mode by its name, for people and for programs."""
-        tables = Tables(self.csid, self.folder).new()
+        tables = self.tables.new()
         caps = "".join(block(mode) for mode in range(1, 8))
         tables.script(volume(1, caps=cell(caps)) + next_is(2))
         out, line, status = self.listed(tables)
@@ -197,11 +91,10 @@ class ListTest(ListedTest):
 
     def test_greatest_numbers(self):
         """Numbers up to the greatest that a column has, and sums of bytes up to the greatest of 64 bits."""
-        tables = Tables(self.csid, self.folder).new()
+        tables = self.tables.new()
         numbers = [1 << 61, (1 << 62) - 1, 1 << 62, (1 << 63) - 1]
-        tables.script(
-            "".join(volume(number, "'v%d'" % number, 1 << 62) + attachment(number) for number in numbers)
-        )
+        tables.script("".join(volume(number, "'v%d'" % number, 1 << 62) + attachment(number)
+                              for number in numbers))
         self.check("ids", self.ids(tables), ["vol-%d" % number for number in numbers])
         most = (1 << 64) - 1
         found = self.document(tables)
@@ -213,20 +106,20 @@ class ListTest(ListedTest):
         wanted = ["vol-%d" % ((1 << 62) + number) for number in range(1, 1002)]
         self.check("1,001 ids", self.ids(tables), wanted)
 
-    def test_long_names(self):
+    @each([(80, 80), (81, 4)])
+    def test_long_names(self, length, width):
         """A name of 80 bytes makes its column wider; a longer one moves the rest of its own row alone."""
-        for length, width in (80, 80), (81, 4):
-            tables = Tables(self.csid, self.folder, "long-%d.db" % length).new()
-            tables.script(volume(1, "'a'") + volume(2, "'%s'" % ("x" * length)) + next_is(3))
-            out, line, status = self.listed(tables)
-            self.assertEqual((line, status), ("", 0))
-            short, long = out.decode().splitlines()[1:3]
-            self.check("next to %d bytes" % length, short[:width + 11], "vol-1  a".ljust(width + 9) + "p1")
-            self.check("%d bytes" % length, long[:length + 11], "vol-2  " + "x" * length + "  p1")
+        tables = Tables(self.csid, self.folder, "long-%d.db" % length).new()
+        tables.script(volume(1, "'a'") + volume(2, "'%s'" % ("x" * length)) + next_is(3))
+        out, line, status = self.listed(tables)
+        self.assertEqual((line, status), ("", 0))
+        short, long = out.decode().splitlines()[1:3]
+        self.check("next to %d bytes" % length, short[:width + 11], "vol-1  a".ljust(width + 9) + "p1")
+        self.check("%d bytes" % length, long[:length + 11], "vol-2  " + "x" * length + "  p1")
 
     def test_json(self):
         """The document has the values of the rows, and a volume is a line of it."""
-        tables = Tables(self.csid, self.folder).new().script(ROWS)
+        tables = self.tables.new().script(ROWS)
         self.check("all", self.document(tables), DOCUMENT)
         out, _, _ = self.listed(tables, "--json")
         self.check("its lines", len(out.splitlines()), 1 + 4 + 3)
@@ -235,11 +128,17 @@ class ListTest(ListedTest):
 
     def test_chosen(self):
         """A name, a pool and a node choose; a volume fits each given one. Sums count the listed volumes."""
-        tables = Tables(self.csid, self.folder).new().script(ROWS)
+        tables = self.tables.new().script(ROWS)
         for name, options, ids in [
             ("a name", ["--name", "a b"], ["vol-2"]),
             ("a name that begins alike", ["--name", "pvc-"], []),
             ("a name of odd characters", ["--name", 'pvc-"7"'], ["vol-7"]),
+            ("an id", ["--id", "vol-7"], ["vol-7"]),
+            ("an id of none", ["--id", "vol-3"], []),
+            ("an id with a zero before its number", ["--id", "vol-07"], []),
+            ("a number alone", ["--id", "7"], []),
+            ("an id that is none", ["--id", "vol-"], []),
+            ("an id and the name of another", ["--id", "vol-7", "--name", "pvc-1"], []),
             ("a pool", ["--pool", "ssd"], ["vol-1", "vol-7"]),
             ("a node", ["--node", "n1"], ["vol-1", "vol-2"]),
             ("a node that comes second", ["--node", "n2"], ["vol-2"]),
@@ -252,6 +151,19 @@ class ListTest(ListedTest):
         sums = self.document(tables, "--node", "n2")
         self.check("the pools of a node", sums["pools"], [{"name": "hdd", "volumes": 1, "bytes": 1536 << 20}])
         self.check("the nodes of its volumes", [one["id"] for one in sums["nodes"]], ["n1", "n2"])
+
+    def test_reader_that_goes_away(self):
+        """Nothing is reported, and the status is 0."""
+        tables = Tables(self.csid, self.folder).new()
+        # (more than is written at once)
+        tables.script(MANY % (2000, BLOCK_CAPS) + next_is(2001))
+        for words in [], ["--json"]:
+            read, write_end = os.pipe()
+            os.close(read)
+            came = subprocess.run([self.csid, "--list-tables", tables.path, *words], stdout=write_end,
+                                  stderr=subprocess.PIPE, timeout=SECONDS)
+            os.close(write_end)
+            self.check("a list %s" % words, (came.stderr, came.returncode), (b"", 0))
 
     def test_many(self):
         """A listing goes on over pages: 1,000 volumes are one."""
@@ -275,12 +187,6 @@ UNREAD = "the tables cannot be read %s: --check-tables says why"
 
 
 class RefusedListTest(ListedTest):
-    """A file that is no file of tables, and a row that cannot be read, are refused in a line."""
-
-    def setUp(self):
-        super().setUp()
-        self.tables = Tables(self.csid, self.folder)
-
     def check_refused(self, line):
         self.assertEqual(self.listed(self.tables), self.tables.says(line))
 
@@ -292,10 +198,10 @@ class RefusedListTest(ListedTest):
         came = run([self.csid, "--list-tables", ""])
         self.assertEqual(came, (b"", "csid: the path of the tables is empty\n", 4))
 
-    def test_file_without_tables_is_refused(self):
-        for content, line in (b"", WITHOUT), (b"x" * 4096, NO_DATABASE):
-            write(self.tables.path, content)
-            self.check_refused(line)
+    @each([(b"", WITHOUT), (b"x" * 4096, NO_DATABASE)])
+    def test_file_without_tables_is_refused(self, content, line):
+        write(self.tables.path, content)
+        self.check_refused(line)
 
     def test_row_that_cannot_be_read_is_refused(self):
         after_1000 = MANY % (1000, BLOCK_CAPS) + volume(1001, "'x'", params="x'22'") + next_is(1002)
@@ -316,8 +222,7 @@ class RefusedListTest(ListedTest):
 
     def test_want_of_memory_for_a_volume_is_reported(self):
         """Both files can be opened. The first has capabilities that take memory, and the second as many bytes
-        that are no capabilities.
-        """
+        that are no capabilities."""
         for name, caps, wanted in [
             ("capabilities", LARGE_CAPS, (b"", NO_MEMORY, 6)),
             ("no capabilities", "zeroblob(%d)" % MIB, self.tables.says(UNREAD % FIRST)),
@@ -341,13 +246,10 @@ def text(field, value):
 
 
 class ServedListTest(ListedTest):
-    """A listing while csid serves the tables."""
-
     def setUp(self):
         super().setUp()
-        self.tables = Tables(self.csid, self.folder).new()
-        config = os.path.join(self.folder, "config.toml")
-        write(config, sample((b"10485760", b"%d" % (1 << 40))))
+        self.tables.new()
+        config = self.configure(sample((b"10485760", b"%d" % (1 << 40))))
         streams = dict.fromkeys(("stdin", "stdout", "stderr"), subprocess.PIPE)
         command = self.tables.command + ["--config", config]
         self.server = subprocess.Popen(command, bufsize=0, **streams)
@@ -361,8 +263,7 @@ class ServedListTest(ListedTest):
 
     def change(self):
         """One volume after the other is made, published at n1, unpublished and deleted, but for each tenth,
-        which stays. So there is at most one volume that is not a tenth, and it is the last one.
-        """
+        which stays. So there is at most one volume that is not a tenth, and it is the last one."""
         for number in itertools.count(1):
             volume_id = text(1, b"vol-%d" % number)
             calls = [("CreateVolume", text(1, b"v%d" % number) + BLOCK)]

@@ -1,33 +1,14 @@
 """csid where memory is short."""
 
-import os
 
 from tests.vectors import messages as v
 from tests.support.configs import LARGE_POOL
 from tests.support.frames import ANSWERED, ASKED, BLOCK, NO_MEMORY, PROBE, VOL_1, controller, frame, reply
-from tests.support.processes import (
-    SECONDS,
-    little_memory,
-    memory_of,
-    memory_of_24_mib,
-    run,
-    some_memory,
-    write,
-)
+from tests.support.processes import SECONDS, little_memory, memory_of, memory_of_24_mib, run, some_memory
 from tests.support.rows import CsidTest
 from tests.support.server import NO_COPY, Server
-from tests.support.tables import (
-    BLOCK_CAPS,
-    IO_FAILED,
-    LARGE_CAPS,
-    MANY,
-    MIB,
-    NEXT_9,
-    SHORT_ENTRIES,
-    Tables,
-    next_is,
-    volume,
-)
+from tests.support.tables import (BLOCK_CAPS, IO_FAILED, LARGE_CAPS, MANY, MIB, NEXT_9, SHORT_ENTRIES, Tables,
+                                  next_is, volume)
 
 
 class LowMemoryTest(CsidTest):
@@ -39,13 +20,11 @@ class LowMemoryTest(CsidTest):
 
     def setUp(self):
         super().setUp()
-        self.tables = Tables(self.csid, self.folder)
         self.low = self.tables.command + ["--low-memory"]
 
     def fill(self):
         """Tables with 1,000 volumes, and a configuration that has room for them."""
-        self.config = os.path.join(self.folder, "config.toml")
-        write(self.config, LARGE_POOL)
+        self.configure(LARGE_POOL)
         params = "UPDATE volumes SET params = x'%s';" % SHORT_ENTRIES.hex()
         self.tables.new().script(MANY % (1000, BLOCK_CAPS) + params + next_is(1001))
 
@@ -73,8 +52,7 @@ class LowMemoryTest(CsidTest):
 
     def test_server_without_memory_for_a_copy_says_so_and_deletes_volumes(self):
         self.fill()
-        server = Server(self.csid, self.folder, "--config", self.config, preexec_fn=some_memory)
-        self.addCleanup(server.end)
+        server = self.serve("--config", self.config, preexec_fn=some_memory)
         self.assertEqual(server.ask(self.PROBE), self.ROOM)
         self.assertEqual(server.ask(controller("DeleteVolume", VOL_1)), reply(b""))
         self.assertEqual(server.end()[0], server.has(1000, 0, 1001) + server.line(NO_COPY) * 2)
@@ -88,18 +66,14 @@ class LowMemoryTest(CsidTest):
 
 
 class MemoryTest(CsidTest):
-    """csid where memory is short."""
-
     def test_want_of_memory_for_a_copy_is_no_failed_disk(self):
         """The files of the copy of the tables."""
-        tables = Tables(self.csid, self.folder).new()
+        tables = self.tables.new()
         tables.script(volume(1, "printf('%.*c', 200000, 'x')") + next_is(2))
         for option in "--check-tables", "--list-tables":
             with self.subTest(option=option):
-                lines = [
-                    run([self.csid, option, tables.path], preexec_fn=memory_of(quarters << 18))[1]
-                    for quarters in range(4, 20)
-                ]
+                lines = [run([self.csid, option, tables.path], preexec_fn=memory_of(quarters << 18))[1]
+                         for quarters in range(4, 20)]
                 self.assertEqual([line for line in lines if IO_FAILED in line], [])
                 self.assertIn(NO_MEMORY, lines)
 
@@ -116,14 +90,11 @@ class MemoryTest(CsidTest):
 
     def test_creates_are_refused_before_the_next_opening_has_no_memory(self):
         """Deletes are not. The pages that they leave are free: the next connection has room for creates."""
-        config, most = os.path.join(self.folder, "config.toml"), 6000
-        write(config, LARGE_POOL.replace(b"2147483648", b"%d" % (20_000 * MIB)))
+        config, most = self.configure(LARGE_POOL.replace(b"2147483648", b"%d" % (20_000 * MIB))), 6000
         for name, words in ("of the file", ["--low-memory"]), ("of memory", []):
             with self.subTest(reads=name):
-                Tables(self.csid, self.folder).clear()
-                words = ["--config", config, *words]
-                server = Server(self.csid, self.folder, *words, preexec_fn=memory_of_24_mib)
-                self.addCleanup(server.end)
+                self.tables.clear()
+                server = self.serve("--config", config, *words, preexec_fn=memory_of_24_mib)
                 came = server.answers(self.creates(1, most))
                 made = came.count(0)
                 self.assertEqual((1000 < made < most, came), (True, [0] * made + [13] * (most - made)))
@@ -141,23 +112,17 @@ class ReserveTest(CsidTest):
     CAP = v.cap(v.mount(3, v.fs_type("f" * 128)))
     NODES = ["n%02d" % it + "n" * 253 for it in range(64)]
 
-    def serve(self, volumes, caps, size=9 * MIB):
+    def serve_low(self, volumes, caps, size=9 * MIB):
         """Starts csid over this many volumes, with little memory."""
         nodes = ["[[node]]\nid = '%s'\nmax_volumes = 100000\n" % it for it in self.NODES]
-        config = os.path.join(self.folder, "config.toml")
         pool = LARGE_POOL.replace(b"2147483648", b"%d" % (100_000 * MIB))
-        write(config, pool + "".join(nodes).encode())
-        self.tables = Tables(self.csid, self.folder).new()
-        self.tables.script(MANY % (volumes, "x'%s'" % caps.hex()) + next_is(volumes + 1))
-        words = ["--config", config, "--low-memory"]
-        server = Server(self.csid, self.folder, *words, preexec_fn=memory_of(size))
-        self.addCleanup(server.end)
-        return server
+        config = self.configure(pool + "".join(nodes).encode())
+        self.tables.new().script(MANY % (volumes, "x'%s'" % caps.hex()) + next_is(volumes + 1))
+        return self.serve("--config", config, "--low-memory", preexec_fn=memory_of(size))
 
     def fill(self, server, calls, least):
         """Makes calls over one connection. At least this many succeed, then memory is refused, and the next
-        connection is answered.
-        """
+        connection is answered."""
         came = server.answers(calls)
         self.assertEqual(server.ask(v.listing(v.max_entries(1)))[:1], b"\0")
         made = came.count(0)
@@ -166,7 +131,7 @@ class ReserveTest(CsidTest):
 
     def test_publications_leave_memory_for_the_next_opening(self):
         volumes = [v.vol("vol-%d" % it) for it in range(1, 33)]
-        server = self.serve(len(volumes), self.CAP)
+        server = self.serve_low(len(volumes), self.CAP)
         publications = [v.publish(it, v.node(node), self.CAP) for it in volumes for node in self.NODES]
         self.fill(server, publications, 500)
         self.assertEqual(server.answers([v.unpublish(it) for it in volumes]), [0] * len(volumes))
@@ -174,13 +139,13 @@ class ReserveTest(CsidTest):
 
     def test_mutable_parameters_leave_memory_for_the_next_opening(self):
         volumes = [v.vol("vol-%d" % it) for it in range(1, 1001)]
-        server = self.serve(len(volumes), v.BLOCK)
+        server = self.serve_low(len(volumes), v.BLOCK)
         self.fill(server, [v.modify(it, v.sets("k", "v" * 4095)) for it in volumes], 100)
         self.assertEqual(server.answers([v.delete(it) for it in volumes]), [0] * len(volumes))
         self.assertEqual(self.tables.ask("SELECT count(*) FROM volumes"), [(0,)])
 
     def test_rows_of_earlier_connections_have_memory_for_the_next_opening(self):
-        server = self.serve(62_000, v.BLOCK, 16 * MIB)
+        server = self.serve_low(62_000, v.BLOCK, 16 * MIB)
         server.answers([v.create(v.name("w%d" % it), v.BLOCK) for it in range(6000)])
         self.assertEqual(server.ask(v.listing(v.max_entries(1)))[:1], b"\0")
         self.assertEqual(server.ask(v.delete(v.vol("vol-1"))), v.DONE)

@@ -2,22 +2,14 @@
 
 import contextlib
 import os
+import pathlib
 import socket
 import subprocess
 import sys
 import threading
 import time
 
-from tests.support.frames import (
-    CREATE_A,
-    LONGEST,
-    PROBE,
-    READY,
-    VOLUME_1,
-    controller,
-    frame,
-    reply,
-)
+from tests.support.frames import (CREATE_A, LONGEST, PROBE, READY, VOLUME_1, controller, frame, reply)
 from tests.support.processes import SECONDS, has_ended, run, wait
 from tests.support.rows import CsidTest
 from tests.support.server import IDLE, SLOW, Server
@@ -51,8 +43,7 @@ def drip(peer, seconds):
 
 def processor_seconds(pid):
     """The time that a process has taken of a processor."""
-    with open("/proc/%d/stat" % pid) as stat:
-        user, system = stat.read().rpartition(")")[2].split()[11:13]
+    user, system = pathlib.Path("/proc/%d/stat" % pid).read_text().rpartition(")")[2].split()[11:13]
     return (int(user) + int(system)) / os.sysconf("SC_CLK_TCK")
 
 
@@ -61,8 +52,7 @@ class PeersTest(CsidTest):
 
     def setUp(self):
         super().setUp()
-        self.server = Server(self.csid, self.folder)
-        self.addCleanup(self.server.end)
+        self.server = self.serve()
         self.peers = self.enterContext(contextlib.ExitStack())
 
     def connect(self, given=b""):
@@ -97,8 +87,7 @@ class PeersTest(CsidTest):
 
     def count_late(self, calls):
         """Sends each call in two parts 40 ms apart, while another peer has waited for more than a second.
-        Returns how many calls were answered.
-        """
+        Returns how many calls were answered."""
         first, late = self.connect(PART), self.connect(LATE[:5000])
         self.connect(frame(PROBE))
         self.assertEqual(first.recv(1), b"")
@@ -163,8 +152,7 @@ class PeersTest(CsidTest):
 
     def send_always(self, peer):
         """Sends calls without a pause, from a process of its own: the test itself would hold up a thread.
-        Returns after the first replies wait to be read, so that csid always has a call to answer.
-        """
+        Returns after the first replies wait to be read, so that csid always has a call to answer."""
         words = [sys.executable, "-c", SENDER, str(peer.fileno()), frame(PROBE).hex()]
         sender = subprocess.Popen(words, pass_fds=[peer.fileno()], stderr=subprocess.DEVNULL)
         self.addCleanup(sender.wait, SECONDS)
@@ -205,12 +193,11 @@ class SlowPeerTest(CsidTest):
 
     def test_pages_are_whole_for_a_reader_that_begins_late(self):
         """The replies fill the socket's buffer, and csid waits in the middle of one."""
-        tables = Tables(self.csid, self.folder).new()
+        tables = self.tables.new()
         tables.script(MANY % (10, BLOCK_CAPS) + next_is(11))
         listing = controller("ListVolumes")
         page = tables.run(listing)[0]
-        server = Server(self.csid, self.folder)
-        self.addCleanup(server.end)
+        server = self.serve()
         with server.connect() as peer:
             threading.Thread(target=peer.sendall, args=(listing * 2000,), daemon=True).start()
             time.sleep(3)
@@ -221,8 +208,7 @@ class SlowPeerTest(CsidTest):
         self.assertLess(time.monotonic() - begin, 5)
 
     def test_reply_must_be_taken_in_ten_seconds(self):
-        server = Server(self.csid, self.folder)
-        self.addCleanup(server.end)
+        server = self.serve()
         with server.connect() as peer:
             peer.settimeout(1)
             with contextlib.suppress(TimeoutError):
@@ -236,8 +222,7 @@ class SlowPeerTest(CsidTest):
             self.assertTrue(6 < time.monotonic() - begin < 20)
 
     def test_call_whose_second_half_comes_late_is_answered(self):
-        server = Server(self.csid, self.folder)
-        self.addCleanup(server.end)
+        server = self.serve()
         create = controller("CreateVolume", CREATE_A)
         with server.connect() as peer:
             peer.sendall(frame(PROBE) + create[:20])
@@ -248,8 +233,7 @@ class SlowPeerTest(CsidTest):
 
     def test_connection_may_last_longer_than_a_call(self):
         """A call each second: the time of a call ends with its reply."""
-        server = Server(self.csid, self.folder)
-        self.addCleanup(server.end)
+        server = self.serve()
         with server.connect() as peer:
             for _ in range(12):
                 peer.sendall(frame(PROBE))
@@ -258,8 +242,7 @@ class SlowPeerTest(CsidTest):
 
     def test_byte_now_and_then_does_not_make_the_time_of_a_call_longer(self):
         """The peer has not sent enough to be served."""
-        server = Server(self.csid, self.folder)
-        self.addCleanup(server.end)
+        server = self.serve()
         with server.connect() as peer:
             begin = time.monotonic()
             with contextlib.suppress(OSError):
@@ -271,8 +254,7 @@ class SlowPeerTest(CsidTest):
 
     def test_each_silent_peer_has_its_own_time(self):
         """The second one comes when half of the first one's time is over."""
-        server = Server(self.csid, self.folder, "--idle", "6")
-        self.addCleanup(server.end)
+        server = self.serve("--idle", "6")
         with server.connect() as first:
             begin = time.monotonic()
             time.sleep(3)
@@ -283,8 +265,7 @@ class SlowPeerTest(CsidTest):
                 self.assertTrue(8.5 < time.monotonic() - begin < 14)
 
     def test_idle_seconds_count_from_the_last_call(self):
-        server = Server(self.csid, self.folder, "--idle", "4")
-        self.addCleanup(server.end)
+        server = self.serve("--idle", "4")
         with server.connect() as peer:
             for pause in 2.2, 2.2, 2.2, 0:
                 peer.sendall(frame(PROBE))
@@ -294,8 +275,7 @@ class SlowPeerTest(CsidTest):
 
     def test_waiting_takes_no_time_of_a_processor(self):
         """Each peer sends this much, and then neither sends nor reads any more."""
-        server = Server(self.csid, self.folder)
-        self.addCleanup(server.end)
+        server = self.serve()
         for name, given in [
             ("nothing", b""),
             ("a part of a call", PART[:100]),
@@ -318,7 +298,7 @@ class SlowPeerTest(CsidTest):
         server = Server(self.csid, self.folder)
         self.assertEqual(server.ask(controller("CreateVolume", CREATE_A + parameters)), reply(VOLUME_1))
         server.end()
-        self.assertEqual(Tables(self.csid, self.folder).ask("SELECT count(*) FROM volumes"), [(1,)])
+        self.assertEqual(self.tables.ask("SELECT count(*) FROM volumes"), [(1,)])
 
 
 class LastPeerTest(CsidTest):
@@ -337,12 +317,12 @@ class KindTest(CsidTest):
     """Tables that are no regular file."""
 
     def test_named_pipe_is_refused(self):
-        tables = Tables(self.csid, self.folder)
+        tables = self.tables
         os.mkfifo(tables.path)
         self.assertEqual(tables.run(), tables.says("it is no regular file"))
 
     def test_named_pipe_is_refused_before_the_socket_is_made(self):
-        tables, path = Tables(self.csid, self.folder), os.path.join(self.folder, "csid.sock")
+        tables, path = self.tables, os.path.join(self.folder, "csid.sock")
         os.mkfifo(tables.path)
         for words in [], ["--existing"]:
             with self.subTest(words=words):
@@ -351,7 +331,7 @@ class KindTest(CsidTest):
                 self.assertFalse(os.path.exists(path))
 
     def test_named_pipe_for_a_wal_is_refused(self):
-        tables = Tables(self.csid, self.folder).new()
+        tables = self.tables.new()
         os.unlink(tables.path + "-wal")
         os.mkfifo(tables.path + "-wal")
         self.assertEqual(tables.run(), tables.says("it is no regular file"))

@@ -9,7 +9,6 @@ from tests.support.frames import CREATE_A, VOLUME_1, controller, reply
 from tests.support.processes import SECONDS, run, write
 from tests.support.rows import CsidTest
 from tests.support.server import Server
-from tests.support.tables import Tables
 
 # Some of these calls are not there on each processor.
 CALLS = "trace=?open,openat,?creat,?chmod,fchmod,fchmodat,?fchmodat2,?chown,fchownat,bind,accept,accept4"
@@ -24,7 +23,6 @@ class RightsTest(CsidTest):
 
     def setUp(self):
         super().setUp()
-        self.tables = Tables(self.csid, self.folder)
         self.socket = os.path.join(self.folder, "csid.sock")
         self.trace = os.path.join(self.folder, "trace")
         self.traced = os.path.join(self.folder, "traced")
@@ -34,11 +32,10 @@ class RightsTest(CsidTest):
         if shutil.which("strace") is None or run([self.traced, "--version"])[2] != 0:
             self.skipTest("strace cannot be run here")
 
-    def serve(self, *words):
+    def calls(self, *words):
         """The system calls of a server that makes one volume and ends."""
-        server = Server(
-            self.traced, self.folder, "--connections", "1", *words, preexec_fn=lambda: os.umask(0) and None
-        )
+        server = Server(self.traced, self.folder, "--connections", "1", *words,
+                        preexec_fn=lambda: os.umask(0) and None)
         self.addCleanup(server.end)
         self.assertEqual(server.ask(controller("CreateVolume", CREATE_A)), reply(VOLUME_1))
         self.assertEqual(server.process.wait(SECONDS), 0)
@@ -53,7 +50,7 @@ class RightsTest(CsidTest):
         return modes
 
     def test_new_files_are_never_open_to_others(self):
-        lines = self.serve()
+        lines = self.calls()
         for path in self.tables.path, self.tables.path + "-wal":
             with self.subTest(path=path):
                 modes = self.modes(lines, path)
@@ -62,19 +59,19 @@ class RightsTest(CsidTest):
 
     def test_no_other_file_is_made(self):
         """A temporary one would need rights of its own."""
-        made = [found[1] for line in self.serve() if (found := MADE.search(line))]
+        made = [found[1] for line in self.calls() if (found := MADE.search(line))]
         self.assertEqual(sorted(made), [self.tables.path, self.tables.path + "-wal"])
 
     def test_new_wal_never_has_rights_that_its_file_has_not(self):
         self.tables.new()
         os.chmod(self.tables.path, 0o640)
         os.unlink(self.tables.path + "-wal")
-        modes = self.modes(self.serve(), self.tables.path + "-wal")
+        modes = self.modes(self.calls(), self.tables.path + "-wal")
         self.assertEqual([oct(mode) for mode in modes if mode & ~0o640], [])
         self.assertEqual(oct(modes[-1]), "0o640")
 
     def test_socket_has_its_mode_before_a_connection_is_taken(self):
-        lines = self.serve()
+        lines = self.calls()
         calls = [found[1] for line in lines if (found := re.search(r"\b(bind|accept4?|f?chmod\w*)\(", line))]
         self.assertEqual(calls[0], "bind")
         self.assertRegex(calls[1], "^f?chmod")
@@ -82,6 +79,6 @@ class RightsTest(CsidTest):
 
     def test_socket_has_its_group_before_the_group_has_rights(self):
         step = re.compile(r'(chmod|chown)\w*\(.*"%s", ([-\w]+)' % re.escape(self.socket))
-        lines = self.serve("--group", str(os.getegid()))
+        lines = self.calls("--group", str(os.getegid()))
         steps = [found.groups() for line in lines if (found := step.search(line))]
         self.assertEqual(steps, [("chmod", "0600"), ("chown", "-1"), ("chmod", "0660")])

@@ -11,35 +11,13 @@ import subprocess
 import time
 
 from tests.support.configs import sample
-from tests.support.frames import (
-    BLOCK,
-    CREATE_A,
-    CREATE_B,
-    LONGEST,
-    ONE,
-    PROBE,
-    READY,
-    VOLUME_1,
-    VOL_1,
-    controller,
-    fault,
-    frame,
-    reply,
-)
+from tests.support.frames import (BLOCK, CREATE_A, CREATE_B, LONGEST, ONE, PROBE, READY, VOLUME_1, VOL_1,
+                                  controller, fault, frame, reply)
 from tests.support.processes import SECONDS, copy_for_nobody, has_ended, run, wait, write
-from tests.support.rows import CsidTest
+from tests.support.rows import CsidTest, each
 from tests.support.server import CROWDED, GONE, IDLE, KILLED, NEW, SLOW, Server, ended
-from tests.support.tables import (
-    BLOCK_CAPS,
-    MANY,
-    MIB,
-    NO_DATABASE,
-    NO_FILE,
-    POOL,
-    Tables,
-    next_is,
-    volume_fault,
-)
+from tests.support.tables import (BLOCK_CAPS, MANY, MIB, NO_DATABASE, NO_FILE, POOL, Tables, next_is,
+                                  volume_fault)
 
 
 def masked(mask):
@@ -66,11 +44,6 @@ def line_of(text):
 class ServeTest(CsidTest):
     """`csid serve` over tables in the folder of the test."""
 
-    def serve(self, *words, **how):
-        server = Server(self.csid, self.folder, *words, **how)
-        self.addCleanup(server.end)
-        return server
-
     def connect(self, server, given=b""):
         """A connection that stays until the test ends, and has sent this."""
         peer = self.enterContext(server.connect())
@@ -91,7 +64,7 @@ class SurveyTest(ServeTest):
     def fill(self):
         """Tables with two volumes, one of them attached."""
         publish = controller("ControllerPublishVolume", VOL_1 + bytes.fromhex("12026e31") + BLOCK)
-        tables = Tables(self.csid, self.folder)
+        tables = self.tables
         tables.run(controller("CreateVolume", CREATE_A) + publish + controller("CreateVolume", CREATE_B))
         return tables
 
@@ -140,20 +113,19 @@ class AccessTest(ServeTest):
     def modes(self):
         return [access(os.path.join(self.folder, "volumes.db" + ending)) for ending in ("", "-wal")]
 
-    def test_files_are_of_the_user_alone_whatever_the_mask(self):
-        for mask in 0, 0o022, 0o077, 0o777:
-            with self.subTest(mask=oct(mask)):
-                server = self.serve(preexec_fn=masked(mask))
-                self.assertEqual([access(server.path), *self.modes()], ["0o600"] * 3)
-                self.assertEqual(server.ask(frame(PROBE)), READY)
-                server.end()
-                tables = Tables(self.csid, self.folder).clear()
-                self.assertEqual(tables.run(preexec_fn=masked(mask)), (b"", "", 0))
-                self.assertEqual(self.modes(), ["0o600"] * 2)
-                tables.clear()
+    @each([0, 0o022, 0o077, 0o777])
+    def test_files_are_of_the_user_alone_whatever_the_mask(self, mask):
+        server = self.serve(preexec_fn=masked(mask))
+        self.assertEqual([access(server.path), *self.modes()], ["0o600"] * 3)
+        self.assertEqual(server.ask(frame(PROBE)), READY)
+        server.end()
+        tables = self.tables.clear()
+        self.assertEqual(tables.run(preexec_fn=masked(mask)), (b"", "", 0))
+        self.assertEqual(self.modes(), ["0o600"] * 2)
+        tables.clear()
 
     def test_log_gets_the_mode_of_an_existing_file(self):
-        tables = Tables(self.csid, self.folder).new()
+        tables = self.tables.new()
         os.chmod(tables.path, 0o640)
         os.unlink(tables.path + "-wal")
         self.serve(preexec_fn=masked(0))
@@ -161,8 +133,7 @@ class AccessTest(ServeTest):
 
     def groups(self):
         """Words for groups that this user may give a file to, and their numbers: a group that root names or
-        that the user is in, and its own group.
-        """
+        that the user is in, and its own group."""
         with open("/etc/group") as file:
             names = {int(line.split(":")[2]): line.split(":")[0] for line in file if line.count(":") == 3}
         own = [it for it in (names if os.geteuid() == 0 else os.getgroups()) if it in names]
@@ -180,10 +151,9 @@ class AccessTest(ServeTest):
     def check_unknown(self, server, word):
         self.assertEqual(server.end(), (line_of(word + ": there is no such group in /etc/group"), 7, False))
 
-    def test_unknown_group_is_refused(self):
-        for word in "no-such-group", "", "4294967295", "+1", "root:x":
-            with self.subTest(group=word):
-                self.check_unknown(self.serve("--group", word), word)
+    @each(["no-such-group", "", "4294967295", "+1", "root:x"])
+    def test_unknown_group_is_refused(self, word):
+        self.check_unknown(self.serve("--group", word), word)
 
     def test_group_that_may_not_be_given_is_refused(self):
         if os.geteuid() != 0:
@@ -341,12 +311,8 @@ class UnreadErrorTest(CsidTest):
         self.path, away = os.path.join(self.folder, "csid.sock"), os.path.join(self.folder, "no", "such.db")
         self.readable, writable = os.pipe()
         fcntl.fcntl(writable, fcntl.F_SETPIPE_SZ, 8192)
-        self.process = subprocess.Popen(
-            [self.csid, "serve", "--socket", self.path, "--tables", away],
-            stdin=subprocess.DEVNULL,
-            stdout=subprocess.DEVNULL,
-            stderr=writable,
-        )
+        self.process = subprocess.Popen([self.csid, "serve", "--socket", self.path, "--tables", away],
+                                        stdin=subprocess.DEVNULL, stdout=subprocess.DEVNULL, stderr=writable)
         self.addCleanup(self.process.wait)
         self.addCleanup(self.process.kill)
         self.addCleanup(os.close, writable)
@@ -368,9 +334,7 @@ class UnreadErrorTest(CsidTest):
                 return b""
 
     def test_lines_that_cannot_be_written_are_counted(self):
-        """A line for each call that is not answered, and one for garbage. The count is written once the pipe
-        is read again.
-        """
+        """A line for each unanswered call, and for garbage. The count comes once the pipe is read again."""
         refused = fault("bad path length at byte 0")[0]
         self.assertEqual({self.ask(frame(PROBE)) for _ in range(300)}, {b""})
         self.assertEqual(self.ask(b"garbage"), refused)
@@ -388,9 +352,7 @@ class UnreadErrorTest(CsidTest):
 
 
 class EndsTest(ServeTest):
-    """The end of each connection is reported: in a line of its own, or in a count where many end in a
-    second.
-    """
+    """The end of each connection has a line of its own, or is in a count if many end in a second."""
 
     def setUp(self):
         super().setUp()
@@ -449,9 +411,7 @@ class EndsTest(ServeTest):
 
 
 class WaitingPeersTest(ServeTest):
-    """While others wait idle peers are given a second in all, and a call has a time of its own from its first
-    byte.
-    """
+    """While others wait idle peers have a second in all, and a call has a time from its first byte."""
 
     def test_idle_peers_are_given_a_second_in_all(self):
         """A second for each would be eight."""
@@ -540,9 +500,8 @@ class GonePeersTest(ServeTest):
 
     def test_call_after_1000_that_have_gone_waits_less_than_5_seconds(self):
         """The file takes a while to open. No call of theirs is made, and each is counted."""
-        config = os.path.join(self.folder, "config.toml")
-        write(config, sample((b"10485760", b"%d" % (20000 * MIB))))
-        Tables(self.csid, self.folder).new().script(MANY % (20000, BLOCK_CAPS) + next_is(20001))
+        config = self.configure(sample((b"10485760", b"%d" % (20000 * MIB))))
+        self.tables.new().script(MANY % (20000, BLOCK_CAPS) + next_is(20001))
         server = self.serve("--config", config)
         self.assertEqual(server.lines(), server.has(20000, 0, 20001))
         given = [b"", controller("CreateVolume", CREATE_A), b"garbage" * 20]

@@ -9,25 +9,10 @@ import sqlite3
 import subprocess
 import sys
 
-from tests.support.csictl import (
-    CONTROLLER,
-    CREATE,
-    IDENTITY,
-    Line,
-    NOT_THERE,
-    NO_DATABASE,
-    NO_FILE,
-    READY,
-    Server,
-    VOL_1,
-    call,
-    ok,
-    refusal,
-    run,
-    text,
-)
+from tests.support.csictl import (CONTROLLER, CREATE, IDENTITY, Line, NOT_THERE, NO_DATABASE, NO_FILE, READY,
+                                  Server, VOL_1, call, ok, refusal, run, text)
 from tests.support.processes import read, small_memory, write
-from tests.support.rows import CsictlTest
+from tests.support.rows import CsictlTest, each
 
 
 # Why a socket cannot be made, or a connection cannot be taken.
@@ -142,15 +127,13 @@ class ScarceTest(SocketTest):
         server = self.serve("a.sock", "--connections", "2", preexec_fn=limit)
         return server, "csid: %s: %s\n" % (server.tables, NO_FILE)
 
-    def test_server_without_descriptors_for_its_socket_ends(self):
+    @each([(4, False), (5, True)])
+    def test_server_without_descriptors_for_its_socket_ends(self, count, is_made):
         """Standard input, output and error, the socket, and what waits for connections. A fifth descriptor
-        makes the file and not its log.
-        """
-        for count, is_made in (4, False), (5, True):
-            with self.subTest(count=count):
-                server, no_file = self.serve_two(handles(count))
-                self.assertEqual(server.end(), (no_file + "csid: %s: %s\n" % (server.path, NO_HANDLE), 7))
-                self.assertEqual(os.path.exists(server.tables), is_made)
+        makes the file and not its log."""
+        server, no_file = self.serve_two(handles(count))
+        self.assertEqual(server.end(), (no_file + "csid: %s: %s\n" % (server.path, NO_HANDLE), 7))
+        self.assertEqual(os.path.exists(server.tables), is_made)
 
     def test_connection_without_descriptors_for_the_tables_is_closed(self):
         server, no_file = self.serve_two(handles(6))
@@ -221,9 +204,7 @@ class SharedFileTest(SocketTest):
 
 
 class ExchangedFileTest(SocketTest):
-    """The file that a connection has open is replaced: the connection goes on, and the next one takes the new
-    file.
-    """
+    """The file of an open connection is replaced: the connection goes on, and the next has the new file."""
 
     # A volume of 2 MiB.
     LARGER = "0a25 0880808001" + VOL_1[12:]

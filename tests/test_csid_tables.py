@@ -5,45 +5,19 @@ import shutil
 import subprocess
 
 from tests.support.configs import SAMPLE
-from tests.support.frames import (
-    ANSWERED,
-    ASKED,
-    BLOCK,
-    CREATE_A,
-    CREATE_B,
-    NO_MEMORY,
-    ONE,
-    PROBE,
-    READY,
-    VOLUME_1,
-    VOL_1,
-    WRITER,
-    WRITE_FAILED,
-    controller,
-    fault,
-    frame,
-    refusal,
-    reply,
-)
-from tests.support.processes import (
-    DENIED,
-    NOT_THERE,
-    SECONDS,
-    copy_for_nobody,
-    read,
-    run,
-    small_memory,
-    write,
-)
-from tests.support.rows import CsidTest
+from tests.support.frames import (ANSWERED, ASKED, BLOCK, CREATE_A, CREATE_B, NO_MEMORY, ONE, PROBE, READY,
+                                  VOLUME_1, VOL_1, WRITER, WRITE_FAILED, controller, fault, frame, refusal,
+                                  reply)
+from tests.support.processes import (DENIED, NOT_THERE, SECONDS, copy_for_nobody, read, run, small_memory,
+                                     write)
+from tests.support.rows import CsidTest, each
 from tests.support.server import EMPTIED, KILLED, MISSING, Server, WITHOUT
 from tests.support.tables import A, DAMAGED, LOCKED, MIB, NO_DATABASE, NO_FILE, OTHER_TABLES, Tables
 
 
 def first_page():
     """A database of one page without tables ("Database File Format" of SQLite, 1.3 and 1.6), whose changes
-    are in a log first.
-    """
+    are in a log first."""
     page = bytearray(1024)
     for at, text in [
         (0, b"SQLite format 3\0".hex()),
@@ -71,12 +45,6 @@ def page_of(volume):
 
 
 class DurabilityTest(CsidTest):
-    """Volumes outlive the process."""
-
-    def setUp(self):
-        super().setUp()
-        self.tables = Tables(self.csid, self.folder)
-
     def test_new_file_has_no_rows(self):
         self.assertEqual(self.tables.run(), (b"", "", 0))
         counts = "SELECT (SELECT count(*) FROM volumes), (SELECT count(*) FROM attachments), * FROM meta"
@@ -138,29 +106,22 @@ class DurabilityTest(CsidTest):
 
 
 class FirstPageTest(CsidTest):
-    """An empty file gets pages of 1,024 bytes. In any other file no byte is written before it is opened.
-    """
-
-    def setUp(self):
-        super().setUp()
-        self.tables = Tables(self.csid, self.folder)
+    """An empty file gets pages of 1,024 bytes. In any other file no byte is written before it is opened."""
 
     def check_made(self):
         self.assertEqual(self.tables.run(frame(PROBE)), (READY, "", 0))
         self.assertEqual(self.tables.ask("PRAGMA page_size"), [(1024,)])
 
-    def test_file_without_content_gets_small_pages(self):
-        for name, content in ("an empty file", b""), ("a byte of 0", b"\0"), ("a page of them", bytes(1024)):
-            with self.subTest(name=name):
-                write(self.tables.clear().path, content)
-                self.check_made()
+    @each([("an empty file", b""), ("a byte of 0", b"\0"), ("a page of them", bytes(1024))])
+    def test_file_without_content_gets_small_pages(self, name, content):
+        write(self.tables.clear().path, content)
+        self.check_made()
 
-    def test_file_with_a_part_of_the_first_page_gets_small_pages(self):
+    @each([1, 15, 16, 17, 99, 100, 101, 107, 108, 109, 511, 512, 513, 1023, 1024])
+    def test_file_with_a_part_of_the_first_page_gets_small_pages(self, size):
         """csid was killed while it wrote the page."""
-        for size in (1, 15, 16, 17, 99, 100, 101, 107, 108, 109, 511, 512, 513, 1023, 1024):
-            with self.subTest(size=size):
-                write(self.tables.clear().path, first_page()[:size])
-                self.check_made()
+        write(self.tables.clear().path, first_page()[:size])
+        self.check_made()
 
     def test_file_with_other_content_is_refused_and_kept(self):
         page = first_page()
@@ -197,34 +158,26 @@ class FirstPageTest(CsidTest):
 
 
 class OtherFilesTest(CsidTest):
-    """Files that are no tables of csid, or that cannot be opened."""
-
-    def setUp(self):
-        super().setUp()
-        self.tables = Tables(self.csid, self.folder)
-
     def probe(self, path, *words):
         """What `csid pipe` says over the file of a path."""
         command = [self.csid, "pipe", "--tables", path, *words]
         return run(command, input=frame(PROBE), cwd=self.folder)
 
-    def test_file_of_at_most_one_byte_gets_tables(self):
-        for content in b"", b"x":
-            with self.subTest(content=content):
-                write(self.tables.clear().path, content)
-                self.assertEqual(self.tables.run(frame(PROBE)), (READY, "", 0))
+    @each([b"", b"x"])
+    def test_file_of_at_most_one_byte_gets_tables(self, content):
+        write(self.tables.clear().path, content)
+        self.assertEqual(self.tables.run(frame(PROBE)), (READY, "", 0))
 
-    def test_file_that_is_no_database_is_refused_and_kept(self):
-        for name, content in [
-            ("two bytes", b"xy"),
-            ("many bytes", b"x" * 5000),
-            ("text that begins as a database", b"SQLite format 3 is what this is about\n" * 200),
-            ("zeros", bytes(8192)),
-        ]:
-            with self.subTest(name=name):
-                write(self.tables.clear().path, content)
-                self.assertEqual(self.tables.run(frame(PROBE)), self.tables.says(NO_DATABASE))
-                self.assertEqual(read(self.tables.path), content)
+    @each([
+        ("two bytes", b"xy"),
+        ("many bytes", b"x" * 5000),
+        ("text that begins as a database", b"SQLite format 3 is what this is about\n" * 200),
+        ("zeros", bytes(8192)),
+    ])
+    def test_file_that_is_no_database_is_refused_and_kept(self, name, content):
+        write(self.tables.clear().path, content)
+        self.assertEqual(self.tables.run(frame(PROBE)), self.tables.says(NO_DATABASE))
+        self.assertEqual(read(self.tables.path), content)
 
     def test_tables_of_another_program_are_refused_and_kept(self):
         self.tables.script("CREATE TABLE notes (a); INSERT INTO notes VALUES ('mine')")
@@ -274,13 +227,9 @@ class OtherFilesTest(CsidTest):
         """A name for a database in memory, and a URI. No file is made."""
         for path in ":memory:", "file:x.db":
             line = "csid: %s: csid needs the path of a file, and this is none for SQLite\n" % path
-            for words in (
-                ["pipe", "--tables", path],
-                ["pipe", "--tables", path, "--existing"],
-                ["serve", "--socket", "a.sock", "--tables", path],
-                ["--check-tables", path],
-                ["--list-tables", path],
-            ):
+            for words in (["pipe", "--tables", path], ["pipe", "--tables", path, "--existing"],
+                          ["serve", "--socket", "a.sock", "--tables", path], ["--check-tables", path],
+                          ["--list-tables", path]):
                 with self.subTest(words=words):
                     came = run([self.csid] + words, input=frame(PROBE), cwd=self.folder)
                     self.assertEqual(came, (b"", line, 4))
@@ -305,8 +254,6 @@ class OtherFilesTest(CsidTest):
 
 
 class PermissionsTest(CsidTest):
-    """Files that the user may not read or write."""
-
     def setUp(self):
         super().setUp()
         self.program, self.how = copy_for_nobody(self.csid, self.folder)
@@ -322,39 +269,37 @@ class PermissionsTest(CsidTest):
         for ending in "", "-wal":
             os.chmod(self.tables.path + ending, 0o666)
 
-    def test_file_or_log_without_permission_is_refused_and_kept(self):
-        for name, mode in ("not readable", 0o222), ("not writable", 0o444), ("neither", 0):
-            for ending in "", "-wal":
-                with self.subTest(name=name, ending=ending):
-                    self.fill()
-                    content = read(self.tables.path)
-                    os.chmod(self.tables.path + ending, mode)
-                    self.assertEqual(self.tables.run(frame(PROBE), **self.how), self.tables.says(NO_FILE))
-                    self.assertEqual(read(self.tables.path), content)
-
-    def test_folder_without_permission_needs_no_new_file(self):
-        """In a folder that is not writable a file that has its log is served, and nothing is made."""
-        for name, mode, endings, is_served in [
-            ("not writable", 0o555, ["", "-wal"], True),
-            ("not writable, without a log", 0o555, [""], False),
-            ("not writable, without a file", 0o555, [], False),
-            ("not readable", 0o311, ["", "-wal"], False),
-            ("not to be entered", 0o666, ["", "-wal"], False),
-        ]:
-            with self.subTest(name=name):
+    @each([("not readable", 0o222), ("not writable", 0o444), ("neither", 0)])
+    def test_file_or_log_without_permission_is_refused_and_kept(self, name, mode):
+        for ending in "", "-wal":
+            with self.subTest(name=name, ending=ending):
                 self.fill()
-                for ending in {"", "-wal"}.difference(endings):
-                    os.unlink(self.tables.path + ending)
-                os.chmod(self.held, mode)
-                came = self.tables.run(LISTING, **self.how)
-                os.chmod(self.held, 0o777)
-                wanted = (page_of(VOLUME_1), "", 0) if is_served else self.tables.says(NO_FILE)
-                self.assertEqual(came, wanted)
-                self.assertEqual(sorted(os.listdir(self.held)), ["volumes.db" + it for it in endings])
+                content = read(self.tables.path)
+                os.chmod(self.tables.path + ending, mode)
+                self.assertEqual(self.tables.run(frame(PROBE), **self.how), self.tables.says(NO_FILE))
+                self.assertEqual(read(self.tables.path), content)
+
+    @each([
+        ("not writable", 0o555, ["", "-wal"], True),
+        ("not writable, without a log", 0o555, [""], False),
+        ("not writable, without a file", 0o555, [], False),
+        ("not readable", 0o311, ["", "-wal"], False),
+        ("not to be entered", 0o666, ["", "-wal"], False),
+    ])
+    def test_folder_without_permission_needs_no_new_file(self, name, mode, endings, is_served):
+        """In a folder that is not writable a file that has its log is served, and nothing is made."""
+        self.fill()
+        for ending in {"", "-wal"}.difference(endings):
+            os.unlink(self.tables.path + ending)
+        os.chmod(self.held, mode)
+        came = self.tables.run(LISTING, **self.how)
+        os.chmod(self.held, 0o777)
+        wanted = (page_of(VOLUME_1), "", 0) if is_served else self.tables.says(NO_FILE)
+        self.assertEqual(came, wanted)
+        self.assertEqual(sorted(os.listdir(self.held)), ["volumes.db" + it for it in endings])
 
     def test_configuration_that_is_not_readable_is_refused(self):
-        config = os.path.join(self.folder, "config.toml")
-        write(config, SAMPLE)
+        config = self.configure(SAMPLE)
         os.chmod(config, 0)
         came = run([self.program, "pipe", "--config", config], input=frame(PROBE), **self.how)
         self.assertEqual(came, (b"", "csid: %s: %s\n" % (config, DENIED), 3))
@@ -373,7 +318,6 @@ class OrderOfFaultsTest(CsidTest):
 
     def setUp(self):
         super().setUp()
-        self.tables = Tables(self.csid, self.folder)
         self.absent = os.path.join(self.folder, "absent.toml")
         write(self.tables.path, b"x" * 5000)
 
@@ -414,15 +358,14 @@ class ExistingTest(CsidTest):
     def test_missing_file_is_refused(self):
         self.check_refused(MISSING)
 
-    def test_file_without_tables_is_refused(self):
-        for name, content in [
-            ("an empty file", b""),
-            ("a file of one byte", b"x"),
-            ("a file of 104 bytes", b"SQLite format 3\0" + b"\1" * 88),
-        ]:
-            with self.subTest(name=name):
-                write(self.tables.path, content)
-                self.check_refused(WITHOUT)
+    @each([
+        ("an empty file", b""),
+        ("a file of one byte", b"x"),
+        ("a file of 104 bytes", b"SQLite format 3\0" + b"\1" * 88),
+    ])
+    def test_file_without_tables_is_refused(self, name, content):
+        write(self.tables.path, content)
+        self.check_refused(WITHOUT)
 
     def test_database_without_tables_is_refused(self):
         self.tables.script("PRAGMA user_version = 7; VACUUM")
@@ -493,13 +436,10 @@ class ExistingTest(CsidTest):
 
 
 class EmptiedTest(CsidTest):
-    """A file without a byte whose log has changes: nothing is made and nothing is changed, so the file can be
-    put back.
-    """
+    """A file without a byte whose log has changes: nothing is made or changed, so it can be put back."""
 
     def setUp(self):
         super().setUp()
-        self.tables = Tables(self.csid, self.folder)
         server = Server(self.csid, self.folder)
         with server.connect() as peer:
             for name in b"abc":

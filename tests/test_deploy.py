@@ -1,46 +1,20 @@
 """The files of deploy/: they can be read, agree on names, sockets, ports and images, confine their programs,
-and end them.
-"""
+and end them."""
 
 import json
 import os
+import pathlib
 import re
 import shlex
 import subprocess
 import tempfile
 
-from tests.support.deploy import (
-    DEFAULTS,
-    DIFFERENCES,
-    ETCD_MANIFEST,
-    ETCD_PROGRAMS,
-    ETCD_UNIT,
-    EXPOSURE,
-    FIRST,
-    Kubernetes,
-    MANIFEST,
-    Nomad,
-    PROGRAMS,
-    TABLES_POD,
-    TLS,
-    UNITS,
-    Unit,
-    commands,
-    documents,
-    etcd_commands,
-    mounts,
-    need,
-    over_etcd,
-    plain,
-    read,
-    seconds,
-    shell,
-    toml,
-    value,
-    without,
-)
+from tests.support.deploy import (DEFAULTS, DIFFERENCES, ETCD_MANIFEST, ETCD_PROGRAMS, ETCD_UNIT, EXPOSURE,
+                                  FIRST, Kubernetes, MANIFEST, Nomad, PROGRAMS, TABLES_POD, TLS, UNITS, Unit,
+                                  commands, documents, etcd_commands, mounts, need, over_etcd, plain, read,
+                                  seconds, shell, toml, value, without)
 from tests.support.processes import TOP
-from tests.support.rows import RowTest
+from tests.support.rows import RowTest, each
 
 # Each unit that serves: the name in its lines, and the statuses that are an intended end, or no reason for a
 # restart.
@@ -53,9 +27,8 @@ STATUSES = [
 
 def said(script, **variables):
     """What a shell's status is, and its line on standard error."""
-    done = subprocess.run(
-        ["sh", "-c", script], env={"PATH": os.environ["PATH"], **variables}, capture_output=True, text=True
-    )
+    done = subprocess.run(["sh", "-c", script], env={"PATH": os.environ["PATH"], **variables},
+                          capture_output=True, text=True)
     return done.returncode, done.stderr
 
 
@@ -245,8 +218,6 @@ class EtcdCommandsTest(RowTest):
 
 
 class EtcdUnitTest(RowTest):
-    """The unit of csid-etcd."""
-
     def setUp(self):
         super().setUp()
         self.unit = Unit(ETCD_UNIT)
@@ -303,17 +274,16 @@ class EtcdManifestTest(RowTest):
         folders = [folder for folder, volume in mounts(self.etcd).items() if volume in volumes]
         self.assertEqual(folders, [os.path.dirname(paths[0])])
 
-    def test_folders_of_paths_are_mounted(self):
-        for name, options in [
-            ("csid-etcd", ["--listen", "--revision", "--cacert"]),
-            ("csid", ["--log", "--socket", "--config"]),
-            ("front", ["--csid", "--control"]),
-        ]:
-            with self.subTest(container=name):
-                container = self.manifest.containers[name]
-                found, words = mounts(container), plain(container["command"])
-                self.assertEqual([it for it in options if os.path.dirname(value(words, it)) not in found], [])
-                self.assertEqual(found.get("/run/csid-etcd"), "log" if name != "front" else None)
+    @each([
+        ("csid-etcd", ["--listen", "--revision", "--cacert"]),
+        ("csid", ["--log", "--socket", "--config"]),
+        ("front", ["--csid", "--control"]),
+    ])
+    def test_folders_of_paths_are_mounted(self, name, options):
+        container = self.manifest.containers[name]
+        found, words = mounts(container), plain(container["command"])
+        self.assertEqual([it for it in options if os.path.dirname(value(words, it)) not in found], [])
+        self.assertEqual(found.get("/run/csid-etcd"), "log" if name != "front" else None)
 
     def test_first_row_is_made_where_the_configuration_says_so(self):
         step = self.manifest.first["new"]
@@ -368,15 +338,14 @@ class EtcdManifestTest(RowTest):
             self.assertEqual(probe["httpGet"], {"path": "/livez", "port": port}, name)
             self.assertGreater(probe["timeoutSeconds"], 5, name)
 
-    def test_sidecars_are_those_of_the_other_manifest(self):
+    @each(["provisioner", "attacher"])
+    def test_sidecars_are_those_of_the_other_manifest(self, name):
         """They elect no leader."""
-        for name in ["provisioner", "attacher"]:
-            with self.subTest(container=name):
-                args = self.manifest.containers[name]["args"]
-                self.assertEqual([word for word in args if "election" in word], [])
-                args = [word.replace("ownerref-level=2", "ownerref-level=1") for word in args]
-                sidecar = {**self.manifest.containers[name], "args": args}
-                self.assertEqual(sidecar, self.other.containers[name])
+        args = self.manifest.containers[name]["args"]
+        self.assertEqual([word for word in args if "election" in word], [])
+        args = [word.replace("ownerref-level=2", "ownerref-level=1") for word in args]
+        sidecar = {**self.manifest.containers[name], "args": args}
+        self.assertEqual(sidecar, self.other.containers[name])
 
 
 class NamesTest(RowTest):
@@ -421,26 +390,18 @@ class NamesTest(RowTest):
 
 
 class DeployTest(RowTest):
-    """The files of deploy/: they can be read, agree on names, sockets, ports and images, confine their
-    programs, and end them.
-    """
-
     def test_probes(self):
         manifest = Kubernetes()
         words = dict(word.lstrip("-").split("=", 1) for word in manifest.containers["probe"]["args"])
         for name in ["csid", "front"]:
             probe = manifest.containers[name]["livenessProbe"]
             self.check("the probe of " + name, str(probe["httpGet"]["port"]), words["health-port"])
-            self.check(
-                "its time is above that of Probe",
-                probe["timeoutSeconds"] > seconds(words["probe-timeout"]),
-                True,
-            )
+            self.check("its time is above that of Probe",
+                       probe["timeoutSeconds"] > seconds(words["probe-timeout"]), True)
 
     def test_nodes(self):
         """Each configuration has a pool and a node, as volumes are created and attached with it as it is; and
-        the Nomad job says where it may run, which Nomad before 1.5 requires.
-        """
+        the Nomad job says where it may run, which Nomad before 1.5 requires."""
         nomad = Nomad()
         for where, text in [
             ("the manifest", Kubernetes().config()),
@@ -449,11 +410,9 @@ class DeployTest(RowTest):
         ]:
             config = toml(text)
             self.check("pools of " + where, [bool(pool["name"]) for pool in config.get("pool", [])], [True])
-            self.check(
-                "nodes of " + where,
-                [bool(node["id"]) and node["max_volumes"] > 0 for node in config.get("node", [])],
-                [True],
-            )
+            self.check("nodes of " + where,
+                       [bool(node["id"]) and node["max_volumes"] > 0 for node in config.get("node", [])],
+                       [True])
         job = re.search(r'\njob "[\w-]+" \{\n(.*?)\n  group ', nomad.text, re.S).group(1)
         named = re.findall(r'^  datacenters = \["([\w*-]+)"\]$', job, re.M)
         self.check("where the job may run", len(named), 1)
@@ -461,70 +420,48 @@ class DeployTest(RowTest):
     def test_sockets(self):
         """Each front is given the socket of its csid, and each sidecar the socket of its front."""
         for where, self.csid, self.front in commands():
-            self.check(
-                "the socket of csid in " + where, value(self.front, "--csid"), value(self.csid, "--socket")
-            )
+            self.check("the socket of csid in " + where, value(self.front, "--csid"),
+                       value(self.csid, "--socket"))
         units = [Unit(name) for name in UNITS]
         for unit, path in zip(
             units, [value(units[0].words(), "--socket"), units[1].all("Environment")[0].split("unix://")[1]]
         ):
-            self.check(
-                "the folder of " + path, os.path.dirname(path), "/run/" + unit.all("RuntimeDirectory")[0]
-            )
+            self.check("the folder of " + path, os.path.dirname(path),
+                       "/run/" + unit.all("RuntimeDirectory")[0])
         self.check_controls()
         nomad = Nomad()
-        self.check(
-            "the endpoint of the Nomad job",
-            os.path.dirname(nomad.one(r'CSI_ENDPOINT = "unix://(.*?)"')),
-            nomad.one(r'mount_dir = "(.*?)"'),
-        )
+        self.check("the endpoint of the Nomad job",
+                   os.path.dirname(nomad.one(r'CSI_ENDPOINT = "unix://(.*?)"')),
+                   nomad.one(r'mount_dir = "(.*?)"'))
         manifest = Kubernetes()
         endpoint = manifest.containers["front"]["env"][0]["value"]
         for name in ["provisioner", "attacher", "probe"]:
-            self.check(
-                "the socket of " + name,
-                [w for w in manifest.containers[name]["args"] if "address" in w],
-                ["--csi-address=" + endpoint[len("unix://") :]],
-            )
-        self.check(
-            "the endpoint over etcd",
-            Kubernetes(ETCD_MANIFEST).containers["front"]["env"][0]["value"],
-            endpoint,
-        )
+            self.check("the socket of " + name,
+                       [w for w in manifest.containers[name]["args"] if "address" in w],
+                       ["--csi-address=" + endpoint[len("unix://") :]])
+        self.check("the endpoint over etcd", Kubernetes(ETCD_MANIFEST).containers["front"]["env"][0]["value"],
+                   endpoint)
 
     def check_controls(self):
         """Each front has a control socket in a folder that is there, and the image has csictl for it."""
         unit = Unit(UNITS[1])
-        self.check(
-            "the folder of the unit's control socket",
-            os.path.dirname(value(unit.words(), "--control")),
-            "/run/" + unit.all("RuntimeDirectory")[0],
-        )
+        self.check("the folder of the unit's control socket",
+                   os.path.dirname(value(unit.words(), "--control")),
+                   "/run/" + unit.all("RuntimeDirectory")[0])
         for manifest in [Kubernetes(), Kubernetes(ETCD_MANIFEST)]:
             front = manifest.containers["front"]
             folder = os.path.dirname(value(front["command"], "--control"))
-            self.check(
-                "the folder of the manifest's control socket",
-                {m["mountPath"]: m["name"] for m in front["volumeMounts"]}.get(folder),
-                "backend",
-            )
-            self.check(
-                "where the client finds it in the manifest",
-                {it["name"]: it.get("value") for it in front["env"]}.get("CSID_SOCKET"),
-                value(front["command"], "--control"),
-            )
+            self.check("the folder of the manifest's control socket",
+                       {m["mountPath"]: m["name"] for m in front["volumeMounts"]}.get(folder), "backend")
+            self.check("where the client finds it in the manifest",
+                       {it["name"]: it.get("value") for it in front["env"]}.get("CSID_SOCKET"),
+                       value(front["command"], "--control"))
         nomad = Nomad()
         front = nomad.command("front")
-        self.check(
-            "the folder of the job's control socket",
-            os.path.dirname(value(front, "--control")),
-            os.path.dirname(value(front, "--csid")),
-        )
-        self.check(
-            "where the client finds it in the job",
-            nomad.one(r'CSID_SOCKET = "(.*?)"'),
-            value(front, "--control"),
-        )
+        self.check("the folder of the job's control socket", os.path.dirname(value(front, "--control")),
+                   os.path.dirname(value(front, "--csid")))
+        self.check("where the client finds it in the job", nomad.one(r'CSID_SOCKET = "(.*?)"'),
+                   value(front, "--control"))
         files = re.search(r"^COPY (.*) \S+$", read("Dockerfile"), re.M).group(1).split()
         self.check("the client is in the image", "csictl" in files, True)
 
@@ -540,54 +477,41 @@ class DeployTest(RowTest):
             self.assertLess(seconds(value(words, "--grace")), seconds(waits[where]), where)
         for name in UNITS:
             unit = Unit(name)
-            self.check(
-                name + " is started again",
-                (unit.all("Restart"), unit.all("StartLimitIntervalSec")),
-                (["always"], ["0"]),
-            )
+            self.check(name + " is started again", (unit.all("Restart"), unit.all("StartLimitIntervalSec")),
+                       (["always"], ["0"]))
 
-    def test_statuses(self):
-        """A program refused for its arguments or its configuration is not started again, and systemd's words
-        for a status are corrected.
-        """
-        for name, program, done, refused in STATUSES:
-            unit = Unit(name)
-            self.check(
-                "the statuses of " + name,
-                (unit.all("SuccessExitStatus"), unit.all("RestartPreventExitStatus")),
-                (done, refused),
-            )
-            (command,) = unit.all("ExecStopPost")
-            for code, status, line in [
-                ("exited", "3", "%s: ended with status 3: see EXIT STATUS in man %s\n" % (program, program)),
-                ("exited", "0", ""),
-                ("killed", "TERM", ""),
-                (None, None, ""),
-            ]:
-                given = {"EXIT_CODE": code, "EXIT_STATUS": status} if code else {}
-                self.check(
-                    "what %s says of %s %s" % (name, code, status),
-                    said(unit.script(command), **given),
-                    (0, line),
-                )
+    @each(STATUSES)
+    def test_statuses(self, name, program, done, refused):
+        """A program that was refused is not started again, and systemd's words for a status are corrected."""
+        unit = Unit(name)
+        self.check("the statuses of " + name,
+                   (unit.all("SuccessExitStatus"), unit.all("RestartPreventExitStatus")), (done, refused))
+        (command,) = unit.all("ExecStopPost")
+        for code, status, line in [
+            ("exited", "3", "%s: ended with status 3: see EXIT STATUS in man %s\n" % (program, program)),
+            ("exited", "0", ""),
+            ("killed", "TERM", ""),
+            (None, None, ""),
+        ]:
+            given = {"EXIT_CODE": code, "EXIT_STATUS": status} if code else {}
+            self.check("what %s says of %s %s" % (name, code, status),
+                       said(unit.script(command), **given), (0, line))
 
-    def test_reload(self):
+    @each(STATUSES)
+    def test_reload(self, name, program, done, _):
         """A reload is refused, with what helps instead, by a status that no end as asked for has."""
-        for name, program, done, _ in STATUSES:
-            unit = Unit(name)
-            (command,) = unit.all("ExecReload")
-            status, line = said(unit.script(command))
-            hint = ": systemctl restart %s\n" % program
-            self.check(
-                "a reload of " + name,
-                (str(status) in done, status, line.startswith(program + ": "), line.endswith(hint)),
-                (False, 69, True, True),
-            )
+        unit = Unit(name)
+        (command,) = unit.all("ExecReload")
+        status, line = said(unit.script(command))
+        hint = ": systemctl restart %s\n" % program
+        self.check("a reload of " + name,
+                   (str(status) in done, status, line.startswith(program + ": "), line.endswith(hint)),
+                   (False, 69, True, True))
 
     def test_pages(self):
         """The units name pages of manual that are made."""
         with open(os.path.join(TOP, "packaging", "manual")) as file:
-            made = set(re.findall(r'Page\(\s+"([\w-]+)",\s+(\d),', file.read()))
+            made = set(re.findall(r'Page\(\s*"([\w-]+)",\s+(\d),', file.read()))
         for name in [*UNITS, FIRST, ETCD_UNIT]:
             named = re.findall(r"man:([\w-]+)\((\d)\)", " ".join(Unit(name).all("Documentation")))
             self.check("the pages that %s names" % name, (bool(named), set(named) - made), (True, set()))
@@ -595,9 +519,8 @@ class DeployTest(RowTest):
     def test_defaults(self):
         """The file of options shows what the units have without it."""
         units = [Unit(name) for name in UNITS]
-        self.check(
-            "where it is", [it.all("EnvironmentFile") for it in units], [["-/etc/default/csid"]] * len(units)
-        )
+        self.check("where it is", [it.all("EnvironmentFile") for it in units],
+                   [["-/etc/default/csid"]] * len(units))
         shown = dict(re.findall(r'^#(\w+)="(.*)"$', read(DEFAULTS), re.M))
         given = {name: value for it in units for name, value in it.variables().items()}
         for own in ["CSI_ENDPOINT", "GOMEMLIMIT"]:
@@ -608,26 +531,16 @@ class DeployTest(RowTest):
         """Each front serves metrics where they are looked for; the dashboard and the alerts can be read."""
         unit, nomad = Unit(UNITS[1]), Nomad()
         host, port = value(unit.words(), "--metrics").rsplit(":", 1)
-        self.check(
-            "the unit tells metrics to its own machine",
-            (host, unit.all("IPAddressDeny"), unit.all("IPAddressAllow")),
-            ("127.0.0.1", ["any"], ["localhost"]),
-        )
-        self.check(
-            "the port of the Nomad job",
-            value(nomad.command("front"), "--metrics"),
-            ":" + nomad.one(r'port "metrics" \{\s*to = (\d+)'),
-        )
+        self.check("the unit tells metrics to its own machine",
+                   (host, unit.all("IPAddressDeny"), unit.all("IPAddressAllow")),
+                   ("127.0.0.1", ["any"], ["localhost"]))
+        self.check("the port of the Nomad job", value(nomad.command("front"), "--metrics"),
+                   ":" + nomad.one(r'port "metrics" \{\s*to = (\d+)'))
         self.check("the same as that of the unit", value(nomad.command("front"), "--metrics"), ":" + port)
-        checks = [
-            dict(re.findall(r'(\w+) += "?([^"\n]+)', text))
-            for text in re.findall(r"\n      check \{\n(.*?)\n      \}", nomad.text, re.S)
-        ]
-        self.check(
-            "which tasks are probed",
-            [(check["task"], check["path"]) for check in checks],
-            [("front", "/healthz"), ("csid", "/healthz")],
-        )
+        checks = [dict(re.findall(r'(\w+) += "?([^"\n]+)', text))
+                  for text in re.findall(r"\n      check \{\n(.*?)\n      \}", nomad.text, re.S)]
+        self.check("which tasks are probed", [(check["task"], check["path"]) for check in checks],
+                   [("front", "/healthz"), ("csid", "/healthz")])
         self.check("the dashboard", "panels" in json.loads(read("dashboard.json")), True)
         for name in [MANIFEST, ETCD_MANIFEST]:
             self.check_scrape(Kubernetes(name), port)
@@ -640,11 +553,9 @@ class DeployTest(RowTest):
         self.check("of its container", self.front["ports"], [{"name": "metrics", "containerPort": int(port)}])
         self.check("of its pod", notes, {"prometheus.io/scrape": "true", "prometheus.io/port": port})
         pools = [pool["segments"] for pool in toml(manifest.config())["pool"]]
-        told = [
-            dict(pair.split("=", 1) for pair in word.split(","))
-            for before, word in zip(self.front["command"], self.front["command"][1:])
-            if before == "--metrics-topology"
-        ]
+        told = [dict(pair.split("=", 1) for pair in word.split(","))
+                for before, word in zip(self.front["command"], self.front["command"][1:])
+                if before == "--metrics-topology"]
         self.check("the topologies of the manifest", told, pools)
 
     def check_alert(self):
@@ -653,17 +564,12 @@ class DeployTest(RowTest):
         rules = [rule for group in yaml.safe_load(read("alerts.yaml"))["groups"] for rule in group["rules"]]
         self.check("alerts have names of their own", len({rule["alert"] for rule in rules}), len(rules))
         for rule in rules:
-            self.check(
-                rule["alert"] + " has all parts",
-                (set(rule) - {"for"}, set(rule["annotations"])),
-                ({"alert", "expr", "labels", "annotations"}, {"summary", "description"}),
-            )
+            self.check(rule["alert"] + " has all parts", (set(rule) - {"for"}, set(rule["annotations"])),
+                       ({"alert", "expr", "labels", "annotations"}, {"summary", "description"}))
             self.check("its severity", rule["labels"]["severity"] in ("critical", "warning"), True)
 
     def test_memory_of_the_front(self):
-        """The front may have as much memory by its unit and by the Nomad job as by the manifests, and Go
-        knows of it.
-        """
+        """The front has the same limit of memory by its unit, the job and the manifests, and Go knows it."""
         unit, task = Unit(UNITS[1]), Nomad().tasks()["front"]
         mebibytes = int(re.fullmatch(r"(\d+)M", unit.all("MemoryMax")[0]).group(1))
         self.check("the limit of the Nomad job", re.findall(r"memory_max = (\d+)", task), [str(mebibytes)])
@@ -685,39 +591,30 @@ class DeployTest(RowTest):
             resources = Kubernetes(name).containers["csid"]["resources"]
             self.check("the limit in " + name, resources["limits"]["memory"], limit + "i")
 
-    def test_chown(self):
+    @each([*UNITS, FIRST])
+    def test_chown(self, name):
         """csid and the front may give their sockets to a group (--group, --control-group), and csid the WAL
-        the owner of its file: that call is the last that their units allow.
-        """
-        for name in [*UNITS, FIRST]:
-            self.check(
-                "what %s allows last" % name,
-                Unit(name).all("SystemCallFilter")[1:],
-                ["~@privileged @resources", "@chown"],
-            )
+        the owner of its file: that call is the last that their units allow."""
+        self.check("what %s allows last" % name, Unit(name).all("SystemCallFilter")[1:],
+                   ["~@privileged @resources", "@chown"])
 
-    def test_privacy(self):
+    @each([
+        ("csid.service", "0077"),
+        (FIRST, "0077"),
+        (ETCD_UNIT, "0077"),
+        ("csid-front.service", "0007"),
+    ])
+    def test_privacy(self, name, mask):
         """Of what the programs keep and of their sockets nothing is for users next to their own, but the
-        socket of the front for its group.
-        """
-        for name, mask in [
-            ("csid.service", "0077"),
-            (FIRST, "0077"),
-            (ETCD_UNIT, "0077"),
-            ("csid-front.service", "0007"),
-        ]:
-            unit = Unit(name)
-            kept = [it for it in ["RuntimeDirectory", "StateDirectory"] if unit.all(it)]
-            self.check(
-                "who may read what %s makes" % name,
-                (unit.all("UMask"), [unit.all(it + "Mode") for it in kept]),
-                ([mask], [["0750"]] * len(kept)),
-            )
+        socket of the front for its group."""
+        unit = Unit(name)
+        kept = [it for it in ["RuntimeDirectory", "StateDirectory"] if unit.all(it)]
+        self.check("who may read what %s makes" % name,
+                   (unit.all("UMask"), [unit.all(it + "Mode") for it in kept]),
+                   ([mask], [["0750"]] * len(kept)))
 
     def test_units(self):
-        """systemd takes the units, and finds little that they leave open. Their programs need not be
-        installed.
-        """
+        """systemd takes the units, and finds little that they leave open. No program need be installed."""
         said = subprocess.run([need("systemd-analyze"), "--version"], capture_output=True, text=True).stdout
         if int(said.split()[1]) < 250:
             self.skipTest("systemd-analyze is older than 250")
@@ -727,31 +624,19 @@ class DeployTest(RowTest):
     def check_verified(self, names, differences):
         """Units in a folder of their own, some with a file of what differs."""
         with tempfile.TemporaryDirectory() as folder:
-            for name, place in [(it, it) for it in names] + [
-                (file, unit + ".d/etcd.conf") for unit, file in differences.items()
-            ]:
+            for name, place in [(it, it) for it in names] + [(file, unit + ".d/etcd.conf")
+                                                             for unit, file in differences.items()]:
                 path = os.path.join(folder, place)
                 os.makedirs(os.path.dirname(path), exist_ok=True)
-                with open(path, "w") as file:
-                    file.write(re.sub(r"/usr/local/bin/[\w-]+", "/bin/true", read(name)))
+                pathlib.Path(path).write_text(re.sub(r"/usr/local/bin/[\w-]+", "/bin/true", read(name)))
             paths = [os.path.join(folder, name) for name in names]
-            done = subprocess.run(
-                ["systemd-analyze", "verify", "--man=no"] + paths, capture_output=True, text=True
-            )
+            done = subprocess.run(["systemd-analyze", "verify", "--man=no"] + paths, capture_output=True,
+                                  text=True)
             self.check("systemd-analyze verify", (done.returncode, done.stdout + done.stderr), (0, ""))
             for path in paths:
-                words = [
-                    "systemd-analyze",
-                    "security",
-                    "--offline=true",
-                    "--no-pager",
-                    "--threshold=%d" % EXPOSURE,
-                    path,
-                ]
+                words = ["systemd-analyze", "security", "--offline=true", "--no-pager",
+                         "--threshold=%d" % EXPOSURE, path]
                 done = subprocess.run(words, capture_output=True, text=True)
-                self.check(
-                    "systemd-analyze security %s: %s"
-                    % (os.path.basename(path), done.stdout.strip().split("\n")[-1]),
-                    done.returncode,
-                    0,
-                )
+                self.check("systemd-analyze security %s: %s" % (os.path.basename(path),
+                                                                done.stdout.strip().split("\n")[-1]),
+                           done.returncode, 0)

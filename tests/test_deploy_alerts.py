@@ -1,6 +1,5 @@
 """The alerts and the dashboard as Prometheus reads them: promtool takes their expressions, and the alerts of
-how full it is come at their shares, and after their times.
-"""
+how full it is come at their shares, and after their times."""
 
 import json
 import os
@@ -8,7 +7,7 @@ import re
 import subprocess
 
 from tests.support.deploy import DEPLOY, need, read
-from tests.support.rows import RowTest
+from tests.support.rows import RowTest, each
 
 ALERTS = os.path.join(DEPLOY, "alerts.yaml")
 # The alerts that must come for a used share, in hundredths: exactly 80 % gives no alert yet.
@@ -37,8 +36,6 @@ def firing(pattern, minutes, names):
 
 
 class AlertsTest(RowTest):
-    """The alerts and the dashboard as Prometheus reads them."""
-
     def promtool(self, *words):
         ran = subprocess.run([need("promtool"), *words], capture_output=True, text=True)
         return ran.returncode, ran.stdout + ran.stderr if ran.returncode else ""
@@ -62,30 +59,24 @@ class AlertsTest(RowTest):
         panels = json.loads(read("dashboard.json"))["panels"]
         queries = [target["expr"] for panel in panels for target in panel["targets"]]
         self.assertTrue(queries)
-        rules = [
-            {"record": "query:%d" % number, "expr": re.sub(r"\$__rate_interval", "1m", query)}
-            for number, query in enumerate(queries)
-        ]
+        rules = [{"record": "query:%d" % number, "expr": re.sub(r"\$__rate_interval", "1m", query)}
+                 for number, query in enumerate(queries)]
         path = os.path.join(self.folder, "queries.json")
         with open(path, "w") as file:
             json.dump({"groups": [{"name": "queries", "rules": rules}]}, file)
         self.check("the queries", self.promtool("check", "rules", path), (0, ""))
 
-    def test_shares(self):
+    @each(FULL)
+    def test_shares(self, what, used, most, labels):
         """Each alert of a share comes above its share, after a quarter of an hour."""
-        for what, used, most, labels in FULL:
-            for share, alerts in SHARES:
-                names = ["Csid%sAbove%d" % (what, alert) for alert in alerts]
-                self.check_rules(
-                    "%s at %d %%" % (what, share),
-                    [constant(used, labels, share * 1000), constant(most, labels, 100_000)],
-                    [firing("Csid.+Above.+", 14, []), firing("Csid.+Above.+", 16, names)],
-                )
+        for share, alerts in SHARES:
+            names = ["Csid%sAbove%d" % (what, alert) for alert in alerts]
+            self.check_rules("%s at %d %%" % (what, share),
+                             [constant(used, labels, share * 1000), constant(most, labels, 100_000)],
+                             [firing("Csid.+Above.+", 14, []), firing("Csid.+Above.+", 16, names)])
 
     def test_old_listing(self):
         """A listing that ended at 0 seconds is old after 15 minutes, and the alert comes 5 minutes later."""
-        self.check_rules(
-            "a listing that is not repeated",
-            [constant("csid_front_listing_timestamp_seconds", "", 0)],
-            [firing("CsidListingOld", 20, []), firing("CsidListingOld", 22, ["CsidListingOld"])],
-        )
+        self.check_rules("a listing that is not repeated",
+                         [constant("csid_front_listing_timestamp_seconds", "", 0)],
+                         [firing("CsidListingOld", 20, []), firing("CsidListingOld", 22, ["CsidListingOld"])])

@@ -1,23 +1,11 @@
 """The example of a node plugin in deploy/: its sockets, folders, names and images are those of the other
-manifests; and the claim to try it with.
-"""
+manifests; and the claim to try it with."""
 
 import os
 import re
 
-from tests.support.deploy import (
-    EXAMPLE,
-    Kubernetes,
-    NODE_MANIFEST,
-    NODE_PATCH,
-    Nomad,
-    documents,
-    mounts,
-    plain,
-    read,
-    toml,
-    value,
-)
+from tests.support.deploy import (EXAMPLE, Kubernetes, NODE_MANIFEST, NODE_PATCH, Nomad, documents, mounts,
+                                  plain, read, toml, value)
 from tests.support.processes import TOP
 from tests.support.rows import RowTest
 
@@ -26,8 +14,6 @@ VOLUME = "nomad-volume.hcl"
 
 
 class NodeTest(RowTest):
-    """The DaemonSet of the node plugin, and what it has to do with the StatefulSet of csid."""
-
     def setUp(self):
         super().setUp()
         self.controller = Kubernetes()
@@ -48,8 +34,6 @@ class NodeTest(RowTest):
 
 
 class NodeSocketsTest(NodeTest):
-    """Which socket is where."""
-
     def test_kubelet_gets_the_socket_of_the_node_plugin(self):
         told = self.args["kubelet-registration-path"]
         self.assertEqual(self.host(self.node, value(self.words, "--listen")), told)
@@ -86,8 +70,6 @@ class NodeSocketsTest(NodeTest):
 
 
 class NodeNamesTest(NodeTest):
-    """Names, pools and images."""
-
     def test_both_pods_run_on_the_same_node(self):
         selector = self.spec["nodeSelector"]
         self.assertTrue(selector)
@@ -134,8 +116,6 @@ class NodeNamesTest(NodeTest):
 
 
 class NodeRightsTest(NodeTest):
-    """What the containers may do."""
-
     def test_pods_see_what_is_mounted(self):
         (mount,) = [it for it in self.node["volumeMounts"] if it["mountPath"] == KUBELET]
         self.assertEqual(self.host(self.node, KUBELET + "/x"), KUBELET + "/x")

@@ -7,23 +7,9 @@ import subprocess
 import tempfile
 import time
 
-from tests.support.deploy import (
-    ETCD_MANIFEST,
-    FIRST,
-    Kubernetes,
-    Nomad,
-    Pod,
-    UNITS,
-    Unit,
-    commands,
-    etcd_commands,
-    first_steps,
-    help_of,
-    need_namespaces,
-    over_log,
-    plain,
-    value,
-)
+from tests.support.deploy import (ETCD_MANIFEST, FIRST, Kubernetes, Nomad, Pod, UNITS, Unit, commands,
+                                  etcd_commands, first_steps, help_of, need_namespaces, over_log, plain,
+                                  value)
 from tests.support.change_stores import KeptChangeStore
 from tests.support.processes import SECONDS, read, run, wait, write
 from tests.support.rows import ProgramTest
@@ -42,38 +28,28 @@ class ProgramsTest(ProgramTest):
             with tempfile.NamedTemporaryFile("w", suffix=".toml") as file:
                 file.write(text + "\n")
                 file.flush()
-                done = subprocess.run(
-                    [self.csid, "pipe", "--config", file.name],
-                    stdin=subprocess.DEVNULL,
-                    capture_output=True,
-                    text=True,
-                    timeout=SECONDS,
-                )
+                done = subprocess.run([self.csid, "pipe", "--config", file.name], stdin=subprocess.DEVNULL,
+                                      capture_output=True, text=True, timeout=SECONDS)
             self.check("the configuration of " + where, (done.returncode, done.stderr), (0, ""))
 
     def check_option(self, where, text, words):
         """The help of a program has each option that it is given."""
         for option in [w for w in words if w.startswith("--")]:
-            self.check(
-                "%s in %s" % (option, where),
-                re.search(r"(^|[\s-])%s\b" % option.lstrip("-"), text) is not None,
-                True,
-            )
+            self.check("%s in %s" % (option, where),
+                       re.search(r"(^|[\s-])%s\b" % option.lstrip("-"), text) is not None, True)
 
     def test_options_over_etcd(self):
         """The same over etcd."""
         for program in [self.csid_etcd, self.front, self.csid]:
             for where, *words, _ in etcd_commands():
                 given = dict(zip([self.csid_etcd, self.csid, self.front], words))[program]
-                self.check_option(
-                    where, over_log(program) if program == self.csid else help_of(program), given
-                )
+                self.check_option(where, over_log(program) if program == self.csid else help_of(program),
+                                  given)
 
 
 class FirstStepTest(ProgramTest):
     """csid never makes a file on its own. The preparing step makes the file that csid wants, at the given
-    path, and keeps an existing one.
-    """
+    path, and keeps an existing one."""
 
     def test_csid_wants_a_file(self):
         for where, words, _ in commands():
@@ -97,8 +73,7 @@ class FirstStepTest(ProgramTest):
 
     def steps(self):
         """Yields each step as a function that returns its status, standard error and the content of the file,
-        with the path of the file and whether the step must be given it.
-        """
+        with the path of the file and whether the step must be given it."""
         if not os.access(self.csid, os.X_OK):
             self.skipTest("%s is not built" % self.csid)
         os.symlink(self.csid, os.path.join(self.folder, "csid"))
@@ -254,14 +229,10 @@ class CheckInPodTest(ProgramTest):
 
 
 class ProcessesTest(ProgramTest):
-    """The commands of the manifests, as processes of a namespace of their own. Folders and programs
-    differ.
-    """
+    """The commands of the manifests as first processes of namespaces. Folders and programs differ."""
 
     def test_first_processes(self):
-        """The very commands of the manifest, as first processes of a namespace of their own, end by SIGTERM.
-        Only folders and programs differ.
-        """
+        """They end by SIGTERM."""
         need_namespaces()
         manifest = Kubernetes()
         for name, socket in [("csid", "/run/csid/csid.sock"), ("front", "/csi/csi.sock")]:
@@ -276,8 +247,7 @@ class ProcessesTest(ProgramTest):
 
     def test_processes_over_etcd(self):
         """The commands of a pod over etcd: csid-etcd without one, and csid and the front over a log that is
-        played. The front's time is shorter here.
-        """
+        played. The front's time is shorter here."""
         need_namespaces()
         manifest = Kubernetes(ETCD_MANIFEST)
         with tempfile.TemporaryDirectory() as folder, Pod(
@@ -306,14 +276,10 @@ class ProcessesTest(ProgramTest):
         self.assertTrue(wait(lambda: os.path.exists(endpoint)), "the front makes a socket")
         self.check("csid made its first row", log.rows(), ([], [], [(1, 2, 1)]))
         log.end()
-        self.check(
-            "without the log the front ends", wait(lambda: pod.processes["front"].poll() is not None), True
-        )
-        self.check(
-            "by itself, and takes its socket away",
-            (pod.processes["front"].returncode, os.path.exists(endpoint)),
-            (3, False),
-        )
+        self.check("without the log the front ends", wait(lambda: pod.processes["front"].poll() is not None),
+                   True)
+        self.check("by itself, and takes its socket away",
+                   (pod.processes["front"].returncode, os.path.exists(endpoint)), (3, False))
         pod.start("front", shorter)
         log = KeptChangeStore(path)
         self.check("and serves again once the log is back", wait(lambda: os.path.exists(endpoint)), True)

@@ -2,6 +2,7 @@
 
 import json
 import os
+import pathlib
 import re
 import shlex
 
@@ -10,13 +11,10 @@ from tests.support.rows import RowTest
 
 
 def read(name):
-    with open(os.path.join(TOP, "deploy", name), encoding="utf-8") as file:
-        return file.read()
+    return pathlib.Path(TOP, "deploy", name).read_text(encoding="utf-8")
 
 
 class SwarmTest(RowTest):
-    """The sockets, folders and variables of the plugin."""
-
     def setUp(self):
         super().setUp()
         self.plugin, self.script = json.loads(read("swarm.json")), read("swarm-start")

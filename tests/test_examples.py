@@ -1,19 +1,26 @@
-"""The sessions of README.md: what each shows is what bash prints where it is pasted. examples/session prints
-what the first one shows.
+"""The sessions of README.md, docs/CLI.md, "For people", and docs/OPERATING.md, "Look into tables": what each
+shows is what bash prints where it is pasted. examples/session prints what the first one of README.md shows.
 """
 
 import os
+import pathlib
 import re
+import shlex
 import shutil
 import subprocess
 
-from tests.support.processes import SECONDS, TOP
+from tests.support.configs import sample
+from tests.support.csictl import Server
+from tests.support.processes import SECONDS, TOP, program
 from tests.support.rows import CsictlTest
 
 
 def read(*path):
-    with open(os.path.join(TOP, *path), encoding="utf-8") as file:
-        return file.read()
+    return pathlib.Path(TOP, *path).read_text(encoding="utf-8")
+
+
+# After a program that was started in the background: the socket that the next command needs.
+AWAIT = "for i in $(seq 300); do if [ -S control.sock ]; then break; fi; sleep 0.1; done"
 
 
 class SessionTest(CsictlTest):
@@ -34,15 +41,20 @@ class SessionTest(CsictlTest):
     def bash(self, *words, typed=""):
         """What bash prints where the built programs are the first of the PATH."""
         path = "%s:%s" % (self.folder, os.environ["PATH"])
-        done = subprocess.run(
-            ["bash", *words],
-            input=typed,
-            env={**os.environ, "PATH": path, "TMPDIR": self.folder},
-            capture_output=True,
-            text=True,
-            timeout=SECONDS,
-        )
+        done = subprocess.run(["bash", *words], input=typed,
+                              env={**os.environ, "PATH": path, "TMPDIR": self.folder}, capture_output=True,
+                              text=True, timeout=SECONDS)
         return done.stdout, done.stderr, done.returncode
+
+    def shown(self, blocks):
+        """What bash prints for the commands of blocks, each of which is shown before its lines."""
+        script = ["exec 2>&1", "cd " + self.folder]
+        for line in "\n".join(blocks).splitlines():
+            if line.startswith("$ "):
+                script += ["printf '%%s\\n' %s" % shlex.quote(line), line[2:]]
+                if line.endswith("&"):
+                    script.append(AWAIT)
+        return self.bash("-c", "\n".join([*script, "kill $(jobs -p) 2>&-"]))[0]
 
 
 class BytesTest(SessionTest):
@@ -88,12 +100,74 @@ class ExampleTest(SessionTest):
         path = os.path.join(self.folder, "path")
         os.mkdir(path)
         os.symlink(shutil.which("dirname"), os.path.join(path, "dirname"))
-        done = subprocess.run(
-            [shutil.which("bash"), copy],
-            env={"PATH": path},
-            capture_output=True,
-            text=True,
-            timeout=SECONDS,
-        )
+        done = subprocess.run([shutil.which("bash"), copy], env={"PATH": path}, capture_output=True,
+                              text=True, timeout=SECONDS)
         wanted = "session: 'csid' is not on the PATH, and ./build has not made it\n"
         self.check("what it says", (done.stdout, done.stderr, done.returncode), ("", wanted, 1))
+
+
+def session_blocks(heading, *path):
+    """The blocks of a section of a page that begin with a command, which has '$ ' before it."""
+    text = re.split(r"\n#+ ", read(*path).split("\n%s\n" % heading)[1])[0]
+    blocks = re.findall(r"(?:^ {4}.*\n|^\n(?= {4}))+", text, re.M)
+    blocks = [re.sub(r"^ {4}", "", it, flags=re.M).strip("\n") for it in blocks]
+    return [it for it in blocks if it.startswith("$ ")]
+
+
+class PeopleSessionTest(SessionTest):
+    """The sessions of docs/CLI.md with the commands for people: over csid, and then over a front. A command
+    has '$ ' before it, and below it are its lines, also those on standard error.
+    """
+
+    def setUp(self):
+        super().setUp()
+        os.symlink(program("front"), os.path.join(self.folder, "front"))
+        self.blocks = session_blocks("## For people", "docs", "CLI.md")
+        with open(os.path.join(self.folder, "config.toml"), "wb") as file:
+            file.write(sample())
+
+    def test_sessions_print_what_they_show(self):
+        self.check("the sessions", len(self.blocks), 2)
+        server = Server(os.path.join(self.folder, "csid"), os.path.join(self.folder, "csid.sock"))
+        shown = self.shown(self.blocks)
+        server.kill()
+        lines = [it for it in shown.splitlines() if not it.startswith("front: ")]
+        self.assertEqual("\n".join(lines), "\n".join(self.blocks))
+
+
+# A configuration with room for the volumes of the session, and the calls that make them.
+ROOM = b"""
+name = "pools.example.org"
+vendor_version = "1.0.0"
+default_bytes = 1048576
+greatest_bytes = 1073741824
+pool = [
+  { name = "ssd", bytes = 1073741824, segments = { zone = "a" } },
+  { name = "hdd", bytes = 1073741824, segments = { zone = "b" } },
+]
+node = [{ id = "n1", max_volumes = 1 }]
+"""
+MADE = [
+    ["CreateVolume", "--name", "pvc-7f3a", "--required", "1073741824", "--mode", "1", "--topology", "zone=a",
+     "--parameters", "tier=fast", "--mutable", "iops=500"],
+    ["CreateVolume", "--name", "data", "--required", "2097152", "--mode", "3", "--fs", "ext4", "--topology",
+     "zone=b"],
+    ["ControllerPublishVolume", "--volume", "vol-1", "--node", "n1", "--mode", "1"],
+]
+
+
+class TablesSessionTest(SessionTest):
+    """The session of docs/OPERATING.md, "Look into tables"."""
+
+    def test_session_prints_what_it_shows(self):
+        config, tables = os.path.join(self.folder, "config.toml"), os.path.join(self.folder, "volumes.db")
+        with open(config, "wb") as file:
+            file.write(ROOM)
+        frames = [subprocess.run([self.csictl, "frame", "--method", *words], capture_output=True,
+                                 check=True).stdout
+                  for words in MADE]
+        replies = subprocess.run([self.csid, "pipe", "--config", config, "--tables", tables],
+                                 input=b"".join(frames), capture_output=True, check=True).stdout
+        self.assertIn(b"vol-2", replies)
+        blocks = session_blocks("## Look into tables", "docs", "OPERATING.md")
+        self.assertEqual(self.shown(blocks).rstrip("\n"), "\n".join(blocks))

@@ -1,6 +1,5 @@
 """Calls of several clients at the same time are linearizable, also while csid is killed, and while another
-csid over the same etcd takes over. The search for an order of calls finds one exactly if there is one.
-"""
+csid over the same etcd takes over. The search for an order of calls finds one exactly if there is one."""
 
 import os
 import shutil
@@ -8,11 +7,12 @@ import tempfile
 
 from tests.vectors import messages as v
 from tests.support.callers import Plugin, histories
+from tests.support.data import tables
 from tests.support.histories import NEVER, Operation, linearization
 from tests.support.model import SINGLE, Model
 from tests.support.processes import place, program
 from tests.support.replicas import Stacks
-from tests.support.rows import RowTest
+from tests.support.rows import RowTest, each
 
 HISTORIES, HISTORIES_OVER_ETCD = 300, 32
 KEY = (0, "", SINGLE)
@@ -44,84 +44,7 @@ def volume(number):
 
 
 FIRST = (create("a"), 0, 1, volume(1))
-# Each row: its name, whether it is linearizable, and its operations: its effect, its begin and end, and the
-# reply. An unheard reply is None. The volume `vol-1` can be published at one node at a time.
-ROWS = [
-    ("no calls", True, []),
-    ("one after the other", True, [FIRST, (publish("n1"), 2, 3, v.WRITER), (unpublish, 4, 5, v.DONE)]),
-    ("a reply of no order", False, [FIRST, (publish("n1"), 2, 3, v.READER)]),
-    ("numbers in the order of time", True, [FIRST, (create("b"), 2, 3, volume(2))]),
-    ("numbers against the time", False, [(create("b"), 0, 1, volume(2)), (create("a"), 2, 3, volume(1))]),
-    ("numbers of calls that overlap", True, [(create("b"), 0, 3, volume(2)), (create("a"), 1, 2, volume(1))]),
-    ("two volumes of one name", False, [FIRST, (create("a"), 0, 3, volume(2))]),
-    ("one number twice", False, [FIRST, (create("b"), 0, 3, volume(1))]),
-    (
-        "two nodes, and one is refused",
-        True,
-        [FIRST, (publish("n1"), 2, 5, v.ELSEWHERE), (publish("n2"), 3, 4, v.WRITER)],
-    ),
-    (
-        "two nodes, and none is refused",
-        False,
-        [FIRST, (publish("n1"), 2, 5, v.WRITER), (publish("n2"), 3, 4, v.WRITER)],
-    ),
-    (
-        "a call without a reply that took effect",
-        True,
-        [FIRST, (publish("n1"), 2, 3, None), (publish("n2"), 4, 5, v.ELSEWHERE)],
-    ),
-    (
-        "a call without a reply that took no effect",
-        True,
-        [FIRST, (publish("n1"), 2, 3, None), (publish("n2"), 4, 5, v.WRITER)],
-    ),
-    (
-        "a call without a reply that takes effect after its end",
-        False,
-        [
-            FIRST,
-            (publish("n1"), 2, 3, None),
-            (unpublish, 4, 5, v.DONE),
-            (publish("n2"), 6, 7, v.ELSEWHERE),
-        ],
-    ),
-    (
-        "a call without an end takes effect late",
-        True,
-        [
-            FIRST,
-            (publish("n1"), 2, NEVER, None),
-            (unpublish, 4, 5, v.DONE),
-            (publish("n2"), 6, 7, v.ELSEWHERE),
-        ],
-    ),
-    (
-        "a change that is lost",
-        False,
-        [FIRST, (modify("1"), 2, 3, v.DONE), (create("a", {"i": "2"}), 4, 5, volume(1))],
-    ),
-    (
-        "a change that is seen",
-        True,
-        [FIRST, (modify("1"), 2, 3, v.DONE), (create("a", {"i": "2"}), 4, 5, v.NOT_COMPATIBLE)],
-    ),
-    (
-        "a volume that is deleted while it is published",
-        False,
-        [FIRST, (publish("n1"), 2, 3, v.WRITER), (delete, 4, 5, v.DONE), (unpublish, 6, 7, v.DONE)],
-    ),
-    (
-        "three clients at once, in one order alone",
-        True,
-        [
-            FIRST,
-            (publish("n1"), 2, 9, v.NO_VOLUME),
-            (delete, 2, 9, v.DONE),
-            (create("a"), 2, 9, volume(2)),
-            (modify("1"), 2, 9, v.DONE),
-        ],
-    ),
-]
+ROWS = tables("histories", globals())
 
 
 def operations_of(rows):
@@ -129,12 +52,10 @@ def operations_of(rows):
 
 
 class SearchTest(RowTest):
-    """Histories that were worked out by hand."""
-
-    def test_histories_by_hand(self):
-        for name, is_linearizable, rows in ROWS:
-            found = linearization(operations_of(rows), Model())
-            self.check(name, found is not None, is_linearizable)
+    @each(ROWS["BY_HAND"])
+    def test_histories_by_hand(self, name, is_linearizable, rows):
+        found = linearization(operations_of(rows), Model())
+        self.check(name, found is not None, is_linearizable)
 
     def test_order_keeps_real_time(self):
         rows = [FIRST, (delete, 2, 5, v.DONE), (publish("n1"), 3, 4, v.WRITER), (unpublish, 3, 6, v.DONE)]
@@ -144,8 +65,6 @@ class SearchTest(RowTest):
 
 
 class ClientsTest(RowTest):
-    """Clients that call fronts while programs are killed."""
-
     def setUp(self):
         super().setUp()
         if not os.access(place("front"), os.X_OK):

@@ -1,13 +1,13 @@
 """How long lines are: 110 columns for text, 160 for a definition; in Go 100 for a comment and 120 for a
-line, with a tab as 4.
-"""
+line, with a tab as 4."""
 
 import glob
 import os
+import pathlib
 import re
 
 from tests.support.processes import TOP
-from tests.support.rows import RowTest
+from tests.support.rows import RowTest, each
 
 COMMENT = re.compile(r"\s*(?://|--)")
 CLAUSE = re.compile(r"\s*(?:requires|ensures)\b")
@@ -28,8 +28,7 @@ def files_of(patterns):
 
 
 def lines_of(path):
-    with open(os.path.join(TOP, path), encoding="utf-8", errors="replace") as file:
-        return file.read().split("\n")
+    return pathlib.Path(TOP, path).read_text(encoding="utf-8", errors="replace").split("\n")
 
 
 def without_text(token):
@@ -59,21 +58,19 @@ def is_code(line):
 
 
 class Lines(RowTest):
-    """Other lines of the crates are as `rt fmt` leaves them, and lines of Go as gofmt does."""
-
-    def test_lines(self):
-        for name, paths, most, is_meant in [
-            ("comments", files_of(SOURCES), 110, COMMENT.match),
-            ("clauses and code", files_of(SOURCES[:1]), 110, is_code),
-            ("definitions", files_of(SOURCES[1:2]), 160, bool),
-            ("Python", filter(is_python, files_of(SCRIPTS)), 110, bool),
-            ("comments of Go", files_of(GO), 100, COMMENT.match),
-            ("Go", files_of(GO), 120, is_go_code),
-        ]:
-            longer = [
-                "%s:%d" % (path, number)
-                for path in paths
-                for number, line in enumerate(go_lines(path) if path.endswith(".go") else lines_of(path), 1)
-                if len(line) > most and is_meant(line)
-            ]
-            self.check(name, longer, [])
+    @each([
+        ("comments", files_of(SOURCES), 110, COMMENT.match),
+        ("clauses and code", files_of(SOURCES[:1]), 110, is_code),
+        ("definitions", files_of(SOURCES[1:2]), 160, bool),
+        ("Python", filter(is_python, files_of(SCRIPTS)), 110, bool),
+        ("comments of Go", files_of(GO), 100, COMMENT.match),
+        ("Go", files_of(GO), 120, is_go_code),
+    ])
+    def test_lines(self, name, paths, most, is_meant):
+        longer = [
+            "%s:%d" % (path, number)
+            for path in paths
+            for number, line in enumerate(go_lines(path) if path.endswith(".go") else lines_of(path), 1)
+            if len(line) > most and is_meant(line)
+        ]
+        self.check(name, longer, [])

@@ -4,143 +4,25 @@ import os
 import shutil
 import subprocess
 
-from tests.support.processes import SECONDS, TOP
+from tests.support.processes import SECONDS, TOP, read
 from tests.support.rows import FilesTest
 
-CRATES = """# Each above what it uses. Bytes:
-low: kit_crate
+FIXTURES = os.path.join(TOP, "tests", "fixtures")
 
-# Programs, which are proved too:
-high : low
-"""
-LIMITS = """//! Limits.
 
-/// The most bytes of a text: a name, an id, a token, and so on, so that what is said of it is longer than one
-/// line. No more.
-pub const MAX_TEXT_BYTES: usize = 128;
+def listed(name):
+    """A page of tests/fixtures/lists with its lists."""
+    return read(os.path.join(FIXTURES, "listed", name)).decode()
 
-/// The most volumes.
-pub const MAX_VOLUMES: u64 = 100_000;
 
-/// The most bytes of all pools together.
-pub const MAX_POOL_BYTES: u64 = 1 << 62;
-"""
-FAULTS = """/// What is wrong with a pool.
-#[derive(Debug, Error)]
-pub enum PoolRule {
-    /// It is empty.
-    #[error("the name is empty")]
-    Name,
-    /// An earlier one has the name.
-    #[error("an earlier pool has the name")]
-    NameTwice,
-}
-
-/// What is wrong with the sizes.
-pub enum SizeRule {
-    /// They are above the limit.
-    #[error("the sizes are above the limit")]
-    Limit,
-}
-
-/// Why parts make no configuration.
-pub enum ConfigFault {
-    /// There is no pool.
-    #[error("there is no pool")]
-    NoPool,
-    /// The sizes break a rule.
-    #[error(transparent)]
-    Sizes(SizeRule),
-    /// A pool breaks a rule.
-    #[error("pool {name}: {rule}")]
-    Pool {
-        /// The pool's name.
-        name: Text,
-        /// The rule.
-        rule: PoolRule,
-    },
-    /// A node has no id.
-    #[error("node {id}: it has none")]
-    Node {
-        /// The id.
-        id: Text,
-    },
-}
-"""
-FILES = {
-    "crates.txt": CRATES,
-    "crates/csi_config/src/fault.rt": FAULTS,
-    "crates/csi_types/src/limits.rt": LIMITS,
-    "crates/low/src/lib.rt": "//! Bytes, also\n//! long ones\n//!\n//! Details. More of them.\nmod bytes;\n",
-    "crates/high/src/main.rt": (
-        "//! The program, over two lines, which is\n"
-        "//! well-known.\n"
-        "mod command;\n"
-    ),
-    "docs/ARCHITECTURE.md": "Crates:\n<!-- scripts/lists: crates -->\n<!-- end -->\nThe end.\n",
-    "docs/DECISIONS.md": "<!-- scripts/lists: decisions -->\n\n| old |\n\n<!-- end -->\n",
-    "docs/OPERATING.md": """<!-- scripts/lists: limits -->
-<!-- end -->
-
-<!-- scripts/lists: faults -->
-<!-- end -->
-""",
-    "docs/decisions/0001-one.md": "# One thing\n\nDate: 2026-01-02.\n\nContext: none.\n",
-    "docs/decisions/0002-two.md": "# Another\n\nDate: 2026-03-04.\n",
-}
-ARCHITECTURE = """Crates:
-<!-- scripts/lists: crates -->
-
-| layer | crate | what it has |
-|---|---|---|
-| bytes | `low` | Bytes, also long ones |
-| programs | `high` | The program, over two lines, which is well-known. |
-
-<!-- end -->
-The end.
-"""
-DECISIONS = """<!-- scripts/lists: decisions -->
-
-| record | decision | date |
-|---|---|---|
-| [0001](decisions/0001-one.md) | One thing | 2026-01-02 |
-| [0002](decisions/0002-two.md) | Another | 2026-03-04 |
-
-<!-- end -->
-"""
-OPERATING = """<!-- scripts/lists: limits -->
-
-- `MAX_TEXT_BYTES` is 128: the most bytes of a text: a name, an id, a token, and so on, so that what is said
-  of it is longer than one line.
-- `MAX_VOLUMES` is 100,000: the most volumes.
-- `MAX_POOL_BYTES` is 2^62: the most bytes of all pools together.
-
-<!-- end -->
-
-<!-- scripts/lists: faults -->
-
-    there is no pool
-    the sizes are above the limit
-    pool NAME: the name is empty
-    pool NAME: an earlier pool has the name
-    node ID: it has none
-
-<!-- end -->
-"""
 DIFFERS = "lists: %s differs from its sources: call scripts/lists\n"
 ALL_DIFFER = "".join(DIFFERS % "docs/{}.md".format(it) for it in ("ARCHITECTURE", "DECISIONS", "OPERATING"))
 
 
 class PagesTest(FilesTest):
-    """The pages of this repository."""
-
     def test_lists_are_those_of_their_sources(self):
-        done = subprocess.run(
-            [os.path.join(TOP, "scripts", "lists"), "--check"],
-            capture_output=True,
-            text=True,
-            timeout=SECONDS,
-        )
+        done = subprocess.run([os.path.join(TOP, "scripts", "lists"), "--check"], capture_output=True,
+                              text=True, timeout=SECONDS)
         self.check("scripts/lists --check", (done.returncode, done.stdout, done.stderr), (0, "", ""))
 
 
@@ -152,28 +34,26 @@ class ListsTest(FilesTest):
         os.mkdir(os.path.join(self.folder, "scripts"))
         for name in ["lists", "pages.py"]:
             shutil.copy(os.path.join(TOP, "scripts", name), os.path.join(self.folder, "scripts"))
-        for name, text in FILES.items():
-            self.write(name, text)
+        self.put("lists")
+
+    def source(self, name):
+        name += ".txt" if name.endswith(".rt") else ""
+        return read(os.path.join(FIXTURES, "lists", name)).decode()
 
     def lists(self, *words):
-        done = subprocess.run(
-            ["scripts/lists", *words],
-            cwd=self.folder,
-            capture_output=True,
-            text=True,
-            timeout=SECONDS,
-        )
+        done = subprocess.run(["scripts/lists", *words], cwd=self.folder, capture_output=True, text=True,
+                              timeout=SECONDS)
         return done.returncode, done.stdout, done.stderr
 
     def test_check_names_pages_and_writes_none(self):
         self.check("--check", self.lists("--check"), (1, "", ALL_DIFFER))
-        self.check("the page", self.read("docs/DECISIONS.md"), FILES["docs/DECISIONS.md"])
+        self.check("the page", self.read("docs/DECISIONS.md"), self.source("docs/DECISIONS.md"))
 
     def test_lists_are_written(self):
         self.check("writing", self.lists(), (0, "", ""))
-        self.check("crates", self.read("docs/ARCHITECTURE.md"), ARCHITECTURE)
-        self.check("records", self.read("docs/DECISIONS.md"), DECISIONS)
-        self.check("limits and faults", self.read("docs/OPERATING.md"), OPERATING)
+        self.check("crates", self.read("docs/ARCHITECTURE.md"), listed("ARCHITECTURE.md"))
+        self.check("records", self.read("docs/DECISIONS.md"), listed("DECISIONS.md"))
+        self.check("limits and faults", self.read("docs/OPERATING.md"), listed("OPERATING.md"))
         self.check("--check", self.lists("--check"), (0, "", ""))
 
     def test_contents_are_the_headings_of_a_page(self):
@@ -195,41 +75,24 @@ class ListsTest(FilesTest):
 
     def test_sources_without_a_list_are_refused(self):
         rows = [
-            (
-                "docs/DECISIONS.md",
-                "no place\n",
-                "docs/DECISIONS.md has 0 places for the list 'decisions'",
-            ),
-            (
-                "docs/DECISIONS.md",
-                FILES["docs/DECISIONS.md"] * 2,
-                "docs/DECISIONS.md has 2 places for the list 'decisions'",
-            ),
-            (
-                "docs/decisions/0002-two.md",
-                "# Another\n\nState: kept.\n",
-                "docs/decisions/0002-two.md does not begin with a title and a date",
-            ),
-            (
-                "crates/high/src/main.rt",
-                "mod command;\n",
-                "crates/high/src/main.rt does not begin with a sentence on the crate",
-            ),
-            (
-                "crates/csi_config/src/fault.rt",
-                "pub enum Fault {\n    /// There is no pool.\n    #[error(\"no pool\")]\n    NoPool,\n}\n",
-                "crates/csi_config/src/fault.rt has no texts of ConfigFault",
-            ),
-            (
-                "crates/csi_types/src/limits.rt",
-                "/// The most.\npub const MOST: u64 = 1;\npub const OTHER: u64 = 2;\n",
-                "crates/csi_types/src/limits.rt says nothing of OTHER",
-            ),
+            ("docs/DECISIONS.md", "no place\n", "docs/DECISIONS.md has 0 places for the list 'decisions'"),
+            ("docs/DECISIONS.md", self.source("docs/DECISIONS.md") * 2,
+             "docs/DECISIONS.md has 2 places for the list 'decisions'"),
+            ("docs/decisions/0002-two.md", "# Another\n\nState: kept.\n",
+             "docs/decisions/0002-two.md does not begin with a title and a date"),
+            ("crates/high/src/main.rt", "mod command;\n",
+             "crates/high/src/main.rt does not begin with a sentence on the crate"),
+            ("crates/csi_config/src/fault.rt",
+             "pub enum Fault {\n    /// There is no pool.\n    #[error(\"no pool\")]\n    NoPool,\n}\n",
+             "crates/csi_config/src/fault.rt has no texts of ConfigFault"),
+            ("crates/csi_types/src/limits.rt",
+             "/// The most.\npub const MOST: u64 = 1;\npub const OTHER: u64 = 2;\n",
+             "crates/csi_types/src/limits.rt says nothing of OTHER"),
         ]
         for name, text, fault in rows:
             self.write(name, text)
             self.check(name, self.lists(), (1, "", "lists: %s\n" % fault))
-            self.write(name, FILES[name])
+            self.write(name, self.source(name))
         os.remove(os.path.join(self.folder, "crates/high/src/main.rt"))
         missing = "lists: crates/high has no src/lib.rt and no src/main.rt\n"
         self.check("no source", self.lists(), (1, "", missing))

@@ -4,101 +4,16 @@ import os
 import shutil
 import subprocess
 
-from tests.support.processes import SECONDS, TOP
+from tests.support.processes import SECONDS, TOP, read
 from tests.support.rows import FilesTest
 
-# A crate with a public function that a wrong body changes, one that calls a private one, and a law.
-LIB = """//! Lengths.
-mod sums;
-pub mod laws;
-
-pub use sums::{double, half};
-"""
-SUMS = """/// Twice a number. It has no fault.
-///
-/// # Not promised
-///
-/// How long it takes.
-pub fn double(n: u64) -> u64
-    requires few { n < 2 ^ 63 }
-    ensures value { result ≡ n + n }
-{
-    n + n
-}
-
-/// A number without its last [`bit`](crate::bit).
-pub fn half(n: u64) -> u64
-    ensures { result ≡ n / 2 }
-{
-    shifted(n)
-}
-
-// A shift.
-fn shifted(n: u64) -> u64
-    ensures shifted { result ≡ n / 2 }
-{
-    n >> 1
-}
-
-/// Nobody outside sees it.
-pub fn hidden(n: u64) -> u64
-    ensures same { result ≡ n }
-{
-    n
-}
-"""
-LAWS = """/// Twice a number is even.
-pub fn even()
-    ensures { (n : ℕ) → IsEven (n + n) }
-{}
-"""
-EDITS = """edit: double_of_one
-file: src/sums.rt
-old:     n + n
-new:     n + 1
-
-edit: shifted_twice
-file: src/sums.rt
-old:     n >> 1
-new:     n >> 2
-"""
-PAGE = """# `low`
-
-Lengths.
-
-A wrong body in bold type is tried by every merge gate, the others by `scripts/try-edits`.
-
-|function|what it does|clauses: asks / promises|wrong bodies|
-|---|---|---|---|
-|[`double`](crates/low/src/sums.rt)|Twice a number.|`few` / `value`|`double_of_one`|
-|[`half`](crates/low/src/sums.rt)|A number without its last `bit`.|(unnamed)|in `shifted`|
-
-## Laws
-
-|law|what it says|clauses|
-|---|---|---|
-|[`laws::even`](crates/low/src/laws.rt)|Twice a number is even.|(unnamed)|
-
-## Private functions
-
-|function|wrong bodies|
-|---|---|
-|[`shifted`](crates/low/src/sums.rt)|`shifted_twice`|
-
-## Not promised
-
-- `double`: How long it takes.
-"""
-# The index, without a table, and with the table of these sources.
-INDEX = """# Index
-
-<!-- scripts/theorems -->
-<!-- end -->
-
-## Functions without a wrong body
-
-## Wrong bodies that meet each clause
-"""
+FIXTURES = os.path.join(TOP, "tests", "fixtures")
+# What scripts/theorems prints of the crate of tests/fixtures/pages, and files of that repository.
+PAGE, INDEX, TESTING, EDITS, LAWS = [
+    read(os.path.join(FIXTURES, name)).decode()
+    for name in ("low.md", "pages/docs/theorems/README.md", "pages/docs/TESTING.md",
+                 "pages/tests/edits/low.edits", "pages/crates/low/src/laws.rt.txt")]
+# The table of the index of these sources.
 TABLE = """<!-- scripts/theorems -->
 
 |crate|public functions|laws|wrong bodies|of these in the merge gate|
@@ -107,7 +22,6 @@ TABLE = """<!-- scripts/theorems -->
 
 <!-- end -->
 """
-TESTING = "# Tests\n\n## Held by tests alone\n\n| crate | what no clause forbids | tests |\n|---|---|---|\n"
 CHANGED = (
     "docs/theorems/README.md is not what scripts/theorems makes of the sources: call it, and commit what it"
     " writes"
@@ -121,38 +35,22 @@ class ScriptTest(FilesTest):
 
     def setUp(self):
         super().setUp()
+        self.put("pages")
+        os.mkdir(os.path.join(self.folder, "scripts"))
         for name in ["check-pages", "theorems", "crates.py", "edits.py", "pages.py"]:
-            self.write("scripts/" + name, "")
             shutil.copy(os.path.join(TOP, "scripts", name), os.path.join(self.folder, "scripts"))
-        self.write("crates.txt", "low:\n")
-        self.write("crates/low/src/lib.rt", LIB)
-        self.write("crates/low/src/sums.rt", SUMS)
-        self.write("crates/low/src/laws.rt", LAWS)
-        self.write("tests/edits/low.edits", EDITS)
-        self.write("docs/theorems/README.md", INDEX)
-        self.write("docs/TESTING.md", TESTING)
-        self.write("README.md", "# Low\n")
 
     def ended(self, name, *words):
         """The status of a script, and its lines."""
-        done = subprocess.run(
-            [os.path.join(self.folder, "scripts", name), *words],
-            cwd=self.folder,
-            stdout=subprocess.PIPE,
-            stderr=subprocess.STDOUT,
-            text=True,
-            timeout=10 * SECONDS,
-        )
+        done = subprocess.run([os.path.join(self.folder, "scripts", name), *words], cwd=self.folder,
+                              stdout=subprocess.PIPE, stderr=subprocess.STDOUT, text=True,
+                              timeout=10 * SECONDS)
         return done.returncode, done.stdout.splitlines()
 
 
 class CheckPagesTest(ScriptTest):
-    """scripts/check-pages."""
-
     def places(self, rows, *words):
-        """The status of check-pages over a page whose lines are rows, each a paragraph, and what it says of
-        each row.
-        """
+        """The status of check-pages over a page of rows, each a paragraph, and what it says of each."""
         self.write("docs/PAGE.md", "\n\n".join(text for _, text, _ in rows))
         status, lines = self.ended("check-pages", *words, "docs/PAGE.md")
         said = {}
@@ -230,8 +128,6 @@ class CheckPagesTest(ScriptTest):
 
 
 class TheoremsTest(ScriptTest):
-    """scripts/theorems."""
-
     def test_page_of_a_crate(self):
         """It has the public functions, laws and wrong bodies of the crate, and nothing hidden."""
         self.check("printed", self.ended("theorems", "low"), (0, PAGE.splitlines()))
@@ -278,24 +174,15 @@ class TheoremsTest(ScriptTest):
         met = "\n- `low::half`: a half\n- `low`: a length\n- `low::third`: a third\n"
         self.write("docs/theorems/README.md", index + met)
         self.write("docs/TESTING.md", TESTING + "| `other` | A name | all tests |\n")
-        wanted = [
-            "docs/theorems/README.md has a reason of no crate: none::double",
-            "docs/theorems/README.md names no function: low::third",
-            "docs/TESTING.md has a row of no crate: other",
-        ]
+        wanted = ["docs/theorems/README.md has a reason of no crate: none::double",
+                  "docs/theorems/README.md names no function: low::third",
+                  "docs/TESTING.md has a row of no crate: other"]
         self.check("each is named", self.ended("theorems"), (1, wanted))
 
     def test_what_tests_hold_is_on_the_page_of_the_crate(self):
         self.write("docs/TESTING.md", TESTING + "| `low` | A length | all tests |\n| `low` | A sum | one |\n")
-        held = [
-            "",
-            "## Held by tests alone",
-            "",
-            "|what no clause forbids|tests that hold it|",
-            "|---|---|",
-            "|A length|all tests|",
-            "|A sum|one|",
-        ]
+        held = ["", "## Held by tests alone", "", "|what no clause forbids|tests that hold it|", "|---|---|",
+                "|A length|all tests|", "|A sum|one|"]
         self.check("the page", self.ended("theorems", "low"), (0, PAGE.splitlines() + held))
 
     def test_name_that_no_test_has_is_refused(self):
@@ -311,11 +198,9 @@ class TheoremsTest(ScriptTest):
     def test_section_that_is_missing_is_refused(self):
         self.write("docs/theorems/README.md", INDEX.partition("\n## Wrong")[0].replace("<!-- end -->\n", ""))
         self.write("docs/TESTING.md", "# Tests\n")
-        wanted = [
-            "docs/theorems/README.md has no section 'Wrong bodies that meet each clause'",
-            "docs/TESTING.md has no section 'Held by tests alone'",
-            "docs/theorems/README.md has no place for the table",
-        ]
+        wanted = ["docs/theorems/README.md has no section 'Wrong bodies that meet each clause'",
+                  "docs/TESTING.md has no section 'Held by tests alone'",
+                  "docs/theorems/README.md has no place for the table"]
         self.check("each is named", self.ended("theorems", "--check"), (1, wanted))
 
     def test_name_in_the_reason_of_a_wrong_body_exists(self):
@@ -326,10 +211,8 @@ class TheoremsTest(ScriptTest):
         edit = "edit: sums\nreason: `half` of `IsSum` and `Unknown`\nfile: src/lib.rt\nold: Sums\nnew: Sum\n"
         self.write("tests/edits/high.edits", edit)
         self.write("tests/edits/low.edits", EDITS.replace("file", "reason: `IsSum`\nfile", 1))
-        wanted = [
-            "the reason of low/double_of_one names what does not exist: IsSum",
-            "the reason of high/sums names what does not exist: Unknown",
-        ]
+        wanted = ["the reason of low/double_of_one names what does not exist: IsSum",
+                  "the reason of high/sums names what does not exist: Unknown"]
         self.check("each is named", self.ended("theorems"), (1, wanted))
 
     def test_wrong_body_of_no_function_has_a_line_of_its_own(self):

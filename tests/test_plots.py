@@ -1,6 +1,7 @@
 """bench/plots: the plots of docs/PERFORMANCE.md match its tables, and a missing table is named."""
 
 import os
+import pathlib
 import re
 import shutil
 import subprocess
@@ -17,12 +18,9 @@ NO_ROW = "plots: docs/PERFORMANCE.md, for the plot '%s': there is no row '%s..'\
 
 
 class PagesTest(RowTest):
-    """The page of this repository."""
-
     def test_plots_are_those_of_the_page(self):
-        done = subprocess.run(
-            [os.path.join(TOP, "bench", "plots"), "--check"], capture_output=True, text=True, timeout=SECONDS
-        )
+        done = subprocess.run([os.path.join(TOP, "bench", "plots"), "--check"], capture_output=True,
+                              text=True, timeout=SECONDS)
         self.check("bench/plots --check", (done.returncode, done.stdout, done.stderr), (0, "", ""))
 
 
@@ -35,13 +33,11 @@ class PlotsTest(RowTest):
             os.makedirs(os.path.join(self.folder, os.path.dirname(name)), exist_ok=True)
             shutil.copy(os.path.join(TOP, name), os.path.join(self.folder, name))
         shutil.copytree(os.path.join(TOP, "docs/plots"), os.path.join(self.folder, "docs/plots"))
-        with open(os.path.join(TOP, PAGE), encoding="utf-8") as file:
-            self.page = file.read()
+        self.page = pathlib.Path(TOP, PAGE).read_text(encoding="utf-8")
 
     def checked(self, *words):
-        done = subprocess.run(
-            ["bench/plots", *words], cwd=self.folder, capture_output=True, text=True, timeout=SECONDS
-        )
+        done = subprocess.run(["bench/plots", *words], cwd=self.folder, capture_output=True, text=True,
+                              timeout=SECONDS)
         return done.returncode, done.stdout, done.stderr
 
     def cell(self, begin, number):
@@ -60,8 +56,7 @@ class PlotsTest(RowTest):
     def after(self, old, new):
         """What --check says of the page with a text replaced that it has."""
         self.assertIn(old, self.page)
-        with open(os.path.join(self.folder, PAGE), "w", encoding="utf-8") as file:
-            file.write(self.page.replace(old, new))
+        pathlib.Path(self.folder, PAGE).write_text(self.page.replace(old, new), encoding="utf-8")
         return self.checked("--check")
 
     def test_changed_numbers_are_reported(self):
@@ -95,8 +90,7 @@ class PlotsTest(RowTest):
 
     def test_missing_plots_are_reported(self):
         path = os.path.join(self.folder, "docs/plots/front.svg")
-        with open(path, "w", encoding="utf-8") as file:
-            file.write("<svg/>\n")
+        pathlib.Path(path).write_text("<svg/>\n", encoding="utf-8")
         self.check("another file", self.checked("--check"), (1, "", GONE % "front"))
         os.remove(path)
         self.check("no file", self.checked("--check"), (1, "", GONE % "front"))

@@ -33,15 +33,9 @@ class ProgressTest(FilesTest):
 
     def heard(self, *lines, jobs="2", wait=0.0):
         """What it passes on of these lines, with a wait before the last one, and what it says."""
-        run = subprocess.Popen(
-            [sys.executable, "-B", "scripts/progress", "1"],
-            cwd=self.folder,
-            env={**os.environ, "RT_JOBS": jobs},
-            stdin=subprocess.PIPE,
-            stdout=subprocess.PIPE,
-            stderr=subprocess.PIPE,
-            text=True,
-        )
+        run = subprocess.Popen([sys.executable, "-B", "scripts/progress", "1"], cwd=self.folder,
+                               env={**os.environ, "RT_JOBS": jobs}, stdin=subprocess.PIPE,
+                               stdout=subprocess.PIPE, stderr=subprocess.PIPE, text=True)
         run.stdin.write("".join(line + "\n" for line in lines[:-1]))
         run.stdin.flush()
         time.sleep(wait)

@@ -4,25 +4,16 @@ import functools
 import glob
 import importlib.util
 import os
+import pathlib
 import re
 import shutil
 import subprocess
 import tempfile
 
 from tests.support.processes import TOP
-from tests.support.recipes import (
-    ME,
-    NODES,
-    OWNER,
-    POOLS,
-    Place,
-    RecipeTest,
-    blocks,
-    create,
-    has,
-    publish,
-    stands,
-)
+from tests.support.recipes import (ME, NODES, OWNER, POOLS, Place, RecipeTest, blocks, create, has, publish,
+                                   stands)
+from tests.support.rows import each
 
 
 ATTACHMENTS = "### Attachments that the copy does not have"
@@ -47,16 +38,12 @@ class RecipesTest(RecipeTest):
                 (backup, 1, "database is locked"),
                 (vacuum, 5, "stepping, database is locked (5)"),
             ]:
-                self.check(
-                    command + " while a connection is served",
-                    place.in_folder(command),
-                    ("", "Error: %s\n" % line, status),
-                )
+                self.check(command + " while a connection is served", place.in_folder(command),
+                           ("", "Error: %s\n" % line, status))
                 self.check("its copy is empty", os.path.getsize(place.folder + "COPY"), 0)
             place.in_folder("cp volumes.db COPY")
-            self.check(
-                "a copy of the file alone while a connection is served", place.rows("COPY"), ({1: "a"}, 2)
-            )
+            self.check("a copy of the file alone while a connection is served", place.rows("COPY"),
+                       ({1: "a"}, 2))
 
     def test_copy_while_served(self):
         with Place(self.csictl, self.csid) as place:
@@ -64,11 +51,8 @@ class RecipesTest(RecipeTest):
                 place.call(*words)
             place.front_calls(create("c"))
             place.must("systemctl start csid-front")
-            self.check(
-                "a copy of a file that is served",
-                place.recipe("### A copy of a file that is served"),
-                (has(3, 1, 4), "", 0),
-            )
+            self.check("a copy of a file that is served", place.recipe("### A copy of a file that is served"),
+                       (has(3, 1, 4), "", 0))
             self.check("it has no log", os.listdir(place.copies()), ["volumes.db"])
             rows = place.rows(place.copies() + "/volumes.db")
             self.assertEqual(rows, ({1: "a", 2: "b", 3: "c"}, 4))
@@ -94,18 +78,14 @@ class RecipesTest(RecipeTest):
         with Place(self.csictl, self.csid) as place:
             place.front_calls(create("a"))
             place.must("systemctl start csid-front")
-            self.check(
-                "a copy while csid is stopped",
-                place.recipe("### A copy of a file while `csid` is stopped"),
-                (has(1, 0, 2), "", 0),
-            )
+            self.check("a copy while csid is stopped",
+                       place.recipe("### A copy of a file while `csid` is stopped"), (has(1, 0, 2), "", 0))
             self.check("file and log", sorted(os.listdir(place.copies())), ["volumes.db", "volumes.db-wal"])
             self.check("what both have", place.rows(place.copies() + "/volumes.db"), ({1: "a"}, 2))
 
     def test_restore_of_attachments(self):
         """After the copy vol-1 went from n1 to n2, vol-2 was detached and deleted, vol-3 attached at n1, and
-        vol-40 created and attached read-only at n2. vol-4 is as it was.
-        """
+        vol-40 created and attached read-only at n2. vol-4 is as it was."""
         detached, attached = "vol-1 rw n1\nvol-2 rw n1\n", "vol-1 rw n2\nvol-3 rw n1\nvol-40 ro n2\n"
         with Place(self.csictl, self.csid) as place:
             copies = self.begin_restore(place)
@@ -152,12 +132,8 @@ class RecipesTest(RecipeTest):
                 )
             os.chmod(kubectl, 0o755)
             path = folder + ":" + os.environ["PATH"]
-            subprocess.run(
-                ["bash", "-euo", "pipefail", "-c", block],
-                cwd=folder,
-                env={**os.environ, "PATH": path},
-                check=True,
-            )
+            subprocess.run(["bash", "-euo", "pipefail", "-c", block], cwd=folder,
+                           env={**os.environ, "PATH": path}, check=True)
             with open(os.path.join(folder, "attached")) as file:
                 self.check("attached", file.read(), "vol-1 rw n2\nvol-2 ro n1\nvol-2 ro n2\n")
 
@@ -174,48 +150,33 @@ class RecipesTest(RecipeTest):
             place.recipe("### A copy of a file that is served")
             place.must("systemctl stop csid-front")
             place.front_calls(create("b"))
-            place.must(
-                "systemctl start csid-front; systemctl stop csid csid-front; cp %s/volumes.db"
-                " /var/lib/csid/volumes.db"
-                % place.copies()
-            )
+            place.must("systemctl start csid-front; systemctl stop csid csid-front; cp %s/volumes.db"
+                       " /var/lib/csid/volumes.db" % place.copies())
             self.check("a log that stays beside a restored file", place.check(), (has(2, 0, 3), "", 0))
 
     def test_change(self):
-        change, already = (
-            "### A change of the configuration",
-            "6 ALREADY_EXISTS volume exists and is not compatible\n",
-        )
+        change, already = ("### A change of the configuration",
+                           "6 ALREADY_EXISTS volume exists and is not compatible\n")
         with Place(self.csictl, self.csid) as place:
             place.call(*create("a"))
             place.configure({**POOLS, "p3": (1, "c")}, NODES)
-            self.check(
-                "a further pool",
-                place.recipe(change),
-                ("name pools.example.org, pools 3, nodes 2\n" + has(1, 0, 2), "", 0),
-            )
+            self.check("a further pool", place.recipe(change),
+                       ("name pools.example.org, pools 3, nodes 2\n" + has(1, 0, 2), "", 0))
             self.check("the front is back", place.control.runs("csid-front") is not None, True)
             self.check("a volume in it", place.call(*create("b", "c")), "0 OK\nvolume vol-2 1048576\n")
             place.configure({"p1": (10, "x"), "p3": (1, "c")}, NODES)
             place.recipe(change)
             self.check("a create under other segments", place.call(*create("a")), already)
             place.configure({"fast": (10, "x"), "p3": (1, "c")}, NODES)
-            self.check(
-                "a pool that is renamed", place.recipe("### A pool that is renamed"), (has(2, 0, 3), "", 0)
-            )
+            self.check("a pool that is renamed", place.recipe("### A pool that is renamed"),
+                       (has(2, 0, 3), "", 0))
             place.must("systemctl stop csid-front")
             self.check("its volume", place.call(*create("a", "x")), "0 OK\nvolume vol-1 1048576\n")
             place.configure({"p3": (1, "c")}, {})
             said = place.recipe(change)
-            self.check(
-                "a pool that is taken away",
-                said[1:],
-                (
-                    "csid: volumes.db: volume 1: it is vol-1 (a), 1 MiB in pool fast\n"
-                    "csid: volumes.db: volume 1: its pool is not one of the configuration\n",
-                    4,
-                ),
-            )
+            self.check("a pool that is taken away", said[1:],
+                       ("csid: volumes.db: volume 1: it is vol-1 (a), 1 MiB in pool fast\n"
+                        "csid: volumes.db: volume 1: its pool is not one of the configuration\n", 4))
             # The configuration stays.
             self.assertEqual(place.call(*create("a", "x")), "0 OK\nvolume vol-1 1048576\n")
 
@@ -225,16 +186,11 @@ class RecipesTest(RecipeTest):
                 place.call(*words)
             for volume, node in [("vol-1", "n1"), ("vol-2", "n2"), ("vol-3", "n1")]:
                 place.call(*publish(volume, node))
-            self.check(
-                "the volumes of the node are detached",
-                place.recipe("### A node that died", CSID_SOCKET=place.control.socket),
-                ("unpublished vol-1 from n1\nunpublished vol-3 from n1\n", "", 0),
-            )
-            self.check(
-                "those of another one stay",
-                place.call("ListVolumes"),
-                "0 OK\nvolume vol-1 1048576 -\nvolume vol-2 1048576 n2\nvolume vol-3 1048576 -\n",
-            )
+            self.check("the volumes of the node are detached",
+                       place.recipe("### A node that died", CSID_SOCKET=place.control.socket),
+                       ("unpublished vol-1 from n1\nunpublished vol-3 from n1\n", "", 0))
+            self.check("those of another one stay", place.call("ListVolumes"),
+                       "0 OK\nvolume vol-1 1048576 -\nvolume vol-2 1048576 n2\nvolume vol-3 1048576 -\n")
 
     def test_move(self):
         move = "### A move to another machine"
@@ -242,11 +198,8 @@ class RecipesTest(RecipeTest):
             old.front_calls(create("a"))
             old.must("systemctl start csid-front")
             self.check("what is moved", old.recipe(move, 0), ("", "", 0))
-            self.check(
-                "nothing runs there",
-                [old.control.runs(unit) for unit in ("csid", "csid-front")],
-                [None, None],
-            )
+            self.check("nothing runs there", [old.control.runs(unit) for unit in ("csid", "csid-front")],
+                       [None, None])
             shutil.copytree(old.copies(), new.top + "/root/csid-move")
             # On the way they may have lost their modes.
             for path in glob.glob(new.top + "/root/csid-move/*"):
@@ -266,27 +219,18 @@ class RecipesTest(RecipeTest):
             want = "name pools.example.org, pools 2, nodes 2\n" + has(1, 0, 2, format=1)
             self.check("an upgrade", place.recipe("### An upgrade", release=release), (want, "", 0))
             self.check("the file is taken over", place.check(), (has(1, 0, 2), "", 0))
-            self.check(
-                "the programs before",
-                sorted(os.listdir(place.copies())),
-                ["csictl", "csid", "front", "volumes.db"],
-            )
+            self.check("the programs before", sorted(os.listdir(place.copies())),
+                       ["csictl", "csid", "front", "volumes.db"])
             self.check("a way back", place.recipe("### A way back", copies=place.copies()), ("", "", 0))
-            self.check(
-                "the file before",
-                place.recipe("### A restore", 0, copies=place.copies()),
-                (has(1, 0, 2, format=1), "", 0),
-            )
+            self.check("the file before", place.recipe("### A restore", 0, copies=place.copies()),
+                       (has(1, 0, 2, format=1), "", 0))
 
     def test_pages(self):
         """A file that an earlier release made, taken over, and with pages of its size."""
         with Place(self.csictl, self.csid) as place:
             size = "PRAGMA page_size"
-            self.check(
-                "the pages of a file that is made",
-                place.in_folder('sqlite3 volumes.db "%s"' % size),
-                ("1024\n", "", 0),
-            )
+            self.check("the pages of a file that is made", place.in_folder('sqlite3 volumes.db "%s"' % size),
+                       ("1024\n", "", 0))
             place.must("systemctl stop csid; rm /var/lib/csid/*")
             shutil.copy(os.path.join(TOP, "tests", "stored", "format-1-1.db"), place.folder + "volumes.db")
             place.must(
@@ -296,23 +240,16 @@ class RecipesTest(RecipeTest):
             for path in glob.glob(place.folder + "volumes.db*"):
                 os.chown(path, *OWNER)
             before = place.rows()
-            self.check(
-                "the pages of a file that stood",
-                place.in_folder('sqlite3 volumes.db "%s"' % size),
-                ("4096\n", "", 0),
-            )
-            self.check(
-                "smaller pages", place.recipe("### Smaller pages"), ("delete\nwal\n" + has(1, 0, 2), "", 0)
-            )
+            self.check("the pages of a file that stood", place.in_folder('sqlite3 volumes.db "%s"' % size),
+                       ("4096\n", "", 0))
+            self.check("smaller pages", place.recipe("### Smaller pages"),
+                       ("delete\nwal\n" + has(1, 0, 2), "", 0))
             place.must("systemctl stop csid-front csid")
             self.check("who may read it", (place.owners(), place.modes()), ({OWNER}, {"0o600"}))
             self.check("its pages then", place.in_folder('sqlite3 volumes.db "%s"' % size), ("1024\n", "", 0))
             self.check("its rows then", place.rows(), before)
-            self.check(
-                "the pages of the copy",
-                place.shell('sqlite3 %s/volumes.db "%s"' % (place.copies(), size)),
-                ("4096\n", "", 0),
-            )
+            self.check("the pages of the copy",
+                       place.shell('sqlite3 %s/volumes.db "%s"' % (place.copies(), size)), ("4096\n", "", 0))
 
 
 LOW = "volume 40: its number is not from 1 to below the next number"
@@ -349,10 +286,8 @@ class RestoreTest(RecipeTest):
     def make_again(self):
         """Makes the missing volume again, and attaches it. Returns what csictl shows, but for the replies."""
         self.place.recipe("### A restore", 1, copies=self.copies)
-        came = [
-            self.place.recipe("### A volume that the copy does not have"),
-            self.place.recipe(ATTACHMENTS, 1, copies=self.copies),
-        ]
+        came = [self.place.recipe("### A volume that the copy does not have"),
+                self.place.recipe(ATTACHMENTS, 1, copies=self.copies)]
         return [(re.sub("(?m)^0 OK.*\n", "", out), error, status) for out, error, status in came]
 
     def test_missing_volume_is_made_again_and_attached(self):
@@ -382,20 +317,11 @@ CHANGES = [
     ("a larger pool", {**POOLS, "p1": (20, "a")}, NODES, None, None),
     ("a node with more volumes", POOLS, {**NODES, "n1": 3}, None, None),
     ("a pool of just its volumes", {**POOLS, "p1": (2, "a")}, NODES, None, None),
-    (
-        "a pool of less",
-        {**POOLS, "p1": (1, "a")},
-        NODES,
-        "pool p1: its volumes have more bytes than it has",
-        "pool p1: its volumes have 2 MiB, and it has 1 MiB",
-    ),
-    (
-        "a node with fewer volumes",
-        POOLS,
-        {**NODES, "n1": 1},
-        "node n1: more volumes are attached there than it can have",
-        "node n1: 2 volumes are attached there, and it can have 1",
-    ),
+    ("a pool of less", {**POOLS, "p1": (1, "a")}, NODES, "pool p1: its volumes have more bytes than it has",
+     "pool p1: its volumes have 2 MiB, and it has 1 MiB"),
+    ("a node with fewer volumes", POOLS, {**NODES, "n1": 1},
+     "node n1: more volumes are attached there than it can have",
+     "node n1: 2 volumes are attached there, and it can have 1"),
     ("a pool that is gone", {"p2": (4, "b")}, NODES, POOL_OF_NONE, VOL_1),
     ("a pool that is renamed", {"fast": (10, "a"), "p2": (4, "b")}, NODES, POOL_OF_NONE, VOL_1),
     ("a node that is gone", POOLS, {"n2": 2}, NODE_OF_NONE, VOL_1),
@@ -418,43 +344,36 @@ class ChangedConfigurationTest(RecipeTest):
         for volume in "vol-1", "vol-2":
             self.place.call(*publish(volume, "n1"))
 
-    def test_change_that_loses_volumes_is_refused(self):
-        for name, pools, nodes, line, more in CHANGES:
-            with self.subTest(name=name):
-                self.place.configure(pools, nodes)
-                came = self.place.in_folder("csid --check-tables volumes.db --config $config.new")
-                if line is None:
-                    self.assertEqual(came, (has(3, 2, 4), "", 0))
-                else:
-                    error = "csid: volumes.db: %s\ncsid: volumes.db: %s\n" % (more, stands(line))
-                    self.assertEqual(came, ("", error, 4))
+    @each(CHANGES)
+    def test_change_that_loses_volumes_is_refused(self, name, pools, nodes, line, more):
+        self.place.configure(pools, nodes)
+        came = self.place.in_folder("csid --check-tables volumes.db --config $config.new")
+        if line is None:
+            self.assertEqual(came, (has(3, 2, 4), "", 0))
+        else:
+            error = "csid: volumes.db: %s\ncsid: volumes.db: %s\n" % (more, stands(line))
+            self.assertEqual(came, ("", error, 4))
 
     def test_volumes_of_each_pool_and_node_are_listed(self):
-        wanted = (
-            HEADINGS
-            + ROW % (1, "a", "p1", "n1")
-            + ROW % (2, "b", "p1", "n1")
-            + ROW % (3, "c", "p2", "-")
-            + "\nPOOL  VOLUMES  SIZE\np1    2        2 MiB\np2    1        1 MiB\n"
-            + "\nNODE  VOLUMES  SIZE\nn1    2        2 MiB\n"
-        )
+        wanted = (HEADINGS
+                  + ROW % (1, "a", "p1", "n1")
+                  + ROW % (2, "b", "p1", "n1")
+                  + ROW % (3, "c", "p2", "-")
+                  + "\nPOOL  VOLUMES  SIZE\np1    2        2 MiB\np2    1        1 MiB\n"
+                  + "\nNODE  VOLUMES  SIZE\nn1    2        2 MiB\n")
         self.place.rows()
         self.assertEqual(self.place.in_folder("csid --list-tables volumes.db"), (wanted, "", 0))
 
     def test_volumes_of_a_pool_that_is_emptied_are_listed(self):
-        wanted = (
-            HEADINGS
-            + ROW % (3, "c", "p2", "-")
-            + "\nPOOL  VOLUMES  SIZE\np2    1        1 MiB\n"
-            + "\nNODE  VOLUMES  SIZE\n"
-        )
+        wanted = (HEADINGS
+                  + ROW % (3, "c", "p2", "-")
+                  + "\nPOOL  VOLUMES  SIZE\np2    1        1 MiB\n"
+                  + "\nNODE  VOLUMES  SIZE\n")
         self.place.rows()
         self.assertEqual(self.place.recipe("### A pool that is emptied"), (wanted, "", 0))
 
 
 class DevicesTest(RecipeTest):
-    """The commands of docs/DEVICES.md."""
-
     def test_size(self):
         """The size of a volume."""
         with Place(self.csictl, self.csid) as place:
@@ -470,8 +389,7 @@ class DevicesTest(RecipeTest):
             self.check("none after it is deleted", (out, errors, status), refused)
 
     def test_data_without_volume(self):
-        """Data on a device is shown if its volume is not listed, and never without a listing.
-        """
+        """Data on a device is shown if its volume is not listed, and never without a listing."""
         heading = "## When they are swept"
         with Place(self.csictl, self.csid) as place:
             data = os.path.join(place.top, "data")
@@ -508,8 +426,7 @@ class KubernetesChangeTest(RecipeTest):
 
     def changes(self, gibibytes):
         """What the commands say after the pool of 10 TiB, which has 2 GiB in use, got another size."""
-        with open(self.manifest) as file:
-            text = file.read()
+        text = pathlib.Path(self.manifest).read_text()
         self.assertEqual(text.count("bytes = %d\n" % (10 << 40)), 1)
         with open(self.manifest, "w") as file:
             file.write(text.replace("bytes = %d\n" % (10 << 40), "bytes = %d\n" % (gibibytes << 30)))

@@ -5,66 +5,30 @@ import functools
 import glob
 import importlib.util
 import os
+import pathlib
 import re
 import shutil
 import sqlite3
 import subprocess
 
-from tests.support.processes import TOP
-from tests.support.recipes import (
-    Cluster,
-    Etcd,
-    ME,
-    MIB,
-    NODE,
-    OWNER,
-    PLUGIN,
-    Place,
-    RecipeTest,
-    SECONDS,
-    blocks,
-    create,
-    has,
-    publish,
-    read,
-)
+from tests.support.processes import TOP, program
+from tests.support.recipes import (Cluster, Etcd, ME, MIB, NODE, OWNER, PLUGIN, Place, RecipeTest, SECONDS,
+                                   blocks, create, has, publish, read)
 
 
 # The parts of names that are hard to write in JSON, in SQL or in lines.
-HARD = [
-    "plain",
-    "it's",
-    'a "quoted" one',
-    "back\\slash",
-    "\\b \\u0008 \\",
-    "a\ttab",
-    "a line\nand one",
-    "and\r\n",
-    "é日本𝄞",
-    "\u2028\ufeff",
-    "<&>",
-    "%s %020d",
-    "-- ;",
-    "' || x'",
-    ".quit",
-    "\n.quit\n",
-    "/",
-    " ",
-    "{}",
-    "a" * 120,
-]
+HARD = ["plain", "it's", 'a "quoted" one', "back\\slash", "\\b \\u0008 \\", "a\ttab", "a line\nand one",
+        "and\r\n", "é日本𝄞", "\u2028\ufeff", "<&>", "%s %020d", "-- ;", "' || x'", ".quit", "\n.quit\n", "/",
+        " ", "{}", "a" * 120]
 
 
 @functools.cache
 def many_frames(csictl):
-    """Calls that make 300 volumes with names, sizes, parameters and capabilities of all kinds, attach, change
-    and delete some of them.
-    """
-    return b"".join(
-        subprocess.run([csictl, "frame", "--method", *words], capture_output=True, check=True).stdout
-        for number in range(1, 301)
-        for words in calls_of(number)
-    )
+    """Calls that make 300 volumes of all kinds, and attach, change and delete some of them."""
+    return b"".join(subprocess.run([csictl, "frame", "--method", *words], capture_output=True,
+                                   check=True).stdout
+                    for number in range(1, 301)
+                    for words in calls_of(number))
 
 
 def calls_of(i):
@@ -91,13 +55,9 @@ def calls_of(i):
 def all_rows(path):
     """All rows of a file, with the kinds of their values."""
     with contextlib.closing(sqlite3.connect(path, timeout=SECONDS)) as file:
-        return {
-            table: [
-                [(type(it), it) for it in row]
-                for row in file.execute("SELECT * FROM %s ORDER BY 1, 2" % table)
-            ]
-            for table in ("meta", "volumes", "attachments")
-        }
+        return {table: [[(type(it), it) for it in row]
+                        for row in file.execute("SELECT * FROM %s ORDER BY 1, 2" % table)]
+                for table in ("meta", "volumes", "attachments")}
 
 
 MANIFESTS = ["kubernetes.yaml", "kubernetes-etcd.yaml", "kubernetes-tables.yaml"]
@@ -127,6 +87,36 @@ class EtcdRecipeTest(RecipeTest):
         return self.place.shell(first.replace(members, self.etcd.endpoint) + text, **variables)
 
 
+# What csid-etcd lists after the trial.
+LISTED = """\
+ID     NAME   POOL  SIZE   CAPABILITIES              PARAMETERS  MUTABLE  NODES
+vol-1  pvc-7  p1    1 MiB  block:SINGLE_NODE_WRITER  -           -        -
+
+POOL  VOLUMES  SIZE
+p1    1        1 MiB
+
+NODE  VOLUMES  SIZE
+"""
+
+
+class TrialTest(EtcdRecipeTest):
+    """The commands of "A trial", with the endpoint of an etcd of the test's own."""
+
+    def setUp(self):
+        super().setUp()
+        front = self.place.top + "/usr/local/bin/front"
+        os.unlink(front)
+        os.symlink(program("front"), front)
+        shutil.copy(self.place.top + "/etc/csid/config.toml", self.place.top)
+
+    def test_volume_is_made_and_found_by_its_name(self):
+        text = blocks("## A trial", "ETCD.md")[0].replace("csid-etcd ", "csid-etcd --endpoints $ENDPOINTS ")
+        socket = "until [ -S control.sock ]; do sleep 0.1; done\n"
+        text = text.replace("control.sock &\n", "control.sock &\n" + socket)
+        out, _, status = self.place.shell("trap 'kill $(jobs -p)' EXIT\n" + text)
+        self.assertEqual((out, status), ("created vol-1, 1 MiB\n" + LISTED, 0))
+
+
 OVER, BACK = "### From a file to etcd", "### From etcd to a file"
 
 
@@ -137,8 +127,7 @@ class FileAndEtcdTest(EtcdRecipeTest):
         super().setUp()
         place = self.place
         place.configure({"p1": (2000, "a"), "p2": (2000, "b")}, {"n1": 1000, NODE: 1000}, "")
-        with open(place.top + "/calls", "wb") as file:
-            file.write(many_frames(self.csictl))
+        pathlib.Path(place.top + "/calls").write_bytes(many_frames(self.csictl))
         place.must(
             "csid pipe --tables /var/lib/csid/volumes.db --config /etc/csid/config.toml < calls > replies;"
             " systemctl start csid"
@@ -245,8 +234,6 @@ class FileAndEtcdTest(EtcdRecipeTest):
 
 
 class Format1Test(EtcdRecipeTest):
-    """A file of format 1."""
-
     def test_rows_of_format_1_are_not_imported(self):
         shutil.copy(os.path.join(TOP, "tests", "stored", "format-1-1.db"), self.place.folder + "volumes.db")
         line = "csid-etcd: --import: meta: its format is 1, and that of rows in etcd 2; nothing was written\n"
@@ -266,9 +253,8 @@ class KubernetesEtcdTest(EtcdRecipeTest):
         for name in MANIFESTS:
             shutil.copy(os.path.join(TOP, "deploy", name), self.place.top + "/root/deploy")
         volume = functools.partial(create, key="topology.pools.example.org/zone")
-        self.place.front_calls(
-            *map(volume, "abc"), publish("vol-1", "worker-1"), ["DeleteVolume", "--volume", "vol-2"]
-        )
+        self.place.front_calls(*map(volume, "abc"), publish("vol-1", "worker-1"),
+                               ["DeleteVolume", "--volume", "vol-2"])
         self.place.front_calls(volume("late"), name="last-frames")
         self.place.must("kubectl apply --filename /root/deploy/kubernetes.yaml")
         self.place.front_calls(["Probe"])

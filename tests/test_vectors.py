@@ -1,22 +1,19 @@
 """The vectors of tests/vectors: their names, and the files of rows."""
 
-import ast
-import glob
 import os
 from unittest import mock
 
-from tests.support.processes import TOP
 from tests.support.rows import FilesTest
 from tests.vectors import corpus
-from tests.vectors.rows import Reader
+from tests.vectors.rows import STEPS, Plain, Words
 
 
 class VectorsTest(FilesTest):
-    def groups_of(self, text):
+    def groups_of(self, text, reader=Plain, **words):
         """The groups of a file with this text, or its fault."""
         self.write("rows.txt", text)
         try:
-            return Reader(os.path.join(self.folder, "rows.txt")).groups
+            return reader(os.path.join(self.folder, "rows.txt"), **words).groups
         except ValueError as error:
             return os.path.basename(str(error))
 
@@ -29,6 +26,17 @@ class VectorsTest(FilesTest):
         refusal = b"\3\0\2no\0\0\0\0\0"
         text = "= a title\nname\n  bytes 00 | 030002 no\n"
         self.assertEqual(self.groups_of(text), {"a title": {"name": [(b"\0", refusal)]}})
+
+    def test_row_in_words_has_named_steps_and_a_call(self):
+        one, two, three = (b"a", b"b"), (b"a", b"c"), (b"d", b"e")
+        text = ("= a title\nONE = b'a', b'b'\nTWO = [ONE, (b'a', b'c')]\n"
+                "name | ONE | b'd' | b'e'\nmore\n  ONE, TWO\n  b'd' |\n    b'e'\n")
+        groups = {"a title": {"name": [one, three], "more": [one, one, two, three]}}
+        self.assertEqual(self.groups_of(text, Words), groups)
+
+    def test_unknown_word_in_words_is_refused(self):
+        groups = self.groups_of("= a title\nname | WORD | DONE\n", Words, words=STEPS)
+        self.assertRegex(groups, "^rows.txt:2: ")
 
     def test_name_twice_is_refused(self):
         text = "= a title\nname | Probe | ok\nname | Probe | ok\n"
@@ -45,12 +53,3 @@ class VectorsTest(FilesTest):
     def test_name_with_a_space_is_refused(self):
         with mock.patch.object(corpus, "GROUPS", [{"a title": {"a name": []}}]):
             self.assertRaisesRegex(ValueError, "malformed.*: a name", corpus.lines)
-
-    def test_no_module_has_a_name_twice(self):
-        """A dictionary keeps the last one of two equal keys in silence."""
-        for path in glob.glob(os.path.join(TOP, "tests", "vectors", "*.py")):
-            with open(path, encoding="utf-8") as file:
-                tree = ast.parse(file.read())
-            for node in ast.walk(tree):
-                keys = [it.value for it in getattr(node, "keys", []) if isinstance(it, ast.Constant)]
-                self.assertEqual(len(set(keys)), len(keys), path)

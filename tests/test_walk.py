@@ -28,43 +28,16 @@ from tests.support.rows import RowTest
 SEEDS, STEPS, WALKS, OFTEN, SECONDS = range(1, 5), 2000, 100, 30, 300
 
 # The outcomes that must happen often: each kind of change, and each refusal.
-EXPECTED = [
-    "created",
-    "created again",
-    "deleted",
-    "nothing to delete",
-    "published",
-    "published with a part of its mode",
-    "published again",
-    "unpublished",
-    "nothing to unpublish",
-    "confirmed",
-    "not confirmed",
-    "page",
-    "last page",
-    "capacity",
-    "no capacity",
-    "volume exists and is not compatible",
-    "capacity is out of range",
-    "no room in the topology",
-    "volume is in use",
-    "volume not found",
-    "node not found",
-    "volume is published otherwise",
-    "volume does not have this capability",
-    "volume is published elsewhere",
-    "node is full",
-    "bad starting token",
-    "modified",
-    "modified again",
-    "mutable parameters are missing",
-    "mutable parameters are too large",
-    "a file of format 1 taken over",
-    "a change that the log refused",
-    "a change that the log did not make",
-    "a change that the log made, but did not answer",
-    "a connection that the log ended",
-]
+EXPECTED = ["created", "created again", "deleted", "nothing to delete", "published",
+            "published with a part of its mode", "published again", "unpublished", "nothing to unpublish",
+            "confirmed", "not confirmed", "page", "last page", "capacity", "no capacity",
+            "volume exists and is not compatible", "capacity is out of range", "no room in the topology",
+            "volume is in use", "volume not found", "node not found", "volume is published otherwise",
+            "volume does not have this capability", "volume is published elsewhere", "node is full",
+            "bad starting token", "modified", "modified again", "mutable parameters are missing",
+            "mutable parameters are too large", "a file of format 1 taken over",
+            "a change that the log refused", "a change that the log did not make",
+            "a change that the log made, but did not answer", "a connection that the log ended"]
 # Whether a log makes a change, by its report.
 FAULTS = {
     change_stores.KeptChangeStore.REFUSES: "a change that the log refused",
@@ -113,11 +86,8 @@ class LogServer:
         self.start()
 
     def start(self):
-        self.process = subprocess.Popen(
-            [self.csid, "serve", "--socket", self.path, "--log", self.log.path],
-            stdin=subprocess.DEVNULL,
-            stderr=subprocess.DEVNULL,
-        )
+        self.process = subprocess.Popen([self.csid, "serve", "--socket", self.path, "--log", self.log.path],
+                                        stdin=subprocess.DEVNULL, stderr=subprocess.DEVNULL)
         while not os.path.exists(self.path):
             time.sleep(0.001)
         self.connect()
@@ -164,29 +134,18 @@ class LogServer:
 
 def rows(model):
     """The rows of the model (docs/TABLES.md)."""
-    volumes = [
-        (
-            it.number,
-            it.name,
-            it.bytes,
-            it.pool.name,
-            capabilities(it.keys),
-            entries(v.parameter, it.parameters) + entries(v.mutable, it.mutable),
-        )
-        for it in model.volumes
-    ]
-    attachments = sorted(
-        (*place, capabilities([key]), int(readonly)) for place, (key, readonly) in model.attachments.items()
-    )
+    volumes = [(it.number, it.name, it.bytes, it.pool.name, capabilities(it.keys),
+                entries(v.parameter, it.parameters) + entries(v.mutable, it.mutable))
+               for it in model.volumes]
+    attachments = sorted((*place, capabilities([key]), int(readonly))
+                         for place, (key, readonly) in model.attachments.items())
     return volumes, attachments, [(1, 2, model.next)]
 
 
 def rows_in(path):
     connection = sqlite3.connect(path)
-    found = [
-        connection.execute("SELECT * FROM %s ORDER BY 1, 2" % name).fetchall()
-        for name in ("volumes", "attachments", "meta")
-    ]
+    found = [connection.execute("SELECT * FROM %s ORDER BY 1, 2" % name).fetchall()
+             for name in ("volumes", "attachments", "meta")]
     connection.close()
     return tuple(found)
 
@@ -203,9 +162,8 @@ class Walk:
         self.seen[what] += 1
         came = self.server.ask(call)
         if came != reply:
-            self.faults.append(
-                "request %d, %s: %s, and not %s" % (sum(self.seen.values()), what, came.hex(), reply.hex())
-            )
+            self.faults.append("request %d, %s: %s, and not %s" % (sum(self.seen.values()), what, came.hex(),
+                                                                   reply.hex()))
         return came == reply
 
     def step(self):
@@ -217,9 +175,7 @@ class Walk:
         return listed and not rule
 
     def pages(self):
-        """Page after page, with requests between: no volume is listed twice, listed volumes exist, and a
-        volume that existed all the while is listed.
-        """
+        """Page after page, with requests between: no volume comes twice, and a lasting one comes."""
         throughout, listed, token = {it.number for it in self.model.volumes}, [], None
         while token != "":
             most = self.requests.one_of(1, 2, 3)
@@ -244,10 +200,8 @@ class Walk:
         connection = sqlite3.connect(self.server.tables)
         with connection:
             for it in self.model.volumes:
-                connection.execute(
-                    "UPDATE volumes SET params = ? WHERE number = ?",
-                    (entries(v.parameter, it.parameters), it.number),
-                )
+                connection.execute("UPDATE volumes SET params = ? WHERE number = ?",
+                                   (entries(v.parameter, it.parameters), it.number))
             connection.execute("UPDATE meta SET format_no = 1")
         connection.close()
         self.model.volumes = [it._replace(mutable={}) for it in self.model.volumes]
@@ -255,13 +209,10 @@ class Walk:
 
     def upsets_log(self):
         """The next change of the log fails, the log ends its connection, or csid is killed and started again.
-        What rows it has by then is looked at.
-        """
-        if (
-            self.server.log.fault is None
+        What rows it has by then is looked at."""
+        if (self.server.log.fault is None
             and self.server.log.rows() != rows(self.model)
-            and self.model.next > 1
-        ):
+            and self.model.next > 1):
             self.faults.append("the rows of the log are not the model's")
         how = self.requests.one_of("is killed", "hangs up", *FAULTS)
         if how == "is killed":

@@ -6,7 +6,6 @@ import (
 	"errors"
 	"fmt"
 	"io"
-	"log"
 	"strings"
 	"time"
 
@@ -73,7 +72,7 @@ func (r *snapshot) get(key string, opts ...clientv3.OpOption) (read *clientv3.Ge
 
 // export prints all rows at one revision as SQL. COMMIT comes last, once all rows were checked and
 // printed, so an export that stops early changes no tables.
-func export(m *members, to io.Writer, lines *log.Logger) error {
+func export(m *members, to io.Writer, lines *logger) error {
 	client, err := m.connect()
 	if err != nil {
 		return err
@@ -89,7 +88,7 @@ func export(m *members, to io.Writer, lines *log.Logger) error {
 		err = out.Flush()
 	}
 	if err == nil {
-		lines.Printf("at revision %d: %v", r.revision, found)
+		lines.infof("at revision %d: %v", r.revision, found)
 	}
 	return err
 }

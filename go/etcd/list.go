@@ -3,6 +3,7 @@ package main
 import (
 	"bufio"
 	"errors"
+	"fmt"
 	"io"
 	"sort"
 
@@ -28,6 +29,8 @@ type listedVolume struct {
 	parameters, mutable map[string]string
 	nodes               []string
 }
+
+func (v *listedVolume) id() string { return fmt.Sprintf("vol-%d", v.number) }
 
 // modeNames are the access modes of CSI by number ("CreateVolume",
 // VolumeCapability.AccessMode.Mode).
@@ -101,14 +104,15 @@ func readListed(row volume) (*listedVolume, error) {
 }
 
 // volumeFilter selects the volumes that have all given values. An empty value selects all.
-type volumeFilter struct{ volume, pool, node string }
+type volumeFilter struct{ id, volume, pool, node string }
 
 func (f volumeFilter) matches(v *listedVolume) bool {
 	isPublished := f.node == ""
 	for _, node := range v.nodes {
 		isPublished = isPublished || node == f.node
 	}
-	return isPublished && (f.volume == "" || v.name == f.volume) && (f.pool == "" || v.pool == f.pool)
+	return isPublished && (f.id == "" || v.id() == f.id) && (f.volume == "" || v.name == f.volume) &&
+		(f.pool == "" || v.pool == f.pool)
 }
 
 // readAll reads all volumes at one revision. Volumes are sorted by number, their nodes by id.
@@ -162,10 +166,10 @@ func list(m *members, to io.Writer) error {
 		}
 	}
 	out := bufio.NewWriter(to)
-	if opts.isJSON {
-		writeJSON(out, volumes)
-	} else {
+	if !opts.isJSON {
 		writeTable(out, volumes)
+	} else if err := writeJSON(out, volumes); err != nil {
+		return err
 	}
 	return out.Flush()
 }

@@ -2,6 +2,8 @@ package main
 
 import (
 	"bufio"
+	"bytes"
+	"encoding/json"
 	"fmt"
 	"sort"
 	"strconv"
@@ -77,23 +79,6 @@ func escapeWord(text string) string {
 	return out.String()
 }
 
-// quotedJSON returns a text as a JSON string with the fewest escapes.
-func quotedJSON(text string) string {
-	shorts := map[byte]string{'"': `\"`, '\\': `\\`, '\b': `\b`, '\f': `\f`, '\n': `\n`, '\r': `\r`, '\t': `\t`}
-	out := []byte{'"'}
-	for i := 0; i < len(text); i++ {
-		switch short := shorts[text[i]]; {
-		case short != "":
-			out = append(out, short...)
-		case text[i] < 0x20:
-			out = append(out, fmt.Sprintf(`\u%04x`, text[i])...)
-		default:
-			out = append(out, text[i])
-		}
-	}
-	return string(append(out, '"'))
-}
-
 // orDash joins the parts of a cell with commas. Without parts the cell is a dash.
 func orDash(parts []string) string {
 	if len(parts) == 0 {
@@ -140,7 +125,7 @@ func (v *listedVolume) cells() []string {
 		nodes = append(nodes, escapeWord(node))
 	}
 	return []string{
-		fmt.Sprintf("vol-%d", v.number), formatWord(v.name), formatWord(v.pool), formatSize(v.bytes),
+		v.id(), formatWord(v.name), formatWord(v.pool), formatSize(v.bytes),
 		orDash(capabilities), formatPairs(v.parameters), formatPairs(v.mutable),
 		orDash(nodes),
 	}
@@ -196,54 +181,75 @@ func writeTable(out *bufio.Writer, volumes []*listedVolume) {
 	nodes.write(out, "NODE")
 }
 
-func jsonPairs(pairs map[string]string) string {
-	var parts []string
-	for _, key := range sortedKeys(pairs) {
-		parts = append(parts, quotedJSON(key)+":"+quotedJSON(pairs[key]))
+// MarshalJSON gives the capability its access: block, or mount with its file system.
+func (c capability) MarshalJSON() ([]byte, error) {
+	shown := struct {
+		Access string  `json:"access"`
+		FSType *string `json:"fsType,omitempty"`
+		Mode   string  `json:"mode"`
+	}{Access: "block", Mode: c.modeName()}
+	if c.isMount {
+		shown.Access, shown.FSType = "mount", &c.fsType
 	}
-	return "{" + strings.Join(parts, ",") + "}"
+	return encode(shown)
 }
 
-func (c capability) json() string {
-	if !c.isMount {
-		return `{"access":"block","mode":` + quotedJSON(c.modeName()) + "}"
-	}
-	return `{"access":"mount","fsType":` + quotedJSON(c.fsType) + `,"mode":` + quotedJSON(c.modeName()) + "}"
+// MarshalJSON gives the volume with its lists, also empty ones.
+func (v *listedVolume) MarshalJSON() ([]byte, error) {
+	return encode(struct {
+		ID           string            `json:"id"`
+		Name         string            `json:"name"`
+		Pool         string            `json:"pool"`
+		Bytes        uint64            `json:"bytes"`
+		Capabilities []capability      `json:"capabilities"`
+		Parameters   map[string]string `json:"parameters"`
+		Mutable      map[string]string `json:"mutableParameters"`
+		Nodes        []string          `json:"nodes"`
+	}{v.id(), v.name, v.pool, v.bytes, append([]capability{}, v.capabilities...), v.parameters, v.mutable,
+		append([]string{}, v.nodes...)})
 }
 
-func (v *listedVolume) json() string {
-	var capabilities, nodes []string
-	for _, one := range v.capabilities {
-		capabilities = append(capabilities, one.json())
-	}
-	for _, node := range v.nodes {
-		nodes = append(nodes, quotedJSON(node))
-	}
-	return fmt.Sprintf(`{"id":"vol-%d","name":%s,"pool":%s,"bytes":%d,"capabilities":[%s],`+
-		`"parameters":%s,"mutableParameters":%s,"nodes":[%s]}`,
-		v.number, quotedJSON(v.name), quotedJSON(v.pool), v.bytes, strings.Join(capabilities, ","),
-		jsonPairs(v.parameters), jsonPairs(v.mutable),
-		strings.Join(nodes, ","))
+// encode encodes a value as JSON, in which < > & stay as they are.
+func encode(value interface{}) ([]byte, error) {
+	var text bytes.Buffer
+	encoder := json.NewEncoder(&text)
+	encoder.SetEscapeHTML(false)
+	err := encoder.Encode(value)
+	return bytes.TrimSuffix(text.Bytes(), []byte("\n")), err
 }
 
-func (s sums) json(key string) string {
-	var parts []string
+// entries returns the sums, each with its name under the key.
+func (s sums) entries(key string) []map[string]interface{} {
+	entries := make([]map[string]interface{}, 0, len(s))
 	for _, name := range s.names() {
-		parts = append(parts, fmt.Sprintf(`{%q:%s,"volumes":%d,"bytes":%d}`, key, quotedJSON(name), s[name].volumes,
-			s[name].bytes))
+		entries = append(entries, map[string]interface{}{key: name, "volumes": s[name].volumes, "bytes": s[name].bytes})
 	}
-	return "[" + strings.Join(parts, ",") + "]"
+	return entries
 }
 
 // writeJSON writes one JSON document with each volume on a line of its own.
-func writeJSON(out *bufio.Writer, volumes []*listedVolume) {
+func writeJSON(out *bufio.Writer, volumes []*listedVolume) error {
 	out.WriteString(`{"volumes":[`)
 	for i, v := range volumes {
+		text, err := encode(v)
+		if err != nil {
+			return err
+		}
 		if i > 0 {
 			out.WriteByte(',')
 		}
-		out.WriteString("\n" + v.json())
+		out.WriteByte('\n')
+		out.Write(text)
 	}
 	pools, nodes := count(volumes)
-	fmt.Fprintf(out, "\n],\n\"pools\":%s,\n\"nodes\":%s}\n", pools.json("name"), nodes.json("id"))
+	poolsText, err := encode(pools.entries("name"))
+	if err != nil {
+		return err
+	}
+	nodesText, err := encode(nodes.entries("id"))
+	if err != nil {
+		return err
+	}
+	_, err = fmt.Fprintf(out, "\n],\n\"pools\":%s,\n\"nodes\":%s}\n", poolsText, nodesText)
+	return err
 }

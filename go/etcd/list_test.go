@@ -142,7 +142,9 @@ func TestListedJSON(t *testing.T) {
 		t.Run(c.name, func(t *testing.T) {
 			var shown bytes.Buffer
 			out := bufio.NewWriter(&shown)
-			writeJSON(out, c.volumes)
+			if err := writeJSON(out, c.volumes); err != nil {
+				t.Fatal(err)
+			}
 			out.Flush()
 			got := shown.String()
 			if !reflect.DeepEqual(readJSON(t, got), readJSON(t, c.want)) {
@@ -165,6 +167,9 @@ func TestVolumeFilter(t *testing.T) {
 		want   []uint64
 	}{
 		{"none", volumeFilter{}, []uint64{1, 2, 7, 8}},
+		{"id", volumeFilter{id: "vol-7"}, []uint64{7}},
+		{"start of an id", volumeFilter{id: "vol-"}, nil},
+		{"id in another pool", volumeFilter{id: "vol-7", pool: "hdd"}, nil},
 		{"name", volumeFilter{volume: "a b"}, []uint64{2}},
 		{"start of a name", volumeFilter{volume: "pvc-"}, nil},
 		{"pool", volumeFilter{pool: "ssd"}, []uint64{1, 7}},
@@ -203,16 +208,11 @@ func TestFormatWord(t *testing.T) {
 	}
 }
 
-func TestQuotedJSON(t *testing.T) {
-	cases := []struct{ text, want string }{
-		{"", `""`}, {`a"\`, `"a\"\\"`}, {"\x01\b\f\n\r\t", `"\u0001\b\f\n\r\t"`}, {"ä", `"ä"`}, {"<&>", `"<&>"`},
-	}
-	for _, c := range cases {
-		t.Run(fmt.Sprintf("%q", c.text), func(t *testing.T) {
-			if got := quotedJSON(c.text); got != c.want {
-				t.Errorf("got %s, want %s", got, c.want)
-			}
-		})
+// Characters of HTML stay as they are, also in a volume.
+func TestUnescapedJSON(t *testing.T) {
+	text, err := encode(&listedVolume{volume: volume{name: "<&>"}, parameters: map[string]string{"<": "&"}})
+	if err != nil || !strings.Contains(string(text), `"name":"<&>"`) || !strings.Contains(string(text), `{"<":"&"}`) {
+		t.Errorf("got %s, error %v", text, err)
 	}
 }
 

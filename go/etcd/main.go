@@ -8,7 +8,6 @@ import (
 	"errors"
 	"flag"
 	"fmt"
-	"log"
 	"os"
 	"os/signal"
 	"runtime"
@@ -30,34 +29,28 @@ const (
 // version is set by go/etcd/build from the file VERSION.
 var version = "unknown"
 
-// prefix starts each line on standard error.
-const prefix = "csid-etcd: "
-
 // lastLinesTime is how long the program waits at its end until its last lines are written.
 const lastLinesTime = time.Second
 
 func main() {
 	// The program goes on when the reader of standard error closes the pipe.
 	signal.Ignore(syscall.SIGPIPE)
-	// A slow reader of standard error must not delay the renewal of the lock, so lines go through a
-	// queue. This includes lines that packages write with Go's log. etcd's client turns gRPC's log
-	// off.
-	queue := logqueue.New(os.Stderr, func(count uint64) string { return prefix + logqueue.Report(count) + "\n" })
-	log.SetFlags(0)
-	log.SetPrefix(prefix)
-	log.SetOutput(queue)
-	status := run(log.Default())
+	opts, err := readOptions(os.Args[1:], os.Stdout)
+	// A command, and arguments that are refused, have lines without a time.
+	lines, queue := newLogger(os.Stderr, opts.logFormat, err == nil && !opts.isOneShot() && !logqueue.HasJournal())
+	status := run(opts, err, lines)
 	queue.End(lastLinesTime)
 	os.Exit(status)
 }
 
-func run(lines *log.Logger) int {
-	opts, err := readOptions(os.Args[1:], os.Stdout)
+// run does all that the program does with the options that were read, or refused. It returns the
+// exit status.
+func run(opts options, err error, lines *logger) int {
 	if errors.Is(err, flag.ErrHelp) {
 		return exitOK
 	}
 	if err != nil {
-		lines.Print(err)
+		lines.fails(err)
 		return exitUsage
 	}
 	if opts.version {
@@ -71,7 +64,7 @@ func run(lines *log.Logger) int {
 	signal.Notify(stop, syscall.SIGTERM, syscall.SIGINT)
 	revisions, err := openRevisions(opts.revision, opts.acceptOlder)
 	if err != nil {
-		lines.Printf("--revision: %v", err)
+		lines.fails(fmt.Errorf("--revision: %w", err))
 		return exitFailure
 	}
 	// Calls are served in order. With a second processor each step of a call would have to wake it.
@@ -82,7 +75,7 @@ func run(lines *log.Logger) int {
 	syscall.Umask(0o177)
 	socket, err := sockets.Listen(opts.listen)
 	if err != nil {
-		lines.Print(err)
+		lines.fails(err)
 		return exitSocket
 	}
 	defer socket.Close()
@@ -101,13 +94,13 @@ type service struct {
 	stopSaving, saved chan struct{}
 }
 
-func startService(opts options, socket *sockets.Socket, revisions *revisions, lines *log.Logger) *service {
+func startService(opts options, socket *sockets.Socket, revisions *revisions, lines *logger) *service {
 	ctx, cancel := context.WithCancel(context.Background())
 	state := &leadership{}
-	members := newMembers(opts, lines.Printf)
-	server := &server{state: state, members: members, requireRows: opts.requireRows, logf: lines.Printf}
+	members := newMembers(opts, lines.infof)
+	server := &server{state: state, members: members, requireRows: opts.requireRows, logf: lines.warnf}
 	candidate := &candidate{opts: opts, members: members, keys: keys{opts.name}, revisions: revisions, state: state,
-		logf: lines.Printf, drop: server.drop}
+		logf: lines.infof, drop: server.drop}
 	candidate.init()
 	s := &service{socket: socket, server: server, cancel: cancel, campaignDone: make(chan struct{}),
 		acceptFailed: make(chan error, 1), stopSaving: make(chan struct{}), saved: make(chan struct{})}
@@ -119,7 +112,7 @@ func startService(opts options, socket *sockets.Socket, revisions *revisions, li
 	go func() { s.acceptFailed <- server.accept(socket) }()
 	go func() {
 		defer close(s.saved)
-		revisions.saveUntil(s.stopSaving, lines.Printf)
+		revisions.saveUntil(s.stopSaving, lines.warnf)
 	}()
 	return s
 }
@@ -135,13 +128,13 @@ func (s *service) end() {
 }
 
 // serve campaigns for the lock and answers csid until a signal arrives. It returns the exit status.
-func serve(opts options, socket *sockets.Socket, revisions *revisions, stop <-chan os.Signal, lines *log.Logger) int {
+func serve(opts options, socket *sockets.Socket, revisions *revisions, stop <-chan os.Signal, lines *logger) int {
 	s := startService(opts, socket, revisions, lines)
 	defer s.cancel()
 	status := exitOK
 	select {
 	case err := <-s.acceptFailed:
-		lines.Print(err)
+		lines.fails(err)
 		status = exitSocket
 	case <-stop:
 	}
@@ -154,7 +147,7 @@ func serve(opts options, socket *sockets.Socket, revisions *revisions, stop <-ch
 	case <-finished:
 		return status
 	case <-stop:
-		lines.Print("ended, and cut off what was under way")
+		lines.fails(errors.New("ended, and cut off what was under way"))
 		return exitFailure
 	}
 }

@@ -2,7 +2,6 @@ package main
 
 import (
 	"io"
-	"log"
 	"net"
 	"os"
 	"path/filepath"
@@ -51,7 +50,7 @@ func TestSocketThatFails(t *testing.T) {
 	exitStatus := make(chan int, 1)
 	go func() {
 		exitStatus <- serve(opts, socket, &revisions{olderSeen: make(chan struct{}, 1)}, make(chan os.Signal),
-			log.New(io.Discard, "", 0))
+			&logger{out: io.Discard})
 	}()
 	select {
 	case status := <-exitStatus:

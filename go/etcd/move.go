@@ -5,8 +5,8 @@ import (
 	"errors"
 	"fmt"
 	"io"
-	"log"
 	"os"
+	"syscall"
 
 	"go.etcd.io/etcd/clientv3"
 )
@@ -44,7 +44,7 @@ func checkFormat(row meta) error {
 }
 
 // runOnce makes the first row, imports, exports or lists rows. It needs no lock and no socket.
-func runOnce(opts options, lines *log.Logger) int {
+func runOnce(opts options, lines *logger) int {
 	// The output is the result alone, without lines on certificates.
 	m := newMembers(opts, func(string, ...interface{}) {})
 	var option string
@@ -59,8 +59,12 @@ func runOnce(opts options, lines *log.Logger) int {
 	default:
 		option, err = "--import", importRows(m, os.Stdin, os.Stdout)
 	}
+	// The reader of a listing may go before its end, as head does.
+	if opts.isList && errors.Is(err, syscall.EPIPE) {
+		return exitOK
+	}
 	if err != nil {
-		lines.Printf("%s: %v%s", option, err, m.membersOf(err))
+		lines.fails(fmt.Errorf("%s: %w%s", option, err, m.membersOf(err)))
 		return exitFailure
 	}
 	return exitOK

@@ -18,14 +18,14 @@ const usage = "Keeps the rows of a csid in etcd, and makes its changes there whi
 	"(csid-etcd(1), docs/ETCD.md).\n" + `
 usage: csid-etcd --name NAME --listen PATH [--endpoints HOST:PORT,..] [--cacert PATH] [--cert PATH --key PATH]
                  [--user NAME[:PASSWORD]] [--password-file PATH] [--timeout TIME] [--lease SECONDS] [--id TEXT]
-                 [--revision PATH] [--accept-older] [--existing]
+                 [--revision PATH] [--accept-older] [--existing] [--log-format text|json]
        csid-etcd --new --name NAME [--endpoints HOST:PORT,..] [--cacert PATH] [--cert PATH --key PATH]
                  [--user NAME[:PASSWORD]] [--password-file PATH] [--timeout TIME]
        csid-etcd --import --name NAME [--endpoints HOST:PORT,..] [--cacert PATH] [--cert PATH --key PATH]
                  [--user NAME[:PASSWORD]] [--password-file PATH] [--timeout TIME]
        csid-etcd --export --name NAME [--endpoints HOST:PORT,..] [--cacert PATH] [--cert PATH --key PATH]
                  [--user NAME[:PASSWORD]] [--password-file PATH] [--timeout TIME]
-       csid-etcd --list [--volume NAME] [--pool NAME] [--node ID] [--json] --name NAME [--endpoints HOST:PORT,..]
+       csid-etcd --list --plugin NAME [--id ID] [--name NAME] [--pool NAME] [--node ID] [--json] [--endpoints HOST:PORT,..]
                  [--cacert PATH] [--cert PATH --key PATH] [--user NAME[:PASSWORD]] [--password-file PATH] [--timeout TIME]
        csid-etcd --version
 `
@@ -55,10 +55,12 @@ type options struct {
 	revision     string
 	acceptOlder  bool
 	requireRows  bool
+	logFormat    string
 	isNew        bool
 	isExport     bool
 	isImport     bool
 	isList       bool
+	plugin       string
 	filter       volumeFilter
 	isJSON       bool
 	version      bool
@@ -83,18 +85,42 @@ func readOptions(args []string, out io.Writer) (options, error) {
 	}
 	opts.endpoints = strings.Split(endpoints, ",")
 	opts.user, opts.password, _ = strings.Cut(user, ":")
-	if opts.id == "" {
-		opts.id = defaultID()
-	}
 	if err := checkOneShot(flags); err != nil {
 		return options{}, err
+	}
+	if err := opts.setFilter(); err != nil {
+		return options{}, err
+	}
+	if opts.id == "" {
+		opts.id = defaultID()
 	}
 	return opts, check(opts)
 }
 
+// setFilter gives --id and --name the meaning that they have with --list: those of a volume, as in
+// csid --list-tables. Without --plugin --name is the plugin's.
+func (opts *options) setFilter() error {
+	if !opts.isList {
+		return nil
+	}
+	opts.filter.id, opts.id = opts.id, ""
+	if opts.plugin == "" {
+		return nil
+	}
+	if opts.filter.volume != "" && opts.name != "" {
+		return errors.New("--volume: not with --name and --plugin")
+	}
+	if opts.name != "" {
+		opts.filter.volume = opts.name
+	}
+	opts.name, opts.plugin = opts.plugin, ""
+	return nil
+}
+
 // addFlags adds the flags that every form of the command line takes.
 func (opts *options) addFlags(flags *flag.FlagSet) {
-	flags.StringVar(&opts.name, "name", "", "the `NAME` of the plugin: all keys in etcd begin with it and a slash")
+	flags.StringVar(&opts.name, "name", "", "the `NAME` of the plugin: all keys in etcd begin with it and a slash; "+
+		"next to --plugin it is the name of a volume")
 	flags.StringVar(&opts.cacert, "cacert", "", "the `PATH` of the certificates of who signs for etcd")
 	flags.StringVar(&opts.cert, "cert", "", "the `PATH` of this program's own certificate")
 	flags.StringVar(&opts.key, "key", "", "the `PATH` of the key of --cert")
@@ -109,12 +135,14 @@ func (opts *options) addServingFlags(flags *flag.FlagSet) {
 	flags.Int64Var(&opts.lease, "lease", 10, "how many `SECONDS` the lock outlives this program, 2 to 600")
 	flags.StringVar(&opts.id, "id", "",
 		"the `TEXT` by which others know who holds the lock; without it the name of the host and the number of "+
-			"the process")
+			"the process; next to --list it is the id of a volume")
 	flags.StringVar(&opts.revision, "revision", "",
 		"the `PATH` of a file that remembers the revision of etcd over a stop")
 	flags.BoolVar(&opts.acceptOlder, "accept-older", false,
 		"go on with an etcd that was restored from an older snapshot")
 	flags.BoolVar(&opts.requireRows, "existing", false, "make no first row: rows have to be there")
+	flags.StringVar(&opts.logFormat, "log-format", textLines,
+		"the `FORMAT` of lines on standard error: text, or json for one object a line")
 }
 
 func (opts *options) addOneShotFlags(flags *flag.FlagSet) {
@@ -122,7 +150,10 @@ func (opts *options) addOneShotFlags(flags *flag.FlagSet) {
 	flags.BoolVar(&opts.isExport, "export", false, "print all rows as SQL for a file of csid, and end")
 	flags.BoolVar(&opts.isImport, "import", false, "put the rows of standard input into an etcd that has none, and end")
 	flags.BoolVar(&opts.isList, "list", false, "list the volumes, and what each pool and node has of them, and end")
-	flags.StringVar(&opts.filter.volume, "volume", "", "list the volume with this `NAME` alone")
+	flags.StringVar(&opts.plugin, "plugin", "",
+		"the `NAME` of the plugin whose volumes --list shows; then --name is a volume's")
+	flags.StringVar(&opts.filter.volume, "volume", "",
+		"list the volume with this `NAME` alone: the older word for --name next to --plugin")
 	flags.StringVar(&opts.filter.pool, "pool", "", "list the volumes of the pool with this `NAME` alone")
 	flags.StringVar(&opts.filter.node, "node", "",
 		"list the volumes that are published at the node with this `ID` alone")
@@ -133,9 +164,9 @@ func (opts *options) addOneShotFlags(flags *flag.FlagSet) {
 // program that keeps running and answers csid.
 var (
 	oneShotFlags = map[string]bool{"new": true, "export": true, "import": true, "list": true}
-	listFlags    = map[string]bool{"volume": true, "pool": true, "node": true, "json": true}
+	listFlags    = map[string]bool{"plugin": true, "volume": true, "pool": true, "node": true, "json": true}
 	servingFlags = map[string]bool{"listen": true, "lease": true, "id": true, "revision": true, "accept-older": true,
-		"existing": true}
+		"existing": true, "log-format": true}
 )
 
 // isOneShot reports whether the program does one thing and ends.
@@ -159,6 +190,7 @@ func checkOneShot(flags *flag.FlagSet) (err error) {
 	flags.Visit(func(f *flag.Flag) {
 		switch {
 		case err != nil:
+		case once == "list" && f.Name == "id":
 		case once != "" && servingFlags[f.Name]:
 			err = fmt.Errorf("--%s: not with --%s", f.Name, once)
 		case once != "list" && listFlags[f.Name]:
@@ -194,6 +226,8 @@ func check(opts options) error {
 		return fmt.Errorf("--timeout: %v is not above 0", opts.timeout)
 	case opts.lease < minLease || opts.lease > maxLease:
 		return fmt.Errorf("--lease: %d is not %d to %d", opts.lease, minLease, maxLease)
+	case opts.logFormat != textLines && opts.logFormat != jsonLines:
+		return fmt.Errorf("--log-format: %q is neither text nor json", opts.logFormat)
 	case len(opts.id) > maxID || frames.Text(opts.id) != opts.id:
 		return fmt.Errorf("--id: %q is not at most %d characters of ASCII that can be shown", opts.id, maxID)
 	case (opts.cert == "") != (opts.key == ""):

@@ -16,12 +16,17 @@ func read(args string) (options, error) {
 
 func TestOptions(t *testing.T) {
 	plain := options{name: "a", listen: "s", endpoints: []string{"127.0.0.1:2379"}, timeout: 3 * time.Second,
-		lease: 10, id: defaultID()}
+		lease: 10, id: defaultID(), logFormat: "text"}
 	full := options{name: "example.fomaheti", listen: "s", endpoints: []string{"https://a:1", "https://b:2"},
 		cacert: "ca", cert: "c", key: "k", user: "u", password: "p:q", timeout: time.Second, lease: 600, id: "me",
-		revision: "r", acceptOlder: true, requireRows: true}
+		revision: "r", acceptOlder: true, requireRows: true, logFormat: "json"}
 	exporting := plain
 	exporting.listen, exporting.isExport = "", true
+	listing := func(filter volumeFilter) options {
+		opts := plain
+		opts.listen, opts.isList, opts.filter = "", true, filter
+		return opts
+	}
 	makingNew := plain
 	makingNew.listen, makingNew.isNew = "", true
 	longest := plain
@@ -35,7 +40,13 @@ func TestOptions(t *testing.T) {
 		{"defaults", "--name a --listen s", plain},
 		{"longest texts, least lease", "--name " + longest.name + " --listen s --lease 2 --id " + longest.id, longest},
 		{"all options", "--name example.fomaheti --listen s --endpoints https://a:1,https://b:2 --cacert ca --cert c " +
-			"--key k --user u:p:q --timeout 1s --lease 600 --id me --revision r --accept-older --existing", full},
+			"--key k --user u:p:q --timeout 1s --lease 600 --id me --revision r --accept-older --existing " +
+			"--log-format json", full},
+		{"listing", "--list --name a", listing(volumeFilter{})},
+		{"listing of a plugin", "--list --plugin a", listing(volumeFilter{})},
+		{"listing of a volume", "--list --plugin a --name v --id vol-1 --pool p --node n",
+			listing(volumeFilter{"vol-1", "v", "p", "n"})},
+		{"listing by the older word", "--list --name a --volume v", listing(volumeFilter{volume: "v"})},
 	}
 	for _, c := range cases {
 		t.Run(c.name, func(t *testing.T) {
@@ -67,6 +78,12 @@ func TestOptionErrors(t *testing.T) {
 		{"--import --name a --id b", "--id: not with --import"},
 		{"--export --name a --revision r", "--revision: not with --export"},
 		{"--import --name a --accept-older", "--accept-older: not with --import"},
+		{"--list", "--name: the name of the plugin is missing"},
+		{"--list --plugin a --name v --volume w", "--volume: not with --name and --plugin"},
+		{"--list --plugin a --log-format json", "--log-format: not with --list"},
+		{"--export --plugin a", "--plugin: not without --list"},
+		{good + "--plugin a", "--plugin: not without --list"},
+		{good + "--log-format xml", `--log-format: "xml" is neither text nor json`},
 		{"--import --name a x", `a word that is not known: "x"`},
 		{"--export --name a --timeout 0s", "--timeout: 0s is not above 0"},
 		{good + "x", `a word that is not known: "x"`},

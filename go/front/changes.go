@@ -1,6 +1,7 @@
 package main
 
 import (
+	"fmt"
 	"strconv"
 	"strings"
 
@@ -19,16 +20,25 @@ type change struct {
 	Name   string `json:"name,omitempty"`
 	Volume string `json:"volume,omitempty"`
 	Node   string `json:"node,omitempty"`
+	// Who called over the control socket; nil for gRPC.
+	*sender
+}
+
+// sender is a process that called: its user, and its number, which is 0 where the front's container
+// does not see it.
+type sender struct {
+	UID uint32 `json:"uid"`
+	PID int32  `json:"pid"`
 }
 
 // changes has the numbers of the logged fields of each request (docs/PROTOCOL.md, "Messages"); 0
 // for an absent field.
 var changes = map[string]struct{ name, volume, node protowire.Number }{
-	createVolume:                             {name: 1},
-	controller + "DeleteVolume":              {volume: 1},
-	controller + "ControllerPublishVolume":   {volume: 1, node: 2},
-	controller + "ControllerUnpublishVolume": {volume: 1, node: 2},
-	controller + "ControllerModifyVolume":    {volume: 1},
+	createVolume:                           {name: 1},
+	deleteVolume:                           {volume: 1},
+	controller + "ControllerPublishVolume": {volume: 1, node: 2},
+	unpublishVolume:                        {volume: 1, node: 2},
+	controller + "ControllerModifyVolume":  {volume: 1},
 }
 
 // changeOf is the change that a call asks for; nil where it asks for none. A volume that was
@@ -82,6 +92,9 @@ func (c *change) words() string {
 		if part.value != "" {
 			line.WriteString(" " + part.key + "=" + shownWord(part.value))
 		}
+	}
+	if c.sender != nil {
+		fmt.Fprintf(&line, " uid=%d pid=%d", c.UID, c.PID)
 	}
 	return line.String()
 }

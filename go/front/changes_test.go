@@ -49,7 +49,8 @@ func TestShownChange(t *testing.T) {
 		asked *change
 		want  string
 	}{
-		{nil, ""}, {&change{}, ""}, {&change{"pvc-1", "vol-1", "n1"}, " name=pvc-1 volume=vol-1 node=n1"},
+		{nil, ""}, {&change{}, ""}, {&change{"pvc-1", "vol-1", "n1", nil}, " name=pvc-1 volume=vol-1 node=n1"},
+		{&change{Volume: "vol-1", sender: &sender{0, 77}}, " volume=vol-1 uid=0 pid=77"},
 		{&change{Name: "a b"}, ` name="a b"`}, {&change{Name: "a\n"}, ` name="a\n"`},
 		{&change{Name: `a"`}, ` name="a\""`}, {&change{Node: "\xff"}, ` node="\xff"`},
 	}

@@ -1,33 +1,43 @@
 package main
 
 import (
+	"encoding/json"
 	"errors"
 	"fmt"
 
 	"github.com/BurntSushi/toml"
+	"google.golang.org/grpc/codes"
+
+	"fomaheti/frames"
 )
 
+// getConfiguration is the path of the call that the front itself answers on its control socket,
+// without csid. Its message is not read, and the body of the reply is the configuration in JSON.
+const getConfiguration = "/fomaheti.v1.Front/GetConfiguration"
+
 // configuration is the part of the configuration of csid that the front uses (docs/OPERATING.md,
-// "Configuration"): the room of pools and nodes. csid judges the file; only metrics are made from
-// the values read here.
+// "Configuration"): the room of pools and nodes. csid judges the file; only metrics and the answer
+// to getConfiguration are made from the values read here.
 type configuration struct {
-	Pools []pool `toml:"pool"`
-	Nodes []node `toml:"node"`
+	Pools []pool `toml:"pool" json:"pools"`
+	Nodes []node `toml:"node" json:"nodes"`
 }
 
 type pool struct {
-	Name  string `toml:"name"`
-	Bytes int64  `toml:"bytes"`
+	Name     string            `toml:"name" json:"name"`
+	Bytes    int64             `toml:"bytes" json:"bytes"`
+	Segments map[string]string `toml:"segments" json:"segments,omitempty"`
 }
 
 type node struct {
-	ID         string `toml:"id"`
-	MaxVolumes int64  `toml:"max_volumes"`
+	ID         string `toml:"id" json:"id"`
+	MaxVolumes int64  `toml:"max_volumes" json:"maxVolumes"`
 }
 
 // readConfiguration reads a configuration, and refuses it if no metrics can be made from it.
 func readConfiguration(path string) (*configuration, error) {
-	config := &configuration{}
+	// In JSON a missing list is an empty one.
+	config := &configuration{Pools: []pool{}, Nodes: []node{}}
 	if _, err := toml.DecodeFile(path, config); err != nil {
 		return nil, err
 	}
@@ -54,4 +64,17 @@ func (c *configuration) check() error {
 		known[node.ID] = true
 	}
 	return nil
+}
+
+// reply answers getConfiguration. Without --config the call is refused, as csid refuses a path that
+// it does not know.
+func (c *configuration) reply() frames.Reply {
+	if c == nil {
+		return frames.Reply{Code: codes.Unimplemented, Text: "the front has no --config"}
+	}
+	body, err := json.Marshal(c)
+	if err != nil {
+		return frames.Reply{Code: codes.Internal, Text: frames.Text(err.Error())}
+	}
+	return frames.Reply{Body: body}
 }

@@ -6,6 +6,8 @@ import (
 	"reflect"
 	"strings"
 	"testing"
+
+	"google.golang.org/grpc/codes"
 )
 
 // fileOf is the path of a file with a text.
@@ -24,7 +26,8 @@ func TestConfiguration(t *testing.T) {
 	_, sample, _ := strings.Cut(page(t, "docs/OPERATING.md"), "\n```\n")
 	sample, _, _ = strings.Cut(sample, "```\n")
 	got, err := readConfiguration(fileOf(t, sample))
-	want := &configuration{[]pool{{"p1", 10485760}, {"p2", 4194304}}, []node{{"n1", 2}, {"n2", 2}}}
+	want := &configuration{[]pool{{"p1", 10485760, map[string]string{"zone": "a"}},
+		{"p2", 4194304, map[string]string{"zone": "b"}}}, []node{{"n1", 2}, {"n2", 2}}}
 	if err != nil || !reflect.DeepEqual(got, want) {
 		t.Errorf("%v, %v", got, err)
 	}
@@ -35,6 +38,31 @@ func TestConfiguration(t *testing.T) {
 	if got, err := readConfiguration(fileOf(t, pool+"[[node]]\nid = \"p\"\nmax_volumes = 1\n")); err != nil ||
 		len(got.Nodes) != 1 {
 		t.Errorf("a node that has the name of a pool: %v, %v", got, err)
+	}
+}
+
+// The configuration as csictl reads it.
+func TestConfigurationInJSON(t *testing.T) {
+	const pool, node = "[[pool]]\nname = \"p\"\nbytes = 1048576\n", "[[node]]\nid = \"n 1\"\nmax_volumes = 2\n"
+	rows := []struct{ text, want string }{
+		{pool, `{"pools":[{"name":"p","bytes":1048576}],"nodes":[]}`},
+		{pool + "segments = { zone = \"a\", rack = \"7\" }\n" + node,
+			`{"pools":[{"name":"p","bytes":1048576,"segments":{"rack":"7","zone":"a"}}],` +
+				`"nodes":[{"id":"n 1","maxVolumes":2}]}`},
+	}
+	for _, row := range rows {
+		config, err := readConfiguration(fileOf(t, row.text))
+		if err != nil {
+			t.Fatal(err)
+		}
+		if got := config.reply(); got.Code != codes.OK || string(got.Body) != row.want {
+			t.Errorf("%q: %v %q %s", row.text, got.Code, got.Text, got.Body)
+		}
+	}
+	var none *configuration
+	if got := none.reply(); got.Code != codes.Unimplemented || got.Text != "the front has no --config" ||
+		got.Body != nil {
+		t.Errorf("without a configuration: %v", got)
 	}
 }
 

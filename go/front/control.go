@@ -36,12 +36,14 @@ const viaControl = "control"
 // users of csictl need not wait until the front leaves csid's one connection. Each connection has
 // one call at a time, which waits like a gRPC call.
 type control struct {
-	handler  *handler
-	listener *limitedListener
-	served   sync.WaitGroup
-	mutex    sync.Mutex
-	conns    map[*clientConn]bool
-	isEnded  bool
+	handler *handler
+	// The answer to getConfiguration; nil without --config.
+	configuration *configuration
+	listener      *limitedListener
+	served        sync.WaitGroup
+	mutex         sync.Mutex
+	conns         map[*clientConn]bool
+	isEnded       bool
 }
 
 // startControl begins to answer at --control, if there is one.
@@ -54,7 +56,7 @@ func startControl(h *handler, asked options) (*control, error) {
 		return nil, fmt.Errorf("--control: %w", err)
 	}
 	listener := limitListener(socket, maxControls, h.log.closedFor(viaControl, "--control", maxControls))
-	c := &control{handler: h, listener: listener, conns: map[*clientConn]bool{}}
+	c := &control{handler: h, configuration: asked.configuration, listener: listener, conns: map[*clientConn]bool{}}
 	go c.serve()
 	return c, nil
 }
@@ -153,6 +155,9 @@ func (c *control) answerAll(conn *clientConn) {
 func (c *control) carriesOut(conn *clientConn, request frames.Request) bool {
 	conn.begin()
 	defer conn.end()
+	if request.Path == getConfiguration {
+		return c.reply(conn, c.configuration.reply()) == nil
+	}
 	answer, err := c.answer(conn, request)
 	return err == nil && c.reply(conn, answer) == nil
 }
@@ -178,15 +183,35 @@ func (c *control) answer(conn *clientConn, request frames.Request) (frames.Reply
 	defer cancel()
 	go cancelGone(ctx, cancel, conn.Conn.(*net.UnixConn))
 	c.handler.metrics.waiting.Inc()
+	removal := c.handler.removalOf(ctx, request.Path, request.Message)
 	answer, err := c.handler.reply(ctx, request.Path, request.Message)
 	c.handler.metrics.waiting.Dec()
 	why := status.New(answer.Code, answer.Text)
 	if err != nil {
 		why = status.Convert(refusal(ctx, csidName, err))
 	}
-	c.handler.ended(viaControl, request.Path, c.handler.loggedChange(request.Path, request.Message, answer.Body), why,
-		time.Since(begin))
+	asked := removal.made(c.handler.loggedChange(request.Path, request.Message, answer.Body), why.Code())
+	if asked != nil {
+		asked.sender = senderOf(conn.Conn.(*net.UnixConn))
+	}
+	c.handler.ended(viaControl, request.Path, asked, why, time.Since(begin))
 	return answer, err
+}
+
+// senderOf returns who is at the other end of a connection, by SO_PEERCRED (unix(7)); nil if the
+// system does not say.
+func senderOf(conn *net.UnixConn) *sender {
+	raw, err := conn.SyscallConn()
+	if err != nil {
+		return nil
+	}
+	var credentials *syscall.Ucred
+	if raw.Control(func(file uintptr) {
+		credentials, err = syscall.GetsockoptUcred(int(file), syscall.SOL_SOCKET, syscall.SO_PEERCRED)
+	}) != nil || err != nil {
+		return nil
+	}
+	return &sender{credentials.Uid, credentials.Pid}
 }
 
 // cancelGone cancels a context once the peer of a connection has closed it. A peer that has closed

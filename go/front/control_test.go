@@ -84,6 +84,36 @@ func TestControlCalls(t *testing.T) {
 	}
 }
 
+// The front answers for its configuration itself, next to calls for csid, and logs nothing of it.
+func TestConfigurationOverControl(t *testing.T) {
+	path, _ := csid(t, answering(notFound))
+	c, socket, log := controlled(t, path)
+	asks := frames.AppendRequestHead(nil, "/fomaheti.v1.Front/GetConfiguration", 0)
+	ask := func() []byte {
+		conn := dial(t, socket)
+		conn.Write(append(append([]byte{}, asks...), fromHex(t, shortFrame)...))
+		conn.CloseWrite()
+		got, err := io.ReadAll(conn)
+		if err != nil || !bytes.HasSuffix(got, notFound) {
+			t.Errorf("%x, %v", got, err)
+		}
+		return bytes.TrimSuffix(got, notFound)
+	}
+	// Status 12, a text of 25 bytes, and no body.
+	if got, want := ask(), string(fromHex(t, "0c 0019"))+"the front has no --config"+
+		string(fromHex(t, "00 00000000")); string(got) != want {
+		t.Errorf("without a configuration: %q", got)
+	}
+	c.configuration = room
+	if got := string(ask()); !strings.HasPrefix(got, "\x00\x00\x00\x00") || !strings.HasSuffix(got,
+		`{"id":"n3","maxVolumes":4}]}`) {
+		t.Errorf("%q", got)
+	}
+	if lines := strings.Count(log.String(), "\n"); lines != 2 || strings.Contains(log.String(), "Configuration") {
+		t.Errorf("logged %q", log)
+	}
+}
+
 // A connection that has ended leaves its place to another one.
 func TestManyControlConnections(t *testing.T) {
 	path, _ := csid(t, answering(notFound))

@@ -143,9 +143,10 @@ func (h *handler) answer(path string, stream grpc.ServerStream) (*change, error)
 	client.begin()
 	defer client.end()
 	h.metrics.waiting.Inc()
+	removal := h.removalOf(stream.Context(), path, message)
 	body, err := h.respond(stream.Context(), path, message)
 	h.metrics.waiting.Dec()
-	asked := h.loggedChange(path, message, body)
+	asked := removal.made(h.loggedChange(path, message, body), status.Code(err))
 	if err != nil {
 		return asked, err
 	}

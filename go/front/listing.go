@@ -7,6 +7,7 @@ import (
 	"time"
 
 	"github.com/prometheus/client_golang/prometheus"
+	"google.golang.org/grpc/codes"
 	"google.golang.org/grpc/status"
 	"google.golang.org/protobuf/encoding/protowire"
 )
@@ -51,6 +52,8 @@ type listings struct {
 	pagePause, listingPause, failurePause time.Duration
 	mutex                                 sync.Mutex
 	last                                  *listing
+	// Whether a listing has ended, whole or not.
+	hasListed bool
 }
 
 func newListings(h *handler, config *configuration) *listings {
@@ -67,6 +70,7 @@ func (l *listings) run(ctx context.Context) {
 			if l.list(ctx) == nil {
 				next = l.listingPause - time.Since(begin)
 			}
+			l.hasListed = true
 		}
 		pause(ctx, next)
 	}
@@ -100,7 +104,7 @@ func (l *listings) list(ctx context.Context) error {
 			token, err = listed.addPage(body)
 		}
 		if err != nil {
-			if ctx.Err() == nil && !l.handler.isWaiting.Load() {
+			if ctx.Err() == nil && !l.handler.isWaiting.Load() && !l.isAtStart(err) {
 				l.handler.log.refuses("", listVolumes, nil, status.Convert(err), time.Since(begin))
 			}
 			return err
@@ -112,6 +116,13 @@ func (l *listings) list(ctx context.Context) error {
 		}
 	}
 	return errors.New("the pages of ListVolumes have no end")
+}
+
+// isAtStart reports whether a failure is that of the first listing, for which csid was not there:
+// on a machine that boots csid makes its socket a moment later. The listing is repeated soon, and a
+// csid that is still away is then logged.
+func (l *listings) isAtStart(err error) bool {
+	return !l.hasListed && status.Code(err) == codes.Unavailable
 }
 
 func (l *listings) keep(listed *listing) {

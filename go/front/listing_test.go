@@ -3,6 +3,7 @@ package main
 import (
 	"context"
 	"net"
+	"path/filepath"
 	"reflect"
 	"strings"
 	"testing"
@@ -24,7 +25,8 @@ const (
 		"0a047a6f6e65 120161 1204 0a026e31"
 )
 
-var room = &configuration{[]pool{{"p1", 10485760}, {"p2", 4194304}, {"p3", 1048576}}, []node{{"n1", 2}, {"n3", 4}}}
+var room = &configuration{[]pool{{"p1", 10485760, nil}, {"p2", 4194304, nil}, {"p3", 1048576, nil}},
+	[]node{{"n1", 2}, {"n3", 4}}}
 
 // paging is a csid that answers ListVolumes with these pages, each under its token in hexadecimal,
 // and notes the messages.
@@ -83,6 +85,28 @@ func TestListingThatFails(t *testing.T) {
 	broken, _ := paging(t, map[string]string{"": "0a05 0a03 0880"})
 	if err := broken.list(context.Background()); err != errNoMessage || broken.kept() != nil {
 		t.Errorf("a body that is no message: %v, %v", err, broken.kept())
+	}
+}
+
+// A csid that is away at the start has no line by the first listing, and has one by the second.
+func TestListingAtTheStart(t *testing.T) {
+	log := &written{}
+	h := newHandler(options{csid: filepath.Join(t.TempDir(), "absent"), late: time.Minute, waiting: 1},
+		newLogger(log, textLines))
+	l := newListings(h, room)
+	l.failurePause = time.Millisecond
+	if l.list(context.Background()) == nil || log.String() != "" {
+		t.Errorf("logged %q", log)
+	}
+	ctx, cancel := context.WithCancel(context.Background())
+	defer cancel()
+	go l.run(ctx)
+	awaits(t, "a line", func() bool { return strings.Contains(log.String(), listVolumes+" 14 ") })
+	// A refusal of csid has a line at once.
+	path, _ := csid(t, answering(fromHex(t, "0d 0002 4142 00 00000000")))
+	h = newHandler(options{csid: path, late: time.Minute, waiting: 1}, newLogger(log, textLines))
+	if newListings(h, room).list(context.Background()) == nil || !strings.Contains(log.String(), listVolumes+" 13 ") {
+		t.Errorf("logged %q", log)
 	}
 }
 

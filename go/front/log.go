@@ -21,17 +21,12 @@ const (
 	jsonLines = "json"
 )
 
-// The levels of lines in JSON: error where the front ends with another status than 0.
-const (
-	levelInfo  = "info"
-	levelWarn  = "warn"
-	levelError = "error"
-)
-
 // logger writes what an operator should know, a line each: as text, or as one JSON object.
 type logger struct {
 	lines  *log.Logger
 	isJSON bool
+	// Whether a line of text begins with its time and level.
+	isTimed bool
 	// Where lines wait until they are written, and what keeps down how many there are; nil in
 	// tests.
 	queue *logqueue.Queue
@@ -63,21 +58,21 @@ type endedCall struct {
 }
 
 func newLogger(out io.Writer, format string) *logger {
-	if format == jsonLines {
-		return &logger{lines: log.New(out, "", 0), isJSON: true}
-	}
-	return &logger{lines: log.New(out, "front: ", 0)}
+	return &logger{lines: log.New(out, "", 0), isJSON: format == jsonLines}
 }
 
 // newLog returns the log of the program. No line waits for its reader, also not the lines of
 // packages: gRPC's errors, and every other package's lines for Go's own log.
-func newLog(out io.Writer, format string) *logger {
+func newLog(out io.Writer, format string, isTimed bool) *logger {
 	queue := logqueue.New(out, func(count uint64) string {
 		var line strings.Builder
-		newLogger(&line, format).drops(count)
+		l := newLogger(&line, format)
+		l.isTimed = isTimed
+		l.drops(count)
 		return line.String()
 	})
 	l := newLogger(queue, format)
+	l.isTimed = isTimed
 	l.queue, l.limit = queue, newLineLimit(l.leavesOut)
 	grpclog.SetLoggerV2(grpclog.NewLoggerV2(io.Discard, io.Discard, saying{l, "gRPC"}))
 	log.SetFlags(0)
@@ -86,11 +81,16 @@ func newLog(out io.Writer, format string) *logger {
 }
 
 func (l *logger) write(text string, line entry) {
+	line.Time = time.Now().UTC()
 	if l.isJSON {
-		line.Time = time.Now().UTC()
 		if object, err := json.Marshal(line); err == nil {
-			text = string(object)
+			l.lines.Print(string(object))
+			return
 		}
+	}
+	text = "front: " + text
+	if l.isTimed {
+		text = logqueue.Stamp(line.Time, line.Level) + text
 	}
 	l.lines.Print(text)
 }
@@ -113,50 +113,50 @@ func (l *logger) end(limit time.Duration) {
 // leavesOut reports the lines that were left out, by their messages.
 func (l *logger) leavesOut(counts map[string]uint64) {
 	text := fmt.Sprintf("lines left out, since more than %d came in a second: %s", linesASecond, shownCounts(counts))
-	l.write(text, entry{Level: levelWarn, Message: "lines left out", LeftOut: counts})
+	l.write(text, entry{Level: logqueue.Warn, Message: "lines left out", LeftOut: counts})
 }
 
 // fails says why the front ends.
 func (l *logger) fails(err error) {
-	l.write(err.Error(), entry{Level: levelError, Message: "the front ends", Error: err.Error()})
+	l.write(err.Error(), entry{Level: logqueue.Error, Message: "the front ends", Error: err.Error()})
 }
 
 func (l *logger) cutOff() {
 	const text = "ended, and cut calls off"
-	l.write(text, entry{Level: levelError, Message: text})
+	l.write(text, entry{Level: logqueue.Error, Message: text})
 }
 
 // listens says where metrics are reported.
 func (l *logger) listens(address string) {
-	l.write("metrics at "+address, entry{Level: levelInfo, Message: "metrics", Address: address})
+	l.write("metrics at "+address, entry{Level: logqueue.Info, Message: "metrics", Address: address})
 }
 
 // drops reports how many lines were dropped.
 func (l *logger) drops(count uint64) {
-	l.write(logqueue.Report(count), entry{Level: levelWarn, Message: "lines dropped", Dropped: count})
+	l.write(logqueue.Report(count), entry{Level: logqueue.Warn, Message: "lines dropped", Dropped: count})
 }
 
 // waits says why there is no socket yet, and isReady that it is made now.
 func (l *logger) waits(why string) {
-	l.write("waits for csid: "+why, entry{Level: levelInfo, Message: "waits for csid", Reason: why})
+	l.write("waits for csid: "+why, entry{Level: logqueue.Info, Message: "waits for csid", Reason: why})
 }
 
 func (l *logger) isReady() {
 	const text = "csid is ready"
-	l.write(text, entry{Level: levelInfo, Message: text})
+	l.write(text, entry{Level: logqueue.Info, Message: text})
 }
 
 // refuses reports a refused call, and its volume if changes are logged. Nothing more of its
 // message is logged: it may have secrets.
 func (l *logger) refuses(socket, path string, asked *change, why *status.Status, took time.Duration) {
-	l.writeFew(endedLine(entry{Level: levelWarn, Message: "call refused", Socket: socket}, path, asked, why, took))
+	l.writeFew(endedLine(entry{Level: logqueue.Warn, Message: "call refused", Socket: socket}, path, asked, why, took))
 }
 
 // changes reports a change that was made. It has a line in any case: there are no more of them than
 // csid makes.
 func (l *logger) changes(socket, path string, asked *change, took time.Duration) {
-	l.write(endedLine(entry{Level: levelInfo, Message: "change", Socket: socket}, path, asked, status.New(codes.OK, ""),
-		took))
+	l.write(endedLine(entry{Level: logqueue.Info, Message: "change", Socket: socket}, path, asked,
+		status.New(codes.OK, ""), took))
 }
 
 // endedLine is the line of a call, as text and in JSON.
@@ -169,7 +169,7 @@ func endedLine(line entry, path string, asked *change, why *status.Status, took 
 
 // malformed reports a frame over a socket that is no call.
 func (l *logger) malformed(socket string, fault error) {
-	l.writeFew(via(socket)+fault.Error(), entry{Level: levelWarn, Message: "malformed call", Socket: socket,
+	l.writeFew(via(socket)+fault.Error(), entry{Level: logqueue.Warn, Message: "malformed call", Socket: socket,
 		Error: fault.Error()})
 }
 
@@ -198,6 +198,6 @@ type saying struct {
 
 func (s saying) Write(line []byte) (int, error) {
 	text := strings.TrimSuffix(string(line), "\n")
-	s.writeFew(text, entry{Level: levelWarn, Message: s.who, Error: text})
+	s.writeFew(text, entry{Level: logqueue.Warn, Message: s.who, Error: text})
 	return len(line), nil
 }

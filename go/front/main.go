@@ -20,6 +20,7 @@ import (
 
 	"google.golang.org/grpc"
 
+	"fomaheti/logqueue"
 	"fomaheti/sockets"
 )
 
@@ -43,7 +44,8 @@ func main() {
 	signal.Ignore(syscall.SIGPIPE)
 	useOneProcessor()
 	asked, err := readOptions(os.Args[1:], os.Getenv("CSI_ENDPOINT"), os.Stdout)
-	log := newLog(os.Stderr, asked.logFormat)
+	// Arguments are refused in one line, as by a command.
+	log := newLog(os.Stderr, asked.logFormat, err == nil && !logqueue.HasJournal())
 	status := run(asked, err, log)
 	log.end(lastLinesTime)
 	os.Exit(status)

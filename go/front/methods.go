@@ -7,9 +7,12 @@ const (
 	nodeService  = "/csi.v1.Node/"
 	probe        = identity + "Probe"
 	createVolume = controller + "CreateVolume"
+	deleteVolume = controller + "DeleteVolume"
 	getCapacity  = controller + "GetCapacity"
 	listVolumes  = controller + "ListVolumes"
 	healthCheck  = "/grpc.health.v1.Health/Check"
+
+	unpublishVolume = controller + "ControllerUnpublishVolume"
 )
 
 // otherMethod is the label of each method that is not one of the table: a client can call any, and
@@ -22,9 +25,9 @@ var methods = map[string]bool{
 	identity + "GetPluginCapabilities":        true,
 	probe:                                     true,
 	createVolume:                              true,
-	controller + "DeleteVolume":               true,
+	deleteVolume:                              true,
 	controller + "ControllerPublishVolume":    true,
-	controller + "ControllerUnpublishVolume":  true,
+	unpublishVolume:                           true,
 	controller + "ValidateVolumeCapabilities": true,
 	listVolumes:                               true,
 	getCapacity:                               true,

@@ -17,7 +17,7 @@ const usage = `Answers gRPC calls on a Unix socket by a csid that serves another
 
 usage: front --csid PATH [--listen PATH] [--node PATH] [--grace TIME] [--late TIME] [--waiting MIB]
              [--log-format text|json] [--log-changes] [--control PATH [--control-group NAME]] [--standby TIME] [--health]
-             [--metrics HOST:PORT [--metrics-topology KEY=VALUE,..].. [--config FILE]]
+             [--config FILE] [--metrics HOST:PORT [--metrics-topology KEY=VALUE,..]..]
        front --version
 `
 
@@ -85,7 +85,7 @@ func readOptions(given []string, endpoint string, shown io.Writer) (options, err
 		"a topology whose available capacity is one of the metrics, as `KEY=VALUE,..`; may be given again",
 		asked.addTopology)
 	flags.Func("config", "the configuration of csid, a `FILE`: what its pools and nodes have room for, and what all "+
-		"volumes take of it, are among the metrics", asked.setConfiguration)
+		"volumes take of it, are among the metrics, and csictl shows them", asked.setConfiguration)
 	flags.BoolVar(&asked.version, "version", false, "print the version, and end")
 	if err := words.Parse(flags, given, usage, shown); err != nil {
 		return options{}, err
@@ -165,10 +165,7 @@ func checkMetrics(asked options) error {
 		if len(asked.topologies) > 0 {
 			return errors.New("--metrics-topology: there is no --metrics")
 		}
-		if asked.configuration != nil {
-			return errors.New("--config: there is no --metrics")
-		}
-		return nil
+		return checkConfiguration(asked)
 	}
 	_, port, err := net.SplitHostPort(asked.metrics)
 	if err != nil {
@@ -176,6 +173,14 @@ func checkMetrics(asked options) error {
 	}
 	if _, err := strconv.ParseUint(port, 10, 16); err != nil {
 		return fmt.Errorf("--metrics: %q is no port from 0 to 65535", port)
+	}
+	return nil
+}
+
+// checkConfiguration refuses a configuration that nothing would show.
+func checkConfiguration(asked options) error {
+	if asked.configuration != nil && asked.control == "" {
+		return errors.New("--config: there is neither --metrics nor --control")
 	}
 	return nil
 }

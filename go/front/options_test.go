@@ -12,65 +12,57 @@ import (
 
 const sampleConfiguration = "[[pool]]\nname = \"p\"\nbytes = 1048576\n"
 
+// The options of `--csid c --listen l`, as `change` leaves them.
+func defaultsWith(change func(*options)) options {
+	opts := options{listen: "l", csid: "c", grace: 20 * time.Second, late: time.Minute, waiting: 64, logFormat: "text"}
+	change(&opts)
+	return opts
+}
+
 func TestOptions(t *testing.T) {
-	with := func(grace, late time.Duration, waiting int) options {
-		return options{listen: "l", csid: "c", grace: grace, late: late, waiting: waiting, logFormat: "text"}
+	config := configuration{Pools: []pool{{"p", 1048576, nil}}, Nodes: []node{}}
+	topologies := []topology{
+		{"zone=a", fromHex(t, "1a0b 0a09 0a047a6f6e65 120161")},
+		{"zone=b,rack=", fromHex(t, "1a15 0a09 0a047a6f6e65 120162 0a08 0a047261636b 1200")},
 	}
-	elsewhere := with(20*time.Second, time.Minute, 64)
-	elsewhere.listen = "/run/csi.sock"
-	inJSON := with(20*time.Second, time.Minute, 64)
-	inJSON.logFormat, inJSON.health, inJSON.logChanges = "json", true, true
-	watched := func(metrics string, topologies ...topology) options {
-		asked := with(20*time.Second, time.Minute, 64)
-		asked.metrics, asked.topologies = metrics, topologies
-		return asked
-	}
-	standing := func(length time.Duration) options {
-		asked := with(20*time.Second, time.Minute, 64)
-		asked.standby = length
-		return asked
-	}
-	configured := watched(":9809")
-	configured.configuration = &configuration{Pools: []pool{{"p", 1048576}}}
-	withNode := with(20*time.Second, time.Minute, 64)
-	withNode.node = "n"
-	controlled := func(group string) options {
-		asked := with(20*time.Second, time.Minute, 64)
-		asked.control, asked.controlGroup = "k", group
-		return asked
-	}
-	rows := []struct {
+	for _, c := range []struct {
 		words, endpoint string
-		want            options
+		change          func(*options)
 	}{
-		{"--csid c --listen l", "", with(20*time.Second, time.Minute, 64)},
-		{"-csid=c -listen=l -grace=1m -late=30s -waiting=1", "", with(time.Minute, 30*time.Second, 1)},
-		{"--csid c --listen l --grace 0s --late 0s --waiting 1048576", "", with(0, 0, 1048576)},
-		{"--csid c", "unix:///run/csi.sock", elsewhere},
-		{"--csid c", "/run/csi.sock", elsewhere},
-		{"--csid unix:c", "unix:l", with(20*time.Second, time.Minute, 64)},
-		{"--csid c --listen unix://l", "unix:///run/csi.sock", with(20*time.Second, time.Minute, 64)},
-		{"--csid c --listen l --log-format json --health --log-changes", "", inJSON},
-		{"--csid c --listen l --node n", "", withNode},
-		{"--csid c --listen l --node unix://n", "", withNode},
-		{"--csid c --listen l --control unix://k", "", controlled("")},
-		{"--csid c --listen l --control k --control-group csid", "", controlled("csid")},
-		{"--csid c --listen l --standby 1s", "", standing(time.Second)},
-		{"--csid c --listen l --standby 60m", "", standing(time.Hour)},
-		{"--csid c --listen l --metrics 127.0.0.1:0", "", watched("127.0.0.1:0")},
-		{"--csid c --listen l --metrics [::1]:65535", "", watched("[::1]:65535")},
-		{"--csid c --listen l --metrics :9809", "", watched(":9809")},
-		{"--csid c --listen l --metrics :9809 --config " + fileOf(t, sampleConfiguration), "", configured},
+		{"--csid c --listen l", "", func(o *options) {}},
+		{"-csid=c -listen=l -grace=1m -late=30s -waiting=1", "",
+			func(o *options) { o.grace, o.late, o.waiting = time.Minute, 30*time.Second, 1 }},
+		{"--csid c --listen l --grace 0s --late 0s --waiting 1048576", "",
+			func(o *options) { o.grace, o.late, o.waiting = 0, 0, 1048576 }},
+		{"--csid c", "unix:///run/csi.sock", func(o *options) { o.listen = "/run/csi.sock" }},
+		{"--csid c", "/run/csi.sock", func(o *options) { o.listen = "/run/csi.sock" }},
+		{"--csid unix:c", "unix:l", func(o *options) {}},
+		{"--csid c --listen unix://l", "unix:///run/csi.sock", func(o *options) {}},
+		{"--csid c --listen l --log-format json --health --log-changes", "",
+			func(o *options) { o.logFormat, o.health, o.logChanges = "json", true, true }},
+		{"--csid c --listen l --node n", "", func(o *options) { o.node = "n" }},
+		{"--csid c --listen l --node unix://n", "", func(o *options) { o.node = "n" }},
+		{"--csid c --listen l --control unix://k", "", func(o *options) { o.control = "k" }},
+		{"--csid c --listen l --control k --control-group csid", "",
+			func(o *options) { o.control, o.controlGroup = "k", "csid" }},
+		{"--csid c --listen l --standby 1s", "", func(o *options) { o.standby = time.Second }},
+		{"--csid c --listen l --standby 60m", "", func(o *options) { o.standby = time.Hour }},
+		{"--csid c --listen l --metrics 127.0.0.1:0", "", func(o *options) { o.metrics = "127.0.0.1:0" }},
+		{"--csid c --listen l --metrics [::1]:65535", "", func(o *options) { o.metrics = "[::1]:65535" }},
+		{"--csid c --listen l --metrics :9809", "", func(o *options) { o.metrics = ":9809" }},
+		{"--csid c --listen l --metrics :9809 --config " + fileOf(t, sampleConfiguration), "",
+			func(o *options) { o.metrics, o.configuration = ":9809", &config }},
+		{"--csid c --listen l --control k --config " + fileOf(t, sampleConfiguration), "",
+			func(o *options) { o.control, o.configuration = "k", &config }},
 		{"--csid c --listen l --metrics-topology zone=a --metrics :9809 --metrics-topology zone=b,rack=", "",
-			watched(":9809",
-				topology{"zone=a", fromHex(t, "1a0b 0a09 0a047a6f6e65 120161")},
-				topology{"zone=b,rack=", fromHex(t, "1a15 0a09 0a047a6f6e65 120162 0a08 0a047261636b 1200")})},
-	}
-	for _, row := range rows {
-		got, err := readOptions(strings.Fields(row.words), row.endpoint, io.Discard)
-		if err != nil || !reflect.DeepEqual(got, row.want) {
-			t.Errorf("%s, %s: %v, %v", row.words, row.endpoint, got, err)
-		}
+			func(o *options) { o.metrics, o.topologies = ":9809", topologies }},
+	} {
+		t.Run(c.words+" "+c.endpoint, func(t *testing.T) {
+			got, err := readOptions(strings.Fields(c.words), c.endpoint, io.Discard)
+			if want := defaultsWith(c.change); err != nil || !reflect.DeepEqual(got, want) {
+				t.Errorf("%v, %v, wanted %v", got, err, want)
+			}
+		})
 	}
 }
 
@@ -117,7 +109,8 @@ func TestRefusedOptions(t *testing.T) {
 		{"--csid c --listen l --metrics :0 --metrics-topology zone=\xff", "", "it is not UTF-8"},
 		{"--csid c --listen l --metrics :0 --config /absent/config.toml", "",
 			"-config: open /absent/config.toml: no such file or directory"},
-		{"--csid c --listen l --config " + fileOf(t, sampleConfiguration), "", "--config: there is no --metrics"},
+		{"--csid c --listen l --config " + fileOf(t, sampleConfiguration), "",
+			"--config: there is neither --metrics nor --control"},
 		{"--version x", "", "a word that is not known"},
 		{"--csid", "l", "needs an argument"},
 	}

@@ -336,73 +336,85 @@ func TestConnectionThatEnds(t *testing.T) {
 // After a refused change the calls that were answered that the store is down are sent again, in
 // order and before a newer call. The others have their replies.
 func TestCallsAfterARefusedChange(t *testing.T) {
-	rows := []struct {
-		name string
-		// The call of 16 that is refused, whether the call after it needs no store, and after how
-		// many further replies csid ends the connection; with 0 the front does.
-		refused   uint32
-		readsNext bool
-		ends      int
-	}{
+	for _, c := range []refusedChange{
 		{"the first", 1, false, 0},
 		{"in the middle", 8, false, 0},
 		{"the last", 16, false, 0},
 		{"before a call without a change", 8, true, 0},
 		{"and the connection ends", 8, false, 1},
 		{"and the connection ends later", 8, false, 5},
-	}
-	for _, row := range rows {
-		t.Run(row.name, func(t *testing.T) {
+	} {
+		t.Run(c.name, func(t *testing.T) {
 			s := sends(t, 16, nil)
 			s.b.setPromptTime(0)
 			s.begins(t, context.Background(), 17)
-			replies := 0
-			for number := uint32(1); number <= 16; number++ {
-				if got, err := takeCall(s.conn); err != nil || got != number {
-					t.Fatalf("call %d: %d, %v", number, got, err)
-				}
-				switch {
-				case number < row.refused:
-					s.made.add(number)
-					s.conn.Write(okReply(number))
-				case number == row.refused:
-					s.conn.Write(refusing("store refused"))
-				case row.readsNext && number == row.refused+1:
-					s.conn.Write(okReply(number))
-				default:
-					s.conn.Write(refusing("store is down"))
-				}
-				if number > row.refused {
-					replies++
-				}
-				if row.ends > 0 && replies == row.ends {
-					s.conn.Close()
-					break
-				}
-			}
-			results, counts := s.all(t, 17), s.made.counts()
-			for number := uint32(1); number <= 17; number++ {
-				got, wants := results[number], 1
-				if row.readsNext && number == row.refused+1 {
-					wants = 0
-				}
-				switch {
-				case number == row.refused:
-					if got.got.Code != codes.Internal || got.got.Text != "store refused" || counts[number] != 0 {
-						t.Errorf("the refused call: %v", got)
-					}
-				case row.ends > 0 && int(number) == int(row.refused)+row.ends+1:
-					if got.err == nil || counts[number] > 1 {
-						t.Errorf("call %d, in doubt: %v, made %d times", number, got, counts[number])
-					}
-				case got.err != nil || got.got.Code != codes.OK || counts[number] != wants:
-					t.Errorf("call %d: %v, made %d times", number, got, counts[number])
-				}
-			}
+			c.answer(t, s)
+			c.check(t, s)
 			if made := s.made.rows(); made[len(made)-1] != 17 {
 				t.Errorf("the newer call was made before others: %v", made)
 			}
 		})
+	}
+}
+
+// Which call of 16 is refused, whether the call after it needs no store, and after how many further
+// replies csid ends the connection; with 0 the front ends it.
+type refusedChange struct {
+	name      string
+	refused   uint32
+	readsNext bool
+	ends      int
+}
+
+// Whether the call needs no store.
+func (c refusedChange) reads(number uint32) bool {
+	return c.readsNext && number == c.refused+1
+}
+
+// Answers the 16 calls as csid does, until it ends the connection.
+func (c refusedChange) answer(t *testing.T, s *onTheirWay) {
+	for number := uint32(1); number <= 16; number++ {
+		if got, err := takeCall(s.conn); err != nil || got != number {
+			t.Fatalf("call %d: %d, %v", number, got, err)
+		}
+		switch {
+		case number < c.refused:
+			s.made.add(number)
+			s.conn.Write(okReply(number))
+		case number == c.refused:
+			s.conn.Write(refusing("store refused"))
+		case c.reads(number):
+			s.conn.Write(okReply(number))
+		default:
+			s.conn.Write(refusing("store is down"))
+		}
+		if c.ends > 0 && int(number) == int(c.refused)+c.ends {
+			s.conn.Close()
+			return
+		}
+	}
+}
+
+// Checks the result of each of the 17 calls, and how often its change was made.
+func (c refusedChange) check(t *testing.T, s *onTheirWay) {
+	results, counts := s.all(t, 17), s.made.counts()
+	for number := uint32(1); number <= 17; number++ {
+		got, want := results[number], 1
+		if c.reads(number) {
+			want = 0
+		}
+		switch {
+		case number == c.refused:
+			if got.got.Code != codes.Internal || got.got.Text != "store refused" || counts[number] != 0 {
+				t.Errorf("the refused call: %v", got)
+			}
+		case c.ends > 0 && int(number) == int(c.refused)+c.ends+1:
+			if got.err == nil || counts[number] > 1 {
+				t.Errorf("call %d, in doubt: %v, made %d times", number, got, counts[number])
+			}
+		case got.err != nil || got.got.Code != codes.OK || counts[number] != want:
+			t.Errorf("call %d: %v, made %d times", number, got, counts[number])
+		}
 	}
 }
 

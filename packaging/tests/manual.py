@@ -1,7 +1,7 @@
 """The manual pages: their parts and options, what is refused, and that man and groff give no warning if they
-are installed.
-"""
+are installed."""
 import os
+import pathlib
 import re
 import shutil
 import subprocess
@@ -14,110 +14,47 @@ from tests.rows import LeftOut
 MANUAL = os.path.join(TOP, "packaging", "manual")
 # The sections of each page that the others do not have by chance.
 SECTIONS = {
-    "csid.1": [
-        "NAME",
-        "SYNOPSIS",
-        "DESCRIPTION",
-        "OPTIONS",
-        "ARGUMENTS THAT ARE REFUSED",
-        "LIMITS",
-        "A NEWER CSID",
-        "WHAT IS LEFT OUT",
-        "SECRETS",
-        "EXIT STATUS",
-        "DIAGNOSTICS",
-        "FILES",
-        "SEE ALSO",
-    ],
-    "csictl.1": [
-        "NAME",
-        "SYNOPSIS",
-        "DESCRIPTION",
-        "OPTIONS",
-        "FOR SCRIPTS",
-        "A CALL THAT IS TRIED AGAIN",
-        "WHAT IS SHOWN",
-        "VECTORS",
-        "EXIT STATUS",
-        "FILES",
-        "EXAMPLES",
-        "SEE ALSO",
-    ],
-    "csid-front.1": [
-        "NAME",
-        "SYNOPSIS",
-        "DESCRIPTION",
-        "OPTIONS",
-        "A FRONT THAT STANDS BY",
-        "A NODE PLUGIN ON THE SAME SOCKET",
-        "THE CONTROL SOCKET",
-        "WHAT A CALL IS ANSWERED",
-        "WATCHING THE FRONT",
-        "CALLS ON THEIR WAY",
-        "EXIT STATUS",
-        "FILES",
-        "SEE ALSO",
-    ],
-    "csid-etcd.1": [
-        "NAME",
-        "SYNOPSIS",
-        "DESCRIPTION",
-        "OPTIONS",
-        "THE FIRST ROW",
-        "KEYS AND VALUES",
-        "THE LOCK",
-        "WHAT IS ANSWERED, AND LINES",
-        "WHAT IS BELIEVED OF ETCD",
-        "RIGHTS, USERS, TLS",
-        "ROOM",
-        "SNAPSHOTS",
-        "FROM A FILE TO ETCD, AND BACK",
-        "EXIT STATUS",
-        "FILES",
-        "SEE ALSO",
-    ],
+    "csid.1": ["NAME", "SYNOPSIS", "DESCRIPTION", "OPTIONS", "ARGUMENTS THAT ARE REFUSED", "LIMITS",
+               "A NEWER CSID", "WHAT IS LEFT OUT", "SECRETS", "EXIT STATUS", "DIAGNOSTICS", "FILES",
+               "EXAMPLES", "SEE ALSO"],
+    "csictl.1": ["NAME", "SYNOPSIS", "DESCRIPTION", "OPTIONS", "FOR SCRIPTS", "A CALL THAT IS TRIED AGAIN",
+                 "WHAT IS SHOWN", "VECTORS", "EXIT STATUS", "FILES", "EXAMPLES", "SEE ALSO"],
+    "csid-front.1": ["NAME", "SYNOPSIS", "DESCRIPTION", "OPTIONS", "A FRONT THAT STANDS BY",
+                     "A NODE PLUGIN ON THE SAME SOCKET", "THE CONTROL SOCKET", "WHAT A CALL IS ANSWERED",
+                     "WATCHING THE FRONT", "CALLS ON THEIR WAY", "EXIT STATUS", "FILES", "EXAMPLES",
+                     "SEE ALSO"],
+    "csid-etcd.1": ["NAME", "SYNOPSIS", "DESCRIPTION", "OPTIONS", "THE FIRST ROW", "KEYS AND VALUES",
+                    "THE LOCK", "WHAT IS ANSWERED, AND LINES", "WHAT IS BELIEVED OF ETCD",
+                    "RIGHTS, USERS, TLS", "ROOM", "SNAPSHOTS", "FROM A FILE TO ETCD, AND BACK", "EXIT STATUS",
+                    "FILES", "EXAMPLES", "SEE ALSO"],
     "csid-config.5": ["NAME", "DESCRIPTION", "A NODE OR A POOL THAT IS TAKEN AWAY", "FILES", "SEE ALSO"],
-    "csid-protocol.7": [
-        "NAME",
-        "DESCRIPTION",
-        "ENVELOPE",
-        "STREAMS",
-        "WIRE",
-        "MESSAGES AS VALUES",
-        "MESSAGES",
-        "PATHS",
-        "STATUS CODES",
-        "ARGUMENT CHECKS",
-        "OTHER REFUSALS",
-        "CALLS ANSWERED",
-        "THE CHANGE STORE",
-        "FILES",
-        "SEE ALSO",
-    ],
+    "csid-protocol.7": ["NAME", "DESCRIPTION", "ENVELOPE", "STREAMS", "WIRE", "MESSAGES AS VALUES",
+                        "MESSAGES", "PATHS", "STATUS CODES", "ARGUMENT CHECKS", "OTHER REFUSALS",
+                        "CALLS ANSWERED", "THE CHANGE STORE", "FILES", "SEE ALSO"],
+    "csid-new.8": ["NAME", "DESCRIPTION", "FILES", "SEE ALSO"],
 }
 # The contents of a page as roff, worked out by hand from docs/ and deploy/.
 TEXTS = [
     ("csid.1", '.TH CSID 1 2001-09-09 "csid VERSION" "User Commands"\n'),
     ("csid.1", ".SH NAME\ncsid \\- storage-plugin controller for the Container Storage Interface\n"),
-    (
-        "csid.1",
-        (
-            "\\fBcsid\\fR [pipe [\\-\\-config\\ FILE] [\\-\\-tables FILE [\\-\\-existing]"
-            " [\\-\\-low\\-memory]]]\n"
-        ),
-    ),
+    ("csid.1",
+     ("\\fBcsid\\fR [pipe [\\-\\-config\\ FILE] [\\-\\-tables FILE [\\-\\-existing]"
+      " [\\-\\-low\\-memory]]]\n")),
     ("csid.1", ".TP\n\\fB\\-\\-socket PATH\\fR\n"),
     ("csid.1", ".TP\n\\fB/var/lib/csid/volumes.db\\fR\n"),
     ("csid.1", 'a copy in memory (docs/OPERATING.md, "Time and memory")\n'),
-    (
-        "csid.1",
-        (
-            'docs/DEPLOY.md, "From the Debian package".\nWithout it, with the paths of docs/OPERATING.md,'
-            ' "Copies and restores", and'
-        ),
-    ),
+    ("csid.1",
+     ('docs/DEPLOY.md, "From the Debian package".\nWithout it, with the paths of docs/OPERATING.md,'
+      ' "Copies and restores", and')),
     ("csid.1", ' ("Arguments that are refused")\n'),
     ("csictl.1", "\\fBcsictl\\fR vectors FILE\n"),
+    # The commands for people come first.
+    ("csictl.1", ".ad l\n.PP\n\\fBcsictl\\fR status\n"),
+    ("csictl.1", ".SH DESCRIPTION\n.PP\nThese commands make calls, and print short texts.\n"),
+    ("csid-front.1", "curl http://127.0.0.1:9809/healthz\n"),
+    ("csid-etcd.1", ".SH EXAMPLES\n.PP\nOne member of etcd is enough:\n\\fBetcd"),
+    ("csid-new.8", '.TH CSID\\-NEW 8 2001-09-09 "csid VERSION" "System Manager\'s Manual"\n'),
+    ("csid-new.8", ".SH DESCRIPTION\n.PP\nThis unit makes the file of volumes of "),
     ("csictl.1", '.SH "FOR SCRIPTS"\n'),
     ("csictl.1", ".TP\n\\fB/run/csid\\-front/control.sock\\fR\n"),
     ("csictl.1", 'after 3 seconds ("DESCRIPTION").\n'),
@@ -125,17 +62,13 @@ TEXTS = [
     ("csid-front.1", ".SH DESCRIPTION\n.PP\nFor operators: how to run \\fBcsid\\fR for an orchestrator"),
     ("csid-front.1", ' ("Watching the front")\n'),
     ("csid-front.1", '.SH "WATCHING THE FRONT"\n'),
-    ("csid-front.1", 'one serves at a time (docs/DEPLOY.md, "Two replicas over etcd").\n'),
+    ("csid-front.1", 'Only one of them serves at a time (docs/DEPLOY.md, "Two replicas over etcd").\n'),
     ("csid-front.1", ".TP\n\\fB/run/csid\\-front/csi.sock\\fR\n"),
     ("csid-front.1", ".TP\n\\fB/run/csid\\-front/control.sock\\fR\n"),
     ("csid-front.1", ".TP\n\\fB/etc/default/csid\\fR\n"),
-    (
-        "csid-etcd.1",
-        (
-            "\\fBcsid\\-etcd\\fR \\-\\-import \\-\\-name NAME [\\-\\-endpoints\\ HOST:PORT,..]"
-            " [\\-\\-cacert\\ PATH]"
-        ),
-    ),
+    ("csid-etcd.1",
+     ("\\fBcsid\\-etcd\\fR \\-\\-import \\-\\-name NAME [\\-\\-endpoints\\ HOST:PORT,..]"
+      " [\\-\\-cacert\\ PATH]")),
     ("csid-etcd.1", ".TP\n\\fB\\-\\-listen PATH\\fR\n"),
     ("csid-etcd.1", '.SS "From etcd to a file"\n'),
     ("csid-etcd.1", ".TP\n\\fB/run/csid\\-etcd/log.sock\\fR\n"),
@@ -152,10 +85,8 @@ PIECES = [
     (".so is no request", ".PP\n\\&.so is no request\n"),
     ("One. Two", ".PP\nOne.\nTwo\n"),
     ("`a: ` and `B. C` or d", ".PP\n\\fBa: \\fR and \\fBB. C\\fR or d\n"),
-    (
-        "`%s,%s,c`" % ("a" * 40, "b" * 40),
-        ".PP\n.na\n\\fB%s,\\:%s,\\:c\\fR\n.br\n.ad\n" % ("a" * 40, "b" * 40),
-    ),
+    ("`%s,%s,c`" % ("a" * 40, "b" * 40),
+     ".PP\n.na\n\\fB%s,\\:%s,\\:c\\fR\n.br\n.ad\n" % ("a" * 40, "b" * 40)),
     ("two\nlines", ".PP\ntwo lines\n"),
     ("a\n<!-- a list -->\n\n- b\n\n<!-- end -->", ".PP\na\n.IP \\(bu 4\nb\n"),
     ("a\n\n<!-- scripts/lists: contents -->\n\n- b\n\n<!-- end -->\nc", ".PP\na\n.PP\nc\n"),
@@ -191,8 +122,7 @@ def copied(folder, source, old, new):
     path = os.path.join(folder, "docs", source)
     text = read(path)
     assert text.count(old) == 1, (source, old)
-    with open(path, "w", encoding="utf-8") as file:
-        file.write(text.replace(old, new))
+    pathlib.Path(path).write_text(text.replace(old, new), encoding="utf-8")
     return os.path.join(folder, "packaging", "manual")
 
 
@@ -208,10 +138,8 @@ def page_rows(pages):
 def reference_rows(pages):
     """Where a page names a section of a page of manual, that page has it."""
     texts = {name: re.sub(r"\\f.|\\(?=-)", "", text) for name, text in pages.items()}
-    headings = {
-        name: {it.strip('"').upper() for it in re.findall(r"^\.S[HS] (.*)$", text, re.M)}
-        for name, text in texts.items()
-    }
+    headings = {name: {it.strip('"').upper() for it in re.findall(r"^\.S[HS] (.*)$", text, re.M)}
+                for name, text in texts.items()}
     for name, text in texts.items():
         for page, number, heading in re.findall(r'([\w-]+)\((\d)\),\s"([^"]+)"', text):
             of = headings["%s.%s" % (page, number)]
@@ -233,30 +161,20 @@ def piece_rows():
     """Each piece as the page of the protocol has it after its first heading."""
     for piece, wanted in PIECES:
         with tempfile.TemporaryDirectory() as folder:
-            manual = copied(
-                folder,
-                "PROTOCOL.md",
-                "## Calls answered\n",
-                "## Calls answered\n\n%s\n\n## Behind it\n" % piece,
-            )
+            manual = copied(folder, "PROTOCOL.md", "## Calls answered\n",
+                            "## Calls answered\n\n%s\n\n## Behind it\n" % piece)
             done = run(manual, os.path.join(folder, "man"))
             text = read(os.path.join(folder, "man", "csid-protocol.7")) if done == (0, "") else done
-        yield "the piece %r" % piece, re.search(
-            r'\.SH "CALLS ANSWERED"\n(.*?)\.SH "THE CHANGE STORE"', str(text), re.S
-        ).group(1), wanted
+        yield "the piece %r" % piece, re.search(r'\.SH "CALLS ANSWERED"\n(.*?)\.SH "THE CHANGE STORE"',
+                                                str(text), re.S).group(1), wanted
 
 
 def synopsis_rows():
     """A form of the command line that goes on in a line that is set in, and the name of the program in a
-    package.
-    """
+    package."""
     with tempfile.TemporaryDirectory() as folder:
-        manual = copied(
-            folder,
-            "DEPLOY.md",
-            "    front --version\n",
-            "    front --version\n          [--a B] c\n    front d\n",
-        )
+        manual = copied(folder, "DEPLOY.md", "    front --version\n",
+                        "    front --version\n          [--a B] c\n    front d\n")
         yield "a synopsis", run(manual, os.path.join(folder, "man")), (0, "")
         text = read(os.path.join(folder, "man", "csid-front.1"))
     wanted = "\\fBcsid\\-front\\fR \\-\\-version [\\-\\-a\\ B] c\n.PP\n\\fBcsid\\-front\\fR d\n.ad\n"
@@ -277,10 +195,9 @@ def refusal_rows():
         with tempfile.TemporaryDirectory() as folder:
             out = os.path.join(folder, "man")
             came = run(copied(folder, "OPERATING.md", old, new), out), os.path.exists(out)
-        yield "%d headings" % count, came, (
-            (1, "manual: docs/OPERATING.md has %d headings 'Limits'\n" % count),
-            False,
-        )
+        yield "%d headings" % count, came, ((1,
+                                             "manual: docs/OPERATING.md has %d headings 'Limits'\n" % count),
+                                            False)
 
 
 def dead_link_rows():
@@ -303,12 +220,8 @@ def warning_rows(folder, *words):
     if not shutil.which(words[0]):
         raise LeftOut("%s is not here" % words[0])
     for name in sorted(os.listdir(folder)):
-        done = subprocess.run(
-            [*words, os.path.join(folder, name)],
-            capture_output=True,
-            text=True,
-            env={**os.environ, "LC_ALL": "C.UTF-8", "MANWIDTH": "80"},
-        )
+        done = subprocess.run([*words, os.path.join(folder, name)], capture_output=True, text=True,
+                              env={**os.environ, "LC_ALL": "C.UTF-8", "MANWIDTH": "80"})
         yield "%s finds nothing in %s" % (words[0], name), (done.returncode, done.stderr), (0, "")
 
 
@@ -327,12 +240,5 @@ def parts(programs, folder):
         warning_rows(folder, "groff", "-man", "-ww", "-z"),
         warning_rows(folder, "man", "--warnings", "-l", "-Tutf8"),
     ]
-    return [
-        made_rows(programs, folder),
-        piece_rows(),
-        synopsis_rows(),
-        refusal_rows(),
-        dead_link_rows(),
-        without_rows(),
-        *warnings,
-    ]
+    return [made_rows(programs, folder), piece_rows(), synopsis_rows(), refusal_rows(), dead_link_rows(),
+            without_rows(), *warnings]

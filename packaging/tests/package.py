@@ -9,6 +9,7 @@ import contextlib
 import gzip
 import hashlib
 import os
+import pathlib
 import re
 import shlex
 import shutil
@@ -31,29 +32,18 @@ CONFIG = "etc/csid/config.toml"
 LICENCES = "./usr/share/doc/csid/licences/"
 CSID_SOCKET = "run/csid/csid.sock"
 FRONT_SOCKET = "run/csid-front/csi.sock"
-UPDATED = [
-    "deb-systemd-helper update-state csid.service",
-    "deb-systemd-helper update-state csid-front.service",
-    "systemctl --system daemon-reload",
-]
+UPDATED = ["deb-systemd-helper update-state csid.service",
+           "deb-systemd-helper update-state csid-front.service", "systemctl --system daemon-reload"]
 RESTARTED = ["deb-systemd-invoke try-restart csid.service csid-front.service"]
 STOPPED = ["deb-systemd-invoke stop csid-front.service csid.service", "systemctl --system daemon-reload"]
-STOPPED_ETCD = [
-    "deb-systemd-invoke stop csid-front.service csid.service",
-    "deb-systemd-invoke stop csid-etcd.service",
-    "systemctl --system daemon-reload",
-]
-RESTARTED_ETCD = [
-    "deb-systemd-invoke try-restart csid-etcd.service",
-    "deb-systemd-invoke try-restart csid.service csid-front.service",
-]
+STOPPED_ETCD = ["deb-systemd-invoke stop csid-front.service csid.service",
+                "deb-systemd-invoke stop csid-etcd.service", "systemctl --system daemon-reload"]
+RESTARTED_ETCD = ["deb-systemd-invoke try-restart csid-etcd.service",
+                  "deb-systemd-invoke try-restart csid.service csid-front.service"]
 ETCD_UNIT = "etc/systemd/system/csid-etcd.service"
 # The files that only the package with csid-etcd has.
-OF_ETCD = [
-    "./usr/bin/csid-etcd",
-    "./usr/share/bash-completion/completions/csid-etcd",
-    "./usr/share/man/man1/csid-etcd.1.gz",
-]
+OF_ETCD = ["./usr/bin/csid-etcd", "./usr/share/bash-completion/completions/csid-etcd",
+           "./usr/share/man/man1/csid-etcd.1.gz"]
 PURGED = ["deb-systemd-helper purge csid.service csid-front.service"]
 LEFT = (
     "csid: /var/lib/csid has the record of volumes and is left; remove it by hand once no volume is in use\n"
@@ -62,14 +52,12 @@ VOLUME = "volume vol-1 1048576"
 
 
 def checksum(path):
-    with open(path, "rb") as file:
-        return hashlib.sha256(file.read()).hexdigest()
+    return hashlib.sha256(pathlib.Path(path).read_bytes()).hexdigest()
 
 
 def run(*words, **more):
-    done = subprocess.run(
-        words, capture_output=True, text=True, stdin=subprocess.DEVNULL, timeout=10 * SECONDS, **more
-    )
+    done = subprocess.run(words, capture_output=True, text=True, stdin=subprocess.DEVNULL,
+                          timeout=10 * SECONDS, **more)
     return done.returncode, done.stdout, done.stderr
 
 
@@ -83,17 +71,8 @@ class System:
 
     def __init__(self, root):
         self.root = root
-        for folder in [
-            "var/lib/dpkg/info",
-            "var/lib/dpkg/updates",
-            "run/systemd/system",
-            "run/csid",
-            "run/csid-front",
-            "etc",
-            "bin",
-            "dev",
-            "tmp",
-        ]:
+        for folder in ["var/lib/dpkg/info", "var/lib/dpkg/updates", "run/systemd/system", "run/csid",
+                       "run/csid-front", "etc", "bin", "dev", "tmp"]:
             os.makedirs(self.path(folder))
         for file in ["var/lib/dpkg/status", "etc/passwd", "etc/group", "calls"]:
             open(self.path(file), "x").close()
@@ -106,8 +85,7 @@ class System:
         return os.path.join(self.root, name.lstrip("/"))
 
     def write(self, name, text, mode):
-        with open(self.path(name), "w", encoding="utf-8") as file:
-            file.write(text)
+        pathlib.Path(self.path(name)).write_text(text, encoding="utf-8")
         os.chmod(self.path(name), mode)
 
     def put(self, program, place):
@@ -124,14 +102,8 @@ class System:
     def dpkg(self, *words):
         """What dpkg ends with and how the scripts called systemd."""
         self.write("calls", "", 0o644)
-        status, _, error = run(
-            "dpkg",
-            "--root=" + self.root,
-            "--log=" + self.path("dpkg.log"),
-            "--force-depends",
-            "--force-confold",
-            *words
-        )
+        status, _, error = run("dpkg", "--root=" + self.root, "--log=" + self.path("dpkg.log"),
+                               "--force-depends", "--force-confold", *words)
         said = [line + "\n" for line in error.splitlines() if line.startswith(("csid: ", "dpkg: error"))]
         return status, "".join(said), read(self.path("calls")).splitlines()
 
@@ -141,11 +113,9 @@ class System:
     def command(self, unit):
         """The words that a unit starts, and the variables that it sets. A variable may be such a word."""
         text = re.sub(r"\\\n\s*", "", read(self.path("lib/systemd/system/" + unit)))
-        variables = dict(
-            word.split("=", 1)
-            for line in re.findall(r"^Environment=(.*)$", text, re.M)
-            for word in shlex.split(line)
-        )
+        variables = dict(word.split("=", 1)
+                         for line in re.findall(r"^Environment=(.*)$", text, re.M)
+                         for word in shlex.split(line))
         words = []
         for word in shlex.split(re.search(r"^ExecStart=(.*)$", text, re.M).group(1)):
             words += variables[word[1:]].split() if word.startswith("$") else [word]
@@ -153,19 +123,12 @@ class System:
 
     @contextlib.contextmanager
     def started(self, unit, socket):
-        """Runs what a unit starts, from when its socket is there. As systemd does, it takes an old socket
-        away.
-        """
+        """Runs what a unit starts, once its socket is there. An old socket is taken away, as by systemd."""
         if os.path.exists(self.path(socket)):
             os.unlink(self.path(socket))
         words, variables = self.command(unit)
-        process = subprocess.Popen(
-            ["chroot", self.root, *words],
-            env={**os.environ, **variables},
-            stdin=subprocess.DEVNULL,
-            stderr=subprocess.PIPE,
-            text=True,
-        )
+        process = subprocess.Popen(["chroot", self.root, *words], env={**os.environ, **variables},
+                                   stdin=subprocess.DEVNULL, stderr=subprocess.PIPE, text=True)
         try:
             end = time.monotonic() + SECONDS
             while not os.path.exists(self.path(socket)) and process.poll() is None and time.monotonic() < end:
@@ -177,11 +140,9 @@ class System:
 
     def tables(self):
         """The record of volumes and the WAL next to it, by their checksums."""
-        return {
-            name: checksum(self.path(name))
-            for name in (TABLES, TABLES + "-wal")
-            if os.path.exists(self.path(name))
-        }
+        return {name: checksum(self.path(name))
+                for name in (TABLES, TABLES + "-wal")
+                if os.path.exists(self.path(name))}
 
 
 def ended(process):
@@ -190,22 +151,15 @@ def ended(process):
 
 
 def content_rows(programs, package):
-    """The paths and modes. The licences depend on the parts of the programs, so only their modes are
-    compared.
-    """
-    held = [
-        re.sub(r" +\d+ \d{4}-\d\d-\d\d \d\d:\d\d ", " ", it)
-        for it in run("dpkg-deb", "--contents", package)[1].splitlines()
-    ]
+    """The paths and modes; of the licences, which depend on the parts of the programs, only the modes."""
+    held = [re.sub(r" +\d+ \d{4}-\d\d-\d\d \d\d:\d\d ", " ", it)
+            for it in run("dpkg-deb", "--contents", package)[1].splitlines()]
     listed = [it for it in held if LICENCES not in it]
-    wanted = [
-        it
-        for it in read("packaging", "debian", "contents").splitlines()
-        if "csid-etcd" in programs or it.split()[-1] not in OF_ETCD
-    ]
+    wanted = [it
+              for it in read("packaging", "debian", "contents").splitlines()
+              if "csid-etcd" in programs or it.split()[-1] not in OF_ETCD]
     yield "the modes of licences", {it.partition(LICENCES)[0] for it in held if LICENCES in it}, {
-        "drwxr-xr-x root/root ",
-        "-rw-r--r-- root/root ",
+        "drwxr-xr-x root/root ", "-rw-r--r-- root/root ",
     }
     yield "what is there and is not listed", sorted(set(listed) - set(wanted)), []
     yield "what is listed and is not there", sorted(set(wanted) - set(listed)), []
@@ -213,13 +167,10 @@ def content_rows(programs, package):
 
 def control_rows(programs, package):
     """What the package needs: the libraries that the programs are linked to, and the programs that the
-    maintainer scripts call. Its checksums match its files.
-    """
-    linked = {
-        os.path.realpath(it)
-        for name in ("csid", "csictl")
-        for it in re.findall(r"(/\S+) \(0x", run("ldd", programs[name])[1])
-    }
+    maintainer scripts call. Its checksums match its files."""
+    linked = {os.path.realpath(it)
+              for name in ("csid", "csictl")
+              for it in re.findall(r"(/\S+) \(0x", run("ldd", programs[name])[1])}
     # Where /lib is a link to /usr/lib, dpkg knows a library by the one name or the other.
     named = linked | {it.removeprefix("/usr") for it in linked}
     libraries = {line.split(":")[0] for line in run("dpkg-query", "--search", *named)[1].splitlines()}
@@ -233,9 +184,7 @@ def control_rows(programs, package):
             os.path.relpath(os.path.join(at, it), tree) for at, _, names in os.walk(tree) for it in names
         ]
         yield "its checksums", run("md5sum", "--check", "--quiet", "--strict", "DEBIAN/md5sums", cwd=tree), (
-            0,
-            "",
-            "",
+            0, "", ""
         )
         listed = [line[34:] for line in read(tree, "DEBIAN", "md5sums").splitlines()]
         yield "the files that have them", sorted(listed), sorted(
@@ -268,9 +217,8 @@ def lintian_rows(package):
 
 def called(system, *words):
     """What csictl shows of a call after its first line."""
-    status, out, error = system.inside(
-        "/usr/bin/csictl", "call", "--socket", "/" + CSID_SOCKET, "--method", *words
-    )
+    status, out, error = system.inside("/usr/bin/csictl", "call", "--socket", "/" + CSID_SOCKET, "--method",
+                                       *words)
     return status, out.partition("\n")[2].strip(), error
 
 
@@ -279,17 +227,12 @@ def use_rows(programs, system):
     for name in programs:
         system.put_libraries(system.path("usr/bin/" + name))
         yield name + " --version", system.inside("/usr/bin/" + name, "--version"), (
-            0,
-            "%s %s\n" % (name, version()),
-            "",
+            0, "%s %s\n" % (name, version()), ""
         )
     yield "the configuration", system.inside("/usr/bin/csid", "pipe", "--config", "/" + CONFIG), (0, "", "")
     os.makedirs(system.path("var/lib/csid"))
-    yield "csid-new makes the file of volumes", system.inside(*system.command("csid-new.service")[0]), (
-        0,
-        "",
-        "",
-    )
+    yield "csid-new makes the file of volumes", system.inside(*system.command("csid-new.service")[0]), (0, "",
+                                                                                                        "")
     with system.started("csid.service", CSID_SOCKET) as csid:
         # Before the front is started, which keeps a connection to csid.
         yield "csid answers", called(system, "CreateVolume", "--name", "a", "--mode", "1"), (0, VOLUME, "")
@@ -308,8 +251,7 @@ def later(package, folder):
     run("dpkg-deb", "--raw-extract", package, tree)
     control = os.path.join(tree, "DEBIAN", "control")
     text = re.sub(r"^(Version: .*)$", r"\1+later", read(control), flags=re.M)
-    with open(control, "w", encoding="utf-8") as file:
-        file.write(text)
+    pathlib.Path(control).write_text(text, encoding="utf-8")
     run("dpkg-deb", "--root-owner-group", "-Zgzip", "-z1", "--build", tree, made)
     return made
 
@@ -329,11 +271,8 @@ def remove_rows(system, package):
     """A remove leaves the tables and the configuration, and a purge the tables."""
     before = system.tables()
     yield "a remove", system.dpkg("--remove", "csid"), (0, "", STOPPED)
-    yield "what it leaves", (
-        system.tables(),
-        os.path.exists(system.path(CONFIG)),
-        os.path.exists(system.path("usr/bin/csid")),
-    ), (before, True, False)
+    yield "what it leaves", (system.tables(), os.path.exists(system.path(CONFIG)),
+                             os.path.exists(system.path("usr/bin/csid"))), (before, True, False)
     yield "a purge", system.dpkg("--purge", "csid"), (0, LEFT, PURGED)
     yield "what it leaves", (system.tables(), os.path.exists(system.path("etc/csid"))), (before, False)
     shutil.rmtree(system.path("var/lib/csid"))
@@ -344,18 +283,14 @@ def remove_rows(system, package):
 
 
 def etcd_rows(system, package, folder):
-    """The unit of csid-etcd is the operator's copy of the example: it is stopped and started where it is
-    there, and stays.
-    """
+    """The operator's copy of the unit of csid-etcd is stopped and started where it is there, and stays."""
     os.makedirs(os.path.dirname(system.path(ETCD_UNIT)), exist_ok=True)
     example = read(system.path("usr/share/doc/csid/examples/csid-etcd.service"))
     yield "the program of the example", re.findall(r"^ExecStart=(\S+)", example, re.M), ["/usr/bin/csid-etcd"]
     system.write(ETCD_UNIT, example, 0o644)
-    yield "an upgrade over csid-etcd", system.dpkg("--install", later(package, folder)), (
-        0,
-        "",
-        UPDATED + RESTARTED_ETCD,
-    )
+    yield "an upgrade over csid-etcd", system.dpkg("--install", later(package, folder)), (0, "",
+                                                                                          UPDATED
+                                                                                          + RESTARTED_ETCD)
     yield "a remove over csid-etcd", system.dpkg("--remove", "csid"), (0, "", STOPPED_ETCD)
     yield "its unit after it", read(system.path(ETCD_UNIT)), example
     os.unlink(system.path(ETCD_UNIT))

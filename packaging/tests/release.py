@@ -1,9 +1,9 @@
 """A release: its folder, its tar.gz and its list of parts, and the states in which ./release refuses to
-begin.
-"""
+begin."""
 import hashlib
 import json
 import os
+import pathlib
 import re
 import shutil
 import subprocess
@@ -14,12 +14,8 @@ import tempfile
 from sources import TOP, version
 
 BUILD = "release: %s is not there, or older than a source: call %s first\n"
-CSID, CSICTL, FRONT, ETCD = (
-    "crates/csid/out/csid",
-    "crates/csictl/out/csictl",
-    "go/front/out/front",
-    "go/etcd/out/csid-etcd",
-)
+CSID, CSICTL, FRONT, ETCD = ("crates/csid/out/csid", "crates/csictl/out/csictl", "go/front/out/front",
+                             "go/etcd/out/csid-etcd")
 USAGE = "release: usage: ./release [--out FOLDER | --check]\n"
 NO_KIT = "%s: 'rt' is not on the PATH: the Rattle toolchain is needed (README.md, 'Build, run, test')\n"
 # The programs that exist, the files that are newer, and the line of ./release.
@@ -57,8 +53,7 @@ def output(*words):
 
 
 def checksum(path):
-    with open(path, "rb") as file:
-        return hashlib.sha256(file.read()).hexdigest()
+    return hashlib.sha256(pathlib.Path(path).read_bytes()).hexdigest()
 
 
 def folder_rows(folder, name, package):
@@ -66,9 +61,7 @@ def folder_rows(folder, name, package):
         ["SHA256SUMS", name + ".tar.gz", name + ".spdx.json", package]
     )
     yield "their checksums", run("sha256sum", "--check", "--quiet", "--strict", "SHA256SUMS", cwd=folder), (
-        0,
-        "",
-        "",
+        0, "", ""
     )
     with open(os.path.join(folder, "SHA256SUMS"), encoding="utf-8") as file:
         listed = [line.split()[1] for line in file]
@@ -77,18 +70,15 @@ def folder_rows(folder, name, package):
 
 def files_of(programs):
     """The contents of a release apart from licences: the programs, their manual pages and completions, and
-    the committed files of README.md, docs/ and deploy/.
-    """
+    the committed files of README.md, docs/ and deploy/."""
     parts = ["README.md", "VERSION", "docs", "deploy"]
     committed = output("git", "-C", TOP, "ls-files", *parts).split("\n")
-    pages = [it + ".1" for it in programs] + ["csid-config.5", "csid-protocol.7"]
-    return (
-        [it.replace("csid-front", "front") for it in programs]
-        + committed
-        + ["man/" + it for it in pages]
-        + ["completions/" + it for it in programs]
-        + ["csid.spdx.json"]
-    )
+    pages = [it + ".1" for it in programs] + ["csid-config.5", "csid-protocol.7", "csid-new.8"]
+    return ([it.replace("csid-front", "front") for it in programs]
+            + committed
+            + ["man/" + it for it in pages]
+            + ["completions/" + it for it in programs]
+            + ["csid.spdx.json"])
 
 
 def archive_rows(path, name, programs):
@@ -105,19 +95,13 @@ def archive_rows(path, name, programs):
         for program, built in programs.items():
             held = archive.extractfile("%s/%s" % (name, program.replace("csid-front", "front"))).read()
             yield program, hashlib.sha256(held).hexdigest(), checksum(built)
-        files = {
-            it.name.partition("/")[2]
-            for it in members
-            if it.isfile() and not it.name.startswith(name + "/licences/")
-        }
+        files = {it.name.partition("/")[2]
+                 for it in members
+                 if it.isfile() and not it.name.startswith(name + "/licences/")}
         yield "the files but for licences", sorted(files), sorted(files_of(programs))
         yield "a licence", "%s/licences/clap/LICENSE-MIT" % name in names, True
-        of_etcd = [
-            "csid-etcd",
-            "man/csid-etcd.1",
-            "completions/csid-etcd",
-            "licences/golang-etcd-server-dev/copyright",
-        ]
+        of_etcd = ["csid-etcd", "man/csid-etcd.1", "completions/csid-etcd",
+                   "licences/golang-etcd-server-dev/copyright"]
         yield "what is there of csid-etcd", [it for it in of_etcd if "%s/%s" % (name, it) in names], (
             of_etcd if "csid-etcd" in programs else []
         )
@@ -126,24 +110,18 @@ def archive_rows(path, name, programs):
 def licence_rows(folder, name):
     """Of each part whose licence is known its text is there."""
     with open(os.path.join(folder, name + ".spdx.json"), encoding="utf-8") as file:
-        parts = [
-            it["name"]
-            for it in json.load(file)["packages"]
-            if it["primaryPackagePurpose"] == "LIBRARY" and it["licenseDeclared"] != "NOASSERTION"
-        ]
+        parts = [it["name"]
+                 for it in json.load(file)["packages"]
+                 if it["primaryPackagePurpose"] == "LIBRARY" and it["licenseDeclared"] != "NOASSERTION"]
     with tarfile.open(os.path.join(folder, name + ".tar.gz")) as archive:
-        held = {
-            it.name.split("/")[2]
-            for it in archive.getmembers()
-            if it.isfile() and it.name.startswith(name + "/licences/")
-        }
+        held = {it.name.split("/")[2]
+                for it in archive.getmembers()
+                if it.isfile() and it.name.startswith(name + "/licences/")}
     yield "parts without the text of their licence", sorted(set(parts) - held), []
 
 
 def list_rows(path, programs):
-    """The list of parts: its programs, some parts whose versions are known otherwise, and that each relation
-    is of what it lists.
-    """
+    """The list of parts: its programs, some parts whose versions are known otherwise, and its relations."""
     with open(path, encoding="utf-8") as file:
         made = json.load(file)
     packages = {it["name"]: it for it in made["packages"]}
@@ -151,26 +129,21 @@ def list_rows(path, programs):
     for name, program in programs.items():
         said = packages[name]
         yield "the program " + name, (said["versionInfo"], said["checksums"][0]["checksumValue"]), (
-            version(),
-            checksum(program),
+            version(), checksum(program)
         )
     kit = output("rt", "version").split()[0]
     for name, licence in [("clap", "Apache-2.0 OR MIT"), ("mio", "MIT"), ("sqlite_disk", "NOASSERTION")]:
         said = packages[name]
-        yield "the crate " + name, ("rattle-kit-" + said["versionInfo"], said["licenseDeclared"]), (
-            kit,
-            licence,
-        )
+        yield "the crate " + name, ("rattle-kit-" + said["versionInfo"], said["licenseDeclared"]), (kit,
+                                                                                                    licence)
     sources = [("golang-google-grpc-dev", "Apache-2.0"), ("golang-golang-x-net-dev", "BSD-3-Clause")]
-    for name, licence in sources + (
-        [("golang-etcd-server-dev", "Apache-2.0"), ("golang-go.uber-zap-dev", "MIT")]
-        if "csid-etcd" in programs
-        else []
-    ):
+    for name, licence in sources + ([("golang-etcd-server-dev", "Apache-2.0"),
+                                     ("golang-go.uber-zap-dev", "MIT")]
+                                    if "csid-etcd" in programs
+                                    else []):
         said = packages[name]
         yield "the package " + name, (said["versionInfo"], said["licenseDeclared"]), (
-            output("dpkg-query", "-Wf", "${Version}", name),
-            licence,
+            output("dpkg-query", "-Wf", "${Version}", name), licence
         )
     told = {it["licenseDeclared"] for it in made["packages"]}
     yield "licences that are no expressions of SPDX", [
@@ -178,11 +151,9 @@ def list_rows(path, programs):
     ], []
     named = {it[key] for it in made["relationships"] for key in ("spdxElementId", "relatedSpdxElement")}
     yield "what relations name", named, {it["SPDXID"] for it in made["packages"]} | {"SPDXRef-DOCUMENT"}
-    found = {
-        (it["spdxElementId"], it["relatedSpdxElement"])
-        for it in made["relationships"]
-        if it["relationshipType"] == "DEPENDS_ON"
-    }
+    found = {(it["spdxElementId"], it["relatedSpdxElement"])
+             for it in made["relationships"]
+             if it["relationshipType"] == "DEPENDS_ON"}
     for one, other, stands in [
         ("csid", "sqlite", True),
         ("csid", "serde-json", True),
@@ -223,35 +194,23 @@ def refusal_rows(is_etcd):
         for programs, newer, wanted, again in rows:
             for path in (CSID, CSICTL, FRONT, ETCD):
                 shutil.rmtree(os.path.join(top, os.path.dirname(path)), ignore_errors=True)
-            yield "with %s, and %s newer" % (programs, newer), refused(top, programs, newer, again), (
-                1,
-                "",
-                wanted,
-            )
+            yield "with %s, and %s newer" % (programs, newer), refused(top, programs, newer, again), (1, "",
+                                                                                                      wanted)
         with open(os.path.join(top, "README.md"), "a") as file:
             file.write("\n")
         yield "with a file that was changed", refused(top, all_programs, None, []), (
-            1,
-            "",
-            "release: files differ from the last commit: commit them first\n",
+            1, "", "release: files differ from the last commit: commit them first\n"
         )
     for name in ("licences", "spdx"):
-        words = [
-            sys.executable,
-            os.path.join(TOP, "packaging", name),
-            *["/nowhere"] * (3 if name == "spdx" else 1),
-        ]
+        words = [sys.executable, os.path.join(TOP, "packaging", name),
+                 *["/nowhere"] * (3 if name == "spdx" else 1)]
         yield name + " without the kit", run(*words, env={"PATH": "/nowhere", "SOURCE_DATE_EPOCH": "0"}), (
-            1,
-            "",
-            NO_KIT % name,
+            1, "", NO_KIT % name
         )
 
 
 def refused(top, programs, newer, again):
-    """What ./release ends with where these programs were built, one source was changed after that, and some
-    programs were built again.
-    """
+    """What ./release ends with: these programs are built, a source is newer, and some were built again."""
     for path in programs:
         touch(os.path.join(top, path), (1 << 30) + (2 if path in again else 0))
     if newer:
@@ -271,9 +230,7 @@ PLAYED = {
 
 
 def difference_rows(is_etcd):
-    """A check makes two releases, and reports any difference, such as one by their place, their time zone or
-    their mask.
-    """
+    """A check makes two releases, and reports where they differ by place, time zone or mask."""
     said = "release: two releases of the same programs differ\n"
     with tempfile.TemporaryDirectory() as folder:
         top = os.path.join(folder, "csid")
@@ -293,8 +250,7 @@ def difference_rows(is_etcd):
             status, _, error = run("./release", "--check", cwd=top)
             # Without the sources of etcd's client there is a line on that.
             yield "a check of releases that have what %r gives" % what, (
-                status,
-                "".join(it for it in error.splitlines(True) if "NOT in it" not in it),
+                status, "".join(it for it in error.splitlines(True) if "NOT in it" not in it)
             ), wanted
 
 

@@ -6,9 +6,7 @@ class LeftOut(Exception):
 
 
 def count(parts):
-    """Compares the result with the wanted one in each row of each part, reports the differences, and returns
-    the exit status.
-    """
+    """Compares the results of the rows of each part, reports differences, and returns the exit status."""
     passed = failed = 0
     for part in parts:
         try:

@@ -3,17 +3,13 @@
 import json
 import re
 
-from tests.kubernetes.manifest import (
-    NEW, bare, by_kind, changed, leaves, missing, misspelt, original, said,
-)
+from tests.kubernetes.manifest import (NEW, bare, by_kind, changed, leaves, missing, misspelt, original, said)
 from tests.kubernetes.refused import refused_rows
 
 
 def try_rows(cluster, others, number, replaced):
     """Tries of the manifest without its namespace, which has this number of objects."""
-    status, lines, why = cluster.kubectl(
-        "apply", "--dry-run=server", "--validate=true", text=others
-    )
+    status, lines, why = cluster.kubectl("apply", "--dry-run=server", "--validate=true", text=others)
     wanted = 0, ["created (server dry run)"] * number, ""
     yield "a try of the manifest", (status, said(lines), why), wanted
     if replaced:

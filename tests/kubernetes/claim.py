@@ -1,16 +1,14 @@
 """The life of a claim of the manifest's class."""
 
-import os
+import pathlib
 import shlex
 
 from tests.kubernetes.cluster import need_pods, wait
 from tests.kubernetes.manifest import ACCOUNT, DRIVER, TOP, ZONE, condition, missing, said
 
 # What docs/OPERATING.md has for the volumes that the orchestrator knows.
-LISTING = (
-    "kubectl get persistentvolumes -o jsonpath="
-    """'{range .items[?(@.spec.csi.driver=="%s")]}{.spec.csi.volumeHandle}{"\\n"}{end}'"""
-) % DRIVER
+LISTING = ("kubectl get persistentvolumes -o jsonpath="
+           """'{range .items[?(@.spec.csi.driver=="%s")]}{.spec.csi.volumeHandle}{"\\n"}{end}'""") % DRIVER
 # A claim of the manifest's class, and a pod that has it mounted.
 CLAIM = """
 apiVersion: v1
@@ -99,23 +97,18 @@ def event_of(claim):
 
 
 def finalize(cluster, path, is_there):
-    """Puts the finalizer of csi-attacher on an object, or takes it away, with the rights of the account;
-    gives the status.
-    """
+    """Puts the finalizer of csi-attacher on an object, or takes it away, as the account; the status."""
     own = "external-attacher/" + DRIVER.replace(".", "-")
     kept = [one for one in cluster.get(path)["metadata"].get("finalizers", []) if one != own]
-    return cluster.ask(
-        "PATCH", path, {"metadata": {"finalizers": kept + [own] if is_there else kept}}, ACCOUNT
-    )[0]
+    return cluster.ask("PATCH", path, {"metadata": {"finalizers": kept + [own] if is_there else kept}},
+                       ACCOUNT)[0]
 
 
 def notes(cluster):
     """What scheduler and controllers write on the claim for csi-provisioner."""
     annotations = cluster.get(CLAIM_PATH)["metadata"].get("annotations", {})
-    return [
-        annotations.get("volume.kubernetes.io/selected-node"),
-        annotations.get("volume.beta.kubernetes.io/storage-provisioner"),
-    ]
+    return [annotations.get("volume.kubernetes.io/selected-node"),
+            annotations.get("volume.beta.kubernetes.io/storage-provisioner")]
 
 
 def attached_volumes(cluster):
@@ -158,8 +151,7 @@ def bound_rows(cluster, meant, event):
     yield "and an event", status, 201
     is_bound = wait(lambda: cluster.get(CLAIM_PATH)["status"]["phase"] == "Bound")
     yield "the claim is bound", is_bound, True
-    with open(os.path.join(TOP, "docs", "OPERATING.md")) as page:
-        has_listing = LISTING in " ".join(page.read().split())
+    has_listing = LISTING in " ".join(pathlib.Path(TOP, "docs", "OPERATING.md").read_text().split())
     yield "docs/OPERATING.md says how volumes are listed", has_listing, True
     yield "which lists it", cluster.kubectl(*shlex.split(LISTING)[1:])[:2], (0, "vol-1\n")
     place = wait(lambda: cluster.get(POD_PATH)["spec"].get("nodeName"))
@@ -187,9 +179,7 @@ def detached_rows(cluster, attachment):
 
 def deleted_rows(cluster, volume):
     def is_released():
-        return (
-            cluster.get(CLAIM_PATH) is None and cluster.get(volume)["status"]["phase"] == "Released"
-        )
+        return cluster.get(CLAIM_PATH) is None and cluster.get(volume)["status"]["phase"] == "Released"
 
     cluster.ask("DELETE", CLAIM_PATH)
     yield "the claim is gone, and the volume released", wait(is_released), True

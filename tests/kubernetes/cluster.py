@@ -3,6 +3,7 @@
 import http.client
 import json
 import os
+import pathlib
 import re
 import socket
 import ssl
@@ -68,8 +69,7 @@ class Cluster:
         self.certify()
         self.start_servers()
         if not wait(self.is_ready):
-            with open(self.path("1.log")) as log:
-                said = log.read()[-2000:]
+            said = pathlib.Path(self.path("1.log")).read_text()[-2000:]
             sys.exit("tests/kubernetes: the API server does not get ready: " + said)
         if self.has_pods():
             self.start_controllers()
@@ -77,49 +77,26 @@ class Cluster:
     def start_servers(self):
         """Starts etcd and the API server."""
         client, peer = ("http://127.0.0.1:%d" % free_port() for _ in range(2))
-        self.start(
-            0,
-            *["--data-dir", self.path("etcd"), "--initial-cluster", "default=" + peer],
-            *["--listen-client-urls", client, "--advertise-client-urls", client],
-            *["--listen-peer-urls", peer, "--initial-advertise-peer-urls", peer],
-        )
-        self.start(
-            1,
-            "--etcd-servers=" + client,
-            "--bind-address=127.0.0.1",
-            "--advertise-address=127.0.0.1",
-            "--secure-port=%d" % self.port,
-            "--endpoint-reconciler-type=none",
-            "--authorization-mode=RBAC",
-            "--service-cluster-ip-range=10.0.0.0/24",
-            "--tls-cert-file=" + self.path("server.crt"),
-            "--tls-private-key-file=" + self.path("server.key"),
-            "--client-ca-file=" + self.path("ca.crt"),
-            "--service-account-issuer=" + self.address,
-            "--service-account-key-file=" + self.path("accounts.pub"),
-            "--service-account-signing-key-file=" + self.path("accounts.key"),
-            *self.gates,
-            *(["--runtime-config=storage.k8s.io/v1alpha1=true"] if self.gates else []),
-        )
+        self.start(0, *["--data-dir", self.path("etcd"), "--initial-cluster", "default=" + peer],
+                   *["--listen-client-urls", client, "--advertise-client-urls", client],
+                   *["--listen-peer-urls", peer, "--initial-advertise-peer-urls", peer])
+        self.start(1, "--etcd-servers=" + client, "--bind-address=127.0.0.1", "--advertise-address=127.0.0.1",
+                   "--secure-port=%d" % self.port, "--endpoint-reconciler-type=none",
+                   "--authorization-mode=RBAC", "--service-cluster-ip-range=10.0.0.0/24",
+                   "--tls-cert-file=" + self.path("server.crt"),
+                   "--tls-private-key-file=" + self.path("server.key"),
+                   "--client-ca-file=" + self.path("ca.crt"), "--service-account-issuer=" + self.address,
+                   "--service-account-key-file=" + self.path("accounts.pub"),
+                   "--service-account-signing-key-file=" + self.path("accounts.key"), *self.gates,
+                   *(["--runtime-config=storage.k8s.io/v1alpha1=true"] if self.gates else []))
 
     def start_controllers(self):
         """Starts the controller manager and the scheduler."""
-        common = [
-            "--kubeconfig=" + self.path("config"),
-            "--leader-elect=false",
-            "--bind-address=127.0.0.1",
-            *self.gates,
-            *(["--port=0"] if self.version < ONE_PORT else []),
-        ]
-        self.start(
-            3,
-            *common,
-            "--service-account-private-key-file=" + self.path("accounts.key"),
-            "--root-ca-file=" + self.path("ca.crt"),
-            "--secure-port=%d" % free_port(),
-            "--cert-dir=" + self.path("3"),
-            "--controllers=" + ",".join(CONTROLLERS),
-        )
+        common = ["--kubeconfig=" + self.path("config"), "--leader-elect=false", "--bind-address=127.0.0.1",
+                  *self.gates, *(["--port=0"] if self.version < ONE_PORT else [])]
+        self.start(3, *common, "--service-account-private-key-file=" + self.path("accounts.key"),
+                   "--root-ca-file=" + self.path("ca.crt"), "--secure-port=%d" % free_port(),
+                   "--cert-dir=" + self.path("3"), "--controllers=" + ",".join(CONTROLLERS))
         self.start(4, *common, "--secure-port=%d" % free_port(), "--cert-dir=" + self.path("4"))
 
     def has_pods(self):
@@ -148,9 +125,7 @@ class Cluster:
         subprocess.run(command, cwd=self.folder, check=True, capture_output=True)
 
     def certify(self):
-        """Makes the certificates and keys, and the configurations of kubectl: the administrator's, and one
-        without credentials.
-        """
+        """Makes certificates, keys and configurations of kubectl: one has no credentials."""
         self.openssl("req -x509 -newkey rsa:2048 -nodes -days 2 -subj /CN=ca -keyout ca.key -out ca.crt")
         self.sign("server", "/CN=kube-apiserver", "subjectAltName=IP:127.0.0.1")
         self.sign("admin", "/O=system:masters/CN=admin", "extendedKeyUsage=clientAuth")
@@ -164,8 +139,7 @@ class Cluster:
 
     def sign(self, name, subject, extension):
         """Makes a key, and a certificate for it."""
-        with open(self.path("extension"), "w") as file:
-            file.write(extension)
+        pathlib.Path(self.path("extension")).write_text(extension)
         files = "-keyout %s.key -out %s.csr" % (name, name)
         self.openssl("req -newkey rsa:2048 -nodes -subj %s %s" % (subject, files))
         files = "-in %s.csr -extfile extension -out %s.crt" % (name, name)

@@ -2,6 +2,7 @@
 
 import copy
 import os
+import pathlib
 
 import yaml
 
@@ -24,8 +25,7 @@ GONE = object()
 
 
 def original():
-    with open(MANIFEST) as file:
-        return file.read()
+    return pathlib.Path(MANIFEST).read_text()
 
 
 def manifest(version):
@@ -35,10 +35,9 @@ def manifest(version):
         assert text.count(own) == 1, own
         if version < since:
             text = text.replace(own, instead)
-            replaced.append(
-                "replaced before a server older than %d.%d: %s by %s"
-                % (*since, own.strip(), instead.strip() or "nothing")
-            )
+            replaced.append("replaced before a server older than %d.%d: %s by %s" % (*since, own.strip(),
+                                                                                     instead.strip()
+                                                                                     or "nothing"))
     return text, replaced
 
 
@@ -50,9 +49,8 @@ def pod_alone(whole):
     """The pod of a StatefulSet alone, with its claims as volumes."""
     template = copy.deepcopy(whole["spec"]["template"])
     claims = [claim["metadata"]["name"] for claim in whole["spec"]["volumeClaimTemplates"]]
-    template["spec"]["volumes"] += [
-        {"name": name, "persistentVolumeClaim": {"claimName": name}} for name in claims
-    ]
+    template["spec"]["volumes"] += [{"name": name, "persistentVolumeClaim": {"claimName": name}}
+                                    for name in claims]
     kind = {"apiVersion": "v1", "kind": "PodTemplate"}
     return {**kind, "metadata": whole["metadata"], "template": template}
 
@@ -66,9 +64,7 @@ def place(document, path):
 
 
 def misspelt(document, path, wrong):
-    """An object with a field under a wrong name. The name of an object stays next to it, since kubectl wants
-    one.
-    """
+    """An object with a field under a wrong name. Its name stays, since kubectl wants one."""
     document = copy.deepcopy(document)
     holder, name = place(document, path)
     holder[wrong] = holder[name] if path == "metadata.name" else holder.pop(name)

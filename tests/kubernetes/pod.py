@@ -3,9 +3,7 @@
 import copy
 
 from tests.kubernetes.cluster import need_pods, wait
-from tests.kubernetes.manifest import (
-    IMAGE, NEW, NEWER, ZONE, by_kind, condition, leaves, missing, said,
-)
+from tests.kubernetes.manifest import (IMAGE, NEW, NEWER, ZONE, by_kind, condition, leaves, missing, said)
 
 PATH = "/api/v1/namespaces/csid/pods/csid-0"
 CLAIM_PATH = "/api/v1/namespaces/csid/persistentvolumeclaims/tables-csid-0"
@@ -95,16 +93,8 @@ def placed_rows(cluster, claim):
         "hostPath": {"path": "/tables"},
         "claimRef": {"namespace": "csid", "name": "tables-csid-0"},
     }
-    cluster.ask(
-        "POST",
-        "/api/v1/persistentvolumes",
-        {
-            "apiVersion": "v1",
-            "kind": "PersistentVolume",
-            "metadata": {"name": "disk"},
-            "spec": disk,
-        },
-    )
+    cluster.ask("POST", "/api/v1/persistentvolumes",
+                {"apiVersion": "v1", "kind": "PersistentVolume", "metadata": {"name": "disk"}, "spec": disk})
     place = wait(lambda: cluster.get(PATH)["spec"].get("nodeName"))
     is_placed = place in ("worker-1", "worker-2")
     yield "once another driver has served the claim, it is placed", is_placed, True

@@ -1,51 +1,9 @@
 """What the account of the pod may do."""
 
 from tests.kubernetes.manifest import ACCOUNT, OTHER
+from tests.support.data import tables
 
-# The rights that the sidecars ask for in their own deployments: group, resource and verbs. The rights of Role
-# are for the namespace of the pod alone.
-MAY = {
-    "ClusterRole": [
-        ("", "persistentvolumes", "get list watch create patch delete"),
-        ("", "persistentvolumeclaims", "get list watch update"),
-        ("", "events", "list watch create update patch"),
-        ("", "nodes", "get list watch"),
-        ("storage.k8s.io", "storageclasses", "get list watch"),
-        ("storage.k8s.io", "csinodes", "get list watch"),
-        ("storage.k8s.io", "volumeattachments", "get list watch patch"),
-        ("storage.k8s.io", "volumeattachments/status", "patch"),
-    ],
-    "Role": [
-        ("storage.k8s.io", "csistoragecapacities", "get list watch create update patch delete"),
-        ("", "pods", "get"),
-        ("apps", "statefulsets", "get"),
-    ],
-}
-# Some of what they must not, in the namespace of the pod.
-MUST_NOT = [
-    ("", "secrets", "get list create"),
-    ("", "configmaps", "get update"),
-    ("", "pods", "list create delete patch"),
-    ("", "pods/exec", "create"),
-    ("", "serviceaccounts/token", "create"),
-    ("", "nodes", "update patch delete"),
-    ("", "nodes/proxy", "get"),
-    ("", "persistentvolumes", "update deletecollection"),
-    ("", "persistentvolumeclaims", "create patch delete"),
-    ("", "events", "delete"),
-    ("", "namespaces", "get delete"),
-    ("", "users", "impersonate"),
-    ("apps", "statefulsets", "update patch delete"),
-    ("apps", "deployments", "get create"),
-    ("coordination.k8s.io", "leases", "get create update"),
-    ("policy", "poddisruptionbudgets", "get update"),
-    ("rbac.authorization.k8s.io", "clusterroles", "get bind escalate"),
-    ("rbac.authorization.k8s.io", "rolebindings", "create"),
-    ("storage.k8s.io", "storageclasses", "create update delete"),
-    ("storage.k8s.io", "csidrivers", "create update delete"),
-    ("storage.k8s.io", "csinodes", "create update"),
-    ("storage.k8s.io", "volumeattachments", "create update delete"),
-]
+ROWS = tables("kubernetes-rights", {})
 # What the token of the account may get.
 GETS = [
     ("persistentvolumes", True),
@@ -64,13 +22,11 @@ def rules(cluster, user, namespace):
     }
     path = "/apis/authorization.k8s.io/v1/selfsubjectrulesreviews"
     review = cluster.ask("POST", path, body, user)[1]
-    return {
-        (group, resource, verb)
-        for rule in review["status"]["resourceRules"]
-        for group in rule["apiGroups"]
-        for resource in rule["resources"]
-        for verb in rule["verbs"]
-    }
+    return {(group, resource, verb)
+            for rule in review["status"]["resourceRules"]
+            for group in rule["apiGroups"]
+            for resource in rule["resources"]
+            for verb in rule["verbs"]}
 
 
 def can(cluster, group, resource, verb, namespace):
@@ -91,24 +47,17 @@ def said_rows(cluster, may):
     for group, resource, verb in sorted(may["Role"]):
         found = can(cluster, group, resource, verb, "default")
         yield "may not %s %s in default" % (verb, resource), found, "no"
-    for group, resource, verbs in MUST_NOT:
+    for resource, group, verbs in ROWS["MUST NOT"]:
         for verb in verbs.split():
             found = can(cluster, group, resource, verb, "csid")
             yield "may not %s %s" % (verb, resource), found, "no"
 
 
 def rights_rows(cluster):
-    may = {
-        role: {
-            (group, resource, verb) for group, resource, verbs in lines for verb in verbs.split()
-        }
-        for role, lines in MAY.items()
-    }
+    may = {role: {(group, resource, verb) for resource, group, verbs in ROWS[role] for verb in verbs.split()}
+           for role in ("ClusterRole", "Role")}
     yield from said_rows(cluster, may)
-    for namespace, rights in [
-        ("csid", may["ClusterRole"] | may["Role"]),
-        ("default", may["ClusterRole"]),
-    ]:
+    for namespace, rights in [("csid", may["ClusterRole"] | may["Role"]), ("default", may["ClusterRole"])]:
         # What each account may do is not the manifest's.
         has = rules(cluster, ACCOUNT, namespace) - rules(cluster, OTHER, namespace)
         differences = sorted(has - rights), sorted(rights - has)

@@ -1,6 +1,5 @@
 """Broken frames, messages and HTTP/2, made of right ones by a source of chance; and how right ones are read
-(docs/PROTOCOL.md).
-"""
+(docs/PROTOCOL.md)."""
 import io
 
 from tests.support import change_stores
@@ -42,13 +41,10 @@ class Breaker:
         if how == 6:
             other = self.one_of(*self.corpus)[1]
             return text[:at] + other[self.source.randrange(len(other) + 1) :]
-        return (
-            text[:at]
-            + v.varint(
-                self.one_of(0, 1 << 31, 1 << 32, (1 << 63) - 1, 1 << 63, (1 << 64) - 1), self.one_of(1, 10)
-            )
-            + text[to:]
-        )
+        return (text[:at]
+                + v.varint(self.one_of(0, 1 << 31, 1 << 32, (1 << 63) - 1, 1 << 63, (1 << 64) - 1),
+                           self.one_of(1, 10))
+                + text[to:])
 
     def nested(self, message):
         """A message within a message within a message."""
@@ -65,10 +61,8 @@ class Breaker:
         if how == 0:
             return self.nested(message)
         if how == 1 and self.source.randrange(4) == 0:
-            piece = (
-                self.one_of(message, v.msg(self.source.randrange(1, 9), *[self.bytes(message)[:40]]))
-                or b"\x1a\0"
-            )
+            piece = (self.one_of(message, v.msg(self.source.randrange(1, 9), *[self.bytes(message)[:40]]))
+                     or b"\x1a\0")
             return (piece * (MIB // len(piece) + 1))[: MIB + self.one_of(0, 0, 0, 1)]
         if how == 2:
             return v.msg(self.source.randrange(1, 10), self.bytes(message)) + message
@@ -157,12 +151,10 @@ def is_ok(reply):
 
 def h2(kind, flags, stream, payload=b""):
     """A frame of HTTP/2 (RFC 9113, section 4.1)."""
-    return (
-        len(payload).to_bytes(3, "big")
-        + bytes([kind, flags])
-        + (stream & 0xFFFFFFFF).to_bytes(4, "big")
-        + payload
-    )
+    return (len(payload).to_bytes(3, "big")
+            + bytes([kind, flags])
+            + (stream & 0xFFFFFFFF).to_bytes(4, "big")
+            + payload)
 
 
 DATA, HEADERS, RESET, SETTINGS, PING, GOAWAY, WINDOW, CONTINUATION = 0, 1, 3, 4, 6, 7, 8, 9
@@ -192,9 +184,8 @@ def head(stream, path, *more):
     block = headers(path, *more)
     rest = [block[at : at + MOST] for at in range(MOST, len(block), MOST)]
     parts = [(HEADERS, block[:MOST])] + [(CONTINUATION, it) for it in rest]
-    return b"".join(
-        h2(kind, WHOLE * (at == len(parts) - 1), stream, it) for at, (kind, it) in enumerate(parts)
-    )
+    return b"".join(h2(kind, WHOLE * (at == len(parts) - 1), stream, it)
+                    for at, (kind, it) in enumerate(parts))
 
 
 def message_frames(stream, text):
@@ -217,15 +208,9 @@ def raw_bytes(source, _):
 
 def any_frames(source, _):
     streams, sizes = (0, 1, 2, 3, 1 << 31, 0x7FFFFFFF), (0, 4, 5, 8, 100)
-    return b"".join(
-        h2(
-            source.randrange(12),
-            source.randrange(256),
-            source.choice(streams),
-            source.randbytes(source.choice(sizes)),
-        )
-        for _ in range(20)
-    )
+    return b"".join(h2(source.randrange(12), source.randrange(256), source.choice(streams),
+                       source.randbytes(source.choice(sizes)))
+                    for _ in range(20))
 
 
 def long_headers(source, _):
@@ -235,19 +220,15 @@ def long_headers(source, _):
 
 
 def reset_calls(source, _):
-    return b"".join(
-        head(2 * at + 1, PROBE) + h2(RESET, 0, 2 * at + 1, b"\0\0\0\x08")
-        for at in range(source.choice((1, 300, 3000)))
-    )
+    return b"".join(head(2 * at + 1, PROBE) + h2(RESET, 0, 2 * at + 1, b"\0\0\0\x08")
+                    for at in range(source.choice((1, 300, 3000))))
 
 
 def silent_calls(source, _):
     """Calls whose messages do not come, or in part."""
     parts = b"", b"\0\0", b"\0\0\x10\0\0"
-    return b"".join(
-        head(2 * at + 1, PROBE) + h2(DATA, 0, 2 * at + 1, source.choice(parts))
-        for at in range(source.choice((1, 1, 20, 20, 20, 20, 20, 300)))
-    )
+    return b"".join(head(2 * at + 1, PROBE) + h2(DATA, 0, 2 * at + 1, source.choice(parts))
+                    for at in range(source.choice((1, 1, 20, 20, 20, 20, 20, 300))))
 
 
 def pings_and_settings(source, _):
@@ -270,15 +251,8 @@ def calls(source, corpus):
 
 
 # How often each kind comes.
-KINDS = {
-    raw_bytes: 10,
-    any_frames: 10,
-    long_headers: 1,
-    reset_calls: 10,
-    silent_calls: 10,
-    pings_and_settings: 10,
-    calls: 50,
-}
+KINDS = {raw_bytes: 10, any_frames: 10, long_headers: 1, reset_calls: 10, silent_calls: 10,
+         pings_and_settings: 10, calls: 50}
 
 
 def broken_http(source, corpus):

@@ -1,6 +1,5 @@
 """csid and a front as processes, and clients that call fronts at the same time. Their calls are recorded as
-operations of a history. csid may be killed between two of its writes.
-"""
+operations of a history. csid may be killed between two of its writes."""
 
 import concurrent.futures
 import functools
@@ -104,8 +103,7 @@ def acts(method, words, model):
 
 class Caller:
     """A client that calls a front that serves. With `repeats` an operation is a call that is repeated until
-    its reply is heard; otherwise each try is an operation, and no try is repeated.
-    """
+    its reply is heard; otherwise each try is an operation, and no try is repeated."""
 
     def __init__(self, fronts, number, operations, repeats, source):
         self.fronts, self.number, self.operations = fronts, number, operations
@@ -154,8 +152,7 @@ class Caller:
 
     def calls(self, call, method, *words):
         """Makes a call, and records what it does to a model: this method with these words. Returns its reply,
-        or None if none was heard.
-        """
+        or None if none was heard."""
         self.connect()
         begun, until, reply = time.monotonic(), time.monotonic() + SECONDS, self.tries(call)
         while reply is None and self.repeats and time.monotonic() < until:
@@ -201,17 +198,11 @@ def works_on(caller, text, name):
     """A random call that works on a volume."""
     source = caller.source
     node, mutable = source.choice(("n1", "n2")), {source.choice("ij"): source.choice("12")}
-    source.choice(
-        (
-            lambda: caller.creates(name, source.choice(({}, mutable))),
-            lambda: caller.publishes(text, node, source.choice(KEYS), source.random() < 0.5),
-            lambda: caller.publishes(text, node, source.choice(KEYS), source.random() < 0.5),
-            lambda: caller.unpublishes(text, source.choice((node, ""))),
-            lambda: caller.modifies(text, mutable),
-            lambda: caller.deletes(text),
-            caller.lists,
-        )
-    )()
+    source.choice((lambda: caller.creates(name, source.choice(({}, mutable))),
+                   lambda: caller.publishes(text, node, source.choice(KEYS), source.random() < 0.5),
+                   lambda: caller.publishes(text, node, source.choice(KEYS), source.random() < 0.5),
+                   lambda: caller.unpublishes(text, source.choice((node, ""))),
+                   lambda: caller.modifies(text, mutable), lambda: caller.deletes(text), caller.lists))()
 
 
 def works_alone(caller, name):
@@ -242,14 +233,11 @@ def clears(caller):
 def record(fronts, seed, is_shared, is_killed):
     """Records a history of three clients: at most twelve calls at the same time, then one client removes all
     volumes. If the history is shared, the clients work on one volume, and each try is an operation. Otherwise
-    two clients work on a volume each, the third one reads, and each call with its repeats is an operation.
-    """
+    two clients work on a volume each, the third one reads, and each call with its repeats is an operation."""
     operations, source = [], random.Random(seed)
     own = Caller(fronts, 3, operations, True, random.Random("%s own" % seed))
-    callers = [
-        Caller(fronts, number, operations, not is_shared, random.Random("%s %d" % (seed, number)))
-        for number in range(3)
-    ]
+    callers = [Caller(fronts, number, operations, not is_shared, random.Random("%s %d" % (seed, number)))
+               for number in range(3)]
     if is_shared:
         text = id_in(own.creates("shared", {}))
         works = [(works_with_others, it, text, "shared") for it in callers]
@@ -273,8 +261,7 @@ def record(fronts, seed, is_shared, is_killed):
 def histories(fronts, count, seed=0):
     """Records this number of histories in turn, and looks for an order of each. Yields the number of the
     history, its operations, and the order or None. Every other history is shared, and during some a program
-    is killed. A history without an order is the last one, because the State after it is not known.
-    """
+    is killed. A history without an order is the last one, because the State after it is not known."""
     model = Model()
     for number in range(count):
         operations = record(fronts, "%s %d" % (seed, number), number % 2 == 0, number % 20 in fronts.killed)

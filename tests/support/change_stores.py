@@ -1,6 +1,5 @@
 """Change stores at a socket, as `csid serve --log` asks them (docs/PROTOCOL.md, "The change store"): the part
-that all share, and one that keeps rows.
-"""
+that all share, and one that keeps rows."""
 import os
 import socket
 import threading
@@ -12,9 +11,7 @@ OK = v.reply()
 
 
 class ChangeStore:
-    """A log on a socket, which leads until it is set otherwise. Each connection is answered by a thread of
-    its own.
-    """
+    """A log on a socket, which leads until it is set otherwise. Each connection has a thread."""
 
     def __init__(self, path):
         self.path, self.peers, self.leads = path, [], True
@@ -36,13 +33,11 @@ class ChangeStore:
         """Answers each call, until there is no reply to one."""
         with peer, peer.makefile("rb") as stream:
             while frame := next_frame(stream):
-                reply = (
-                    self.answer(*frame)
-                    if frame != (LEAD, b"")
-                    else OK
-                    if self.leads
-                    else v.refusal(9, "another leads")
-                )
+                reply = (self.answer(*frame)
+                         if frame != (LEAD, b"")
+                         else OK
+                         if self.leads
+                         else v.refusal(9, "another leads"))
                 if reply is None:
                     peer.shutdown(socket.SHUT_RDWR)
                     return
@@ -84,9 +79,8 @@ def meta(number, format_no=2):
 
 
 def volume(number, name, size, pool, caps, params=b""):
-    return v.msg(
-        2, v.num(1, number), v.txt(2, name), v.num(3, size), v.txt(4, pool), v.msg(5, caps), v.msg(6, params)
-    )
+    return v.msg(2, v.num(1, number), v.txt(2, name), v.num(3, size), v.txt(4, pool), v.msg(5, caps),
+                 v.msg(6, params))
 
 
 def attachment(number, node, cap, readonly=0):
@@ -132,11 +126,8 @@ class KeptChangeStore(ChangeStore):
 
     def rows(self):
         """The rows of volumes, of attachments and of meta, in order (docs/TABLES.md)."""
-        return (
-            [(number, *it) for number, it in sorted(self.volumes.items())],
-            [(*place, *it) for place, it in sorted(self.attachments.items())],
-            [(1, 2, self.next)],
-        )
+        return ([(number, *it) for number, it in sorted(self.volumes.items())],
+                [(*place, *it) for place, it in sorted(self.attachments.items())], [(1, 2, self.next)])
 
     def answer(self, path, message):
         if path == READ:

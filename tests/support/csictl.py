@@ -1,17 +1,17 @@
 """What the tests of csictl share: frames in hexadecimal, and csid on a socket of its own."""
 
 import os
+import pathlib
 import re
 import socket
 import subprocess
-import tempfile
-import time
 
-from tests.support.processes import SECONDS, TOP
+from tests.support.processes import SECONDS, TOP, wait
+from tests.support.server import NEW, Served
+from tests.vectors.messages import frame, refusal, reply
 
 
-with open(os.path.join(TOP, "VERSION"), encoding="utf-8") as version:
-    VERSION = version.read().strip()
+VERSION = pathlib.Path(TOP, "VERSION").read_text(encoding="utf-8").strip()
 
 
 class Line:
@@ -22,11 +22,9 @@ class Line:
 
     def __eq__(self, text):
         rest = text[len(self.begin) :]
-        return (
-            text.startswith(self.begin)
-            and text.index("\n") == len(text) - 1 > len(self.begin)
-            and all(part in rest for part in self.parts)
-        )
+        return (text.startswith(self.begin)
+                and text.index("\n") == len(text) - 1 > len(self.begin)
+                and all(part in rest for part in self.parts))
 
     def __repr__(self):
         return "a line %r.. with %s" % (self.begin, ", ".join(map(repr, self.parts)) or "something after it")
@@ -47,17 +45,11 @@ class Shown:
 
 def ok(body):
     """The frame of a reply with status 0."""
-    body = bytes.fromhex(body)
-    return bytes.fromhex("00 0000 00") + len(body).to_bytes(4, "big") + body
-
-
-def refusal(code, text):
-    return bytes([code]) + len(text).to_bytes(2, "big") + text.encode() + bytes.fromhex("00 00000000")
+    return reply(bytes.fromhex(body))
 
 
 def call(path, message):
-    path, message = path.encode(), bytes.fromhex(message)
-    return len(path).to_bytes(2, "big") + path + b"\0" + len(message).to_bytes(4, "big") + message
+    return frame(path, bytes.fromhex(message))
 
 
 IDENTITY, CONTROLLER = "/csi.v1.Identity/", "/csi.v1.Controller/"
@@ -79,57 +71,17 @@ def text(came):
     return came[0].decode(), came[1], came[2]
 
 
-class Server:
+class Server(Served):
     """csid on a socket of its own, over a file next to it."""
 
     def __init__(self, csid, path, *words, tables=None, shell=None, **how):
         self.path, self.tables = path, path + ".db" if tables is None else tables
-        command = [csid, "serve", "--socket", path, "--tables", self.tables] + list(words)
-        if shell:
-            command = ["sh", "-c", 'exec "$0" "$@" ' + shell] + command
-        self.said = tempfile.TemporaryFile()
-        self.process = subprocess.Popen(command, stdin=subprocess.DEVNULL, stderr=self.said, **how)
-        # Its first lines are of what the file has, or why that cannot be had (tests/csid has their rows).
-        begun = re.compile(
-            "(?m)^csid: (%s: volumes .*|out of memory|.*%s)\n" % (re.escape(self.tables), NO_FILE)
-        )
-        begin = time.monotonic()
-        while (
-            not (os.path.exists(path) if shell else begun.search(self.lines()))
-            and self.process.poll() is None
-            and time.monotonic() - begin < SECONDS
-        ):
-            time.sleep(0.01)
-
-    def lines(self):
-        return os.pread(self.said.fileno(), 1 << 20, 0).decode()
-
-    def connect(self):
-        peer = socket.socket(socket.AF_UNIX)
-        peer.settimeout(SECONDS)
-        # Its file is there a moment before it listens.
-        for _ in range(100):
-            try:
-                peer.connect(self.path)
-                break
-            except ConnectionRefusedError:
-                time.sleep(0.02)
-        return peer
-
-    def ask(self, given):
-        """What comes back for these bytes, to the end of the connection. Where csid closes it with calls
-        unread, the end is a reset.
-        """
-        with self.connect() as peer:
-            replies = b""
-            try:
-                peer.sendall(given)
-                peer.shutdown(socket.SHUT_WR)
-                while piece := peer.recv(4096):
-                    replies += piece
-            except (BrokenPipeError, ConnectionResetError):
-                pass
-            return replies
+        command = [csid, "serve", "--socket", path, "--tables", self.tables, *words]
+        self.begin(["sh", "-c", 'exec "$0" "$@" ' + shell, *command] if shell else command, **how)
+        # Its first line is of what the file has, or why that cannot be had.
+        begun = "(?m)^csid: (%s: volumes .*|out of memory|.*%s)\n" % (re.escape(self.tables), NO_FILE)
+        wait(lambda: (os.path.exists(path) if shell else re.search(begun, self.lines()))
+             or self.process.poll() is not None)
 
     def kill(self):
         """What it said until it was killed, and its status."""
@@ -140,9 +92,7 @@ class Server:
         """What it said, but for what the file had at the start, and its status."""
         self.process.wait(timeout=SECONDS)
         os.unlink(self.path)
-        held = "(?m)^csid: %s: (no tables were there, and new ones were made|volumes .*)\n" % re.escape(
-            self.tables
-        )
+        held = "(?m)^csid: %s: (%s|volumes .*)\n" % (re.escape(self.tables), NEW)
         return re.sub(held, "", self.lines()), self.process.returncode
 
 

@@ -1,8 +1,8 @@
 """The files of deploy/, read: units, the Nomad job and manifests. The job is read by patterns, since nothing
-here parses HCL.
-"""
+here parses HCL."""
 
 import os
+import pathlib
 import re
 import shlex
 import shutil
@@ -37,8 +37,7 @@ UNSHARE = ["unshare", "--pid", "--net", "--fork"]
 
 
 def read(name):
-    with open(os.path.join(DEPLOY, name)) as file:
-        return file.read()
+    return pathlib.Path(DEPLOY, name).read_text()
 
 
 def need(program):
@@ -66,8 +65,7 @@ def documents(name):
 
 class Unit:
     """A unit of systemd, maybe with a file of what differs: the values of its keys. An empty value takes
-    those before it away.
-    """
+    those before it away."""
 
     def __init__(self, name, *differences):
         text = "\n".join(re.sub(r"\\\n\s*", "", read(it)) for it in [name, *differences])
@@ -113,9 +111,8 @@ class Nomad:
         return found[0]
 
     def tasks(self):
-        return {
-            name: text for name, text in re.findall(r'\n    task "(\w+)" \{\n(.*?)\n    \}', self.text, re.S)
-        }
+        return {name: text
+                for name, text in re.findall(r'\n    task "(\w+)" \{\n(.*?)\n    \}', self.text, re.S)}
 
     def command(self, task):
         text = self.tasks()[task]
@@ -190,12 +187,10 @@ def shell(command):
 
 def etcd_commands():
     """The words of csid-etcd, csid and the front in each place that starts them over etcd, and of csid and
-    the front over a file there.
-    """
+    the front over a file there."""
     plainly = [Unit(name).words() for name in UNITS]
-    yield "the units over etcd", Unit(ETCD_UNIT).words(), *[
-        over_etcd(name).words() for name in UNITS
-    ], plainly
+    yield "the units over etcd", Unit(ETCD_UNIT).words(), *[over_etcd(name).words()
+                                                            for name in UNITS], plainly
     try:
         containers, others = Kubernetes(ETCD_MANIFEST).containers, Kubernetes().containers
     except unittest.SkipTest:
@@ -252,8 +247,7 @@ def need_namespaces():
 
 class Pod:
     """The containers of a manifest, each as the first process of a namespace of its own, with their folders
-    below another one.
-    """
+    below another one."""
 
     FOLDERS = r"(?<![\w/])/(?=(run/csid|var/lib/csid|etc/csid|csi)\b)"
 
@@ -266,8 +260,7 @@ class Pod:
         for container in manifest.containers.values():
             for mount in container["volumeMounts"]:
                 os.makedirs(folder + mount["mountPath"], exist_ok=True)
-        with open(folder + "/etc/csid/config.toml", "w") as file:
-            file.write(manifest.config())
+        pathlib.Path(folder + "/etc/csid/config.toml").write_text(manifest.config())
 
     def __enter__(self):
         return self
@@ -285,22 +278,18 @@ class Pod:
 
     def first_step(self):
         step = self.below(shell(self.manifest.first["new"]["command"]))
-        subprocess.run(
-            ["sh", "-c", step], env=self.variables(NEW="yes"), stdin=subprocess.DEVNULL, timeout=SECONDS
-        )
+        subprocess.run(["sh", "-c", step], env=self.variables(NEW="yes"), stdin=subprocess.DEVNULL,
+                       timeout=SECONDS)
 
     def start(self, name, others={}):
         """Starts the command of a container, some of whose words are others here."""
         container = self.manifest.containers[name]
         words = [others.get(word) or self.below(word) for word in container["command"]]
-        given = {
-            e["name"]: e["value"].replace("unix:///", "unix://" + self.folder + "/")
-            for e in container.get("env", [])
-            if "value" in e
-        }
-        self.processes[name] = subprocess.Popen(
-            UNSHARE + ["--kill-child"] + words, env=self.variables(**given), stderr=subprocess.DEVNULL
-        )
+        given = {e["name"]: e["value"].replace("unix:///", "unix://" + self.folder + "/")
+                 for e in container.get("env", [])
+                 if "value" in e}
+        self.processes[name] = subprocess.Popen(UNSHARE + ["--kill-child"] + words,
+                                                env=self.variables(**given), stderr=subprocess.DEVNULL)
 
     def ends(self, name):
         """Whether SIGTERM to the first process ends a container."""

@@ -1,7 +1,6 @@
 """Histories of calls that several clients make at the same time, and whether they are linearizable: whether
 one order of the calls, which keeps their real-time order, gives each reply (Herlihy and Wing,
-"Linearizability: a correctness condition for concurrent objects", ACM TOPLAS 12(3), 1990).
-"""
+"Linearizability: a correctness condition for concurrent objects", ACM TOPLAS 12(3), 1990)."""
 
 import collections
 import math
@@ -23,8 +22,7 @@ def linearization(operations, model):
     them; None without such an order. The order has all operations that were answered, and maybe others.
 
     The search is Wing and Gong's ("Testing and verifying concurrent objects", 1993): each operation that may
-    be first is tried, and no State with the same operations left is tried twice.
-    """
+    be first is tried, and no State with the same operations left is tried twice."""
     seen, ways = set(), [((), tuple(operations), model)]
     while ways:
         order, left, model = ways.pop()

@@ -42,9 +42,7 @@ def serves(pool, term):
 
 
 def has(volume, key):
-    """Whether a volume has a key: it was made with it, or with SINGLE for a key with SINGLE_WRITER or
-    MULTI_WRITER.
-    """
+    """Whether a volume has a key: its own, or SINGLE for a key with SINGLE_WRITER or MULTI_WRITER."""
     kind, fs, mode = key
     return key in volume.keys or mode in (SINGLE_WRITER, MULTI_WRITER) and (kind, fs, SINGLE) in volume.keys
 
@@ -67,8 +65,7 @@ def size_of(required, limit):
 
 class Model:
     """The volumes in the order of their numbers, and the attachments: a key and whether it is only read,
-    under a number and a node.
-    """
+    under a number and a node."""
 
     def __init__(self):
         self.next, self.volumes, self.attachments = 1, [], {}
@@ -96,13 +93,11 @@ class Model:
         volume = next((it for it in self.volumes if it.name == name), None)
         if volume:
             reachable = not requisite or any(serves(volume.pool, term) for term in requisite)
-            if not (
-                reachable
-                and required <= volume.bytes <= (limit or volume.bytes)
-                and all(has(volume, key) for key in keys)
-                and given == volume.parameters
-                and all(volume.mutable.get(key) == value for key, value in mutable.items())
-            ):
+            if not (reachable
+                    and required <= volume.bytes <= (limit or volume.bytes)
+                    and all(has(volume, key) for key in keys)
+                    and given == volume.parameters
+                    and all(volume.mutable.get(key) == value for key, value in mutable.items())):
                 return v.NOT_COMPATIBLE, "volume exists and is not compatible"
             pool = volume.pool
             return v.created(volume.number, volume.bytes, (pool.name, pool.zone)), "created again"
@@ -112,9 +107,8 @@ class Model:
         for term in preferred + (requisite or [{}]):
             for pool in POOLS:
                 if serves(pool, term) and self.free(pool) >= size:
-                    self.volumes.append(
-                        Volume(self.next, name, size, pool, sorted(set(keys)), given, mutable)
-                    )
+                    self.volumes.append(Volume(self.next, name, size, pool, sorted(set(keys)), given,
+                                               mutable))
                     self.next += 1
                     return v.created(self.next - 1, size, (pool.name, pool.zone)), "created"
         return v.NO_ROOM, "no room in the topology"
@@ -153,11 +147,9 @@ class Model:
             return v.READER if readonly else v.WRITER, "published again"
         if not has(volume, key):
             return v.NOT_OF_VOLUME, "volume does not have this capability"
-        if not all(
-            coexist(other, wanted)
-            for (number, _), other in self.attachments.items()
-            if number == volume.number
-        ):
+        if not all(coexist(other, wanted)
+                   for (number, _), other in self.attachments.items()
+                   if number == volume.number):
             return v.ELSEWHERE, "volume is published elsewhere"
         if sum(at == node for _, at in self.attachments) >= NODES[node]:
             return v.NODE_FULL, "node is full"
@@ -188,10 +180,8 @@ class Model:
         beyond = [it for it in self.volumes if it.number > int(token or 0)]
         there = beyond[: most or 100]
         then = str(there[-1].number) if len(there) < len(beyond) else ""
-        listed = [
-            v.listed(it.number, it.bytes, (it.pool.name, it.pool.zone), *self.nodes(it.number))
-            for it in there
-        ]
+        listed = [v.listed(it.number, it.bytes, (it.pool.name, it.pool.zone), *self.nodes(it.number))
+                  for it in there]
         what, numbers = "page" if then else "last page", [it.number for it in there]
         return v.page(*listed, next_token=then), what, numbers, then
 
@@ -206,12 +196,10 @@ class Model:
         names, at = [it.name for it in self.volumes], collections.Counter(
             node for _, node in self.attachments
         )
-        pairs = [
-            (one, other)
-            for (n, a), one in self.attachments.items()
-            for (m, b), other in self.attachments.items()
-            if n == m and a < b
-        ]
+        pairs = [(one, other)
+                 for (n, a), one in self.attachments.items()
+                 for (m, b), other in self.attachments.items()
+                 if n == m and a < b]
         if any(self.free(pool) < 0 for pool in POOLS):
             return "a pool is overcommitted"
         if len(set(names)) < len(names):
@@ -233,31 +221,14 @@ class Requests:
     def id(self):
         """The id of a volume that exists, mostly, or of another, or a text that is none."""
         number = self.one_of(*[it.number for it in self.model.volumes] or [self.model.next])
-        return self.one_of(
-            "vol-0%d" % number,
-            str(number),
-            "vol-%d" % self.random.randrange(self.model.next + 2),
-            *["vol-%d" % number] * 13,
-        )
+        return self.one_of("vol-0%d" % number, str(number),
+                           "vol-%d" % self.random.randrange(self.model.next + 2), *["vol-%d" % number] * 13)
 
     def key(self, modes=(SINGLE, SHARED, SINGLE_WRITER, MULTI_WRITER)):
         if self.one_of(*range(6)):
-            return (
-                0,
-                "",
-                self.one_of(
-                    SINGLE,
-                    SINGLE,
-                    SHARED,
-                    SHARED,
-                    SHARED,
-                    ONE_WRITER,
-                    ONE_WRITER,
-                    WRITERS,
-                    SINGLE_WRITER,
-                    MULTI_WRITER,
-                ),
-            )
+            return (0, "",
+                    self.one_of(SINGLE, SINGLE, SHARED, SHARED, SHARED, ONE_WRITER, ONE_WRITER, WRITERS,
+                                SINGLE_WRITER, MULTI_WRITER))
         return 1, self.one_of("", "ext4"), self.one_of(*modes)
 
     def keys(self, least):
@@ -272,46 +243,34 @@ class Requests:
         return self.one_of({}, {"i": value}, {"j": value}, {"i": "1", "j": value})
 
     def term(self):
-        term = (
-            {}
-            if self.one_of(*range(5)) == 0
-            else {self.one_of("zone", "ZONE", "Zone"): self.one_of("a", "b", "b", "a", "A")}
-        )
+        term = ({}
+                if self.one_of(*range(5)) == 0
+                else {self.one_of("zone", "ZONE", "Zone"): self.one_of("a", "b", "b", "a", "A")})
         return {"rack": "1", **term} if self.one_of(*range(5)) == 0 else term
 
     def range(self):
         size, more = self.random.randrange(10) * MIB, self.one_of(0, 500_000, 1_000_000)
-        return self.one_of(
-            (size, 0), (0, size + more), (size + more, size), (size, size + more), (0, 0), (0, 0)
-        )
+        return self.one_of((size, 0), (0, size + more), (size + more, size), (size, size + more), (0, 0),
+                           (0, 0))
 
     def topology(self):
         """The requisite and the preferred terms: one term of one kind, or a preferred term that is the first
-        of two requisite ones.
-        """
+        of two requisite ones."""
         one, other = self.term(), self.term()
         return self.one_of(([one], []), ([], [one]), ([one, other], [one]), *[([], [])] * 6)
 
     def create(self):
-        name, (required, limit), keys, given, (requisite, preferred) = (
-            self.one_of(*"abcdefghijkl"),
-            self.range(),
-            self.keys(3),
-            self.given(),
-            self.topology(),
-        )
+        name, (required, limit), keys, given, (requisite, preferred) = (self.one_of(*"abcdefghijkl"),
+                                                                        self.range(), self.keys(3),
+                                                                        self.given(), self.topology())
         terms = [v.requisite(entries(v.segment, term)) for term in requisite] + [
             v.preferred(entries(v.segment, term)) for term in preferred
         ]
         mutable = self.one_of({}, {}, self.mutable())
-        call = v.create(
-            v.name(name),
-            v.size(v.required(required), v.limit(limit)) if required or limit else b"",
-            capabilities(keys),
-            entries(v.parameter, given),
-            v.topology(*terms) if terms else b"",
-            entries(v.mutable, mutable),
-        )
+        call = v.create(v.name(name),
+                        v.size(v.required(required), v.limit(limit)) if required or limit else b"",
+                        capabilities(keys), entries(v.parameter, given), v.topology(*terms) if terms else b"",
+                        entries(v.mutable, mutable))
         return call, *self.model.create(name, required, limit, keys, given, mutable, requisite, preferred)
 
     def modify(self):
@@ -323,15 +282,10 @@ class Requests:
         return v.delete(v.vol(text)), *self.model.delete(text)
 
     def publish(self):
-        text, node, key, readonly = (
-            self.id(),
-            self.one_of("n1", "n2", "n1", "n2", "n3"),
-            self.key(),
-            self.one_of(*range(3)) == 0,
-        )
-        return v.publish(
-            v.vol(text), v.node(node), v.cap(capability(key)), v.READONLY if readonly else b""
-        ), *self.model.publish(text, node, key, readonly)
+        text, node, key, readonly = (self.id(), self.one_of("n1", "n2", "n1", "n2", "n3"), self.key(),
+                                     self.one_of(*range(3)) == 0)
+        return v.publish(v.vol(text), v.node(node), v.cap(capability(key)),
+                         v.READONLY if readonly else b""), *self.model.publish(text, node, key, readonly)
 
     def unpublish(self):
         text, node = self.id(), self.one_of("n1", "n2", "", "n3")
@@ -346,28 +300,17 @@ class Requests:
     def listing(self):
         most, number = self.one_of(0, 1, 2, 3, 5, 100), self.random.randrange(self.model.next + 2)
         token = self.one_of("", "", str(number), "0%d" % number)
-        return (
-            v.listing(v.max_entries(most) if most else b"", v.starting_token(token) if token else b""),
-            *self.model.listing(most, token)[:2],
-        )
+        return (v.listing(v.max_entries(most) if most else b"", v.starting_token(token) if token else b""),
+                *self.model.listing(most, token)[:2])
 
     def capacity(self):
-        keys, term = [
-            self.key((SINGLE, SHARED, WRITERS, MULTI_WRITER)) for _ in range(self.random.randrange(3))
-        ], self.one_of(None, self.term())
+        keys, term = [self.key((SINGLE, SHARED, WRITERS, MULTI_WRITER))
+                      for _ in range(self.random.randrange(3))], self.one_of(None, self.term())
         within = v.within(entries(v.segment, term)) if term is not None else b""
         return v.capacity(*[v.msg(1, capability(key)) for key in keys], within), *self.model.capacity(
             keys, term
         )
 
     def next(self):
-        return self.one_of(
-            *[self.create] * 6,
-            *[self.delete] * 2,
-            *[self.publish] * 5,
-            *[self.unpublish] * 2,
-            *[self.modify] * 2,
-            *[self.validate] * 2,
-            *[self.listing] * 2,
-            self.capacity,
-        )()
+        return self.one_of(*[self.create] * 6, *[self.delete] * 2, *[self.publish] * 5, *[self.unpublish] * 2,
+                           *[self.modify] * 2, *[self.validate] * 2, *[self.listing] * 2, self.capacity)()

@@ -100,9 +100,7 @@ def next_call(calls):
 
 
 class Pages(PlayedServer):
-    """A server that answers the calls of each connection in order. At CLOSED it closes the connection
-    instead.
-    """
+    """A server that answers the calls of each connection in order; at CLOSED it closes the connection."""
 
     def play(self, peer, part):
         with peer, peer.makefile("rb") as calls:

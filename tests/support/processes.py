@@ -2,6 +2,7 @@
 
 import contextlib
 import os
+import pathlib
 import resource
 import shutil
 import socket
@@ -13,6 +14,9 @@ import unittest
 TOP = os.path.dirname(os.path.dirname(os.path.dirname(os.path.abspath(__file__))))
 
 SECONDS = 30
+
+# The lines of the programs in Go begin with their names, as where the journal keeps them.
+os.environ["JOURNAL_STREAM"] = "8:1"
 
 
 # Where the built programs are. An environment variable of the same name in capitals, "_" for "-", names
@@ -40,6 +44,11 @@ def program(name):
     return path
 
 
+def fixture(name):
+    """The bytes of a file of tests/fixtures."""
+    return read(os.path.join(TOP, "tests", "fixtures", name))
+
+
 class Shown:
     """What goes to standard output where it is asked for: it ends a line, and has each of these parts."""
 
@@ -58,13 +67,8 @@ DENIED = "Permission denied (os error 13)"
 
 
 def run(command, **streams):
-    done = subprocess.run(
-        command,
-        stdout=streams.pop("stdout", subprocess.PIPE),
-        stderr=subprocess.PIPE,
-        timeout=SECONDS,
-        **streams,
-    )
+    done = subprocess.run(command, stdout=streams.pop("stdout", subprocess.PIPE), stderr=subprocess.PIPE,
+                          timeout=SECONDS, **streams)
     return done.stdout or b"", done.stderr.decode(errors="replace"), done.returncode
 
 
@@ -184,13 +188,11 @@ def has_ended(peer, within):
 
 
 def write(path, text):
-    with open(path, "wb") as file:
-        file.write(text)
+    pathlib.Path(path).write_bytes(text)
 
 
 def read(path):
-    with open(path, "rb") as file:
-        return file.read()
+    return pathlib.Path(path).read_bytes()
 
 
 @contextlib.contextmanager
@@ -212,8 +214,7 @@ def small_disk(folder):
 
 def copy_for_nobody(csid, folder):
     """A copy of csid that the user `nobody` can run, and how to run it: root has every right, so it becomes
-    `nobody`. If that is impossible, the test is skipped.
-    """
+    `nobody`. If that is impossible, the test is skipped."""
     os.chmod(folder, 0o777)
     copy = shutil.copy(csid, os.path.join(folder, "csid"))
     os.chmod(copy, 0o755)

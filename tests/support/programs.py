@@ -1,10 +1,10 @@
-"""The built programs as processes for tests/faults, an etcd, and connections to them; and the findings.
-"""
+"""The built programs as processes for tests/faults, an etcd, and connections to them; and the findings."""
 import base64
 import collections
 import http.client
 import json
 import os
+import pathlib
 import random
 import re
 import select
@@ -16,19 +16,8 @@ import threading
 import time
 
 from tests.support import etcd
-from tests.support.broken import (
-    DATA,
-    END,
-    GOAWAY,
-    HELLO,
-    RESET,
-    WINDOW,
-    enveloped,
-    h2,
-    head,
-    message_frames,
-    replies_in,
-)
+from tests.support.broken import (DATA, END, GOAWAY, HELLO, RESET, WINDOW, enveloped, h2, head,
+                                  message_frames, replies_in)
 from tests.support.processes import SECONDS, wait
 from tests.vectors import messages as v
 
@@ -78,14 +67,9 @@ class Run:
                 return is_so
             Run.failed += 1
             path = os.path.join(self.folder, "input-%d-%d" % (self.number, Run.failed))
-            with open(path, "wb") as file:
-                file.write(shown if isinstance(shown, bytes) else repr(shown).encode())
-            place = "%s --seed %d, input %d, after %d s" % (
-                self.part,
-                self.asked.seed,
-                self.number,
-                time.monotonic() - self.begun,
-            )
+            pathlib.Path(path).write_bytes(shown if isinstance(shown, bytes) else repr(shown).encode())
+            place = "%s --seed %d, input %d, after %d s" % (self.part, self.asked.seed, self.number,
+                                                            time.monotonic() - self.begun)
             print("failed: %s: %s: %s" % (place, what, path), flush=True)
         return is_so
 
@@ -105,13 +89,8 @@ class Program:
     """A program with a socket, which is started again where it ended."""
 
     def __init__(self, run, socket_name, *words, clocks=None, **how):
-        self.run, self.socket, self.words, self.clocks, self.how = (
-            run,
-            run.path(socket_name),
-            words,
-            clocks,
-            how,
-        )
+        self.run, self.socket, self.words, self.clocks, self.how = (run, run.path(socket_name), words, clocks,
+                                                                    how)
         self.said, self.process = open(run.path(socket_name + ".said"), "ab+"), None
         self.start()
 
@@ -122,17 +101,10 @@ class Program:
             self.clocks()
         # With a function before its beginning it is forked, and so comes into the namespace of clocks.
         forked = {"preexec_fn": lambda: None} if self.clocks else {}
-        self.process = subprocess.Popen(
-            self.words,
-            stdin=subprocess.DEVNULL,
-            stdout=subprocess.DEVNULL,
-            stderr=self.said,
-            **forked,
-            **self.how
-        )
-        self.run.check(
-            "%s makes its socket" % self.words[0], wait(lambda: self.has_ended() or connected(self.socket))
-        )
+        self.process = subprocess.Popen(self.words, stdin=subprocess.DEVNULL, stdout=subprocess.DEVNULL,
+                                        stderr=self.said, **forked, **self.how)
+        self.run.check("%s makes its socket" % self.words[0],
+                       wait(lambda: self.has_ended() or connected(self.socket)))
         if self.clocks and not self.has_ended():
             self.run.check(
                 "it has clocks of its own",
@@ -165,9 +137,8 @@ class Program:
 
     def is_well(self, most, shown):
         """Whether it runs, within its memory."""
-        if not self.run.check(
-            "%s ended, and said %r" % (self.words[0], self.lines()[-1:]), not self.has_ended(), shown
-        ):
+        if not self.run.check("%s ended, and said %r" % (self.words[0], self.lines()[-1:]),
+                              not self.has_ended(), shown):
             return self.start()
         self.run.peaks[os.path.basename(self.words[0])] = max(
             self.peak(), self.run.peaks[os.path.basename(self.words[0])]
@@ -214,23 +185,19 @@ class Etcd(etcd.Etcd):
             return "header" in told
 
         assert wait(tells, pause=0.1), "etcd does not answer"
-        return {
-            base64.b64decode(it["key"]).decode(): (base64.b64decode(it.get("value", "")), it["mod_revision"])
-            for it in told.get("kvs", [])
-        }
+        return {base64.b64decode(it["key"]).decode(): (base64.b64decode(it.get("value", "")),
+                                                       it["mod_revision"])
+                for it in told.get("kvs", [])}
 
     def rows(self, **how):
         """Each row, with its revision."""
-        return {
-            key: it
-            for key, it in self.ask("range", NAME.encode() + b"/", **how).items()
-            if not key.startswith(NAME + "/lock/")
-        }
+        return {key: it
+                for key, it in self.ask("range", NAME.encode() + b"/", **how).items()
+                if not key.startswith(NAME + "/lock/")}
 
     def revisions(self):
         """The revision of each row, which each write raises. Rows may be some MiB each, and are not asked
-        for.
-        """
+        for."""
         return {key: revision for key, (_, revision) in self.rows(keys_only=True).items()}
 
     def locks(self):
@@ -303,8 +270,7 @@ class Frames:
         if len(begin) < 3 or len(text) < 5:
             raise OSError("closed unanswered")
         return (None if begin[0] else self.input.read(int.from_bytes(text[-4:], "big"))), "%d %s" % (
-            begin[0],
-            text[:-5].decode(),
+            begin[0], text[:-5].decode()
         )
 
     def close(self):
@@ -314,8 +280,7 @@ class Frames:
 
 class Grpc:
     """A client of gRPC, with one call after the other: a body, or None where the call is refused. It knows no
-    compressed headers, and so no status.
-    """
+    compressed headers, and so no status."""
 
     def __init__(self, path, seconds):
         self.peer, self.stream = connected(path, seconds), -1
@@ -328,12 +293,8 @@ class Grpc:
         begin = self.input.read(9)
         if len(begin) < 9:
             raise OSError("closed")
-        return (
-            begin[3],
-            begin[4],
-            int.from_bytes(begin[5:], "big"),
-            self.input.read(int.from_bytes(begin[:3], "big")),
-        )
+        return (begin[3], begin[4], int.from_bytes(begin[5:], "big"),
+                self.input.read(int.from_bytes(begin[:3], "big")))
 
     def call(self, path, message):
         self.stream, body = self.stream + 2, b""

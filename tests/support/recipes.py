@@ -6,6 +6,7 @@ import functools
 import glob
 import json
 import os
+import pathlib
 import re
 import shutil
 import signal
@@ -38,8 +39,7 @@ OWNER = (4711, 4712) if os.geteuid() == 0 else (os.geteuid(), os.getegid())
 
 @functools.lru_cache()
 def page(name="OPERATING.md"):
-    with open(os.path.join(TOP, "docs", name)) as file:
-        return file.read()
+    return pathlib.Path(TOP, "docs", name).read_text()
 
 
 def blocks(heading, name="OPERATING.md"):
@@ -55,9 +55,7 @@ def stands(text):
 
 
 def config(pools, nodes):
-    """A configuration of pools, each with its MiB and its zone, and of nodes, each with its number of
-    volumes.
-    """
+    """A configuration of pools, with their MiB and zones, and nodes, with their numbers of volumes."""
     text = (
         'name = "pools.example.org"\nvendor_version = "1.0.0"\ndefault_bytes = %d\ngreatest_bytes = %d\n'
         % (MIB, 8 * MIB)
@@ -74,11 +72,8 @@ class Control:
 
     def __init__(self, top):
         self.top = top
-        self.socket, self.tables, self.log = (
-            top + "/run/csid/csid.sock",
-            top + "/var/lib/csid/volumes.db",
-            top + "/run/csid-etcd/log.sock",
-        )
+        self.socket, self.tables, self.log = (top + "/run/csid/csid.sock", top + "/var/lib/csid/volumes.db",
+                                              top + "/run/csid-etcd/log.sock")
         # If it exists, csid has the option of deploy/etcd.d/csid.conf.
         self.over_etcd = top + "/over-etcd"
 
@@ -87,42 +82,20 @@ class Control:
 
     def command(self, unit):
         if unit == "csid":
-            kept = (
-                ["--log", self.log]
-                if os.path.exists(self.over_etcd)
-                else ["--tables", self.tables, "--existing"]
-            )
-            return [
-                "csid",
-                "serve",
-                "--socket",
-                self.socket,
-                *kept,
-                "--config",
-                self.top + "/etc/csid/config.toml",
-            ]
+            kept = (["--log", self.log]
+                    if os.path.exists(self.over_etcd)
+                    else ["--tables", self.tables, "--existing"])
+            return ["csid", "serve", "--socket", self.socket, *kept, "--config",
+                    self.top + "/etc/csid/config.toml"]
         if unit == "csid-etcd":
-            return [
-                "csid-etcd",
-                "--name",
-                PLUGIN,
-                "--listen",
-                self.log,
-                "--endpoints",
-                os.environ["ENDPOINTS"],
-                "--existing",
-            ]
-        return [
-            self.top + "/usr/local/bin/front",
-            self.socket,
-            os.path.join(self.top, "frames"),
-            os.path.join(self.top, "answered"),
-        ]
+            return ["csid-etcd", "--name", PLUGIN, "--listen", self.log, "--endpoints",
+                    os.environ["ENDPOINTS"], "--existing"]
+        return [self.top + "/usr/local/bin/front", self.socket, os.path.join(self.top, "frames"),
+                os.path.join(self.top, "answered")]
 
     def runs(self, unit):
         try:
-            with open(self.pid_file(unit)) as file:
-                pid = int(file.read())
+            pid = int(pathlib.Path(self.pid_file(unit)).read_text())
             with open("/proc/%d/stat" % pid) as file:
                 return pid if file.read().rsplit(") ", 1)[1][0] != "Z" else None
         except FileNotFoundError:
@@ -137,15 +110,9 @@ class Control:
         with contextlib.suppress(FileNotFoundError):
             os.unlink(ready)
         with open(self.lines(unit), "wb") as errors:
-            process = subprocess.Popen(
-                self.command(unit),
-                stdin=subprocess.DEVNULL,
-                stdout=subprocess.DEVNULL,
-                stderr=errors,
-                start_new_session=True,
-            )
-        with open(self.pid_file(unit), "w") as file:
-            file.write(str(process.pid))
+            process = subprocess.Popen(self.command(unit), stdin=subprocess.DEVNULL,
+                                       stdout=subprocess.DEVNULL, stderr=errors, start_new_session=True)
+        pathlib.Path(self.pid_file(unit)).write_text(str(process.pid))
         wait(lambda: os.path.exists(ready) or process.poll() is not None)
         if unit == "csid-etcd":
             wait(lambda: "csid-etcd: leads, " in read(self.lines(unit)) or process.poll() is not None)
@@ -212,21 +179,14 @@ class Cluster(Control):
         open(self.pods + "csid-tables", "x").close()
 
     def begin_statefulset(self):
-        """The file is made where the ConfigMap and the first step say so. A pod whose check fails serves
-        nothing.
-        """
+        """The file is made where the ConfigMap and the first step say so."""
         self.configure()
         for first in self.object("statefulset")["spec"]["template"]["spec"]["initContainers"]:
-            below = [
-                re.sub("/var/lib/csid|/etc/csid", lambda it: self.top + it.group(), word)
-                for word in first["command"]
-            ]
-            subprocess.run(
-                below[below.index("--") + 1 :],
-                env={**os.environ, "NEW": self.object("configmap")["data"].get("new", "")},
-                stdout=subprocess.DEVNULL,
-                check=True,
-            )
+            below = [re.sub("/var/lib/csid|/etc/csid", lambda it: self.top + it.group(), word)
+                     for word in first["command"]]
+            subprocess.run(below[below.index("--") + 1 :],
+                           env={**os.environ, "NEW": self.object("configmap")["data"].get("new", "")},
+                           stdout=subprocess.DEVNULL, check=True)
         self.begin_units("csid", "csid-front")
 
     def begin_deployment(self):
@@ -248,19 +208,12 @@ class Cluster(Control):
             self.start(unit)
 
     def scale(self, *words):
-        """The pod ends after this call, and answers further calls until then. A further call starts the
-        StatefulSet's pod again.
-        """
+        """The pod ends after this call, and answers calls until then. A further call starts it again."""
         if words == ("statefulset", "csid", "--replicas", "1"):
             return self.begin_statefulset()
         assert words[1:] == ("csid", "--replicas", "0") and os.path.exists(self.objects + words[0]), words
-        subprocess.Popen(
-            [sys.argv[0], "--namespace", "csid", "end_units"],
-            stdin=subprocess.DEVNULL,
-            stdout=subprocess.DEVNULL,
-            stderr=subprocess.DEVNULL,
-            start_new_session=True,
-        )
+        subprocess.Popen([sys.argv[0], "--namespace", "csid", "end_units"], stdin=subprocess.DEVNULL,
+                         stdout=subprocess.DEVNULL, stderr=subprocess.DEVNULL, start_new_session=True)
 
     def end_units(self):
         """csid is ended within a connection, so the last changes are only in the log of its file."""
@@ -272,8 +225,7 @@ class Cluster(Control):
         self.start("csid-front")
         for unit in ["csid", "csid-front", "csid-etcd"]:
             self.stop(unit)
-        with open(frames, "w") as file:
-            file.write(kept)
+        pathlib.Path(frames).write_text(kept)
         with contextlib.suppress(FileNotFoundError):
             os.unlink(self.over_etcd)
         os.unlink(self.pods + "csid-0")
@@ -290,11 +242,8 @@ class Cluster(Control):
         """A command next to the claim; it has an input where it is asked for one."""
         *options, pod = words[: words.index("--")]
         assert os.path.exists(self.pods + pod), pod
-        sys.exit(
-            subprocess.run(
-                words[words.index("--") + 1 :], stdin=None if "--stdin" in options else subprocess.DEVNULL
-            ).returncode
-        )
+        sys.exit(subprocess.run(words[words.index("--") + 1 :],
+                                stdin=None if "--stdin" in options else subprocess.DEVNULL).returncode)
 
     def get(self, *words):
         assert words == ("configmap", "csid", "--output", r"jsonpath={.data.config\.toml}"), words
@@ -328,8 +277,7 @@ def be_front(path, frames, answered):
 
 
 def read(path):
-    with open(path) as file:
-        return file.read()
+    return pathlib.Path(path).read_text()
 
 
 def wait(happens):
@@ -349,13 +297,8 @@ class Place:
         for folder in FOLDERS:
             os.makedirs(self.top + folder)
         os.chown(self.folder, *OWNER)
-        for name, target in [
-            ("csictl", csictl),
-            ("csid", csid),
-            ("systemctl", ME),
-            ("front", ME),
-            *more.items(),
-        ]:
+        for name, target in [("csictl", csictl), ("csid", csid), ("systemctl", ME), ("front", ME),
+                             *more.items()]:
             os.symlink(os.path.realpath(target), self.top + "/usr/local/bin/" + name)
         self.variables = {
             **os.environ,
@@ -368,10 +311,8 @@ class Place:
             self.make()
 
     def make(self):
-        self.must(
-            "csid pipe --tables /var/lib/csid/volumes.db --config /etc/csid/config.toml < /dev/null;"
-            " systemctl start csid"
-        )
+        self.must("csid pipe --tables /var/lib/csid/volumes.db --config /etc/csid/config.toml < /dev/null;"
+                  " systemctl start csid")
 
     def __enter__(self):
         return self
@@ -381,8 +322,7 @@ class Place:
         shutil.rmtree(self.top)
 
     def configure(self, pools, nodes, ending=".new"):
-        with open(self.top + "/etc/csid/config.toml" + ending, "w") as file:
-            file.write(config(pools, nodes))
+        pathlib.Path(self.top + "/etc/csid/config.toml" + ending).write_text(config(pools, nodes))
 
     def front_calls(self, *calls, name="frames"):
         """What csid-front calls once it is started."""
@@ -391,26 +331,16 @@ class Place:
                 file.write(self.frame(*words).hex() + "\n")
 
     def frame(self, *words):
-        return subprocess.run(
-            [self.top + "/usr/local/bin/csictl", "frame", "--method", *words], capture_output=True, check=True
-        ).stdout
+        return subprocess.run([self.top + "/usr/local/bin/csictl", "frame", "--method", *words],
+                              capture_output=True, check=True).stdout
 
     def shell(self, text, **variables):
         """What bash says to commands, below the folder of this place, and its status."""
-        text = re.sub(
-            r"(?<![\w/.$])(%s)(?=[/\s;\"']|-)" % "|".join(FOLDERS),
-            lambda found: self.top + found.group(1),
-            text,
-        )
-        done = subprocess.run(
-            ["bash", "-euo", "pipefail", "-c", text],
-            env={**self.variables, **variables},
-            cwd=self.top,
-            stdin=subprocess.DEVNULL,
-            capture_output=True,
-            text=True,
-            timeout=3 * SECONDS,
-        )
+        text = re.sub(r"(?<![\w/.$])(%s)(?=[/\s;\"']|-)" % "|".join(FOLDERS),
+                      lambda found: self.top + found.group(1), text)
+        done = subprocess.run(["bash", "-euo", "pipefail", "-c", text], env={**self.variables, **variables},
+                              cwd=self.top, stdin=subprocess.DEVNULL, capture_output=True, text=True,
+                              timeout=3 * SECONDS)
         return done.stdout, done.stderr.replace(self.top, ""), done.returncode
 
     def must(self, text):
@@ -437,8 +367,7 @@ class Place:
     def orchestrator(self, volumes, attachments):
         """The files of what the orchestrator has, in the folder of the file."""
         for name, text in [("orchestrator", volumes), ("attached", attachments)]:
-            with open(self.folder + name, "w") as file:
-                file.write(text)
+            pathlib.Path(self.folder + name).write_text(text)
 
     def copies(self):
         """The one folder below /root."""
@@ -455,10 +384,8 @@ class Place:
     def rows(self, path="volumes.db"):
         """The numbers and names of the volumes of a file, and its next number."""
         with contextlib.closing(sqlite3.connect(os.path.join(self.folder, path), timeout=SECONDS)) as file:
-            return (
-                dict(file.execute("SELECT number, name FROM volumes")),
-                file.execute("SELECT next_number FROM meta").fetchone()[0],
-            )
+            return (dict(file.execute("SELECT number, name FROM volumes")),
+                    file.execute("SELECT next_number FROM meta").fetchone()[0])
 
 
 def create(name, zone="a", key="zone"):
@@ -483,12 +410,8 @@ class Etcd(etcd.Etcd):
         wait(lambda: self.ctl("endpoint", "health").returncode == 0)
 
     def ctl(self, *words):
-        return subprocess.run(
-            ["etcdctl", "--endpoints", self.endpoint, *words],
-            env={**os.environ, "ETCDCTL_API": "3"},
-            capture_output=True,
-            text=True,
-        )
+        return subprocess.run(["etcdctl", "--endpoints", self.endpoint, *words],
+                              env={**os.environ, "ETCDCTL_API": "3"}, capture_output=True, text=True)
 
     def __enter__(self):
         return self

@@ -1,6 +1,5 @@
 """Replicas of csid over etcd as processes: csid-etcd, csid, and a front for each. They can be killed and
-started again.
-"""
+started again."""
 
 import itertools
 import os
@@ -104,8 +103,7 @@ class Stacks(Fronts):
     serve.
 
     A change without a reply is made before the next call is served, or never (docs/PROTOCOL.md, "The change
-    store"): so a call ends when its client gives it up, although csid-etcd may still make its change.
-    """
+    store"): so a call ends when its client gives it up, although csid-etcd may still make its change."""
 
     # Three histories in ten, as many of each kind.
     killed = (2, 5, 8, 11, 14, 17)
@@ -133,9 +131,7 @@ class Stacks(Fronts):
         return next(it for it in self.both if it.control == self.paths[0])
 
     def kill(self):
-        """Ends csid or csid-etcd of the stack that serves, or stops its csid-etcd for longer than its lease;
-        and starts it again.
-        """
+        """Ends csid or csid-etcd of the stack that serves, or stops its csid-etcd for a while; starts it."""
         leader, fault = self.leads(), next(self.faults)
         self.takeovers += leader is not self.leader
         self.leader = leader

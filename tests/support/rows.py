@@ -1,12 +1,17 @@
 """Tests whose cases are rows of data."""
 
 import os
+import pathlib
+import re
+import shutil
 import signal
 import tempfile
 import unittest
 import warnings
 
-from tests.support.processes import SECONDS, place, program
+from tests.support.processes import SECONDS, TOP, place, program, write
+from tests.support.server import Server
+from tests.support.tables import Tables
 
 MOST_SHOWN = 300
 
@@ -23,12 +28,37 @@ def fail_late(*_):
     raise TimeoutError("the test took too long")
 
 
+def each(rows):
+    """Makes a test of each row: a method of its columns becomes methods that end in the first column."""
+
+    def mark(method):
+        method.rows = [row if isinstance(row, tuple) else (row,) for row in rows]
+        return method
+
+    return mark
+
+
+def test_of(method, row):
+    def test(self):
+        with self.subTest(name=row[0]):
+            method(self, *row)
+
+    test.__doc__ = method.__doc__
+    return test
+
+
 class RowTest(unittest.TestCase):
-    """A test whose cases are rows, with a folder of its own. It fails where it takes longer than `longest`
-    seconds.
-    """
+    """A test whose cases are rows, with a folder of its own, of at most `longest` seconds."""
 
     longest = 10 * SECONDS
+
+    def __init_subclass__(cls):
+        for name, method in list(vars(cls).items()):
+            for number, row in enumerate(getattr(method, "rows", ())):
+                own = "%s_%s" % (name, re.sub(r"\W+", "_", str(row[0])).strip("_"))
+                setattr(cls, own if own not in vars(cls) else "%s_%d" % (own, number), test_of(method, row))
+            if hasattr(method, "rows"):
+                delattr(cls, name)
 
     def setUp(self):
         folder = tempfile.TemporaryDirectory()
@@ -50,28 +80,45 @@ class RowTest(unittest.TestCase):
 class FilesTest(RowTest):
     """A test with files of its own in its folder."""
 
+    def put(self, fixture):
+        """Copies a folder of tests/fixtures. Sources and lists of crates have a further `.txt` there, as
+        those names are the repository's own."""
+        shutil.copytree(os.path.join(TOP, "tests", "fixtures", fixture), self.folder, dirs_exist_ok=True)
+        for at, _, names in os.walk(self.folder):
+            for name in names:
+                if name.endswith((".rt.txt", ".txt.txt")):
+                    os.rename(os.path.join(at, name), os.path.join(at, name.removesuffix(".txt")))
+
     def write(self, name, text):
         path = os.path.join(self.folder, name)
         os.makedirs(os.path.dirname(path), exist_ok=True)
-        with open(path, "w", encoding="utf-8") as file:
-            file.write(text)
+        pathlib.Path(path).write_text(text, encoding="utf-8")
 
     def read(self, name):
-        with open(os.path.join(self.folder, name), encoding="utf-8") as file:
-            return file.read()
+        return pathlib.Path(self.folder, name).read_text(encoding="utf-8")
 
 
 class CsidTest(RowTest):
-    """A test of csid."""
+    """A test of csid, with tables in its folder."""
 
     def setUp(self):
         super().setUp()
         self.csid = program("csid")
+        self.tables, self.config = Tables(self.csid, self.folder), os.path.join(self.folder, "config.toml")
+
+    def serve(self, *words, **how):
+        """A server over the tables, which ends with the test."""
+        server = Server(self.csid, self.folder, *words, **how)
+        self.addCleanup(server.end)
+        return server
+
+    def configure(self, content):
+        """Writes the configuration. Returns its path."""
+        write(self.config, content)
+        return self.config
 
 
 class CsictlTest(CsidTest):
-    """A test of csictl, and of csid where it is asked."""
-
     def setUp(self):
         super().setUp()
         self.csictl = program("csictl")

@@ -1,6 +1,5 @@
 """Runs the classes of a suite side by side, each in a process of its own, as many at a time as there are
-processors.
-"""
+processors."""
 
 import collections
 import concurrent.futures

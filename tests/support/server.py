@@ -1,6 +1,7 @@
 """`csid serve` as a process, and its lines on standard error."""
 
 import collections
+import contextlib
 import os
 import re
 import signal
@@ -8,6 +9,7 @@ import socket
 import subprocess
 import tempfile
 import threading
+import time
 
 from tests.support.processes import SECONDS, statuses, wait
 
@@ -30,44 +32,58 @@ GONE = "csid: a connection whose peer had gone was closed\n"
 CROWDED = "csid: a connection that had sent no call was closed, as too many wait\n"
 
 
-class Server:
-    """csid on a socket next to its file; what it says goes to a file."""
+def received(peer):
+    """All that comes, to the end of a connection. The end is a reset if csid closes it with calls unread."""
+    replies = b""
+    with contextlib.suppress(ConnectionResetError):
+        while piece := peer.recv(1 << 16):
+            replies += piece
+    return replies
 
-    def __init__(self, csid, folder, *words, tables=None, **how):
-        self.path, self.tables = os.path.join(folder, "csid.sock"), tables or os.path.join(
-            folder, "volumes.db"
-        )
+
+class Served:
+    """A csid with a socket at `path`. What it says goes to a file."""
+
+    def begin(self, words, **how):
         self.said = tempfile.TemporaryFile()
-        self.process = subprocess.Popen(
-            [csid, "serve", "--socket", self.path, "--tables", self.tables] + list(words),
-            stdin=subprocess.DEVNULL,
-            stdout=subprocess.DEVNULL,
-            stderr=self.said,
-            **how,
-        )
-        # It says what the tables have, or why they cannot be had, before it takes the first connection.
-        told = re.compile("(?m)^csid: %s: (?!%s).*\n" % (re.escape(self.tables), NEW))
-        if not wait(lambda: told.search(self.lines()) or self.process.poll() is not None):
-            raise ValueError("csid serve does not begin")
+        self.process = subprocess.Popen(words, stdin=subprocess.DEVNULL, stderr=self.said, **how)
 
     def connect(self):
         peer = socket.socket(socket.AF_UNIX)
         peer.settimeout(SECONDS)
-        peer.connect(self.path)
+        # Its file is there a moment before it listens.
+        for _ in range(100):
+            with contextlib.suppress(ConnectionRefusedError):
+                peer.connect(self.path)
+                break
+            time.sleep(0.02)
         return peer
 
-    def ask(self, given):
-        """What comes back for these bytes, to the end of the connection."""
-        with self.connect() as peer:
-            replies = b""
-            try:
-                peer.sendall(given)
-                peer.shutdown(socket.SHUT_WR)
-                while piece := peer.recv(1 << 16):
-                    replies += piece
-            except (BrokenPipeError, ConnectionResetError):
-                pass
-            return replies
+    def ask(self, *calls):
+        """All that comes back for calls on a connection of their own."""
+        with self.connect() as peer, contextlib.suppress(BrokenPipeError, ConnectionResetError):
+            peer.sendall(b"".join(calls))
+            peer.shutdown(socket.SHUT_WR)
+            return received(peer)
+        return b""
+
+    def lines(self):
+        """What it said until now."""
+        return os.pread(self.said.fileno(), 1 << 20, 0).decode()
+
+
+class Server(Served):
+    """csid on a socket next to its file."""
+
+    def __init__(self, csid, folder, *words, tables=None, **how):
+        self.path = os.path.join(folder, "csid.sock")
+        self.tables = tables or os.path.join(folder, "volumes.db")
+        words = [csid, "serve", "--socket", self.path, "--tables", self.tables, *words]
+        self.begin(words, stdout=subprocess.DEVNULL, **how)
+        # It says what the tables have, or why they cannot be had, before it takes the first connection.
+        told = re.compile("(?m)^csid: %s: (?!%s).*\n" % (re.escape(self.tables), NEW))
+        if not wait(lambda: told.search(self.lines()) or self.process.poll() is not None):
+            raise ValueError("csid serve does not begin")
 
     def answers(self, calls):
         """Makes calls over one connection while it reads replies. Returns their statuses."""
@@ -75,18 +91,13 @@ class Server:
             threading.Thread(target=lambda: [peer.sendall(it) for it in calls], daemon=True).start()
             return statuses(peer, len(calls))
 
-    def lines(self):
-        """What it said until now."""
-        return os.pread(self.said.fileno(), 1 << 20, 0).decode()
-
     def line(self, what):
         return "csid: %s: %s\n" % (self.tables, what)
 
     def has(self, volumes, attachments, number):
         """The line of what the tables have."""
-        return self.line(
-            "volumes %d, attachments %d, next number %d, format 2" % (volumes, attachments, number)
-        )
+        counts = volumes, attachments, number
+        return self.line("volumes %d, attachments %d, next number %d, format 2" % counts)
 
     def end(self):
         """What it said in all, its status, and whether its socket is left."""
@@ -103,9 +114,7 @@ KILLED = -signal.SIGKILL
 
 
 def ended(lines, line):
-    """How many connections ended as a line says, and as the counts say of those without a line: by how they
-    ended.
-    """
+    """How many connections ended as a line says, or as the counts of those without a line say."""
     counts = collections.Counter({"of a line": lines.count(line)})
     for told in re.findall(r"(?m)^csid: \d+ more connections ended: (.*)$", lines):
         for part in told.split(", "):

@@ -1,6 +1,7 @@
 """Files of tables, made and looked at with python's own sqlite3, and the lines of docs/TABLES.md."""
 
 import os
+import pathlib
 import sqlite3
 
 from tests.support.frames import READY
@@ -34,24 +35,17 @@ NEXT_9 = next_is(9)
 A = volume(1) + NEXT_9
 # A mebibyte of capabilities, and many attachments that have the first of them at nodes that no configuration
 # has.
-LARGE_CAPS = (
-    "x'%s'" % b"".join(b"\x1a\x0d\x12\x07\x0a\x05%05d\x1a\x02\x08\x01" % n for n in range(MIB // 15)).hex()
-)
-PLACES = (
-    "WITH RECURSIVE n (i) AS (VALUES (1) UNION ALL SELECT i + 1 FROM n WHERE i < %d) "
-    "INSERT INTO attachments SELECT 1, 'm' || i, x'1a0d12070a0530303030301a020801', 0 FROM n;"
-)
-MANY = (
-    "WITH RECURSIVE n (i) AS (VALUES (1) UNION ALL SELECT i + 1 FROM n WHERE i < %d) "
-    "INSERT INTO volumes SELECT i, 'v' || i, 1048576, 'p1', %s, x'' FROM n;"
-)
+LARGE_CAPS = ("x'%s'" % b"".join(b"\x1a\x0d\x12\x07\x0a\x05%05d\x1a\x02\x08\x01" % n
+                                 for n in range(MIB // 15)).hex())
+PLACES = ("WITH RECURSIVE n (i) AS (VALUES (1) UNION ALL SELECT i + 1 FROM n WHERE i < %d) "
+          "INSERT INTO attachments SELECT 1, 'm' || i, x'1a0d12070a0530303030301a020801', 0 FROM n;")
+MANY = ("WITH RECURSIVE n (i) AS (VALUES (1) UNION ALL SELECT i + 1 FROM n WHERE i < %d) "
+        "INSERT INTO volumes SELECT i, 'v' || i, 1048576, 'p1', %s, x'' FROM n;")
 # 4,096 bytes of parameters in entries of four bytes, which take some 90 KiB of memory: 1,024 keys of two
 # letters, in their order, each its own value too.
 LETTERS = sorted(b"0123456789ABCDEFGHIJKLMNOPQRSTUVWXYZabcdefghijklmnopqrstuvwxyz")
 SHORT_KEYS = [bytes([first, second]) for first in LETTERS for second in LETTERS][:1024]
-SHORT_ENTRIES = b"".join(
-    bytes.fromhex("22080a02") + key + bytes.fromhex("1202") + key for key in SHORT_KEYS
-)
+SHORT_ENTRIES = b"".join(bytes.fromhex("22080a02") + key + bytes.fromhex("1202") + key for key in SHORT_KEYS)
 NO_META = "meta has no row with the number of a format"
 OTHER_TABLES = "the tables are not those of csid"
 NO_DATABASE = "file is not a database that obeys its schema"
@@ -90,9 +84,7 @@ def block(mode):
 
 
 def pairs(field, key, size):
-    """A field of parameters of one entry, of a key of one byte and a value of 4,093 to 16,000 bytes, as a
-    cell has it.
-    """
+    """A field of parameters with one entry: a key of one byte, and a value of 4,093 to 16,000 bytes."""
 
     def long(tag, length):
         return bytes([tag, length & 127 | 128, length >> 7])
@@ -147,8 +139,7 @@ class Tables:
         found = {}
         for name in sorted(os.listdir(os.path.dirname(self.path))):
             if name.startswith(os.path.basename(self.path)):
-                with open(os.path.join(os.path.dirname(self.path), name), "rb") as file:
-                    found[name] = file.read()
+                found[name] = pathlib.Path(os.path.dirname(self.path), name).read_bytes()
         return found
 
     def rows(self):

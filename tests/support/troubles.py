@@ -2,6 +2,7 @@
 import ctypes
 import json
 import os
+import pathlib
 import random
 import re
 import shutil
@@ -34,9 +35,7 @@ class Record:
         self.run, self.names, self.standing = run, {}, {}
 
     def does(self, ask, what, of):
-        """Asks for a volume to be made or removed, and notes it. Returns True for OK, or otherwise the
-        refusal.
-        """
+        """Makes or removes a volume, and notes it. Returns True for OK, or otherwise the refusal."""
         answer, why = (
             ask("CreateVolume", v.name(of) + BLOCK) if what == "make" else ask("DeleteVolume", v.vol(of))
         )
@@ -53,11 +52,8 @@ class Record:
 
     def compare(self, what, found):
         more, less = sorted(set(found) - set(self.standing)), sorted(set(self.standing) - set(found))
-        self.run.check(
-            "%s: %r, and not %r" % (what, more[:9], less[:9]),
-            sorted(found) == sorted(self.standing),
-            (found, self.standing),
-        )
+        self.run.check("%s: %r, and not %r" % (what, more[:9], less[:9]),
+                       sorted(found) == sorted(self.standing), (found, self.standing))
 
 
 def listed(ask):
@@ -74,25 +70,16 @@ def listed(ask):
             return ids
 
 
-UNANSWERED = (
-    "closed unanswered",
-    "nobody answers",
-    "[Errno 32] Broken pipe",
-    "[Errno 104] Connection reset by peer",
-)
+UNANSWERED = ("closed unanswered", "nobody answers", "[Errno 32] Broken pipe",
+              "[Errno 104] Connection reset by peer")
 NOT_MADE = re.compile(r"13 store refused|13 store is down")
 # What csid says of its file (docs/OPERATING.md, "Arguments and exit statuses of `csid`"; docs/TABLES.md).
-OF_FILE = (
-    r"volumes \d+, attachments 0, next number \d+, format 2",
-    "unable to open database file",
-    "database or disk is full",
-    "disk I/O error",
-    "there is no such file, and none is made",
-    "a change was refused, by the database or for memory; from then on .*",
-    "the database refused a read",
-    "the database refused a call: (database or disk is full|disk I/O error)",
-    "the database failed: .*",
-)
+OF_FILE = (r"volumes \d+, attachments 0, next number \d+, format 2", "unable to open database file",
+           "database or disk is full", "disk I/O error", "there is no such file, and none is made",
+           "a change was refused, by the database or for memory; from then on .*",
+           "the database refused a read",
+           "the database refused a call: (database or disk is full|disk I/O error)",
+           "the database failed: .*")
 DISK_LINES = re.compile(
     r"csid: (DB: (%s)|a (read of|write to) a connection failed|end of input at byte \d+)$" % "|".join(OF_FILE)
 )
@@ -100,8 +87,7 @@ DISK_LINES = re.compile(
 
 class Disk:
     """A small disk with the file of a csid that runs without the rights of root, and what can happen to it.
-    Each gives what ends it.
-    """
+    Each gives what ends it."""
 
     def __init__(self, run):
         self.run, self.folder, self.file = run, run.path("disk"), run.path("disk/db")
@@ -109,38 +95,16 @@ class Disk:
             raise OSError("no namespace of mounts")
         os.mkdir(self.folder)
         subprocess.run(["mount", "--make-rprivate", "/"], check=True)
-        subprocess.run(
-            [
-                "mount",
-                "-t",
-                "tmpfs",
-                "-o",
-                "size=8m,mode=755,uid=%d,gid=%d" % (NOBODY, NOBODY),
-                "none",
-                self.folder,
-            ],
-            check=True,
-        )
+        subprocess.run(["mount", "-t", "tmpfs", "-o", "size=8m,mode=755,uid=%d,gid=%d" % (NOBODY, NOBODY),
+                        "none", self.folder], check=True)
         csid = shutil.copy(program("CSID", "crates/csid/out/csid"), run.path("csid"))
         os.chown(run.folder, NOBODY, NOBODY)
         os.chmod(run.folder, 0o755)
         who = {"user": NOBODY, "group": NOBODY, "extra_groups": []}
-        with open(run.path("config"), "w") as file:
-            file.write(CONFIG)
+        pathlib.Path(run.path("config")).write_text(CONFIG)
         subprocess.run([csid, "pipe", "--tables", self.file], check=True, stdin=subprocess.DEVNULL, **who)
-        self.csid = run.start(
-            "csid.sock",
-            csid,
-            "serve",
-            "--socket",
-            run.path("csid.sock"),
-            "--tables",
-            self.file,
-            "--existing",
-            "--config",
-            run.path("config"),
-            **who
-        )
+        self.csid = run.start("csid.sock", csid, "serve", "--socket", run.path("csid.sock"), "--tables",
+                              self.file, "--existing", "--config", run.path("config"), **who)
 
     def full(self, source):
         path, left = os.path.join(self.folder, "filler"), source.choice(
@@ -192,11 +156,10 @@ class Disk:
 def one_call(run, record, source, client, waits):
     """A call, which is noted where its outcome is open."""
     of = source.choice(sorted(set(record.standing) - {it for _, it in waits}) or [""])
-    call = (
-        ("remove", of)
-        if of and source.random() < (0.6 if len(record.standing) > 200 else 0.35)
-        else ("make", "v%d-%d" % (run.number, source.randrange(1 << 40)))
-    )
+    call = (("remove", of)
+            if of
+            and source.random() < (0.6 if len(record.standing) > 200 else 0.35)
+            else ("make", "v%d-%d" % (run.number, source.randrange(1 << 40))))
     try:
         done = record.does(client.ask, *call)
     except OSError as error:
@@ -224,19 +187,12 @@ def makes(run, record, disk, waits):
 
 
 def disk(run):
-    """Each call that was answered OK is there after each trouble of the disk, and service is back within 2 s
-    of its end.
-    """
+    """Each call answered OK is there after each trouble of the disk; service is back within 2 s."""
     it, record, lines = Disk(run), Record(run), 0
     for source in run.inputs():
-        waits, troubles = [], list(
-            dict.fromkeys(
-                source.choices(
-                    [it.full, it.full, it.rights, it.aside, it.without_log, it.killed],
-                    k=source.choice((1, 1, 2)),
-                )
-            )
-        )
+        waits, troubles = [], list(dict.fromkeys(source.choices([it.full, it.full, it.rights, it.aside,
+                                                                 it.without_log, it.killed],
+                                                                k=source.choice((1, 1, 2)))))
         client = Frames(it.csid.socket) if source.randrange(2) else None
         one_call(run, record, source, client, waits) if client else None
         troubles = [trouble for trouble in troubles if not (client and trouble in (it.aside, it.without_log))]
@@ -254,16 +210,12 @@ def disk(run):
         run.seen.update(trouble.__name__ for trouble in troubles)
         for end in reversed(ends):
             end()
-        run.check(
-            "service is back after %r: %r"
-            % ([trouble.__name__ for trouble in troubles], it.csid.lines()[-2:]),
-            wait(it.is_back, 2, 0.05),
-        )
+        run.check("service is back after %r: %r" % ([trouble.__name__ for trouble in troubles],
+                                                    it.csid.lines()[-2:]), wait(it.is_back, 2, 0.05))
         makes(run, record, it, waits)
         client = Frames(it.csid.socket)
-        record.compare(
-            "what is listed after %r" % [trouble.__name__ for trouble in troubles], listed(client.ask) or []
-        )
+        record.compare("what is listed after %r" % [trouble.__name__ for trouble in troubles],
+                       listed(client.ask) or [])
         client.close()
         said = [line.replace(it.file, "DB") for line in it.csid.lines()]
         for line in said[lines:]:
@@ -273,13 +225,8 @@ def disk(run):
     subprocess.run(["umount", "-l", it.folder], check=True)
 
 
-SIGNALS = [signal.SIGSTOP] * 2 + [
-    signal.SIGTERM,
-    signal.SIGKILL,
-    signal.SIGHUP,
-    signal.SIGPIPE,
-    signal.SIGUSR1,
-]
+SIGNALS = [signal.SIGSTOP] * 2 + [signal.SIGTERM, signal.SIGKILL, signal.SIGHUP, signal.SIGPIPE,
+                                  signal.SIGUSR1]
 
 
 class Stack:
@@ -287,62 +234,28 @@ class Stack:
 
     def __init__(self, run, clocks=None):
         self.run, self.etcd, self.record, self.over = run, Etcd(run), Record(run), threading.Event()
-        with open(run.path("config"), "w") as file:
-            file.write(CONFIG)
+        pathlib.Path(run.path("config")).write_text(CONFIG)
         log_path, csid, csi = [run.path(it) for it in ("log.sock", "csid.sock", "csi.sock")]
-        self.keeper = run.start(
-            "log.sock",
-            program("CSID_ETCD", "go/etcd/out/csid-etcd"),
-            "--name",
-            NAME,
-            "--listen",
-            log_path,
-            "--endpoints",
-            self.etcd.endpoint,
-            "--lease",
-            str(LEASE),
-            "--revision",
-            run.path("revision"),
-            clocks=clocks,
-        )
-        self.csid = run.start(
-            "csid.sock",
-            program("CSID", "crates/csid/out/csid"),
-            "serve",
-            "--socket",
-            csid,
-            "--log",
-            log_path,
-            "--config",
-            run.path("config"),
-            clocks=clocks,
-        )
-        self.front = run.start(
-            "csi.sock",
-            program("FRONT", "go/front/out/front"),
-            "--csid",
-            csid,
-            "--listen",
-            csi,
-            "--grace",
-            "2s",
-            clocks=clocks,
-        )
+        self.keeper = run.start("log.sock", program("CSID_ETCD", "go/etcd/out/csid-etcd"), "--name", NAME,
+                                "--listen", log_path, "--endpoints", self.etcd.endpoint, "--lease",
+                                str(LEASE), "--revision", run.path("revision"), clocks=clocks)
+        self.csid = run.start("csid.sock", program("CSID", "crates/csid/out/csid"), "serve", "--socket", csid,
+                              "--log", log_path, "--config", run.path("config"), clocks=clocks)
+        self.front = run.start("csi.sock", program("FRONT", "go/front/out/front"), "--csid", csid, "--listen",
+                               csi, "--grace", "2s", clocks=clocks)
         self.all = [self.etcd, self.keeper, self.csid, self.front]
-        self.callers = [
-            threading.Thread(target=self.calls, args=(number,), daemon=True) for number in range(4)
-        ]
+        self.callers = [threading.Thread(target=self.calls, args=(number,), daemon=True)
+                        for number in range(4)]
 
     def calls(self, number):
         """Makes and removes volumes, and repeats each call until it is OK."""
         source, count, mine, client = random.Random("%d %d" % (self.run.asked.seed, number)), 0, [], None
         while not self.over.is_set():
             count += 1
-            call = (
-                ("remove", source.choice(mine))
-                if mine and source.random() < 0.4
-                else ("make", "c%d-%d" % (number, count))
-            )
+            call = (("remove", source.choice(mine))
+                    if mine
+                    and source.random() < 0.4
+                    else ("make", "c%d-%d" % (number, count)))
             done, end = False, time.monotonic() + 4 * SECONDS
             # A late reply is a finding, but no call is given up: it may have been made, and the record would
             # not know it.
@@ -352,13 +265,9 @@ class Stack:
                     end = time.monotonic() + 4 * SECONDS
                 try:
                     client = client or Grpc(self.front.socket, 10)
-                    done = self.record.does(
-                        lambda method, message: (
-                            client.call(b"/csi.v1.Controller/" + method.encode(), message),
-                            "refused",
-                        ),
-                        *call
-                    )
+                    done = self.record.does(lambda method, message: (client.call(b"/csi.v1.Controller/"
+                                                                                 + method.encode(), message),
+                                                                     "refused"), *call)
                 except OSError:
                     client = client and client.close()
                 time.sleep(0.02 if done is True else 0.1)
@@ -388,19 +297,15 @@ class Stack:
         time.sleep(max(0, self.etcd.begun + LEASE + 2 - time.monotonic()))
         self.keeper.process.send_signal(source.choice((signal.SIGSTOP, signal.SIGSTOP, signal.SIGKILL)))
         begin = time.monotonic()
-        self.run.check(
-            "the lock is kept for more than %.1f s" % (LEASE + 2),
-            wait(lambda: not self.etcd.locks(), LEASE + 2, 0.1),
-        )
-        self.run.check(
-            "the lock is kept for %.1f s" % (time.monotonic() - begin), time.monotonic() - begin <= LEASE + 2
-        )
+        self.run.check("the lock is kept for more than %.1f s" % (LEASE + 2),
+                       wait(lambda: not self.etcd.locks(), LEASE + 2, 0.1))
+        self.run.check("the lock is kept for %.1f s" % (time.monotonic() - begin),
+                       time.monotonic() - begin <= LEASE + 2)
         if not self.keeper.has_ended():
             self.keeper.process.send_signal(signal.SIGCONT)
             told = asked(self.keeper.socket, v.frame(change_stores.LEAD))
-            self.run.check(
-                "it says that it leads, and does not", not told or told[0][0] != 0 or self.etcd.locks()
-            )
+            self.run.check("it says that it leads, and does not",
+                           not told or told[0][0] != 0 or self.etcd.locks())
 
     def revive(self):
         """Starts again what has ended, and lets go on what hangs."""
@@ -413,9 +318,8 @@ class Stack:
         """Finds all ids that are listed, if no page is refused."""
         try:
             client = Grpc(self.front.socket, 10)
-            ids = listed(
-                lambda method, message: (client.call(b"/csi.v1.Controller/" + method.encode(), message), "")
-            )
+            ids = listed(lambda method, message: (client.call(b"/csi.v1.Controller/" + method.encode(),
+                                                              message), ""))
         except OSError:
             return False
         found += [ids] * (ids is not None)
@@ -424,23 +328,18 @@ class Stack:
     def ends(self):
         """The callers end, and the listing and etcd agree with their replies."""
         self.over.set()
-        self.run.check(
-            "the callers end",
-            wait(lambda: self.revive() and not any(it.is_alive() for it in self.callers), 5 * SECONDS, 0.1),
-        )
+        self.run.check("the callers end",
+                       wait(lambda: self.revive() and not any(it.is_alive() for it in self.callers),
+                            5 * SECONDS, 0.1))
         found = []
-        self.run.check(
-            "all is listed at the end", wait(lambda: self.revive() and self.lists(found), pause=0.5)
-        )
+        self.run.check("all is listed at the end",
+                       wait(lambda: self.revive() and self.lists(found), pause=0.5))
         self.record.compare("what is listed", found[-1] if found else [])
-        rows = {
-            "vol-%d" % int(key[-20:]): json.loads(value)["name"]
-            for key, (value, _) in self.etcd.rows().items()
-            if "/volumes/" in key
-        }
-        self.run.check(
-            "the rows are %r, and not %r" % (rows, self.record.standing), rows == self.record.standing
-        )
+        rows = {"vol-%d" % int(key[-20:]): json.loads(value)["name"]
+                for key, (value, _) in self.etcd.rows().items()
+                if "/volumes/" in key}
+        self.run.check("the rows are %r, and not %r" % (rows, self.record.standing),
+                       rows == self.record.standing)
 
 
 def signals(run, clocks=None):
@@ -460,16 +359,9 @@ def signals(run, clocks=None):
 
 
 def clock(run):
-    """Each start has a monotonic clock and a clock since the boot that are years before or after the other
-    starts'.
-    """
-    print(
-        (
-            "clock: left out: jumps of the wall clock, which no namespace has, so that they would be those of"
-            " the whole machine"
-        ),
-        flush=True,
-    )
+    """Each start has a monotonic clock and a clock since the boot of its own, years apart."""
+    print(("clock: left out: jumps of the wall clock, which no namespace has, so that they would be those of"
+           " the whole machine"), flush=True)
     source = random.Random(run.asked.seed)
 
     def begins():

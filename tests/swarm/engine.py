@@ -2,6 +2,7 @@
 
 import glob
 import os
+import pathlib
 import shutil
 import signal
 import subprocess
@@ -99,8 +100,7 @@ class Engine:
             shutil.copy(program(name), os.path.join(tree, "usr/local/bin", name))
         shutil.copy(os.path.join(DEPLOY, "swarm-start"), os.path.join(tree, "usr/local/bin"))
         shutil.copy(os.path.join(DEPLOY, "swarm.json"), self.host("plugin/config.json"))
-        with open(config, "w") as file:
-            file.write(CONFIG)
+        pathlib.Path(config).write_text(CONFIG)
         first = [program("csid"), "pipe", "--tables", tables, "--config", config]
         subprocess.run(first, check=True, stdin=subprocess.DEVNULL)
 
@@ -130,8 +130,7 @@ class Engine:
         return self.first_process() and self.run("docker", "info").returncode == 0
 
     def last_lines(self):
-        with open(self.path("dockerd.log"), errors="replace") as log:
-            return log.read()[-2000:]
+        return pathlib.Path(self.path("dockerd.log")).read_text(errors="replace")[-2000:]
 
     def first_process(self):
         """The id of dockerd, the first process of its namespace; an empty text before it is there."""

@@ -32,11 +32,9 @@ class Swarm:
 
     def create(self, name, mib, *words, kind="mount", scope="single", sharing="none"):
         """Asks for a cluster volume. Swarm creates it some time later."""
-        self.docker(
-            *["volume", "create", "--driver", "csid:latest", "--type", kind, "--scope", scope],
-            *["--sharing", sharing, "--topology-required", "zone=a"],
-            *["--required-bytes", str(mib * MIB), *words, name],
-        )
+        self.docker(*["volume", "create", "--driver", "csid:latest", "--type", kind, "--scope", scope],
+                    *["--sharing", sharing, "--topology-required", "zone=a"],
+                    *["--required-bytes", str(mib * MIB), *words, name])
 
     def remove(self, *names):
         self.docker("volume", "rm", *names)

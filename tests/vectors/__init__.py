@@ -9,5 +9,6 @@ in its row, and was worked out by hand from docs/PROTOCOL.md and docs/MACHINE.md
 configuration of docs/OPERATING.md: volumes of 1 MiB by default and 8 MiB at most, the pool p1 of 10 MiB in
 zone a, the pool p2 of 4 MiB in zone b, and the nodes n1 and n2, of 2 volumes each.
 
-The calls, replies and fields are here for other tests too; `corpus` has the vectors.
+`words/` and `plain/` have the rows, `families` the vectors that differ by a number, and `corpus` the order of
+all. `messages` has calls, replies and fields for other tests too.
 """

@@ -3,13 +3,8 @@
 import collections
 import re
 
-from tests.vectors import (
-    capabilities, checks, create_fields, create_volume, delete_volume, fields, frames, get_capacity,
-    identity, limits, list_volumes, malformed, maps, modes, modify_volume, publish_volume, streams,
-    validate_volume,
-)
-from tests.vectors.rows import Reader
-from tests.vectors.steps import as_list
+from tests.vectors.families import CUT, MODES, PAIRS
+from tests.vectors.rows import plain, words
 
 HEAD = """\
 # Test vectors of the server: what it writes for a stream of calls, byte for byte.
@@ -24,15 +19,12 @@ HEAD = """\
 # Protocol Buffers encoding guide and the tables of docs/PROTOCOL.md, and after it comes the reply that was
 # worked out for it by hand from docs/PROTOCOL.md and docs/MACHINE.md. No output of a program was copied."""
 
+SUBJECTS = """
+    create_fields capabilities maps malformed fields checks limits create_volume modify_volume delete_volume
+    publish_volume validate_volume list_volumes get_capacity streams""".split()
 # Groups: the steps of each name, under a title.
-GROUPS = [
-    Reader("calls.txt").groups, frames.CUT, Reader("arguments.txt").groups, modes.GROUPS,
-    Reader("modify.txt").groups, modes.PAIRS, identity.GROUPS, frames.GROUPS,
-    Reader("wire.txt").groups, create_fields.GROUPS, capabilities.GROUPS, maps.GROUPS,
-    malformed.GROUPS, fields.GROUPS, checks.GROUPS, limits.GROUPS, create_volume.GROUPS,
-    modify_volume.GROUPS, delete_volume.GROUPS, publish_volume.GROUPS, validate_volume.GROUPS,
-    list_volumes.GROUPS, get_capacity.GROUPS, streams.GROUPS,
-]
+GROUPS = [plain("calls"), CUT, plain("arguments"), MODES, plain("modes"), plain("modify"), PAIRS,
+          words("identity"), words("frames"), plain("wire"), *map(words, SUBJECTS)]
 
 
 def all_vectors():
@@ -51,7 +43,6 @@ def names():
 
 def line(name, steps):
     """A vector as `csictl vectors` reads it: NAME INPUT OUTPUT."""
-    steps = as_list(steps)
     sides = [b"".join(step[side] for step in steps).hex() or "-" for side in (0, 1)]
     return " ".join([name, *sides])
 

@@ -95,33 +95,23 @@ modify = partial(controller, "ControllerModifyVolume")
 listing = partial(controller, "ListVolumes")
 capacity = partial(controller, "GetCapacity")
 
+# Fields of calls: their names, and the methods that have them where not all do.
 
-def name(text):
-    """The name of CreateVolume."""
-    return txt(1, text)
-
-
-def vol(text):
-    """The volume_id of each method that has one."""
-    return txt(1, text)
-
-
-def node(text):
-    """The node_id of publish and unpublish."""
-    return txt(2, text)
-
-
-def required(n):
-    return num(1, n)
-
-
-def limit(n):
-    return num(2, n)
-
-
-def size(*parts):
-    """The capacity_range of CreateVolume."""
-    return msg(2, *parts)
+name = partial(txt, 1)  # of CreateVolume
+vol = partial(txt, 1)  # the volume_id
+node = partial(txt, 2)  # the node_id
+required, limit = partial(num, 1), partial(num, 2)
+size = partial(msg, 2)  # the capacity_range of CreateVolume
+cap = partial(msg, 3)  # a capability of create, publish and validate; GetCapacity has them in field 1
+fs_type, mount_flag, mount_group = partial(txt, 1), partial(txt, 2), partial(txt, 3)
+parameter = partial(entry, 4)  # of create and validate; GetCapacity has parameters in field 2
+mutable = partial(entry, 8)  # of create
+sets = partial(entry, 3)  # the mutable_parameters of modify
+topology = partial(msg, 7)  # the accessibility_requirements of CreateVolume
+requisite, preferred = partial(msg, 1), partial(msg, 2)
+within = partial(msg, 3)  # the accessible_topology of GetCapacity
+segment = partial(entry, 1)
+max_entries, starting_token = partial(num, 1), partial(txt, 2)
 
 
 def block(mode):
@@ -134,87 +124,10 @@ def mount(mode, *parts):
     return msg(2, *parts) + msg(3, num(1, mode))
 
 
-def fs_type(text):
-    return txt(1, text)
-
-
-def mount_flag(text):
-    return txt(2, text)
-
-
-def mount_group(text):
-    return txt(3, text)
-
-
-def cap(*parts):
-    """A capability of create, publish and validate; GetCapacity has capabilities in field 1."""
-    return msg(3, *parts)
-
-
-def parameter(key, value):
-    """An entry of the parameters of create and validate; GetCapacity has parameters in field 2."""
-    return entry(4, key, value)
-
-
-def mutable(key, value):
-    """An entry of the mutable_parameters of create."""
-    return entry(8, key, value)
-
-
-def sets(key, value):
-    """An entry of the mutable_parameters of modify."""
-    return entry(3, key, value)
-
-
-def topology(*terms):
-    """The accessibility_requirements of CreateVolume."""
-    return msg(7, *terms)
-
-
-def requisite(*segments):
-    return msg(1, *segments)
-
-
-def preferred(*segments):
-    return msg(2, *segments)
-
-
-def within(*segments):
-    """The accessible_topology of GetCapacity."""
-    return msg(3, *segments)
-
-
-def segment(key, value):
-    return entry(1, key, value)
-
-
-def max_entries(n):
-    return num(1, n)
-
-
-def starting_token(text):
-    return txt(2, text)
-
-
-READONLY = num(4, 1)
-BLOCK, MODE_1 = cap(block(1)), msg(3, num(1, 1))
-SINGLE_WRITER, MULTI_WRITER = cap(block(4)), cap(block(5))
-EXT4 = fs_type("ext4")
-MOUNT, MOUNT_EXT4 = cap(mount(1)), cap(mount(1, EXT4))
-K_V = parameter("k", "v")
+BLOCK, READONLY = cap(block(1)), num(4, 1)
 A, B, C = name("a"), name("b"), name("c")
 VOL_1, VOL_2, VOL_3 = vol("vol-1"), vol("vol-2"), vol("vol-3")
 N1, N2 = node("n1"), node("n2")
-ZONE_A, ZONE_B, ZONE_C = segment("zone", "a"), segment("zone", "b"), segment("zone", "c")
-RACK = segment("rack", "1")
-TIER = parameter("tier", "gold")
-NOT_UTF8 = unhex("ff")
-# A capability whose text has one byte more than is taken.
-LONG_FS_TYPE = cap(mount(1, fs_type("f" * 129)))
-# Mount flags of 4,096 bytes, which is the most.
-FLAGS = mount_flag("f" * 2048) * 2
-# With a key of one byte a map of 4,000, 4,096 and 4,097 bytes; at most 4,096 are taken.
-V3999, V4095, V4096 = "v" * 3999, "v" * 4095, "v" * 4096
 
 
 def create_in(*terms):
@@ -255,9 +168,7 @@ def page(*entries, next_token=""):
 
 
 def free(available, maximum):
-    """The reply of GetCapacity. A number that is 0 is left out, but not the message that holds the
-    maximum.
-    """
+    """The reply of GetCapacity. A number that is 0 is left out, but not the message around the maximum."""
     first = num(1, available) if available else b""
     return reply(first, msg(2, num(1, maximum) if maximum else b""))
 
@@ -274,19 +185,12 @@ def malformed(at):
 READY = reply(unhex("0a020801"))
 NAMED = reply(txt(1, "pools.example.org"), txt(2, "1.0.0"))
 SERVICES = reply(unhex("0a040a020801 0a040a020802"))
-METHODS = reply(
-    unhex("0a040a020801 0a040a020802 0a040a020803 0a040a020804"),
-    unhex("0a040a020808 0a040a02080a 0a040a02080d 0a040a02080e"),
-)
-CREATED, CREATED_2, CREATED_3 = [created(number, MIB, P1) for number in (1, 2, 3)]
-CREATED_IN_P2 = created(1, MIB, P2)
-DONE = reply()
+METHODS = reply(unhex("0a040a020801 0a040a020802 0a040a020803 0a040a020804"),
+                unhex("0a040a020808 0a040a02080a 0a040a02080d 0a040a02080e"))
+CREATED, DONE = created(1, MIB, P1), reply()
 WRITER = reply(entry(1, "readonly", "false"))
 READER = reply(entry(1, "readonly", "true"))
 NOT_CONFIRMED = reply(txt(2, "capabilities or parameters are not supported"))
-ALL_FREE, P2_FREE, NONE_FREE = free(14 * MIB, 8 * MIB), free(4 * MIB, 4 * MIB), free(0, 0)
-LISTED_1 = listed(1, MIB, P1)
-BLOCK_CONFIRMED, K_V_CONFIRMED = confirmed([block(1)]), confirmed([block(1)], {"k": "v"})
 
 UNKNOWN = refusal(12, "unknown method")
 NAME_MISSING = refusal(3, "name is missing")

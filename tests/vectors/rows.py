@@ -1,9 +1,14 @@
-"""Vectors in plain bytes: rows of the files of `plain/`, which owe nothing to the functions for fields and
-replies.
+"""Vectors in rows: files of `words/`, with expressions over the names of `messages`, and files of `plain/`,
+with bytes that owe nothing to those functions.
 
-A row is `NAME | CALL | REPLY`, or NAME and below it a line with `CALL | REPLY` for each step. A line before
-it, or before several, says what it shows. `= TITLE` begins a group, and `WORD = BYTES` names bytes.
+A row is `NAME | CALL | REPLY`, or NAME and below it a line with `CALL | REPLY` for each step. A comment
+before rows says what they show. `= TITLE` begins a group, and `WORD = ..` defines a word for the lines below.
+A line that begins with four spaces continues the one before.
 
+In `words/` a call, a reply and the value of a word are expressions of Python. Steps that have names are a
+line of their own, `CREATE_A, DELETE_1`, or come before a call: `NAME | CREATE_A | delete(VOL_1) | DONE`.
+
+In `plain/`
 - BYTES are hexadecimal digits and words in any number, with spaces between; `61*128` is 128 times 61.
 - CALL is `METHOD BYTES`, a frame around a message, or `bytes BYTES`, which go into the stream as they are.
 - REPLY is `ok BYTES`, a body; six digits and a text, the status and the length of the text before it; or
@@ -12,9 +17,11 @@ it, or before several, says what it shows. `= TITLE` begins a group, and `WORD =
 
 import os
 
+from tests.support.data import WORD, numbered
+from tests.vectors import messages
 from tests.vectors.messages import malformed, unhex
 
-FOLDER = os.path.join(os.path.dirname(os.path.abspath(__file__)), "plain")
+FOLDER = os.path.dirname(os.path.abspath(__file__))
 IDENTITY = {"Probe", "GetPluginInfo", "GetPluginCapabilities"}
 
 
@@ -34,35 +41,32 @@ def refused(digits, text):
     return unhex(digits) + text.encode() + unhex("00 00000000")
 
 
-class Reader:
-    """Reads a file: `groups` has the vectors of each title, with their steps."""
+class Plain:
+    """Reads a file of bytes: `groups` has the vectors of each title, with their steps."""
 
-    def __init__(self, name):
-        self.groups, self.words = {}, {}
+    def __init__(self, name, words=()):
+        self.groups, self.words = {}, dict(words)
         with open(os.path.join(FOLDER, name), encoding="utf-8") as file:
-            for number, line in enumerate(file, 1):
+            for number, line in numbered(file):
                 try:
-                    self.read(line.rstrip())
-                except (KeyError, ValueError) as error:
+                    self.read(line)
+                except (NameError, SyntaxError, KeyError, ValueError) as error:
                     raise ValueError("%s:%d: %r" % (name, number, error)) from error
 
     def read(self, line):
-        if not line or line.startswith("# "):
-            return
         if line.startswith("= "):
             self.vectors = self.groups[line[2:]] = {}
-        elif " = " in line:
-            word, text = line.split(" = ")
-            self.words[word] = self.bytes(text)
+        elif word := WORD.fullmatch(line):
+            self.words[word[1]] = self.value(word[2])
         elif line.startswith("  "):
-            self.steps.append(self.step(*line.split(" | ")))
+            self.steps += self.steps_of(*line.strip().split(" | "))
         else:
             name, *step = line.split(" | ")
             if name in self.vectors:
                 raise ValueError("a name for the second time")
-            self.steps = self.vectors[name] = [self.step(*step)] if step else []
+            self.steps = self.vectors[name] = list(self.steps_of(*step)) if step else []
 
-    def bytes(self, text):
+    def value(self, text):
         return b"".join(map(self.part, text.split()))
 
     def part(self, text):
@@ -71,14 +75,45 @@ class Reader:
         digits, _, times = text.partition("*")
         return unhex(digits) * int(times or 1)
 
-    def step(self, sent, reply):
-        method, _, message = sent.strip().partition(" ")
-        message = self.bytes(message)
+    def steps_of(self, sent, reply):
+        method, _, message = sent.partition(" ")
+        message = self.value(message)
         kind, _, rest = reply.partition(" ")
         if kind == "ok":
-            answer = ok(self.bytes(rest))
+            answer = ok(self.value(rest))
         elif kind == "malformed":
             answer = malformed(int(rest))
         else:
             answer = refused(kind, rest)
-        return message if method == "bytes" else call(method, message), answer
+        return [(message if method == "bytes" else call(method, message), answer)]
+
+
+def flat(steps):
+    """The steps of lists within lists; a step alone is a list of one."""
+    return [steps] if isinstance(steps[0], bytes) else [step for part in steps for step in flat(part)]
+
+
+class Words(Plain):
+    """Reads a file of expressions."""
+
+    def value(self, text):
+        return eval(text, self.words)
+
+    def steps_of(self, *columns):
+        """The named steps, a call and its reply, or both."""
+        values = [self.value(it) for it in columns]
+        named, last = (values[:1], values[1:]) if len(values) % 2 else ([], values)
+        return [step for steps in named for step in flat(steps)] + ([tuple(last)] if last else [])
+
+
+STEPS = {**vars(messages), **Words("words/steps.txt", vars(messages)).words}
+
+
+def words(name):
+    """The groups of a file of expressions."""
+    return Words("words/%s.txt" % name, STEPS).groups
+
+
+def plain(name):
+    """The groups of a file of bytes."""
+    return Plain("plain/%s.txt" % name).groups

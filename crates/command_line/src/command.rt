@@ -1,4 +1,4 @@
-//! The arguments of a program, and what is done with those that ask for nothing that it does.
+//! Parses the arguments of a program, and prints help and the version.
 
 ghost use Rattle.std.specs.Prelude.{◌≡◌, IfErr, IfOk};
 ghost use Rattle.command_line.specs.Statuses.{arguments_status};
@@ -12,16 +12,16 @@ use std::env;
 use std::io::{self, ErrorKind};
 use thiserror::Error;
 
-/// Why the arguments are refused. Its `Display` is the line on standard error.
+/// The reason why the arguments are refused. Its `Display` is the line on standard error.
 #[derive(Debug, Drop, Error)]
 pub enum ArgumentsFault {
     /// An argument is not UTF-8.
     #[error("a word is no text")]
     NotText,
-    /// The arguments are not understood.
+    /// The arguments are not a valid command line. The value is the line about them.
     #[error("{0}")]
     Refused(String),
-    /// Help or the version cannot be written.
+    /// Help or the version could not be written.
     #[error("a write to standard output failed")]
     WriteFailed,
     /// Memory for the arguments was refused.
@@ -30,8 +30,8 @@ pub enum ArgumentsFault {
 }
 
 impl ArgumentsFault {
-    /// The fault of refused arguments with this line; [`ArgumentsFault::NoMemory`] if memory for the line was
-    /// refused.
+    /// Returns the fault of refused arguments with this line, or [`ArgumentsFault::NoMemory`] if memory for
+    /// the line was refused.
     pub fn refused(line: Result<String, AllocError>) -> ArgumentsFault
         ensures refused { IfOk line (λ text. result ≡ Refused text) }
         ensures memory { IfErr line (λ _. result ≡ NoMemory) }
@@ -42,8 +42,8 @@ impl ArgumentsFault {
         }
     }
 
-    /// The exit status of the program for this fault: 2 if the arguments are refused, 5 if help or the
-    /// version cannot be written, 6 without memory.
+    /// Returns the exit status of the program for this fault: 2 if the arguments are refused, 5 if help or
+    /// the version could not be written, 6 if memory was refused.
     pub fn status(&self) -> u8
         ensures { result ≡ arguments_status self.now }
     {
@@ -60,7 +60,7 @@ fn collected(rt: &HostRuntime) -> io::Result<Vec<String>> {
     Ok(arguments)
 }
 
-/// The words of the command line, the name of the program first.
+/// Returns the words of the command line. The first word is the name of the program.
 ///
 /// # Errors
 ///
@@ -73,7 +73,7 @@ pub fn arguments(rt: &HostRuntime) -> Result<Vec<String>, ArgumentsFault> {
     }
 }
 
-// Appends the first paragraph of an error text of `clap`, as one line and without the word `error` before it.
+// Appends the first paragraph of a `clap` error as one line, without the word `error` at its start.
 fn push_first_paragraph(line: &mut String, text: &str) -> Result<(), AllocError> {
     for part in text.lines() {
         if part.is_empty() {
@@ -88,7 +88,7 @@ fn push_first_paragraph(line: &mut String, text: &str) -> Result<(), AllocError>
     Ok(())
 }
 
-// Appends the similar word that `clap` proposes for a misspelt word, if it proposes one.
+// Appends the similar word that `clap` proposes for a misspelt word, if there is one.
 fn push_similar(line: &mut String, text: &str) -> Result<(), AllocError> {
     for part in text.lines() {
         let tip = part.trim().strip_prefix("tip: ").unwrap_or("");
@@ -100,7 +100,7 @@ fn push_similar(line: &mut String, text: &str) -> Result<(), AllocError> {
     Ok(())
 }
 
-// Why arguments are refused, in one line.
+// Returns the line that says why arguments are refused.
 fn refusal_line(alloc: Global, error: &ClapError) -> Result<String, AllocError> {
     let text = format!(in alloc; "{error}")?;
     let mut line = String::new(alloc);
@@ -109,7 +109,7 @@ fn refusal_line(alloc: Global, error: &ClapError) -> Result<String, AllocError> 
     Ok(line)
 }
 
-// Prints help or the version if the arguments ask for it; otherwise returns why the arguments are refused.
+// Prints help or the version if the arguments ask for it. Otherwise returns why the arguments are refused.
 fn end(rt: &HostRuntime, error: &ClapError) -> Result<(), ArgumentsFault> {
     match error.kind() {
         ClapKind::OutOfMemory => Err(ArgumentsFault::NoMemory),
@@ -121,7 +121,7 @@ fn end(rt: &HostRuntime, error: &ClapError) -> Result<(), ArgumentsFault> {
     }
 }
 
-/// The parsed arguments; `None` after the help or the version was printed.
+/// Parses the arguments. Returns `None` if they ask for help or the version, which is then printed.
 ///
 /// # Errors
 ///

@@ -1,6 +1,6 @@
-//! What both programs do with their command line, standard output and standard error: the arguments and those
-//! that are refused, words and sizes in columns, lines of what went wrong, and what is done where standard
-//! input, output or error is closed, so that no file or connection gets the number of a standard handle.
+//! The command line, standard output and standard error of both programs: it parses arguments, refuses
+//! invalid ones, shows words and sizes in columns, and writes lines about errors. It also opens the standard
+//! handles that are closed, so that no file or connection gets the number of a standard handle.
 //!
 //! ```rust
 //! let taken = occupy_closed(rt); // before anything is opened

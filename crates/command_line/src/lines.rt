@@ -1,4 +1,4 @@
-//! Lines on standard error.
+//! Writes lines on standard error.
 
 ghost use Rattle.std.specs.Prelude.{◌≡◌, ◌&&◌, ◌++◌, IfOk, IfSome, List, OnOk, encode_utf8_all, nat_lt, length, ℕ};
 ghost use Rattle.std.specs.Char.{is_ascii_digit};
@@ -10,7 +10,7 @@ use std::alloc::{AllocError, Global};
 use std::fmt::Display;
 use std::io::{self, Write};
 
-// Appends a character. An end of line or another control is escaped, as `\n` or `\u{1b}`.
+// Appends a character. A line end or another control character is escaped, as `\n` or `\u{1b}`.
 fn push_shown(line: &mut String, character: char) -> Result<(), AllocError>
     ensures ok { OnOk result (string_bytes line.new
         ≡ string_bytes line.old ++ encode_utf8_all (shown character)) }
@@ -24,9 +24,9 @@ fn push_shown(line: &mut String, character: char) -> Result<(), AllocError>
     Ok(())
 }
 
-// A line for standard error: the program's name, a colon, the text and the end of the line. Paths, names and
-// ids in the text may come from files or from the command line, so each end of line and each other control
-// character is escaped, as `\n` or `\u{1b}`.
+// Makes a line for standard error: the program's name, a colon, the text and the line end. Paths, names and
+// ids in the text may come from files or from the command line. So each line end and each other control
+// character in the text is escaped, as `\n` or `\u{1b}`.
 fn line(alloc: Global, program: &str, text: &str) -> Result<String, AllocError>
     ensures ok { IfOk result (λ said. string_bytes said ≡ line_of program.now text.now) }
 {
@@ -40,8 +40,8 @@ fn line(alloc: Global, program: &str, text: &str) -> Result<String, AllocError>
     Ok(line)
 }
 
-/// A line for standard error: the program's name, a colon, the text of `what` and the end of the line. Each
-/// end of line and each other control character in the text is escaped, as `\n` or `\u{1b}`.
+/// Makes a line for standard error: the program's name, a colon, the text of `what` and the line end. Each
+/// line end and each other control character in the text is escaped, as `\n` or `\u{1b}`.
 ///
 /// # Errors
 ///
@@ -54,15 +54,16 @@ pub fn error_line<T: Display>(alloc: Global, program: &str, what: &T) -> Result<
     line(alloc, program, text.as_str())
 }
 
-// Writes a line that says that memory is refused, without taking memory.
+// Writes the line that memory was refused, without taking memory.
 fn say_no_memory(rt: &HostRuntime, program: &str) -> io::Result<()> {
     let mut stderr = rt.stderr();
     stderr.write_all(program.as_bytes())?;
     stderr.write_all(b": out of memory\n")
 }
 
-/// Writes one line to standard error, after the program's name, with control characters escaped as by
-/// [`error_line`]. A failed write is ignored.
+/// Writes one line to standard error: the program's name, a colon, and the text of `what`. Each line end and
+/// each other control character in the text is escaped, as `\n` or `\u{1b}`. If the write fails, the error is
+/// ignored.
 pub fn say<T: Display>(rt: &HostRuntime, program: &str, what: &T) {
     let _ = match error_line(rt.alloc(), program, what) {
         Ok(line) => rt.stderr().write_all(line.as_bytes()),

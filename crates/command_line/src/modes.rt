@@ -1,6 +1,6 @@
-//! Access modes as both programs write them.
+//! The access modes, as both programs write them.
 
-/// The names of access modes by their numbers (CSI specification, 'CreateVolume',
+/// The name of each access mode, at the index that is its number (CSI specification, 'CreateVolume',
 /// `VolumeCapability.AccessMode.Mode`). The first, `UNKNOWN`, is not a mode.
 pub const MODE_NAMES: [&str; 8] = [
     "UNKNOWN",

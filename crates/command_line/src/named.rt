@@ -1,12 +1,12 @@
-//! What is said of something that has a name.
+//! A name with a statement about the named thing.
 
 use std::alloc::{AllocError, Global};
 use std::fmt::{self, Display};
 
-/// A name, as of a file, and a statement about the named thing. Its `Display` is `NAME: WHAT`.
+/// A name, such as the path of a file, and a statement about the named thing. Its `Display` is `NAME: WHAT`.
 #[derive(Debug, Drop)]
 pub struct Named<N, W> {
-    /// The name, as a path.
+    /// The name of the thing, such as a path.
     pub name: N,
     /// The statement after the name and the colon.
     pub what: W,
@@ -18,10 +18,10 @@ impl<N: Display, W: Display> Display for Named<N, W> {
     }
 }
 
-/// The name of something that failed and the reason, as owned texts.
+/// The name of a thing that failed, and the reason of the failure, as owned texts.
 pub type Cause = Named<String, String>;
 
-/// A [`Cause`] with a copy of `name` and the text of `why`.
+/// Makes a [`Cause`] from a copy of `name` and the text of `why`.
 ///
 /// # Errors
 ///

@@ -1,36 +1,36 @@
-//! Options and subcommands, as tables.
+//! Describes options and commands as tables, and makes the parser of `clap` from them.
 
 use clap::{Arg, ArgAction, Command, Error, value_parser};
 use std::alloc::{AllocError, Global};
 
-/// The kind of value that an option takes, and the value's name in the help.
+/// The kind of value that an option takes. The text in a variant is the value's name in the help.
 #[derive(Clone, Copy)]
 pub enum Takes {
     /// No value: the option is a flag.
     Nothing,
     Text(&'static str),
-    /// A text that is given by its place, without the option's name.
+    /// A text that is given by its position, without the option's name.
     Place(&'static str),
-    /// A number of `i32`, 0 or more.
+    /// A number from 0 to 2^31 - 1.
     Number(&'static str),
-    /// A number of `i64`, 0 or more.
+    /// A number from 0 to 2^63 - 1.
     Bytes(&'static str),
-    /// A number from 1 to this one.
+    /// A number from 1 to the number in the second field.
     Count(&'static str, u32),
 }
 
-/// An option of a command.
+/// An option of a command, as the help and the parser need it.
 #[derive(Clone, Copy)]
 pub struct CommandOption {
     /// The name of the option, without the dashes.
     pub name: &'static str,
     pub takes: Takes,
     pub is_required: bool,
-    /// Another option that must be given with this one; `None` if no other is needed.
+    /// Another option that must be given with this option, or `None` if no other option is needed.
     pub needs: Option<&'static str>,
     /// True if no other option may be given with this one.
     pub is_alone: bool,
-    /// The default value, as the help shows it; `None` if the option has none.
+    /// The default value, as the help shows it, or `None` if the option has no default.
     pub standard: Option<&'static str>,
     pub help: &'static str,
 }
@@ -45,7 +45,7 @@ impl CommandOption {
     }
 }
 
-/// A flag without a name and a help text, from which other options are made with `..OPTION`.
+/// A flag with an empty name and an empty help text. Other options are made from this one with `..OPTION`.
 pub const OPTION: CommandOption = CommandOption {
     name: "",
     takes: Takes::Nothing,
@@ -72,7 +72,7 @@ fn taking<'a>(arg: Arg<'a>, takes: Takes) -> Arg<'a> {
     }
 }
 
-// The argument of `clap` with the option's name and help.
+// Makes the argument of `clap` that has the option's name and help.
 fn named<'a>(alloc: Global, option: &CommandOption) -> Arg<'a> {
     let arg = Arg::new(alloc, option.name).help(option.help);
     match option.takes {
@@ -107,20 +107,20 @@ fn args<'a>(alloc: Global, options: &[CommandOption]) -> Result<Vec<Arg<'a>>, Er
     Ok(args)
 }
 
-/// A command of a program.
+/// A command of a program, with its options.
 #[derive(Clone, Copy)]
 pub struct Subcommand {
     pub name: &'static str,
     pub about: &'static str,
     pub options: &'static [CommandOption],
-    /// Further options, which several commands share.
+    /// More options of the command, which several commands share.
     pub shared: &'static [CommandOption],
 }
 
-/// The command line of a program: options, or one of its commands.
+/// The command line of a program: its options and its commands.
 #[derive(Clone, Copy)]
 pub struct CommandLine<'l> {
-    /// The name of the program.
+    /// The name of the program, as the help shows it.
     pub name: &'static str,
     pub version: &'static str,
     pub about: &'static str,
@@ -144,7 +144,7 @@ fn commands_of<'a>(alloc: Global, subcommands: &[Subcommand]) -> Result<Vec<Comm
     Ok(commands)
 }
 
-/// The command of `clap` that parses a command line.
+/// Makes the command of `clap` that parses a command line.
 ///
 /// # Errors
 ///

@@ -1,4 +1,4 @@
-//! Sizes, as people read them.
+//! Writes sizes for people.
 
 ghost use Rattle.std.specs.Prelude.{◌≡◌, IfOk, codes};
 ghost use Rattle.std.specs.String.{string_bytes};
@@ -6,14 +6,14 @@ ghost use Rattle.command_line.specs.Sizes.{binary_size, half, halves_or_none, ha
 
 use std::alloc::{AllocError, Global};
 
-// A unit: its name, and half the number of its bytes.
+// A unit of size: its name, and half of its size in bytes.
 #[derive(Clone, Copy)]
 struct Unit {
     name: &'static str,
     half: u64,
 }
 
-// The units in which sizes are shown, the greatest first.
+// The units in which sizes are shown, from the greatest to the least.
 const SHOWN: [Unit; 6] = [
     Unit {
         name: "EiB",
@@ -41,7 +41,8 @@ const SHOWN: [Unit; 6] = [
     },
 ];
 
-// A size in halves of a unit; `None` if it is less than a unit or not a whole number of halves.
+// Returns a size in halves of a unit, or `None` if the size is less than a unit or not a whole number of
+// halves.
 fn halves_of(bytes: u64, half: u64) -> Option<u64>
     ensures { result ≡ halves_or_none bytes half }
 {
@@ -53,7 +54,8 @@ fn halves_of(bytes: u64, half: u64) -> Option<u64>
     }
 }
 
-// The decimal digits after the number of whole units: `.5` for an odd number of halves, otherwise empty.
+// Returns the digits after the number of whole units: `.5` if the number of halves is odd, otherwise an empty
+// text.
 fn half_of(halves: u64) -> &'static str
     ensures { result.now ≡ half halves }
 {
@@ -68,7 +70,8 @@ fn in_halves(alloc: Global, halves: u64, unit: &str) -> Result<String, AllocErro
     format!(in alloc; "{whole}{half} {unit}")
 }
 
-// A size in the first of these units that shows it exactly with one decimal, otherwise in bytes.
+// Writes a size in the first of these units that shows it exactly with at most one decimal. If no unit does,
+// writes it in bytes.
 fn text_in(alloc: Global, units: &[Unit], bytes: u64) -> Result<String, AllocError>
     ensures { IfOk result (λ text. string_bytes text ≡ size_text units.now bytes) }
 {
@@ -80,8 +83,8 @@ fn text_in(alloc: Global, units: &[Unit], bytes: u64) -> Result<String, AllocErr
     format!(in alloc; "{bytes} B")
 }
 
-/// A size in the greatest binary unit that shows it exactly with at most one decimal, as `1 GiB` or `1.5
-/// MiB`; otherwise in bytes, as `1000 B`.
+/// Writes a size in the greatest binary unit that shows it exactly with at most one decimal, such as `1 GiB`
+/// or `1.5 MiB`. If no unit does, writes it in bytes, such as `1000 B`.
 ///
 /// # Errors
 ///

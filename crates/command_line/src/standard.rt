@@ -1,4 +1,4 @@
-//! Standard input, output and error that are closed.
+//! Opens standard input, output and error if they are closed.
 
 ghost use Rattle.std.specs.Prelude.{◌<ℤ◌, All, IfSome, pos};
 ghost use Rattle.std.specs.Fd.{file_raw_fd};
@@ -9,8 +9,8 @@ use std::os::fd::AsRawFd;
 // The first file descriptor after standard input, output and error, which are 0, 1 and 2.
 const NEXT: i32 = 3;
 
-// Opens a folder, which gets the lowest closed descriptor. A folder can be neither read nor written as a
-// file, like a closed descriptor.
+// Opens a folder, which gets the lowest descriptor that is closed. A folder can be neither read nor written
+// as a file, so it behaves like a closed descriptor.
 fn in_place(rt: &HostRuntime) -> Option<File>
     ensures { IfSome result (λ file. file_raw_fd file <ℤ pos 3) }
 {
@@ -18,10 +18,10 @@ fn in_place(rt: &HostRuntime) -> Option<File>
     (folder.as_raw_fd() < NEXT).then_some(folder)
 }
 
-/// Opens folders in the places of standard input, output and error that are closed. A file or connection that
-/// is opened later then does not get one of these descriptors, and with it the text for standard output or
-/// standard error. Reads and writes of the folders fail, as of closed descriptors. A program calls this
-/// first, and keeps the result until it ends.
+/// Opens folders in place of standard input, output and error, if they are closed. So a file or a connection
+/// that is opened later gets none of the three descriptors, and text for standard output or standard error is
+/// never written to it. Reads and writes of the folders fail, as with closed descriptors. A program calls
+/// this function first, and keeps the result until it ends.
 pub fn occupy_closed(rt: &HostRuntime) -> [Option<File>; 3]
     ensures { All (λ place. IfSome place (λ file. file_raw_fd file <ℤ pos 3)) result }
 {

@@ -1,15 +1,16 @@
-//! Rows of words in columns.
+//! Writes rows of words in columns.
 
 use std::alloc::{AllocError, Global};
 
-// The spaces between the longest word of a column and the next column.
+// The number of spaces between the longest word of a column and the next column.
 const GAP: usize = 2;
 
-// A longer word than this makes no column wider, so that one long word costs no space in each other row.
+// The greatest width of a column in bytes. A longer word does not widen its column, so that it costs no space
+// in other rows.
 const WIDEST: usize = 80;
 
-/// Rows of words that are shown in columns. A column is as wide as its longest word of at most 80 bytes; a
-/// longer word moves the rest of its own row to the right.
+/// Rows of words that are shown in columns. A column is as wide as its longest word of at most 80 bytes. If a
+/// word is longer than the column is wide, the rest of its row moves to the right.
 #[derive(Drop)]
 pub struct Table {
     rows: Vec<Vec<String>>,
@@ -23,7 +24,7 @@ fn put_spaces(out: &mut String, count: usize) -> Result<(), AllocError> {
     Ok(())
 }
 
-// Appends the words of a row, each but the last with the spaces up to the next column.
+// Appends the words of a row. Spaces fill each word but the last up to the next column.
 fn put_row(out: &mut String, row: &[String], widths: &[usize]) -> Result<(), AllocError> {
     let mut missing = 0_usize;
     for (word, width) in row.iter().zip(widths) {
@@ -34,12 +35,12 @@ fn put_row(out: &mut String, row: &[String], widths: &[usize]) -> Result<(), All
     out.push('\n')
 }
 
-// The columns that a word takes, up to the 80 that widen a column.
+// Returns the width that a word needs, at most 80.
 fn width_of(word: &str) -> usize {
     if word.len() <= WIDEST { word.len() } else { 0 }
 }
 
-// Widens columns to the words of a row.
+// Widens the columns so that the words of a row fit.
 fn widen(widths: &mut Vec<usize>, row: &[String]) -> Result<(), AllocError> {
     for (at, word) in row.iter().enumerate() {
         let wanted = width_of(word.as_str());
@@ -52,7 +53,7 @@ fn widen(widths: &mut Vec<usize>, row: &[String]) -> Result<(), AllocError> {
 }
 
 impl Table {
-    /// A table without rows.
+    /// Makes a table without rows.
     pub fn new(alloc: Global) -> Table {
         Table {
             rows: Vec::new(alloc),
@@ -60,7 +61,7 @@ impl Table {
         }
     }
 
-    /// A table with a row of headings.
+    /// Makes a table whose first row has these headings.
     ///
     /// # Errors
     ///
@@ -75,7 +76,7 @@ impl Table {
         Ok(table)
     }
 
-    /// Adds a row.
+    /// Adds a row of words.
     ///
     /// # Errors
     ///
@@ -86,7 +87,7 @@ impl Table {
         Ok(())
     }
 
-    /// Adds a row with a heading and a value.
+    /// Adds a row of two words, a heading and a value.
     ///
     /// # Errors
     ///
@@ -103,7 +104,7 @@ impl Table {
         self.add(row)
     }
 
-    /// The lines of the table.
+    /// Returns the lines of the table.
     ///
     /// # Errors
     ///

@@ -1,4 +1,4 @@
-//! Words of a line: texts in which nothing ends a word, and `-` where there is nothing.
+//! Writes texts as words of a line: a word has no space and no line end, and an empty text is `-`.
 
 ghost use Rattle.std.specs.Prelude.{◌≡◌, ◌++◌, IfOk, OnOk};
 ghost use Rattle.std.specs.String.{string_bytes};
@@ -8,7 +8,8 @@ ghost use Rattle.command_line.specs.Words.{after_mark, or_dash};
 use percent_encoding::{AsciiSet, CONTROLS, ascii_set, utf8_percent_encode};
 use std::alloc::{AllocError, Global};
 
-// The ASCII characters that would end a word, and `%`, which begins an escape.
+// The ASCII characters that are escaped: the characters that would end a word, and `%`, which begins an
+// escape.
 const ESCAPED: AsciiSet = ascii_set!(CONTROLS.add(b' ').add(b'%'));
 
 /// Appends a text to a word. Each byte outside 0x21 to 0x7E, and each `%`, is written as `%` and two
@@ -24,7 +25,7 @@ pub fn put_word(out: &mut String, text: &str) -> Result<(), AllocError>
     utf8_percent_encode(text, ESCAPED).append_to(out)
 }
 
-/// Appends a part of a list; before it `mark`, if `out` is not empty.
+/// Appends a part of a list. If `out` is not empty, appends `mark` first.
 ///
 /// # Errors
 ///
@@ -38,7 +39,8 @@ pub fn put_next(out: &mut String, mark: &str, part: &str) -> Result<(), AllocErr
     out.push_str(part)
 }
 
-/// A text as one word, escaped as by [`put_word`]; `-` if the text is empty.
+/// Returns a text as one word, or `-` if the text is empty. Each byte outside 0x21 to 0x7E, and each `%`, is
+/// written as `%` and two hexadecimal digits.
 ///
 /// # Errors
 ///
@@ -51,7 +53,7 @@ pub fn word(alloc: Global, text: &str) -> Result<String, AllocError>
     or_dash(out)
 }
 
-/// The word itself, or `-` if it is empty.
+/// Returns the word itself, or `-` if the word is empty.
 ///
 /// # Errors
 ///

@@ -1,4 +1,4 @@
-//! The tables on a connection, judged and taken.
+//! Checks the tables on a connection, and makes a keeper over them.
 
 ghost use Rattle.std.specs.Prelude.{◌≡◌, ◌≢◌, ◌↔◌, false, true, Some, IfErr, IfOk, IsTrue, OnErr, OnOk};
 ghost use Rattle.sqlite.specs.Held.{state};
@@ -44,12 +44,12 @@ use sqlite::{Alter, Connection, Error};
 use sqlite_schema::schema::Schema;
 use std::alloc::Global;
 
-/// Why tables were not adopted, with the connection to their database.
+/// The reason why tables were not adopted, and the connection to their database.
 #[derive(Drop)]
 pub struct AdoptError<S: Alter> {
-    /// The first rule that the database breaks, or the failed read.
+    /// The first rule that the database breaks, or the error of a failed read.
     pub fault: AdoptFault,
-    /// The connection to the database. No transaction is open on it.
+    /// The connection to the database. No transaction is open on the connection.
     pub conn: Connection<S>,
 }
 
@@ -87,8 +87,8 @@ fn see_tables<S: Alter>(
     })
 }
 
-// Judges the attachments together with their volumes and with one another. Each table was judged alone
-// before, so each attachment is at a node of the configuration, and a volume has at most one attachment for
+// Checks the attachments together with their volumes and with one another. Each table was checked alone
+// before, so each attachment is at a node of the configuration, and a volume has at most one attachment to
 // each node.
 fn judge_joined<S: Alter>(
     alloc: Global,
@@ -118,7 +118,7 @@ fn judge_joined<S: Alter>(
     Ok(())
 }
 
-// Judges the results of the scans, and then the joins of the two tables.
+// Checks the results of the scans over each table, and then scans the joins of the two tables.
 fn judge_seen<S: Alter>(
     alloc: Global,
     conn: &mut IdleConnection<S>,
@@ -143,8 +143,8 @@ fn judge_seen<S: Alter>(
     judge_joined(alloc, conn, config, tables)
 }
 
-// Judges and counts the rows of volumes and attachments, by the constraints in their order. The scans'
-// results are large, and are passed by reference to the functions that may fail.
+// Checks and counts the rows of volumes and attachments, constraint by constraint. The results of the scans
+// are large, so they are passed by reference to the functions that may fail.
 fn judge_after<S: Alter>(
     alloc: Global,
     conn: &mut IdleConnection<S>,
@@ -178,7 +178,7 @@ fn see_row<S: Alter>(conn: &mut IdleConnection<S>) -> Result<Meta, AdoptFault>
     judge_meta(rows)
 }
 
-// Judges all rows, beginning with the row of meta.
+// Checks all rows, beginning with the row of `meta`.
 fn judge_rows<S: Alter>(
     alloc: Global,
     conn: &mut IdleConnection<S>,
@@ -196,7 +196,7 @@ fn judge_rows<S: Alter>(
     judge_after(alloc, conn, config, meta, content)
 }
 
-// States the laws of the rows in one call: rows that break no constraint are the rows of a State that meets
+// Gives the laws of the rows in one call. Rows that break no constraint are the rows of a State that meets
 // every constraint, and the rows of such a State break no constraint.
 #[inline(always)]
 fn rows_report(config: &Config)
@@ -222,14 +222,14 @@ fn rows_report(config: &Config)
     first(config);
 }
 
-/// The format of tables that break no constraint, and the totals of their pools.
+/// The results of a successful check: the format of the tables, and the totals of the pools.
 #[derive(Drop)]
 struct Judged {
     format: u32,
     totals: Totals,
 }
 
-// Judges the schema and the rows, and returns the format of the tables and the totals of the pools.
+// Checks the schema and the rows. Returns the format of the tables and the totals of the pools.
 fn judge<S: Alter>(
     alloc: Global,
     conn: &mut IdleConnection<S>,
@@ -266,7 +266,7 @@ fn judge<S: Alter>(
     })
 }
 
-// Upgrades tables of the first format to the latest format, by one statement.
+// Upgrades tables of the first format to the latest format, in one statement. Does nothing for other formats.
 fn upgrade<S: Alter>(conn: &mut IdleConnection<S>, format: u32) -> Result<(), Error>
     ensures stays { format ≢ FIRST_FORMAT → conn.new ≡ conn.old }
     ensures error_only_if { format ≢ FIRST_FORMAT → OnErr result ⊥ }
@@ -286,7 +286,7 @@ fn upgrade<S: Alter>(conn: &mut IdleConnection<S>, format: u32) -> Result<(), Er
     set_format(conn)
 }
 
-// Judges tables and upgrades them to the latest format. The upgrade is the last step that can fail.
+// Checks tables and upgrades them to the latest format. The upgrade is the last step that can fail.
 fn judge_and_upgrade<S: Alter>(
     alloc: Global,
     conn: &mut IdleConnection<S>,
@@ -316,7 +316,7 @@ fn judge_and_upgrade<S: Alter>(
     Ok(judged.totals)
 }
 
-// Rolls back, so that reads see the last commit. No transaction is open, so no change is undone.
+// Rolls back, so that reads see the last commit. No transaction is open, so no change is lost.
 fn roll_back<S: Alter>(conn: &mut Connection<S>)
     requires { conn.old.in_transaction ≡ false }
     ensures idle { conn.new.in_transaction ≡ false }
@@ -327,7 +327,7 @@ fn roll_back<S: Alter>(conn: &mut Connection<S>)
     conn.transaction().rollback();
 }
 
-// Adopts the tables of a database as [`adopt`] does, and counts their rows.
+// Adopts the tables of a database as `adopt` does, and counts their rows.
 fn adopt_into<S: Alter>(
     alloc: Global,
     mut conn: Connection<S>,
@@ -361,27 +361,28 @@ fn adopt_into<S: Alter>(
     }
 }
 
-/// Takes the tables that a database has, and gives a keeper over them; a database that has no table
-/// gets new ones, with no volume and 1 as the next number.
+/// Checks the tables of a database, and makes a keeper over them. A database without tables gets new tables,
+/// with no volume and 1 as the next number.
 ///
-/// The last commit is judged: the tables must be exactly the tables that this crate makes, each value must be
-/// of its column's kind, and the rows must meet every constraint of the configuration (docs/TABLES.md, "What
-/// is judged when a file is opened"). After `Ok` there is one State whose rows were committed; it meets the
-/// constraints, the keeper has it, and a stop leaves it and no other. Rows are read one by one and not kept,
-/// so memory does not grow with them. A limit on the connection's steps is removed.
+/// The tables of the last commit are checked. They must be exactly the tables that this program makes. Each
+/// value must have the type of its column, and the rows must meet every constraint of the configuration
+/// (docs/TABLES.md, "What is judged when a file is opened"). After `Ok` there is one State whose rows were
+/// committed. This State meets the constraints, the keeper has it, and a stop leaves only this State. Rows
+/// are read one by one and not kept, so the memory does not grow with their number. A limit on the
+/// connection's steps is removed.
 ///
 /// # Errors
 ///
-/// The first constraint that is broken, with the row that a scan finds first; or that the database or memory
-/// failed, which says nothing of the rows. The rows of a State that meets every constraint are refused only
-/// if the database or memory fails. An error of the database names its cause: the disk, a fault that shut the
-/// connection, or a statement that the database refuses. The last commit stays, and the connection is
-/// returned.
+/// The error is the first constraint that is broken, with the row that a scan finds first. If the database or
+/// memory fails, the error says so, and tells nothing about the rows. If the rows are the rows of a State
+/// that meets every constraint, no other error is possible. An error of the database names its cause: the
+/// disk, a fault that shut the connection, or a statement that the database refuses. The last commit is
+/// unchanged, and the error contains the connection.
 ///
 /// # Not promised
 ///
-/// That its steps succeed, which rows of `test_tables` show, and the displayed texts. A file whose
-/// rowids do not rise is answered as a failed database; `sqlite` opens no such file.
+/// The steps may fail, and the displayed texts are not fixed; rows of `test_tables` show both. If the rowids
+/// of a file do not rise, the error says that the database failed; `sqlite` opens no such file.
 pub fn adopt<S: Alter>(
     alloc: Global,
     conn: Connection<S>,
@@ -395,16 +396,19 @@ pub fn adopt<S: Alter>(
     adopt_into(alloc, conn, config, &mut content)
 }
 
-/// Adopts tables as [`adopt`] does, and also returns how many volumes and attachments they have. The counts
-/// cost no further read.
+/// Checks the tables of a database, and makes a keeper over them, as [`adopt`]. Also returns the numbers of
+/// volumes and attachments. The checks count them without a further read. A database without tables gets new
+/// tables.
 ///
 /// # Errors
 ///
-/// As for [`adopt`].
+/// The first constraint that is broken, with the row that a scan finds first, or a failure of the database or
+/// of memory. The last commit is unchanged, and the error contains the connection.
 ///
 /// # Not promised
 ///
-/// That the counts are right, which tests of the line that `csid` prints at its start show.
+/// The contract does not say that the counts are right. Tests of the line that `csid` prints at its start
+/// show that they are.
 pub fn adopt_and_count<S: Alter>(
     alloc: Global,
     conn: Connection<S>,

@@ -1,4 +1,4 @@
-//! The faults of attachments, and of the nodes that they are at.
+//! Finds the faults of attachments and of their nodes.
 
 ghost use Rattle.std.specs.Prelude.{◌≡◌, IfOk, option_copied, unwrap_or, []};
 ghost use Rattle.csi_adoption.specs.Faults.{Says, attachment_fault, full_node, node_fault};
@@ -10,7 +10,7 @@ use csi_constraints::{AttachmentConstraint, BrokenConstraint, RowName, TextSum};
 use csi_types::{Text, copy_text};
 use std::alloc::{AllocError, Global};
 
-// A copy of the text that names a row; empty if the row has no text.
+// Copies the text that names a row, or returns an empty text if the row has no text.
 fn text_of(alloc: Global, text: &Option<Text>) -> Result<Text, AllocError>
     ensures { IfOk result (λ copy. copy ≡ unwrap_or text.now []) }
 {
@@ -20,11 +20,11 @@ fn text_of(alloc: Global, text: &Option<Text>) -> Result<Text, AllocError>
     }
 }
 
-/// Checks that no attachment broke a constraint.
+/// Checks that no attachment broke a constraint. `found` names the first attachment that broke it.
 ///
 /// # Errors
 ///
-/// The fault, which names the first such attachment, or [`AdoptFault::NoMemory`].
+/// Returns the fault, which names this attachment, or [`AdoptFault::NoMemory`].
 pub(crate) fn check_attachment(
     alloc: Global,
     found: &Option<RowName>,
@@ -42,7 +42,7 @@ pub(crate) fn check_attachment(
     }))
 }
 
-// The first node that has more attachments than its greatest number of volumes.
+// Returns the first node that has more attachments than its greatest number of volumes, or `None`.
 fn full_node<'a>(nodes: &'a [Node], volumes: &[TextSum]) -> Option<&'a Node>
     ensures { option_copied result ≡ full_node nodes.now (sums_of volumes.now) }
 {

@@ -1,10 +1,11 @@
-//! Laws of the attachments: tables that pass have them, and the rows of a State's attachments pass.
+//! Laws of attachments: rows that pass are the attachments of a State, and the attachments of a State pass.
 
 ghost use Rattle.csi_adoption.specs.FoundAttachments.{AttachmentsAreFound, AttachmentsDoPass, OwnersDoPass, PlacesDoPass};
 
 use csi_constraints::laws::{attachments, owners, pairs};
 
-/// Rows of attachments that pass every constraint are the attachments of a State with the volumes.
+/// Take rows of attachments that pass every constraint, where the volumes are those of a State. Then some
+/// State has the same volumes, and the rows are the rows of its attachments.
 pub fn attachments_found()
     ensures { AttachmentsAreFound }
 {
@@ -13,14 +14,14 @@ pub fn attachments_found()
     pairs();
 }
 
-/// The rows of a State's attachments pass the constraints of one row.
+/// The rows of a State's attachments pass each constraint on a single row.
 pub fn attachments_pass()
     ensures { AttachmentsDoPass }
 {
     attachments();
 }
 
-/// The attachments of a State pass the constraints on an attachment and its volume.
+/// The attachments of a State pass each constraint on an attachment and its volume.
 pub fn owners_pass()
     ensures { OwnersDoPass }
 {

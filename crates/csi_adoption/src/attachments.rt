@@ -1,4 +1,4 @@
-//! What scans over attachments show.
+//! Scans the table of attachments for broken constraints, and counts the attachments of each node.
 
 ghost use Rattle.std.specs.Prelude.{◌≡◌, IfOk, map};
 ghost use Rattle.sqlite.specs.Held.{state};
@@ -59,7 +59,7 @@ impl Fold for AttachmentsFold<'_> {
 impl<'a> AttachmentsFold<'a> {
     ghost use Rattle.csi_adoption.specs.Folding.{BeginsAttachments, attachments_seen};
 
-    // The folds before the first row.
+    // Makes the folds before the first row.
     fn new(alloc: Global, config: &'a Config) -> Result<AttachmentsFold<'a>, AllocError>
         ensures { IfOk result (BeginsAttachments config.now) }
     {
@@ -74,7 +74,8 @@ impl<'a> AttachmentsFold<'a> {
         })
     }
 
-    // The result of the scan. It is moved out in a function of its own, in which no call can fail.
+    // Returns the result of the scan. The fields are moved out in a function of its own, in which no call can
+    // fail.
     fn into_seen(self) -> AttachmentsSeen
         ensures { result ≡ attachments_seen self.entry }
     {
@@ -88,7 +89,7 @@ impl<'a> AttachmentsFold<'a> {
     }
 }
 
-/// Scans attachments, each after its rowid.
+/// Scans the rows of attachments, each with its rowid.
 pub(crate) fn see_attachments<S: Alter>(
     alloc: Global,
     conn: &mut IdleConnection<S>,
@@ -112,7 +113,8 @@ pub(crate) fn see_attachments<S: Alter>(
     Ok(seen)
 }
 
-/// The first attachment whose volume does not exist, or does not have its capability.
+/// Returns the first attachment whose volume does not exist or does not have the attachment's capability, or
+/// `None`.
 pub(crate) fn see_owners<S: Alter>(
     alloc: Global,
     conn: &mut IdleConnection<S>,
@@ -132,7 +134,7 @@ pub(crate) fn see_owners<S: Alter>(
     Ok(fold.found)
 }
 
-/// The first attachment that cannot coexist with another of its volume.
+/// Returns the first attachment that cannot coexist with another attachment of its volume, or `None`.
 pub(crate) fn see_apart<S: Alter>(
     alloc: Global,
     conn: &mut IdleConnection<S>,

@@ -1,4 +1,4 @@
-//! How much tables have.
+//! The numbers of rows that adopted tables have.
 
 ghost use Rattle.std.specs.Prelude.{◌≡◌};
 
@@ -6,19 +6,19 @@ use crate::adopting::TablesSeen;
 use crate::meta::Meta;
 use csi_constraints::TextSum;
 
-/// The counts of adopted tables, which the scans that judged the rows took.
+/// The numbers of rows in adopted tables, and the next number. The scans that check the rows count them.
 #[derive(Clone, Copy, Debug)]
 pub struct Content {
-    /// The number of volumes.
+    /// The number of rows in the table of volumes.
     pub volumes: u64,
-    /// The number of attachments; the greatest `u64` if there are more.
+    /// The number of rows in the table of attachments, or the greatest `u64` if there are more.
     pub attachments: u64,
     /// The number that the next volume gets.
     pub next_number: u64,
 }
 
 impl Content {
-    /// The content of new tables.
+    /// The counts of new tables: no volumes, no attachments, and 1 as the next number.
     pub(crate) const NEW: Content = Content {
         volumes: 0,
         attachments: 0,
@@ -26,7 +26,7 @@ impl Content {
     };
 }
 
-// The sum over all nodes; the greatest `u64` if the sum is greater.
+// Returns the sum over all nodes, or the greatest `u64` if the sum is greater.
 fn total(sums: &[TextSum]) -> u64 {
     let mut total = 0u64;
     for part in sums {
@@ -35,7 +35,7 @@ fn total(sums: &[TextSum]) -> u64 {
     total
 }
 
-/// The counts of judged tables.
+/// Returns the counts of tables that were checked.
 pub(crate) fn content_of(tables: &TablesSeen, meta: Meta) -> Content
     ensures volumes { result.volumes ≡ tables.now.volumes.rows }
     ensures next_number { result.next_number ≡ meta.next }

@@ -1,4 +1,4 @@
-//! Why tables are not adopted.
+//! The reasons why tables are not adopted.
 
 ghost use Rattle.std.specs.Prelude.{◌≡◌};
 ghost use Rattle.csi_adoption.specs.Faults.{failure_of};
@@ -9,42 +9,42 @@ use sqlite::{Error as SqlError, ErrorCode};
 use std::alloc::{AllocError, AllocFailed};
 use thiserror::Error;
 
-/// The part of a database that shows that this program did not make its tables.
+/// The part of a database that shows that another program made its tables.
 #[derive(Clone, Copy, Debug, Error)]
 pub enum Foreign {
-    /// The database has other tables, indexes, views or columns.
+    /// The database does not have exactly the tables, indexes, views and columns that this program makes.
     #[error("the tables are not those of csid")]
     Schema,
-    /// The table meta does not have exactly one row, or the row has no format number.
+    /// The table `meta` does not have exactly one row, or the row has no format number.
     #[error("meta has no row with the number of a format")]
     Meta,
-    /// A value in a row of volumes is not of its column's kind.
+    /// A value in a row of volumes does not have the type of its column.
     #[error("volume {number}: a value is not of the kind of its column")]
     Volume {
         /// The number of the volume in the row.
         number: i64,
     },
-    /// A value in a row of attachments is not of its column's kind.
+    /// A value in a row of attachments does not have the type of its column.
     #[error("row {rowid} of attachments: a value is not of the kind of its column")]
     Attachment {
-        /// The rowid of the row in its table.
+        /// The rowid of the row in the table of attachments.
         rowid: i64,
     },
 }
 
-/// Why tables are not adopted. Its `Display` names the row, if the fault is in one row.
+/// The reason why tables are not adopted. Its `Display` names the row if the fault is in one row.
 #[derive(Debug, Error)]
 pub enum AdoptFault {
-    /// The tables are not those that this program makes.
+    /// The tables are not tables that this program makes.
     #[error("{0}")]
     Foreign(Foreign),
     /// The tables have a later format than this program knows.
     #[error("the tables have format {format}, and the latest known is 2")]
     Newer {
-        /// The number of the format in meta.
+        /// The number of the format in the table `meta`.
         format: i64,
     },
-    /// The rows break a constraint.
+    /// The rows break a constraint of the configuration or of the volume machine.
     #[error("{0}")]
     Broken(BrokenConstraint),
     /// The database failed a read, with this error.

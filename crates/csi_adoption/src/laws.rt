@@ -13,44 +13,52 @@ pub fn volumes_found()
     csi_constraints::laws::volumes();
 }
 
-/// The rows of the volumes of a State pass every constraint of one row.
+/// The rows of the volumes of a State pass each constraint on a single row.
 pub fn volumes_pass()
     ensures { PassesVolumes }
 {
     csi_constraints::laws::volumes();
 }
 
-/// The row of meta for a State has the format of the tables and the State's next number.
+/// The row of the table `meta` for a State has the format of the tables and the State's next number.
 pub fn meta_pass()
     ensures { PassesMeta }
 {}
 
-/// A count below 2^64 is reported exactly. A sum is reported up to 2^64 - 1, and a bound below that holds for
-/// the reported sum exactly if it holds for the sum.
+/// If a number of rows is below 2^64, a scan reports exactly this number. A scan reports a sum of at most
+/// 2^64 - 1 exactly, and a greater sum as 2^64 - 1. So if a bound is below 2^64 - 1, the reported sum is
+/// within the bound if and only if the true sum is.
 pub fn sums_reported()
     ensures counts { ReportsCounts }
     ensures rooms { ReportsRooms }
 {}
 
-/// For rows of volumes that pass, the totals of a pool are the count and the bytes of its volumes.
+/// If rows of volumes pass every constraint, the reported totals of a pool are the number of its volumes and
+/// the sum of their bytes.
 pub fn pools_reported()
     ensures { ReportsPools }
 {}
 
-/// Each volume found is in a pool of the configuration.
+/// If rows of volumes pass every constraint, each volume that is found in them is in a pool of the
+/// configuration.
 pub fn pools_elsewhere()
     ensures { HasNoOtherPool }
 {}
 
-/// The totals reported for the pools are the counts and the bytes of the volumes found in each pool.
+/// If rows of volumes pass every constraint, the reported totals of each pool are the number of volumes that
+/// are found in the pool, and the sum of their bytes.
 pub fn totals_found()
     ensures { FindsTotals }
 {}
 
-/// The database of a keeper is adopted as the State that the keeper had, or as a State that a stop left,
-/// unless the database or memory failed. The State must meet the invariant, as each State of the volume
-/// machine does. Without a stop this holds of the keeper's own connection, and after a stop of any connection
-/// over the database that the stop left. Tables of either format are adopted.
+/// If the tables that a keeper left are adopted, the new keeper has the State that was left. This holds
+/// unless the database or memory fails. The State must meet the invariant, as each State of the volume
+/// machine does.
+///
+/// - `ended`: the keeper ended without a stop. Its own connection is adopted, with the keeper's State.
+/// - `stopped`: a stop ended the keeper. Any connection to the database that the stop left is adopted, with
+///   one of the States that the stop may leave.
+/// - `either`: tables of format 1 are adopted as well as tables of format 2.
 pub fn adopted_again<S: Alter>()
     ensures ended { EndsTaken S.Store }
     ensures stopped { StopsTaken S.Store }

@@ -1,4 +1,4 @@
-//! The row of meta.
+//! Scans the table `meta`, and checks its row.
 
 ghost use Rattle.std.specs.Prelude.{◌≡◌, refl, IsPermutation, map};
 ghost use Rattle.sqlite.specs.Held.{state};
@@ -16,16 +16,16 @@ use csi_sql::{FIRST_FORMAT, Fold, IdleConnection, LATEST_FORMAT};
 use csi_types::MAX_NUMBER;
 use sqlite::{Alter, Error, Row};
 
-/// The format and the next number in the row of meta.
+/// The format and the next number in the row of `meta`, after their check.
 #[derive(Clone, Copy)]
 pub(crate) struct Meta {
-    /// The format of the tables, the first or the latest.
+    /// The number of the tables' format: [`FIRST_FORMAT`] or [`LATEST_FORMAT`].
     pub(crate) format: u32,
-    /// The next number; 0 if the number in the row is not between 1 and 2^62.
+    /// The next number, or 0 if the number in the row is not between 1 and 2^62.
     pub(crate) next: u64,
 }
 
-/// The integers in a row of meta; `None` for a value that is not an integer.
+/// The integers in a row of `meta`. A field is `None` if its value is not an integer.
 #[derive(Clone, Copy)]
 pub(crate) struct MetaRow {
     pub(crate) key: Option<i64>,
@@ -33,7 +33,7 @@ pub(crate) struct MetaRow {
     pub(crate) next: Option<i64>,
 }
 
-/// The result of a scan over meta, which should have one row.
+/// The result of a scan over the table `meta`, which should have exactly one row.
 #[derive(Clone, Copy)]
 pub(crate) enum MetaRows {
     None,
@@ -71,7 +71,8 @@ impl Fold for MetaFold {
     }
 }
 
-// The next number if it is between 1 and 2^62; otherwise 0, so that no volume's number is below it.
+// Returns the next number if it is between 1 and 2^62. Otherwise returns 0, so that the number of each volume
+// breaks its constraint.
 fn valid_next(next: i64) -> u64
     ensures { result ≡ valid_next next }
 {
@@ -81,7 +82,7 @@ fn valid_next(next: i64) -> u64
     }
 }
 
-// The format with this number, of the two formats.
+// Returns the first format if it has this number, otherwise the latest format.
 fn valid_format(format: i64) -> u32
     ensures { result ≡ valid_format format }
 {
@@ -107,7 +108,8 @@ fn judge_integers(key: i64, format: i64, next: i64) -> Result<Meta, AdoptFault>
     })
 }
 
-/// The format and the next number, if meta has exactly one row, of a known format.
+/// Returns the format and the next number if `meta` has exactly one row and its format is known. Otherwise
+/// returns the fault.
 pub(crate) fn judge_meta(rows: MetaRows) -> Result<Meta, AdoptFault>
     ensures { result ≡ meta_judged rows }
 {
@@ -123,7 +125,7 @@ pub(crate) fn judge_meta(rows: MetaRows) -> Result<Meta, AdoptFault>
     }
 }
 
-/// Scans the table meta.
+/// Scans the rows of the table `meta`.
 pub(crate) fn see_meta<S: Alter>(conn: &mut IdleConnection<S>) -> Result<MetaRows, Error>
     requires has_schema { HasCleanDisk (state S.Store conn.old) → conn.old.schema ≡ our_schema }
     ensures scans { Scans S.Store conn.old conn.new result }

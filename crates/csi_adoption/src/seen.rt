@@ -1,13 +1,13 @@
-//! What scans over the tables show.
+//! The results of the scans over the tables.
 
 use csi_constraints::{RowName, TextSum};
 
-/// The result of a scan over the rows of volumes in rising order of their numbers. For each constraint it
-/// names the first row that breaks the constraint.
+/// The result of a scan over the rows of volumes, in rising order of their numbers. For each constraint it
+/// has the name of the first row that breaks the constraint.
 pub(crate) struct VolumesSeen {
-    /// The format of the tables, by which the rows were judged.
+    /// The format of the tables, which decides how `params` is checked.
     pub format: u32,
-    /// The first row with a value that is not of its column's kind.
+    /// The first row with a value that does not have the type of its column.
     pub kinds: Option<RowName>,
     /// The first row whose number breaks `VolumeConstraint::Number`.
     pub number: Option<RowName>,
@@ -21,15 +21,15 @@ pub(crate) struct VolumesSeen {
     pub caps: Option<RowName>,
     /// The first row whose parameters break `VolumeConstraint::Params`.
     pub params: Option<RowName>,
-    /// The sum of the sizes of each pool's volumes in bytes, in the order of the configuration.
+    /// For each pool in the order of the configuration, the sum of the sizes of its volumes in bytes.
     pub pool_bytes: Vec<TextSum>,
-    /// The number of each pool's volumes, in the order of the configuration.
+    /// For each pool in the order of the configuration, the number of its volumes.
     pub pool_volumes: Vec<TextSum>,
-    /// The number of all volumes.
+    /// The number of all rows of volumes.
     pub rows: u64,
 }
 
-// Written out, so that code that drops the value has one call for it, and its proof no branch for each part.
+// Written by hand and not derived: the proof of code that drops the value then has one call for the drop.
 impl Drop for VolumesSeen {
     fn drop(self) {
         let VolumesSeen {
@@ -48,10 +48,10 @@ impl Drop for VolumesSeen {
     }
 }
 
-/// The result of a scan over the rows of attachments in rising order of their rowids. For each constraint it
-/// names the first row that breaks the constraint.
+/// The result of a scan over the rows of attachments, in rising order of their rowids. For each constraint it
+/// has the name of the first row that breaks the constraint.
 pub(crate) struct AttachmentsSeen {
-    /// The first row with a value that is not of its column's kind, named by its rowid.
+    /// The first row with a value that does not have the type of its column. The row is named by its rowid.
     pub kinds: Option<RowName>,
     /// The first row whose capability breaks `AttachmentConstraint::Cap`.
     pub cap: Option<RowName>,
@@ -59,7 +59,7 @@ pub(crate) struct AttachmentsSeen {
     pub readonly: Option<RowName>,
     /// The first row whose node breaks `AttachmentConstraint::Node`.
     pub node: Option<RowName>,
-    /// The number of attachments of each node, in the order of the configuration.
+    /// For each node in the order of the configuration, the number of its attachments.
     pub node_volumes: Vec<TextSum>,
 }
 

@@ -1,4 +1,4 @@
-//! Constraints at their start.
+//! Makes the folds that check constraints, in the state that they have before the first row of a scan.
 
 ghost use Rattle.std.specs.Prelude.{◌≡◌};
 ghost use Rattle.csi_adoption.specs.Starting.{IsRisingStart, IsUnbroken};
@@ -6,8 +6,8 @@ ghost use Rattle.csi_adoption.specs.Starting.{IsRisingStart, IsUnbroken};
 use csi_constraints::{FirstBroken, InfallibleTest, Rising};
 use std::alloc::Global;
 
-/// A fold that looks for the first row that breaks a constraint, before the first row. It names the row by
-/// the integer in column `number` and the text in column `text`.
+/// Makes a fold that finds the first row that breaks a constraint. The fold names the row by the integer in
+/// column `number` and the text in column `text`.
 pub(crate) fn unbroken<T>(alloc: Global, test: T, number: usize, text: usize) -> FirstBroken<T>
     ensures test { result.test ≡ test }
     ensures unbroken { IsUnbroken number text result }
@@ -21,7 +21,8 @@ pub(crate) fn unbroken<T>(alloc: Global, test: T, number: usize, text: usize) ->
     }
 }
 
-/// A fold like [`unbroken`] for a test that takes no memory.
+/// Makes a fold that finds the first row that breaks a constraint, for a test that takes no memory and so
+/// cannot fail. The fold names the row by the integer in column `number` and the text in column `text`.
 pub(crate) fn unbroken_test<T>(
     alloc: Global,
     test: T,
@@ -34,7 +35,7 @@ pub(crate) fn unbroken_test<T>(
     unbroken(alloc, InfallibleTest { test }, number, text)
 }
 
-/// A fold over the integers of the first column, before the first row.
+/// Makes a fold that tests that the integers of the first column rise.
 pub(crate) fn rising_start() -> Rising
     ensures { IsRisingStart result }
 {

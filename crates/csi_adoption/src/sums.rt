@@ -1,4 +1,4 @@
-//! Sums over the rows of each pool and of each node.
+//! Makes the folds that sum over the rows of each pool and of each node.
 
 ghost use Rattle.std.specs.Prelude.{IfOk};
 ghost use Rattle.std.specs.List.{AllZip};
@@ -9,7 +9,7 @@ use csi_config::{Node, Pool};
 use csi_constraints::{FoldEach, TextSum, Weight};
 use std::alloc::{AllocError, Global};
 
-// The sum of a weight over the rows with this text in a column, before the first row.
+// Makes a fold that sums a weight over the rows that have this text in a column.
 fn sum_of(alloc: Global, column: usize, text: &[u8], weight: Weight) -> Result<TextSum, AllocError>
     ensures { IfOk result (λ sum. IsBegun column text.now weight sum) }
 {
@@ -23,7 +23,7 @@ fn sum_of(alloc: Global, column: usize, text: &[u8], weight: Weight) -> Result<T
     })
 }
 
-/// A sum for each pool over the rows that have the pool's name in the fourth column, before the first row.
+/// Makes a sum for each pool, over the rows that have the pool's name in the fourth column.
 pub(crate) fn pool_sums(
     alloc: Global,
     pools: &[Pool],
@@ -38,7 +38,7 @@ pub(crate) fn pool_sums(
     Ok(FoldEach { parts })
 }
 
-/// A count for each node of the rows that have the node's id in the third column, before the first row.
+/// Makes a count for each node, of the rows that have the node's id in the third column.
 pub(crate) fn node_sums(alloc: Global, nodes: &[Node]) -> Result<FoldEach<TextSum>, AllocError>
     ensures { IfOk result (λ each. AllZip (λ m sum. IsBegun 2 m.id Ones sum) nodes.now each.parts.items) }
 {

@@ -1,4 +1,4 @@
-//! The faults of the tables, in the order of the constraints.
+//! Finds the first fault of the tables, in the order of the constraints.
 
 ghost use Rattle.csi_adoption.specs.Faults.{Says, Reports, code_faults, count_fault, count_faults, kinds_faults, table_faults};
 ghost use Rattle.csi_adoption.specs.Seen.{reported_attachments, reported_volumes};
@@ -42,12 +42,12 @@ fn check_codes(
     check_attachment(alloc, &attachments.node, AttachmentConstraint::Node)
 }
 
-/// Checks the results of the scans over each table alone. `next` is the next number in meta, or 0 if it is
-/// out of range.
+/// Checks the results of the scans that read only one table. `next` is the next number in the table `meta`,
+/// or 0 if this number is out of range.
 ///
 /// # Errors
 ///
-/// The first fault, or [`AdoptFault::NoMemory`].
+/// Returns the first fault, or [`AdoptFault::NoMemory`].
 pub(crate) fn check_tables(
     alloc: Global,
     config: &Config,
@@ -73,12 +73,13 @@ fn check_count(rows: u64) -> Result<(), AdoptFault>
     Ok(())
 }
 
-/// Checks that no two attachments of a volume exclude each other, and the counts of each node's attachments
-/// and of all volumes. `apart` names the first attachment that cannot coexist with another one.
+/// Checks that all attachments of a volume can coexist, and checks the count of each node's attachments and
+/// the count of all volumes. `apart` names the first attachment that cannot coexist with another attachment
+/// of its volume.
 ///
 /// # Errors
 ///
-/// The first fault, or [`AdoptFault::NoMemory`].
+/// Returns the first fault, or [`AdoptFault::NoMemory`].
 pub(crate) fn check_counts(
     alloc: Global,
     config: &Config,

@@ -1,4 +1,4 @@
-//! The faults of volumes, and of the pools that they are in.
+//! Finds the faults of volumes and of their pools.
 
 ghost use Rattle.std.specs.Prelude.{◌≡◌, option_copied};
 ghost use Rattle.csi_adoption.specs.Faults.{Says, Reports, full_pool, next_fault, number_faults, pool_fault, size_faults, volume_fault};
@@ -12,7 +12,7 @@ use csi_rules::is_overcommitted;
 use csi_types::copy_text;
 use std::alloc::Global;
 
-/// Checks that no volume broke a constraint of one row.
+/// Checks that no volume broke a constraint. `found` names the first row that broke it.
 pub(crate) fn check_volume(
     found: &Option<RowName>,
     constraint: VolumeConstraint,
@@ -28,7 +28,7 @@ pub(crate) fn check_volume(
     }
 }
 
-// The first pool whose size is below the sum of the sizes of its volumes.
+// Returns the first pool whose size is below the sum of the sizes of its volumes, or `None`.
 fn full_pool<'a>(pools: &'a [Pool], bytes: &[TextSum]) -> Option<&'a Pool>
     ensures { option_copied result ≡ full_pool pools.now (sums_of bytes.now) }
 {
@@ -40,7 +40,7 @@ fn full_pool<'a>(pools: &'a [Pool], bytes: &[TextSum]) -> Option<&'a Pool>
     None
 }
 
-// Checks that the size of each pool is at least the sum of the sizes of its volumes.
+// Checks that the volumes of each pool have at most as many bytes as the pool.
 fn check_pools(alloc: Global, pools: &[Pool], bytes: &[TextSum]) -> Result<(), AdoptFault>
     ensures { Says (pool_fault pools.now (sums_of bytes.now)) result }
 {
@@ -52,7 +52,7 @@ fn check_pools(alloc: Global, pools: &[Pool], bytes: &[TextSum]) -> Result<(), A
     }
 }
 
-// Checks the next number, which is 0 if the row of meta has a number that is not between 1 and 2^62.
+// Checks the next number. It is 0 if the row of `meta` has a number that is not between 1 and 2^62.
 fn check_next(next: u64) -> Result<(), AdoptFault>
     ensures { Reports (next_fault next) result }
 {

@@ -1,4 +1,4 @@
-//! What a scan over volumes shows.
+//! Scans the table of volumes for broken constraints, and sums the sizes of the volumes of each pool.
 
 ghost use Rattle.std.specs.Prelude.{◌≡◌, ℕ, List, IfOk, map};
 ghost use Rattle.sqlite.specs.Held.{state};
@@ -27,7 +27,7 @@ use csi_types::copy_text;
 use sqlite::{Alter, Error, ErrorCode, Row};
 use std::alloc::{AllocError, Global};
 
-// The folds over the rows of volumes, whose numbers must rise.
+// The folds over the rows of volumes. The numbers of the rows must rise.
 #[derive(Drop)]
 struct VolumesFold<'a> {
     kinds: FirstBroken<InfallibleTest<HasVolumeKinds>>,
@@ -72,7 +72,7 @@ impl Fold for VolumesFold<'_> {
 impl<'a> VolumesFold<'a> {
     ghost use Rattle.csi_adoption.specs.Folding.{BeginsVolumes, volumes_seen};
 
-    // The folds before the first row.
+    // Makes the folds before the first row.
     fn new(alloc: Global, config: &'a Config, meta: Meta) -> Result<VolumesFold<'a>, AllocError>
         ensures { IfOk result (BeginsVolumes config.now meta) }
     {
@@ -94,7 +94,8 @@ impl<'a> VolumesFold<'a> {
         })
     }
 
-    // The result of the scan. It is moved out in a function of its own, in which no call can fail.
+    // Returns the result of the scan. The fields are moved out in a function of its own, in which no call can
+    // fail.
     fn into_seen(self, format: u32) -> VolumesSeen
         ensures { result ≡ volumes_seen format self.entry }
     {
@@ -114,7 +115,7 @@ impl<'a> VolumesFold<'a> {
     }
 }
 
-/// Scans the rows of volumes for broken constraints, and sums the sizes of the volumes of each pool.
+/// Scans the rows of volumes: finds broken constraints, and sums the sizes of the volumes of each pool.
 pub(crate) fn see_volumes<S: Alter>(
     alloc: Global,
     conn: &mut IdleConnection<S>,
@@ -139,7 +140,7 @@ pub(crate) fn see_volumes<S: Alter>(
     Ok(seen)
 }
 
-/// The total of each pool. If two pools have the same name, the total of the first one counts.
+/// Returns the total of each pool. If two pools have the same name, the total of the first pool counts.
 pub(crate) fn totals_of(
     alloc: Global,
     pools: &[Pool],

@@ -2,8 +2,8 @@
 use Rattle.csi_change_store.specs.Asking.{flag_number}
 use Rattle.csi_change_store.specs.Pages.{PageItem, Meta, Volume, Attachment, Token, Skipped, VolumeColumns, AttachmentColumns, PagesRead}
 use Rattle.csi_change_store.specs.declared.items.AttachmentRow.{AttachmentRow}
-use Rattle.csi_change_store.specs.declared.items.Item.{Item}
-use Rattle.csi_change_store.specs.declared.items.Item.TheVariants as item
+use Rattle.csi_change_store.specs.declared.items.PageField.{PageField}
+use Rattle.csi_change_store.specs.declared.items.PageField.TheVariants as item
 use Rattle.csi_change_store.specs.declared.pages.PagesRead as noted
 use Rattle.csi_sql.specs.declared.statements.volumes.VolumeRow.{VolumeRow}
 
@@ -13,7 +13,7 @@ volume_columns row = record { number = row.number; name = row.name.now; bytes = 
 abbrev pub attachment_columns : AttachmentRow → AttachmentColumns
 attachment_columns row = record { number = row.number; node = row.node.now; cap = row.cap.now; readonly = flag_number row.readonly }
 
-abbrev pub seen_item : Item → PageItem
+abbrev pub seen_item : PageField → PageItem
 seen_item (item.Meta format next) = Meta (record { format = format; next = next })
 seen_item (item.Volume row) = Volume (volume_columns row)
 seen_item (item.Attachment row) = Attachment (attachment_columns row)

@@ -11,22 +11,23 @@ use envelope::{MAX_MESSAGE_BYTES, put_request};
 use pbwire::put_bytes;
 use std::alloc::{AllocError, Global};
 
-// The number of bytes of a message before a long token: one for the tag, and three for the length.
+// The bytes of a message before its token if the token is long: one byte for the tag, and three for the
+// length.
 const TOKEN_HEAD_BYTES: usize = 1 + 3;
 
-/// The greatest length in bytes of a token that fits into a message.
+/// The greatest length in bytes of a token that fits a message.
 pub(crate) const MAX_TOKEN_BYTES: usize = MAX_MESSAGE_BYTES - TOKEN_HEAD_BYTES;
 
-/// The methods of a change store.
+/// The methods of a change store (docs/PROTOCOL.md, "The change store").
 #[derive(Clone, Copy)]
 pub(crate) enum ChangeStoreCall {
     /// Returns one page of the rows.
     Read,
-    /// Makes the row of `meta` in a change store without any row.
+    /// Makes the row of the table `meta` in a change store that has no row.
     Make,
-    /// Makes a change.
+    /// Makes a change of the State. The message has the kind of the change and its values.
     Commit,
-    /// Succeeds if the change store is still the leader.
+    /// Succeeds if the change store was the leader at a moment after the call came.
     Lead,
 }
 
@@ -62,12 +63,12 @@ pub(crate) fn frame_of(
     Ok(frame)
 }
 
-/// Makes the frame that requests a page of the rows: the first page if the token is empty, otherwise the
-/// page of the token, which the page before contained.
+/// Makes the frame that requests a page of the rows. An empty token requests the first page. The token of
+/// each later page is in the page before it.
 ///
 /// # Errors
 ///
-/// `NoMemory` if memory is refused; `Refused` if the token is too long for a message.
+/// `NoMemory` if memory is refused, and `Refused` if the token is too long for a message.
 #[tactic(auto, using(crate::proofs::Tokens::token_held, crate::proofs::Tokens::token_not_held))]
 pub fn read_frame(alloc: Global, token: &[u8]) -> Result<Vec<u8>, StoreFault>
     ensures frame { IfOk result (λ frame. frame.items ≡ read_frame token.now) }
@@ -84,7 +85,7 @@ pub fn read_frame(alloc: Global, token: &[u8]) -> Result<Vec<u8>, StoreFault>
     Ok(frame_of(alloc, ChangeStoreCall::Read, message.as_slice())?)
 }
 
-/// Makes the frame that tells a change store without any row to make its row of `meta`.
+/// Makes the frame that tells a change store without rows to make its row of the table `meta`.
 ///
 /// # Errors
 ///
@@ -96,8 +97,8 @@ pub fn make_frame(alloc: Global) -> Result<Vec<u8>, StoreFault>
     Ok(frame_of(alloc, ChangeStoreCall::Make, &[])?)
 }
 
-/// Makes the frame that asks whether the change store is still the leader. The reply has status 0 if the
-/// store is the leader.
+/// Makes the frame that asks if the change store is the leader. A reply with status 0 means that it was the
+/// leader at a moment after the frame came.
 ///
 /// # Errors
 ///

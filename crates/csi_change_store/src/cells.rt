@@ -8,22 +8,23 @@ ghost use Rattle.csi_change_store.specs.Pages.{is_cell};
 use pbwire::laws::{listed, spelled};
 use pbwire::{Field, Fields, Value};
 
-// Columns have field numbers from 1 to below this number.
+// Field numbers of columns are below this number.
 const NUMBERS: usize = 7;
 
-// Numbers in columns are below this limit.
+// The limit of a number in a column: each number is below 2^63, as in SQLite.
 const LIMIT: u64 = 1 << 63;
 
 /// The type of the values in a column.
 #[derive(Clone, Copy)]
 pub(crate) enum CellKind {
-    /// No column has this field number. A field with this number is ignored.
+    /// No column. In a list of kinds, the index is the field number; a field whose number has this kind is
+    /// ignored.
     Skipped,
     Integer,
     Bytes,
 }
 
-/// The columns of a row, by field number. A column without a field is 0 or empty.
+/// The values in the columns of a row, by field number. A column without a field is 0 or empty.
 #[derive(Clone, Copy)]
 pub(crate) struct Cells<'a> {
     numbers: [u64; NUMBERS],
@@ -41,8 +42,8 @@ impl<'a> Cells<'a> {
         }
     }
 
-    // Stores a field in its column. Returns false if the column cannot hold the value. A field without a
-    // column is ignored.
+    // Stores the value of a field in its column. Returns false if the column cannot have this value. A field
+    // without a column is ignored.
     fn set_field(&mut self, kinds: &[CellKind], field: Field<'a>) -> bool
         requires { length kinds.now ≤ 7 }
         ensures fits { result ≡ is_cell kinds.now (wire_field_of field.entry) }
@@ -64,7 +65,8 @@ impl<'a> Cells<'a> {
         }
     }
 
-    // Stores a number. Returns false if it is 2^63 or above, which no row can contain.
+    // Stores a number in the column with field number `at`. Returns false if the number is 2^63 or above,
+    // which no row can have.
     fn set_number(&mut self, at: usize, number: u64) -> bool
         requires { at < 7 }
         ensures fits { result ≡ nat_lt number (2 ^ 63) }
@@ -95,8 +97,8 @@ impl<'a> Cells<'a> {
     }
 }
 
-/// Decodes the columns of a row; `None` if the payload is malformed or a column cannot hold the value of
-/// its field.
+/// Decodes the columns of a row. Returns `None` if the payload is malformed, or if a field has a value that
+/// its column cannot have.
 pub(crate) fn read_cells<'a>(kinds: &[CellKind], payload: &'a [u8]) -> Option<Cells<'a>>
     requires { length kinds.now ≤ 7 }
     ensures read { IfSome result (λ cells. IsReadAs kinds.now payload.now cells) }

@@ -65,7 +65,7 @@ fn put_mutable(
     put_bytes(out, 2, params.as_slice())
 }
 
-// Appends the fields of a change.
+// Appends the fields that encode a change, without the field number of its kind.
 fn put_asked(alloc: Global, out: &mut Vec<u8>, change: &Change) -> Result<(), AllocError>
     ensures { OnOk result (out.new.items ≡ out.old.items ++ spellings (asked_fields change.now)) }
 {
@@ -95,7 +95,7 @@ fn number_of(change: &Change) -> u32
     }
 }
 
-// Makes the message that requests a change.
+// Makes the message that requests a change: one field, whose number is the kind of the change.
 fn message_of(alloc: Global, change: &Change) -> Result<Vec<u8>, AllocError>
     ensures { IfOk result (λ message. message.items ≡ change_bytes change.now) }
 {
@@ -106,7 +106,7 @@ fn message_of(alloc: Global, change: &Change) -> Result<Vec<u8>, AllocError>
     Ok(message)
 }
 
-// Makes the frame of a message that requests a change, if the message is short enough.
+// Makes the frame around a message that requests a change. Fails with `Refused` if the message is too long.
 fn frame_holding(alloc: Global, message: &[u8]) -> Result<Vec<u8>, StoreFault>
     ensures frame { IfOk result (λ out. out.items ≡ frame (record {
       path = path_of Commit;
@@ -127,9 +127,9 @@ fn frame_holding(alloc: Global, message: &[u8]) -> Result<Vec<u8>, StoreFault>
 ///
 /// # Errors
 ///
-/// `NoMemory` if memory is refused; `Refused` if the message would have more than 1,048,576 bytes. The
-/// length of the message is known only after its columns are encoded, so a message that is too long may
-/// fail with `NoMemory` too.
+/// `NoMemory` if memory is refused, and `Refused` if the message would have more than 1,048,576 bytes. The
+/// columns are encoded before the length of the message is known. So if the message is too long, the fault
+/// may also be `NoMemory`.
 pub(crate) fn commit_frame(alloc: Global, change: &Change) -> Result<Vec<u8>, StoreFault>
     ensures frame { IfOk result (λ frame. frame.items ≡ commit_frame change.now) }
     ensures fault { result ≢ Err Down }

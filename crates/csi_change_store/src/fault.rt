@@ -1,4 +1,4 @@
-//! The faults of rows that a change store returned.
+//! The reasons why rows of a change store cannot be put into tables.
 
 ghost use Rattle.std.specs.Prelude.{◌≡◌};
 ghost use Rattle.csi_change_store.specs.Taking.{IsFaultOf};
@@ -8,7 +8,7 @@ use sqlite::{Error, ErrorCode};
 use std::alloc::AllocError;
 use thiserror::Error as Fault;
 
-/// Why rows that a change store returned could not be put into the tables.
+/// The reason why rows that a change store returned could not be put into the tables.
 #[derive(Debug, Drop, Fault)]
 pub enum RowsFault {
     /// A page is malformed, or contains a number of 2^63 or above, which no row can contain.
@@ -25,7 +25,7 @@ pub enum RowsFault {
         /// The id of the attachment's node, as it is in the row.
         node: String,
     },
-    /// The database refused the row of `meta`, with this error.
+    /// The database refused the row of the table `meta`, with this error.
     #[error("{0}")]
     Refused(Error),
     /// The database refused the row of the volume with this number, or a row of its attachments, with this
@@ -45,8 +45,9 @@ impl From<AllocError> for RowsFault {
     }
 }
 
-/// Converts an error of the database about a row: the row of the volume with this number or a row of its
-/// attachments, or the row of `meta` if the number is `None`.
+/// Converts the error with which the database refused a row. `number` is the number of the volume if the row
+/// is a volume's or an attachment's, and `None` if it is the row of the table `meta`. An error for lack of
+/// memory becomes [`RowsFault::NoMemory`].
 pub(crate) fn fault_of(number: Option<u64>, error: Error) -> RowsFault
     ensures { IsFaultOf number error result }
 {

@@ -11,8 +11,8 @@ use csi_sql::make_tables;
 use sqlite::{Alter, Connection};
 use std::alloc::Global;
 
-// Puts all rows of a change store into the tables on a connection. It uses one transaction, so that each
-// page of the tables is written once, in any order of the rows.
+// Puts all rows of a change store into the tables on a connection, in one transaction. So each page of the
+// tables is written once, in whatever order the rows come.
 fn fill<P: Peer, S: Alter>(
     alloc: Global,
     peer: &mut P,
@@ -35,7 +35,8 @@ fn fill<P: Peer, S: Alter>(
 ///
 /// # Errors
 ///
-/// If a page cannot be read, its rows cannot be put into the tables, or the database fails.
+/// If a page cannot be read, its rows cannot be put into the tables, there are more than 1,048,576 pages, or
+/// the database fails.
 pub fn read_rows<P: Peer, S: Alter>(
     alloc: Global,
     peer: &mut P,

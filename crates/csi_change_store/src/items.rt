@@ -36,7 +36,7 @@ const ATTACHMENT: [CellKind; 5] = [
     CellKind::Integer,
 ];
 
-/// A row of attachments, as a page encodes it.
+/// The row of an attachment, as a page encodes it.
 #[derive(Clone, Copy)]
 pub(crate) struct AttachmentRow<'a> {
     pub(crate) number: u64,
@@ -45,10 +45,10 @@ pub(crate) struct AttachmentRow<'a> {
     pub(crate) readonly: bool,
 }
 
-/// One decoded field of a page.
+/// One decoded field of a page: a row, or the token of the next page.
 #[derive(Clone, Copy)]
-pub(crate) enum Item<'a> {
-    /// The row of `meta` (field 1): the format number and the next number.
+pub(crate) enum PageField<'a> {
+    /// The row of the table `meta` (field 1): the format number and the next number.
     Meta(u64, u64),
     Volume(VolumeRow<'a>),
     Attachment(AttachmentRow<'a>),
@@ -70,7 +70,8 @@ fn cells_of<'a>(kinds: &[CellKind], payload: &'a [u8]) -> Result<Cells<'a>, Rows
     }
 }
 
-// Returns a text of the row of a volume, or of one of its attachments, if the bytes are UTF-8.
+// Returns the bytes as a text, for the row of the volume with this number or of its attachment. Fails with
+// `Untyped` if the bytes are not UTF-8.
 fn text_of<'a>(number: u64, bytes: &'a [u8]) -> Result<&'a str, RowsFault>
     ensures text { IfOk result (λ text. (text.now ≡ bytes.now) × IsUtf8 bytes.now) }
     ensures fault { IfErr result (λ fault. (fault ≡ Untyped number) × (IsUtf8 bytes.now → ⊥)) }
@@ -81,7 +82,8 @@ fn text_of<'a>(number: u64, bytes: &'a [u8]) -> Result<&'a str, RowsFault>
     }
 }
 
-// Decodes the flag `readonly` of an attachment.
+// Decodes the flag `readonly` of an attachment: 0 is false and 1 is true. Fails with `Flag` for other
+// numbers.
 fn flag_of(alloc: Global, number: u64, node: &str, readonly: u64) -> Result<bool, RowsFault>
     ensures flag { IfOk result (λ flag. readonly ≡ flag_number flag) }
     ensures fault { IfErr result (IsFlagFault number node.now readonly) }
@@ -132,21 +134,21 @@ fn attachment_of<'a>(alloc: Global, payload: &'a [u8]) -> Result<AttachmentRow<'
     })
 }
 
-fn meta_of<'a>(payload: &'a [u8]) -> Result<Item<'a>, RowsFault>
+fn meta_of<'a>(payload: &'a [u8]) -> Result<PageField<'a>, RowsFault>
     ensures row { IfOk result (λ item. IsItem (bytes_field 1 payload.now) (seen_item item)
         × IsTyped (seen_item item) × IsSmall (seen_item item)) }
     ensures fault { IfErr result (IsItemFault (IsItem (bytes_field 1 payload.now))) }
 {
     let cells = cells_of(&META, payload)?;
-    Ok(Item::Meta(cells.number(1), cells.number(2)))
+    Ok(PageField::Meta(cells.number(1), cells.number(2)))
 }
 
-/// Decodes a field of a page.
+/// Decodes a field of a page as a row or a token.
 ///
 /// # Errors
 ///
-/// `Malformed`, `Untyped` or `Flag` if the tables cannot contain the row; `NoMemory` if memory is refused.
-pub(crate) fn item_of<'a>(alloc: Global, field: Field<'a>) -> Result<Item<'a>, RowsFault>
+/// `Malformed`, `Untyped` or `Flag` if the tables cannot have the row, and `NoMemory` if memory is refused.
+pub(crate) fn item_of<'a>(alloc: Global, field: Field<'a>) -> Result<PageField<'a>, RowsFault>
     ensures item { IfOk result (λ item. IsItem (wire_field_of field.entry) (seen_item item)) }
     ensures typed { IfOk result (λ item. IsTyped (seen_item item)) }
     ensures small { IfOk result (λ item. IsSmall (seen_item item)) }
@@ -154,10 +156,10 @@ pub(crate) fn item_of<'a>(alloc: Global, field: Field<'a>) -> Result<Item<'a>, R
 {
     match (field.number, field.value) {
         (1, Value::Bytes(payload)) => meta_of(payload),
-        (2, Value::Bytes(payload)) => Ok(Item::Volume(volume_of(payload)?)),
-        (3, Value::Bytes(payload)) => Ok(Item::Attachment(attachment_of(alloc, payload)?)),
-        (4, Value::Bytes(token)) => Ok(Item::Token(token)),
+        (2, Value::Bytes(payload)) => Ok(PageField::Volume(volume_of(payload)?)),
+        (3, Value::Bytes(payload)) => Ok(PageField::Attachment(attachment_of(alloc, payload)?)),
+        (4, Value::Bytes(token)) => Ok(PageField::Token(token)),
         (0..=4, _) => Err(RowsFault::Malformed),
-        _ => Ok(Item::Skipped),
+        _ => Ok(PageField::Skipped),
     }
 }

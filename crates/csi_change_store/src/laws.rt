@@ -1,4 +1,5 @@
-//! Laws of pages. Each law is the contract of a function that does nothing.
+//! Laws about the pages of rows that a change store returns. A law is a function that does nothing: its
+//! caller gets what the contract of the law states.
 
 ghost use Rattle.csi_change_store.specs.Giving.{GivesRows};
 ghost use Rattle.csi_change_store.specs.Sample.{ReadsSample};
@@ -10,8 +11,8 @@ pub fn gives_rows()
     ensures { GivesRows }
 {}
 
-/// The contents of two pages, given by their bytes: the reply of a change store whose only row is the row
-/// of `meta`, and a reply with a volume.
+/// Two pages, given as bytes, have the expected contents. One is the reply of a change store whose only row
+/// is the row of the table `meta`. The other is a reply with a volume.
 pub fn reads_sample()
     ensures { ReadsSample }
 {

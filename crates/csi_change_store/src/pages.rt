@@ -7,7 +7,7 @@ ghost use Rattle.csi_change_store.specs.Taking.{IsRefusal, PutsItem, TakesPage};
 ghost use Rattle.csi_change_store.specs.declared.fault.RowsFault.TheVariants.{NoMemory};
 
 use crate::fault::{RowsFault, fault_of};
-use crate::items::{AttachmentRow, Item, item_of};
+use crate::items::{AttachmentRow, PageField, item_of};
 use csi_sql::statements::attachments::insert_attachment;
 use csi_sql::statements::meta::set_next;
 use csi_sql::statements::volumes::{VolumeRow, insert_volume};
@@ -16,19 +16,20 @@ use pbwire::laws::spelled;
 use sqlite::{Alter, Transaction};
 use std::alloc::Global;
 
-/// What pages contain in addition to the rows that are put into the tables.
+/// The notes on pages: the parts that do not go into the tables. These are the token, the format, and whether
+/// there were rows.
 #[derive(Drop)]
 pub struct PagesRead {
     /// The token of the next page. It is empty after the last page.
     pub token: Vec<u8>,
-    /// The format number in the row of `meta`; `None` while no such row was read.
+    /// The format number in the row of the table `meta`, or `None` if no such row was read yet.
     pub format: Option<u64>,
-    /// Whether a row of volumes or of attachments was read so far.
+    /// True if a row of volumes or of attachments was read.
     pub has_rows: bool,
 }
 
 impl PagesRead {
-    /// Creates the state before the first page: an empty token, no format and no rows.
+    /// Creates the notes before the first page: an empty token, no format and no rows.
     pub fn new(alloc: Global) -> PagesRead
         ensures { (result.token.items ≡ []) × (result.format ≡ None) × (result.has_rows ≡ false) }
     {
@@ -40,7 +41,7 @@ impl PagesRead {
     }
 }
 
-// Sets the next number. The format is stored in [`PagesRead`].
+// Stores the next number in the tables. The format number goes into the notes only.
 fn put_meta<S: Alter>(tx: &mut Transaction<'_, S>, format: u64, next: u64) -> Result<(), RowsFault>
     requires { next < 2 ^ 63 }
     ensures same_reference { tx.new.conn.ghost_name ≡ tx.old.conn.ghost_name }
@@ -90,40 +91,40 @@ fn put_attachment<S: Alter>(
     }
 }
 
-// Puts the row of an item into the tables. An item that is not a row changes nothing.
-fn put_item<S: Alter>(tx: &mut Transaction<'_, S>, item: &Item<'_>) -> Result<(), RowsFault>
+// Puts the row of a page's field into the tables. Does nothing for a field that is not a row.
+fn put_item<S: Alter>(tx: &mut Transaction<'_, S>, item: &PageField<'_>) -> Result<(), RowsFault>
     requires { IsSmall (seen_item item.now) }
     ensures same_reference { tx.new.conn.ghost_name ≡ tx.old.conn.ghost_name }
     ensures puts { PutsItem S.Store tx.old.conn.now tx.new.conn.now (seen_item item.now) result }
     ensures refusal { IfErr result IsRefusal }
 {
     match item {
-        Item::Meta(format, next) => put_meta(tx, *format, *next),
-        Item::Volume(row) => put_volume(tx, row),
-        Item::Attachment(row) => put_attachment(tx, row),
-        Item::Token(_) | Item::Skipped => Ok(()),
+        PageField::Meta(format, next) => put_meta(tx, *format, *next),
+        PageField::Volume(row) => put_volume(tx, row),
+        PageField::Attachment(row) => put_attachment(tx, row),
+        PageField::Token(_) | PageField::Skipped => Ok(()),
     }
 }
 
-// Updates the notes for an item.
-fn note_item(notes: &mut PagesRead, item: &Item<'_>) -> Result<(), RowsFault>
+// Updates the notes with a field of a page.
+fn note_item(notes: &mut PagesRead, item: &PageField<'_>) -> Result<(), RowsFault>
     ensures noted { OnOk result (seen_notes notes.new
         ≡ with_item (seen_item item.now) (seen_notes notes.old)) }
     ensures fault { IfErr result (λ fault. fault ≡ NoMemory) }
 {
     match *item {
-        Item::Meta(format, _) => notes.format = Some(format),
-        Item::Volume(_) | Item::Attachment(_) => notes.has_rows = true,
-        Item::Token(token) => {
+        PageField::Meta(format, _) => notes.format = Some(format),
+        PageField::Volume(_) | PageField::Attachment(_) => notes.has_rows = true,
+        PageField::Token(token) => {
             notes.token.clear();
             notes.token.extend_from_slice(token)?;
         }
-        Item::Skipped => {}
+        PageField::Skipped => {}
     }
     Ok(())
 }
 
-// Puts all rows of a page into the tables, and updates the notes.
+// Puts all rows of a page into the tables, in order, and updates the notes with each item.
 fn put_items<S: Alter>(
     alloc: Global,
     tx: &mut Transaction<'_, S>,
@@ -147,13 +148,13 @@ fn put_items<S: Alter>(
     Ok(())
 }
 
-/// Puts the rows of a page into the tables of a transaction, in their order, and sets the token, the format
-/// and `has_rows` of `notes`.
+/// Puts the rows of a page into the tables of a transaction, in order. Sets the token, the format and
+/// `has_rows` of `notes`.
 ///
 /// # Errors
 ///
-/// If the page is malformed, the tables cannot have its rows in addition to the earlier ones, or memory is
-/// refused.
+/// If the page is malformed, if the tables cannot have its rows together with the earlier rows, or if memory
+/// is refused.
 pub fn put_page<S: Alter>(
     alloc: Global,
     tx: &mut Transaction<'_, S>,

@@ -1,4 +1,4 @@
-//! The other end of a connection, to which frames are sent.
+//! The program at the other end of a connection, to which frames are sent.
 
 ghost use Rattle.std.specs.Prelude.{◌≡◌, List, ℕ};
 ghost use Rattle.csi_keeper.specs.Model.{Model};
@@ -13,20 +13,22 @@ use std::io::{Read, Write};
 
 /// The program at the other end of a connection, which keeps the changes of a State.
 ///
-/// The promises about the State hold while `doubt`, which never falls, is 0.
+/// The promises about the State hold while the peer's `doubt` is 0, that is, while it is certain that the
+/// peer made each change that it confirmed. The doubt never falls.
 pub trait Peer {
     // The model of the keeper at the other end of the connection, as used by contracts.
     ghost model: { Self → Model State };
 
-    // The effect of one exchange: the peer before and after the exchange, the frame and the outcome. No
-    // other contract provides this relation, so a function that promises it has exchanged that frame.
+    // The effect of one exchange: it relates the peer before, the peer after, the frame and the outcome. Only
+    // the contract of `exchange` provides this relation, so a function that promises it has exchanged that
+    // frame.
     ghost exchanged: { Self → Self → List ℕ → Received → Type 0 };
 
     /// Sends a frame and waits for the reply.
     ///
-    /// If the frame requests a change, the change is made if the reply has status 0, and not made if the
-    /// reply has another status. If no reply is received, the change may have been made; a stop leaves the
-    /// State with or without it.
+    /// If the frame requests a change, a reply with status 0 means that the peer made the change, and another
+    /// status means that it did not. Without a reply, the change may or may not have been made, and a stop
+    /// leaves the State with it or without it.
     fn exchange(&mut self, alloc: Global, frame: &[u8]) -> Received
         ensures answers { Answers (model self.old) (model self.new) frame.now result }
         ensures asked { exchanged self.old self.new frame.now result };

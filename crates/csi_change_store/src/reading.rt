@@ -15,26 +15,27 @@ use csi_keeper::StoreFault;
 use sqlite::{Alter, Error, Transaction};
 use std::alloc::Global;
 
-// The greatest number of pages that are read. With one row a page, 100,000 volumes with nine attachments
-// each fit.
+// The greatest number of pages that are read. With one row a page these are 1,048,576 rows: a row of the
+// table `meta`, 100,000 volumes, and about nine attachments of each volume.
 const MOST_PAGES: u64 = 1 << 20;
 
-/// Why the rows of a change store could not be read.
+/// The reason why the rows of a change store could not be read.
 #[derive(Debug, Drop)]
 pub enum ReadFault {
-    /// The frame that requests a page could not be made: memory was refused, or the token is too long.
+    /// The frame that requests a page could not be made, because memory was refused or the token is too long.
     Unasked(StoreFault),
-    /// The change store did not send a reply with status 0. The value is what was received.
+    /// The change store sent no reply with status 0. The value is the reply, or the reason why no reply was
+    /// received.
     Unanswered(Received),
     /// The rows of a page could not be put into the tables.
     Rows(RowsFault),
-    /// The change store has more than 1,048,576 pages.
+    /// The change store has more than 1,048,576 pages. A change store that repeats a token has no last page.
     Endless,
-    /// The database failed to create the tables, or to commit the rows.
+    /// The database failed to create the tables or to commit the rows.
     Database(Error),
 }
 
-// Returns the body of a reply with status 0 (OK).
+// Returns the body of a reply with status 0 (OK). Fails with `Unanswered` otherwise.
 fn body_of(received: Received) -> Result<Vec<u8>, ReadFault>
     ensures body { IfOk result (λ body. IsBodyOf received body.items) }
     ensures fault { IfErr result (λ fault. (fault ≡ Unanswered received) × IsRefused received) }
@@ -45,7 +46,7 @@ fn body_of(received: Received) -> Result<Vec<u8>, ReadFault>
     }
 }
 
-// Requests the page of a token, and returns its body.
+// Requests the page that a token names, and returns the body of the reply.
 fn next_page<P: Peer>(alloc: Global, peer: &mut P, token: &[u8]) -> Result<Vec<u8>, ReadFault>
     ensures page { IfOk result (λ body. GivesPage P.exchanged peer.old peer.new token.now body.items) }
     ensures fault { IfErr result (IsPageless P.exchanged peer.old peer.new token.now) }
@@ -76,13 +77,14 @@ fn read_page<P: Peer, S: Alter>(
     }
 }
 
-/// Reads all rows of a change store, page by page, and puts the rows into the tables of a transaction, in
-/// their order.
+/// Reads all rows of a change store, page by page, and puts them into the tables of a transaction in the
+/// order in which they come.
 ///
 /// # Errors
 ///
-/// If the request for a page cannot be made or gets no reply with status 0, if rows cannot be put into the
-/// tables, or if there are more than 1,048,576 pages.
+/// - the request for a page cannot be made, or gets no reply with status 0
+/// - the rows of a page cannot be put into the tables
+/// - there are more than 1,048,576 pages
 pub fn read_pages<P: Peer, S: Alter>(
     alloc: Global,
     peer: &mut P,

@@ -1,4 +1,4 @@
-//! A change store at the other end of a connection.
+//! A change store that another program keeps.
 
 ghost use Rattle.std.specs.Prelude.{◌≡◌, Err, IsTrue, OnErr, false};
 ghost use Rattle.csi_keeper.specs.Keeper.{Changes};
@@ -14,7 +14,7 @@ use csi_keeper::{Change, StoreFault};
 use csi_through::ChangeStore;
 use std::alloc::Global;
 
-// Returns the outcome of a change, by its reply.
+// Returns the outcome of a change from the reply to its frame.
 fn answer_of(received: &Received) -> Result<(), StoreFault>
     ensures { result ≡ answer_of received.now }
 {
@@ -35,10 +35,10 @@ fn ask<P: Peer>(alloc: Global, peer: &mut P, change: &Change) -> Result<(), Stor
     answer_of(&peer.exchange(alloc, frame.as_slice()))
 }
 
-/// A change store at the other end of a connection.
+/// A change store that another program keeps, at the other end of a connection.
 ///
-/// After a change fails (refused, outcome unknown, or no memory), each later change fails with `Down` and
-/// is not sent.
+/// After a change has failed (it was refused, its outcome is unknown, or memory was refused), each later
+/// change fails with `Down` and is not sent.
 #[derive(Drop)]
 pub struct RemoteChangeStore<P> {
     peer: P,
@@ -46,7 +46,7 @@ pub struct RemoteChangeStore<P> {
 }
 
 impl<P: Peer> RemoteChangeStore<P> {
-    /// Makes a change store of a peer. No change has failed yet, so the next change is sent.
+    /// Makes a change store over a peer. No change has failed yet, so the next change will be sent.
     pub fn new(peer: P) -> RemoteChangeStore<P>
         ensures { (result.peer ≡ peer) × (result.is_down ≡ false) }
     {

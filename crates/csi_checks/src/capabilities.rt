@@ -1,4 +1,4 @@
-//! The checks of a request's capabilities.
+//! The checks of the capabilities in a request.
 
 ghost use Rattle.std.specs.Prelude.{◌≡◌, not};
 ghost use Rattle.std.specs.List.{list_any};
@@ -7,7 +7,7 @@ ghost use Rattle.csi_types.specs.Checks.{is_missing, is_known_mode, is_supported
 use crate::measures::{bytes_of_texts, is_long_text};
 use csi_types::{Access, Capability, MAX_MOUNT_FLAGS_BYTES, is_known_mode, is_supported};
 
-/// Whether a capability of the list has neither `block` nor `mount`.
+/// Returns true if a capability of the list has neither `block` nor `mount`.
 pub(crate) fn has_missing_access(capabilities: &[Capability]) -> bool
     ensures { result ≡ list_any (λ c. is_missing c.access) capabilities.now }
 {
@@ -16,7 +16,7 @@ pub(crate) fn has_missing_access(capabilities: &[Capability]) -> bool
         .any(|capability| matches!(capability.access, Access::Missing))
 }
 
-/// Whether a capability of the list has no access mode, or an unknown one.
+/// Returns true if a capability of the list has no access mode, or an unknown one.
 pub(crate) fn has_unknown_mode(capabilities: &[Capability]) -> bool
     ensures { result ≡ list_any (λ c. not (is_known_mode c.mode)) capabilities.now }
 {
@@ -25,7 +25,7 @@ pub(crate) fn has_unknown_mode(capabilities: &[Capability]) -> bool
         .any(|capability| !is_known_mode(capability.mode))
 }
 
-/// Whether a capability of the list is not supported.
+/// Returns true if no volume can have one of the capabilities (`csi_types::is_supported`).
 pub(crate) fn has_unsupported(capabilities: &[Capability]) -> bool
     ensures { result ≡ list_any (λ c. not (is_supported c)) capabilities.now }
 {
@@ -34,8 +34,8 @@ pub(crate) fn has_unsupported(capabilities: &[Capability]) -> bool
         .any(|capability| !is_supported(capability))
 }
 
-/// Whether a mount of the list has a file system or a group of more than 128 bytes, or flags of more than
-/// 4,096 bytes together.
+/// Returns true if a mount in the list has a file system type or a mount group of more than 128 bytes, or
+/// flags that have more than 4,096 bytes together.
 pub(crate) fn has_long_text(capabilities: &[Capability]) -> bool
     ensures { result ≡ list_any (λ c. is_long_access c.access) capabilities.now }
 {

@@ -1,7 +1,7 @@
-//! Marks of topologies, which a peer cannot choose.
+//! Computes marks of topologies: numbers that a peer cannot choose.
 //!
-//! The hasher of a list starts from the digest of the whole list, so another list has other marks. A peer can
-//! only try one list after another, and the marks of each are as if chosen at random.
+//! The hasher of a list starts from the digest of the whole list, so a topology has another mark in another
+//! list. If a peer tries one list after another, the marks look like random numbers.
 
 use csi_types::{Map, Text};
 use sha2::{Digest, Sha256};
@@ -27,7 +27,8 @@ fn put_text(digest: &mut Sha256, text: &Text) {
     digest.update(text.as_bytes());
 }
 
-// Lengths are written before what they count, so different lists give different bytes.
+// Adds a length to the digest. Each length is added before the bytes that it counts, so different lists give
+// different bytes.
 fn put_length(digest: &mut Sha256, length: usize) {
     digest.update(&length.to_le_bytes());
 }
@@ -43,7 +44,7 @@ pub(crate) fn mark_of_topology(begun: DefaultHasher, topology: &Map) -> u64 {
     mark
 }
 
-// The hash of the folded key, a byte that no text has, and the value.
+// Returns the hash of three parts: the key in lower case, a byte that no text has, and the value.
 fn mark_of_entry(begun: DefaultHasher, key: &Text, value: &Text) -> u64 {
     let mut hasher = begun;
     for byte in key.as_bytes() {

@@ -1,4 +1,4 @@
-//! The parts of a request that the table of checks uses.
+//! Borrows the parts of a request that the table of checks uses.
 
 ghost use Rattle.std.specs.Prelude.{◌≡◌, [], None, false};
 ghost use Rattle.csi_types.specs.Checks.{no_parts, parts};
@@ -10,35 +10,34 @@ use csi_types::{
 };
 use std::slice::from_ref;
 
-/// The parts of a request that the checks look at; a part is empty or `None` if the method has no such
-/// field.
+/// The parts of a request that the checks look at. A part is empty or `None` if the method has no such field.
 #[derive(Clone, Copy)]
 pub(crate) struct Parts<'a> {
     pub(crate) name: Option<&'a Text>,
     pub(crate) capabilities: &'a [Capability],
-    /// Whether the request must have a capability.
+    /// True if the request must have a capability.
     pub(crate) wants_capability: bool,
-    /// Whether a volume is to be created with the capabilities.
+    /// True if the request creates a volume with the capabilities.
     pub(crate) is_create: bool,
     pub(crate) ranges: &'a [CapacityRange],
     pub(crate) requirement: Option<&'a Requirement>,
     pub(crate) topology: Option<&'a Map>,
-    /// The maps of the request other than topologies. Each list has one map or none.
+    /// The maps of the request that are not topologies. Each of these lists has one map or none.
     pub(crate) first_map: &'a [Map],
     pub(crate) second_map: &'a [Map],
     pub(crate) third_map: &'a [Map],
-    /// A map that must have an entry: a list of one map or none.
+    /// The map that must have an entry: a list of one map or none.
     pub(crate) required_maps: &'a [Map],
     pub(crate) volume_ids: &'a [Text],
     pub(crate) node_ids: &'a [Text],
-    /// A node id that must not be empty: a list of one id or none.
+    /// The node id that must not be empty: a list of one id or none.
     pub(crate) required_node_ids: &'a [Text],
     pub(crate) tokens: &'a [Text],
     pub(crate) most_entries: &'a [i32],
     pub(crate) has_source: bool,
 }
 
-// The parts of a request without fields: each is empty or `None`.
+// Returns the parts of a request without fields: each part is empty or `None`.
 fn no_parts<'a>() -> Parts<'a>
     ensures none { parts_in result ≡ no_parts }
     ensures maps { (result.second_map.now ≡ []) × (result.third_map.now ≡ []) }
@@ -167,7 +166,7 @@ fn parts_of_modify(request: &Modify) -> Parts<'_>
     }
 }
 
-/// Borrows the parts of a request, by its method.
+/// Borrows the parts of a request. The method decides which fields are which parts.
 pub(crate) fn parts_of(request: &Request) -> Parts<'_>
     ensures { parts_in result ≡ parts request.now }
 {

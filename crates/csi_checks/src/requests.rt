@@ -1,4 +1,4 @@
-//! The checks of each request, in the order of the table.
+//! Checks the arguments of each request, in the order of the table in `csi_types` (`specs/Checks.antt`).
 
 ghost use Rattle.std.specs.Prelude.{◌≡◌, ◌++◌, ◌||◌, OnOk, IfErr, false, nat_lt};
 ghost use Rattle.std.specs.List.{list_any};
@@ -22,8 +22,8 @@ use csi_types::{Reason, Request, Text, has_alike_keys, name_reason};
 ///
 /// # Errors
 ///
-/// The reason of the first check, in the order of the table, that the request does not pass. The code of each
-/// of these reasons is `InvalidArgument`.
+/// Returns the reason of the first check, in the order of the table, that the request does not pass. Each of
+/// these reasons has the code `InvalidArgument`.
 #[tactic(auto, unfolding(csi_types::specs::Checks::checked))]
 pub fn check(request: &Request) -> Result<(), Reason>
     ensures passed { OnOk result (checked request.now ≡ None) }
@@ -41,8 +41,8 @@ pub fn check(request: &Request) -> Result<(), Reason>
     }
 }
 
-// The table is one ladder of checks in three functions, one rung for each line. Returns the reason of the
-// first rung that applies.
+// Returns the reason of the first line of the table that applies. The checks are in three functions, one
+// check for each line.
 fn first_reason(parts: &Parts<'_>) -> Option<Reason>
     ensures { result ≡ first_line lines (parts_in parts.now) }
 {
@@ -145,7 +145,7 @@ fn has_alike_segments(parts: &Parts<'_>) -> bool
         || parts.requirement.is_some_and(has_ambiguous_term)
 }
 
-// Whether requisite topologies are given and a preferred topology is not among them.
+// Returns true if requisite topologies are given and a preferred topology is not among them.
 fn has_other_preference(parts: &Parts<'_>) -> bool
     requires { list_any has_alike_keys (parts_in parts.now).topologies ≡ false }
     ensures { result ≡ list_any prefers_another (parts_in parts.now).requirements }

@@ -1,4 +1,4 @@
-//! Comparing the topologies of a requirement, without regard to the case of ASCII letters in keys.
+//! Compares the topologies of a requirement, ignoring the case of ASCII letters in keys.
 
 ghost use Rattle.std.specs.Prelude.{◌≡◌, ◌++◌, All, not, false, true, nat_lt};
 ghost use Rattle.std.specs.List.{list_any};
@@ -11,10 +11,10 @@ use crate::places::{NO_PLACE, TABLE_LENGTH, first_slot, note, tried};
 use csi_types::{Items, MAX_MAP_BYTES, Map, Requirement, has_alike_keys, same_topology};
 use std::hash::DefaultHasher;
 
-// Up to this number of pairs, topologies are compared without a table.
+// The greatest number of pairs of topologies that are compared without a table.
 const FEW_PAIRS: usize = 64;
 
-/// Whether a topology of the requirement has more than 4,096 bytes.
+/// Returns true if a topology of the requirement has more than 4,096 bytes.
 pub(crate) fn has_large_term(requirement: &Requirement) -> bool
     ensures { result ≡ list_any (λ m. nat_lt MAX_MAP_BYTES (map_bytes m))
         (requirement.now.requisite ++ requirement.now.preferred) }
@@ -22,14 +22,15 @@ pub(crate) fn has_large_term(requirement: &Requirement) -> bool
     is_any_large(requirement.requisite.as_slice()) || is_any_large(requirement.preferred.as_slice())
 }
 
-/// Whether a map of the list has more than 4,096 bytes.
+/// Returns true if a map of the list has more than 4,096 bytes.
 pub(crate) fn is_any_large(maps: &[Map]) -> bool
     ensures { result ≡ list_any (λ m. nat_lt MAX_MAP_BYTES (map_bytes m)) maps.now }
 {
     maps.iter().any(is_large_map)
 }
 
-/// Whether a topology of the requirement has two keys that differ at most in the case of ASCII letters.
+/// Returns true if a topology of the requirement has two keys that differ at most in the case of ASCII
+/// letters.
 pub(crate) fn has_ambiguous_term(requirement: &Requirement) -> bool
     ensures { result ≡ list_any has_alike_keys (requirement.now.requisite ++ requirement.now.preferred) }
 {
@@ -42,8 +43,8 @@ fn is_any_ambiguous(topologies: &Items<Map>) -> bool
     topologies.iter().any(|topology| has_alike_keys(topology))
 }
 
-/// Whether requisite topologies are given and a preferred topology is not among them. No topology may have
-/// two keys that differ at most in the case of ASCII letters.
+/// Returns true if requisite topologies are given and a preferred topology is not among them. In each
+/// topology, no two keys may differ only in the case of ASCII letters.
 pub(crate) fn prefers_another(requirement: &Requirement) -> bool
     requires { list_any has_alike_keys (requirement.now.requisite ++ requirement.now.preferred) ≡ false }
     ensures { result ≡ prefers_another requirement.now }
@@ -60,7 +61,8 @@ pub(crate) fn prefers_another(requirement: &Requirement) -> bool
     }
 }
 
-// Whether one of `topologies` is not in the long `list`. The table is a large local variable.
+// Returns true if one of `topologies` is not in a long `list`. The table is a large local variable, so the
+// call is not inlined.
 #[inline(never)]
 fn is_any_outside_many(list: &[Map], topologies: &[Map]) -> bool
     requires list { All (λ m. has_alike_keys m ≡ false) list.now }
@@ -73,7 +75,7 @@ fn is_any_outside_many(list: &[Map], topologies: &[Map]) -> bool
     is_any_outside(&table, begun, list, topologies)
 }
 
-// Notes the place of each topology of the list; of equal topologies, the place of the first.
+// Notes the place of each topology of the list in the table. Of equal topologies, only the first is noted.
 fn note_all(table: &mut [u32], begun: DefaultHasher, list: &[Map])
     requires list { All (λ m. has_alike_keys m ≡ false) list.now }
 {
@@ -85,7 +87,8 @@ fn note_all(table: &mut [u32], begun: DefaultHasher, list: &[Map])
     }
 }
 
-// Whether one of `topologies` is not in the list. The table proposes where each may be.
+// Returns true if one of `topologies` is not in the list. The table proposes the places where each topology
+// may be.
 fn is_any_outside(table: &[u32], begun: DefaultHasher, list: &[Map], topologies: &[Map]) -> bool
     requires list { All (λ m. has_alike_keys m ≡ false) list.now }
     requires all { All (λ m. has_alike_keys m ≡ false) topologies.now }

@@ -12,17 +12,17 @@ pub trait Line {
     // The number of exchanges made so far.
     ghost exchanges: { Self → ℕ };
 
-    // The number of exchanges without an answer so far.
+    // The number of exchanges so far that got no answer.
     ghost unanswered: { Self → ℕ };
 
     // The effect of one exchange: the line before and after the exchange, the frame and the received reply.
     // Only this relation mentions the frame, so a line for which it holds has sent the frame.
     ghost exchanged: { Self → Self → List ℕ → Received → Type 0 };
 
-    /// Sends a call's frame on a new connection and waits for the reply; [`Received::Failed`] if it cannot
-    /// connect or send.
+    /// Sends a call's frame on a new connection and waits for the reply. Returns [`Received::Failed`] if it
+    /// cannot connect or send.
     ///
-    /// The line counts its exchanges, and those without an answer.
+    /// The line counts its exchanges, and the exchanges that got no answer.
     fn exchange(&mut self, frame: &[u8]) -> Received
         requires { exchanges self.old < 2 ^ 64 - 1 }
         ensures made { exchanges self.new ≡ exchanges self.old + 1 }
@@ -30,9 +30,9 @@ pub trait Line {
         ensures sent { exchanged self.old self.new frame.now result };
 }
 
-/// Returns true if the client cannot know whether the server executed the call: the connection failed, or
-/// ended before the whole reply was received. A reply with any status is an answer, and so is a malformed
-/// reply. [`Received::NoMemory`] counts as an answer too, since sending the call again would not help.
+/// Returns true if the client cannot know whether the server executed the call: the connection failed, or the
+/// connection ended before the complete reply. Any reply is an answer, also a malformed one.
+/// [`Received::NoMemory`] counts as an answer too, since sending the call again would not help.
 pub fn is_unanswered(received: &Received) -> bool
     ensures { result ≡ is_unanswered received.now }
 {
@@ -46,15 +46,15 @@ pub fn is_unanswered(received: &Received) -> bool
 /// Counts of the exchanges of a [`Line`].
 #[derive(Clone, Copy, Debug)]
 pub struct Exchanges {
-    /// The number of exchanges made, answered or not.
+    /// The number of exchanges, with and without an answer.
     pub made: u64,
-    /// The number of exchanges without an answer.
+    /// The number of exchanges that got no answer.
     pub unanswered: u64,
     ghost within: { unanswered ≤ made },
 }
 
 impl Exchanges {
-    /// Creates the counts before the first exchange: both are 0.
+    /// Returns the counts before the first exchange: both are 0.
     pub fn none() -> Exchanges
         ensures made { result.made ≡ 0 }
         ensures unanswered { result.unanswered ≡ 0 }
@@ -78,10 +78,10 @@ impl Exchanges {
     }
 }
 
-/// Sends a call's frame until an exchange is answered, each time on a new connection, at most `tries`
-/// times. `tries` is 1 to 10. Returns the outcome of the last exchange.
+/// Sends a call's frame until an exchange gets an answer, each time on a new connection. `tries` is the
+/// greatest number of exchanges, 1 to 10. Returns the outcome of the last exchange.
 ///
-/// Each call of the Container Storage Interface may be sent again: the server executes it once (CSI
+/// Each call of the Container Storage Interface may be sent again: the server executes it only once (CSI
 /// specification, 'Timeouts').
 pub fn call_again<L: Line>(line: &mut L, frame: &[u8], tries: u32) -> Received
     requires few { L.exchanges line.old < 2 ^ 63 }
@@ -103,7 +103,8 @@ pub fn call_again<L: Line>(line: &mut L, frame: &[u8], tries: u32) -> Received
     line.exchange(frame)
 }
 
-// Returns the longest pause after `tried` tries, in milliseconds.
+// Returns the longest pause after `tried` tries, in milliseconds: 100 after the first try, and twice as long
+// after each further try, up to 2,000.
 fn longest_pause(tried: u32) -> u64
     ensures { result ≡ longest_pause tried }
 {
@@ -111,10 +112,10 @@ fn longest_pause(tried: u32) -> u64
     doubled.saturating_mul(100).min(2000)
 }
 
-/// Returns the pause in milliseconds after `tried` tries and before the next one. Its upper limit is 100
-/// after the first try and doubles after each further try, up to 2,000. Half of the limit is fixed;
-/// `chance` selects how much of the other half is added, so that clients that failed at the same time do
-/// not try again at the same time.
+/// Returns the pause after `tried` tries, in milliseconds. The upper limit of the pause is 100 after the
+/// first try and doubles after each further try, up to 2,000. The pause is at least half of this limit, and
+/// `chance` selects how much of the other half is added. So clients that failed at the same time do not try
+/// again at the same time.
 pub fn pause_millis(tried: u32, chance: u32) -> u64
     ensures least { longest_pause tried / 2 ≤ result }
     ensures most { result ≤ longest_pause tried }

@@ -13,7 +13,7 @@ use std::alloc::AllocError;
 ///
 /// # Errors
 ///
-/// If memory is refused; the vector is unchanged.
+/// If memory is refused. The vector is unchanged.
 #[tactic(auto, using(crate::proofs::Paths::is_call))]
 pub fn put_call(out: &mut Vec<u8>, method: Method, message: &[u8]) -> Result<(), AllocError>
     requires { length message.now ≤ MAX_MESSAGE_BYTES }

@@ -27,9 +27,9 @@ fn put_byte(out: &mut Vec<u8>, byte: u8) -> Result<(), AllocError>
     out.extend_from_slice(&[b'%', digit(byte / 16), digit(byte % 16)])
 }
 
-// Appends a text as one word: each byte outside 0x21 to 0x7E, and each percent sign, is written as a
-// percent sign and two hexadecimal digits in upper case. If memory is refused, the vector may contain part
-// of the word.
+// Appends a text as one word. Each byte outside 0x21 to 0x7E and each percent sign is written as a percent
+// sign and two hexadecimal digits in upper case. If memory is refused, the vector may contain a part of the
+// word.
 pub(crate) fn put_escaped(out: &mut Vec<u8>, text: &[u8]) -> Result<(), AllocError>
     ensures { OnOk result (out.new.items ≡ out.old.items ++ escaped text.now) }
 {

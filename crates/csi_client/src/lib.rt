@@ -1,13 +1,14 @@
 //! The client: it sends the frames of calls, and shows the replies.
 //!
-//! `replies.rt` writes a reply as a line, `lines.rt` writes its body as lines, and `escape.rt` writes a
-//! text as one word. `specs/Replies.antt`, `specs/Lines.antt` and `specs/Escape.antt` define the same as
-//! functions, which the contracts use: the lines show what the bytes mean, by the codec's `read_response`.
-//! `calling.rt` makes the frame of a call, which the framer's `send` writes, and `again.rt` sends the frame
-//! on one connection after another until the call is answered (`specs/Again.antt` defines which outcomes
-//! are answers). `receiving.rt` reads the first reply and `showing.rt` shows all replies of a stream, both
-//! over a `ReplyFramer`. `specs/Receiving.antt` and `specs/Showing.antt` define for each outcome what was
-//! read and written, and `specs/Live.antt` defines what holds between two reads.
+//! `replies.rt` writes a reply as a line, `lines.rt` writes its body as lines, and `escape.rt` writes a text
+//! as one word. `specs/Replies.antt`, `specs/Lines.antt` and `specs/Escape.antt` define the same lines and
+//! words by functions. The contracts use these functions: the lines show the value that the codec's
+//! `read_response` reads from the bytes. `calling.rt` makes the frame of a call, which `send` of
+//! `frames_core` writes. `again.rt` sends the frame on one connection after another until the call is
+//! answered; `specs/Again.antt` defines which outcomes are answers. `receiving.rt` reads the first reply and
+//! `showing.rt` shows all replies of a stream, both with a `ReplyFramer`. `specs/Receiving.antt` and
+//! `specs/Showing.antt` define the bytes read and written for each outcome, and `specs/Live.antt` what holds
+//! between two reads.
 //!
 //! ```rust
 //! put_call(&mut frame, method, &message)?;
@@ -17,8 +18,8 @@
 //!
 //! # Not promised
 //!
-//! That a read or a write failed, or memory was refused, if an outcome is that. Tests in
-//! `tests/test_csictl_*.py` show it.
+//! An outcome may say that a read or a write failed, or that memory was refused, although it was not so.
+//! Tests in `tests/test_csictl_*.py` exclude that.
 #![tactic(auto)]
 
 mod again;

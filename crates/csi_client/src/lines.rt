@@ -205,10 +205,10 @@ fn put_capacity(out: &mut Vec<u8>, available: i64, maximum: Option<i64>) -> Resu
     out.extend_from_slice(b"\n")
 }
 
-// Appends a response as lines, one line for each part, each text as one word: its names and ids, its
-// numbers (sizes in bytes), and `-` for a part that is absent. Appends nothing for the responses of
-// DeleteVolume, ControllerUnpublishVolume and ControllerModifyVolume, which have no parts. If memory is
-// refused, the vector may contain some of the lines.
+// Appends a response as lines, one line for each part of the response. A text is one word, a size is a number
+// of bytes, and an absent part is `-`. Appends nothing for the responses of DeleteVolume,
+// ControllerUnpublishVolume and ControllerModifyVolume, which have no parts. If memory is refused, the vector
+// may contain some of the lines.
 pub(crate) fn put_lines(out: &mut Vec<u8>, response: &Response) -> Result<(), AllocError>
     ensures { OnOk result (out.new.items ≡ out.old.items ++ lines response.now) }
 {

@@ -1,7 +1,7 @@
 //! Receives the reply to a call.
 //!
-//! A reply is one value, [`ReceivedReply`], which owns the status, the text and the body. So code that
-//! shows a reply, or decides whether to try again, passes one value on.
+//! A reply is one value, [`ReceivedReply`], which owns its status, text and body. So code that shows a reply,
+//! or decides to try again, passes one value on.
 
 ghost use Rattle.std.specs.Prelude.{◌≡◌, None, false, IfOk, IsTrue};
 ghost use Rattle.envelope.specs.Envelope.{reply_bytes_of};
@@ -19,10 +19,10 @@ pub(crate) const PIECE_BYTES: usize = 4096;
 
 const _: () = prove!(PIECE_BYTES == 4096);
 
-/// A received reply, which owns copies of the text and the body.
+/// A received reply, which owns copies of its text and body.
 #[derive(Debug, Drop)]
 pub struct ReceivedReply {
-    /// The gRPC status code; 0 (OK) if the call succeeded.
+    /// The gRPC status code. It is 0 (OK) if the call succeeded.
     pub status: u8,
     /// The reason why the call was refused: at most 1,024 bytes, each from 0x20 to 0x7E.
     pub text: Vec<u8>,
@@ -60,20 +60,20 @@ impl ReceivedReply {
 /// The outcome of waiting for the reply to a call.
 #[derive(Debug, Drop)]
 pub enum Received {
-    /// The reply was received: the first one on the connection.
+    /// The first reply on the connection was received.
     Reply(ReceivedReply),
-    /// The input ended before the first byte of a reply.
+    /// The input ended before the first byte of a reply was received.
     Nothing,
-    /// The input does not begin with a valid reply. The value is the fault.
+    /// The input begins with a malformed reply. The value is the fault.
     Malformed(ReplyFault),
-    /// A read failed before the whole reply was received, or a [`Line`](crate::Line) could not connect or
+    /// A read failed before the complete reply was received, or a [`Line`](crate::Line) could not connect or
     /// send.
     Failed,
-    /// Memory was refused for the buffer, before anything was read, or for the copy of the reply.
+    /// Memory was refused: for the buffer, before anything was read, or for the copy of the reply.
     NoMemory,
 }
 
-// Whether the framer takes no more bytes: it has a whole reply or a fault.
+// Returns true if the framer takes no more bytes, because it has a complete reply or a fault.
 fn is_settled(framer: &ReplyFramer) -> bool
     ensures settled { IsTrue result → IsReplySettled framer.now }
     ensures open { (result ≡ false) → (framer.now.fault ≡ None) × IsUnfinished framer.now.held }
@@ -81,7 +81,7 @@ fn is_settled(framer: &ReplyFramer) -> bool
     framer.fault().is_some() || framer.reply().is_some()
 }
 
-// Reads until the framer has a reply or a fault, or the input ends.
+// Reads until the framer has a complete reply or a fault, or the input ends.
 fn gather<R: Read>(framer: &mut ReplyFramer, reader: &mut R) -> io::Result<()>
     requires { framer.old ≡ reply_start }
     ensures { Gathers (R.remaining reader.old) (R.remaining reader.new) framer.new result }
@@ -103,8 +103,8 @@ fn gather<R: Read>(framer: &mut ReplyFramer, reader: &mut R) -> io::Result<()>
     unreachable!()
 }
 
-/// Reads the first reply of the input. Each read takes at most 4,096 bytes, and nothing is read after the
-/// read in which the reply ends. At most 4,194,312 reads are made, which is the number of bytes of the
+/// Reads the first reply of the input. Each read takes at most 4,096 bytes. Nothing is read after the read
+/// that completes the reply. The call makes at most 4,194,312 reads, which is the number of bytes of the
 /// longest reply.
 pub fn receive<R: Read>(alloc: Global, reader: &mut R) -> Received
     ensures { Receives (R.remaining reader.old) (R.remaining reader.new) result }

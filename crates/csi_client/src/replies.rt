@@ -55,13 +55,13 @@ fn reply_line(alloc: Global, reply: &Reply<'_>) -> Result<Vec<u8>, AllocError>
 }
 
 /// Appends one line for a reply: its status as a number, the name of the status, and the body in lower-case
-/// hexadecimal digits; the text if the body is empty; `-` if both are empty. The contract is only about
-/// replies whose status is one of the ten codes, which is so for each reply of
-/// [`take_reply`](envelope::take_reply).
+/// hexadecimal digits. If the body is empty, the line has the text of the reply instead of the body, or `-`
+/// if the text is empty too. The contract is only about replies whose status is one of the ten codes, as it
+/// is in each reply that [`take_reply`](envelope::take_reply) returns.
 ///
 /// # Errors
 ///
-/// If memory is refused; the vector is unchanged.
+/// If memory is refused. The vector is unchanged.
 pub fn put_reply_line(alloc: Global, out: &mut Vec<u8>, reply: &Reply<'_>) -> Result<(), AllocError>
     ensures line { OnOk result ((code : Code) → reply.now.status ≡ number_of code
         → out.new.items ≡ out.old.items ++ first_line code (reply_bytes_of reply.now)) }
@@ -89,8 +89,8 @@ fn put_response(alloc: Global, out: &mut Vec<u8>, response: &Response) -> Result
     out.extend_from_slice(said.as_slice())
 }
 
-// Appends the lines of a decoded response. The response is borrowed, so that the code that owns it does
-// nothing else that may fail.
+// Appends the lines of a decoded response. The response is borrowed, so its owner makes only one call that
+// can fail.
 fn put_decoded(
     alloc: Global,
     out: &mut Vec<u8>,
@@ -109,14 +109,13 @@ fn put_decoded(
     }
 }
 
-/// Appends the body of a reply as lines, as [`put_lines`](crate::put_lines) does, if the call succeeded
-/// (status 0) and its method is given; otherwise appends nothing.
+/// Decodes the body of a reply as a response of `method`, and appends the response as lines, one line for
+/// each part. Appends nothing if the call failed (its status is not 0) or no method is given.
 ///
 /// # Errors
 ///
-/// [`DecodeFault::Malformed`] if the body is not a response of the method. [`DecodeFault::NoMemory`] if
-/// memory is refused, and only if the body is a response of the method. The vector is unchanged after an
-/// error.
+/// [`DecodeFault::Malformed`] if the body is not a response of the method. [`DecodeFault::NoMemory`] if the
+/// body is a response of the method and memory is refused. The vector is unchanged after an error.
 pub fn put_body_lines(
     alloc: Global,
     out: &mut Vec<u8>,
@@ -138,7 +137,7 @@ pub fn put_body_lines(
     }
     let decoded = decode_response(alloc, method, reply.body);
     let put = put_decoded(alloc, out, &decoded);
-    // Called explicitly, so that one function drops it, and not a step for each part of each variant.
+    // An explicit drop is one call for the proof, and not a step for each part of each variant.
     drop(decoded);
     put
 }

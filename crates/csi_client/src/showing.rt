@@ -1,4 +1,4 @@
-//! Shows the replies of a stream to people.
+//! Writes the replies of a stream as lines for people.
 
 ghost use Rattle.std.specs.Prelude.{◌≡◌, ◌<◌, ◌≤◌, ◌+◌, ◌^◌, ◌++◌, ◌||◌, ⊤, ℕ, List, Option, Err, OnOk, length};
 ghost use Rattle.std.specs.Io.KnownBytes.{Appends};
@@ -24,21 +24,21 @@ use std::io::{self, Read, Write};
 // The greatest number of reads in one run.
 const MAX_READS: u64 = 1 << 32;
 
-/// How a run of [`show_all`] ended.
+/// The way in which a run of [`show_all`] ended.
 #[derive(Clone, Copy, Debug, PartialEq, Eq)]
 pub enum ShowEnd {
-    /// The input ended after a whole reply, or was empty, and all replies were shown. The value is true if
-    /// one of the replies had a status other than 0.
+    /// The input ended after a complete reply, or was empty, and all replies were shown. The value is true if
+    /// a reply had a status other than 0.
     Done(bool),
     /// The stream has this fault. All replies before the fault were shown.
     Malformed(ReplyFault),
-    /// The body of a reply is not a response of the method. All replies before it were shown, and then the
-    /// first line of this reply.
+    /// The body of a reply is not a response of the method. All replies before this reply were shown, and
+    /// also the first line of this reply.
     BadBody,
-    /// A read failed, or 2^32 reads were made. All replies that were read completely were shown.
+    /// A read failed, or 2^32 reads were made. All complete replies were shown.
     ReadFailed,
-    /// A write or a flush failed. All replies before the last one were shown, and a prefix of the last
-    /// one's lines.
+    /// A write or a flush failed. All replies before the last reply were shown. Of the lines of the last
+    /// reply, a part was shown, which may be empty or complete.
     WriteFailed,
     /// Memory was refused for the buffer of frames, or for the lines of a reply.
     NoMemory,
@@ -60,7 +60,7 @@ pub(crate) enum Shown {
     Halted(Halt),
 }
 
-// Shows replies. All replies use the same buffer for their lines.
+// Shows replies, and keeps the buffer for their lines.
 #[derive(Drop)]
 pub(crate) struct Printer {
     method: Option<Method>,
@@ -88,7 +88,7 @@ impl Printer {
         }
     }
 
-    // Writes the lines in the buffer.
+    // Writes the lines that are in the buffer.
     fn write_lines<W: Write>(&self, writer: &mut W) -> io::Result<()>
         ensures all { OnOk result (Appends (W.contents writer.old)
             (W.contents writer.new) self.now.lines.items) }
@@ -97,7 +97,7 @@ impl Printer {
         send(writer, &self.lines)
     }
 
-    // Shows one reply.
+    // Writes the lines of one reply, and notes a status other than 0.
     fn show<W: Write>(
         &mut self,
         alloc: Global,
@@ -127,8 +127,7 @@ impl Printer {
         }
     }
 
-    // Feeds bytes to the framer, at most up to the end of a frame, and shows the reply if the frame is
-    // whole.
+    // Feeds bytes to the framer, at most up to the end of a frame. Shows the reply if the frame is complete.
     fn show_next<W: Write>(
         &mut self,
         alloc: Global,
@@ -163,7 +162,7 @@ impl Printer {
         }
     }
 
-    // Feeds all bytes of one read to the framer and shows each whole reply.
+    // Feeds all bytes of one read to the framer, and shows each complete reply.
     fn show_piece<W: Write>(
         &mut self,
         alloc: Global,
@@ -194,7 +193,7 @@ impl Printer {
         Shown::Fed(at)
     }
 
-    // Returns how the run ended, once the input has ended.
+    // Returns how the run ended. It is called at the end of the input.
     fn finish(&self, framer: &mut ReplyFramer) -> ShowEnd
         ensures { (read : List ℕ) (held holds : Option (List ℕ))
             → Live self.now.method read framer.old held holds self.now.refused
@@ -218,13 +217,13 @@ fn halted(halt: Halt) -> ShowEnd
     }
 }
 
-/// Writes the replies of a reader as lines. For each reply it writes the line of
-/// [`put_reply_line`](crate::put_reply_line) and, if the method of the calls is given, the lines of
-/// [`put_body_lines`](crate::put_body_lines).
+/// Reads replies and writes them as lines. For each reply it writes the line of
+/// [`put_reply_line`](crate::put_reply_line). If the method of the calls is given, it also writes the lines
+/// of [`put_body_lines`](crate::put_body_lines).
 ///
-/// A read takes at most 4,096 bytes, and at most 2^32 reads are made. Each reply is written in one write
-/// and flushed, by [`send`](crate::send), as soon as its frame is whole. Nothing more is read after a
-/// fault, after a body that cannot be decoded, after a failed write, or after memory was refused.
+/// A read takes at most 4,096 bytes, and a run makes at most 2^32 reads. As soon as the frame of a reply is
+/// complete, the reply is written in one write and flushed, by [`send`](crate::send). Nothing more is read
+/// after a fault, after a body that cannot be decoded, after a failed write, or after memory was refused.
 pub fn show_all<R: Read, W: Write>(
     alloc: Global,
     method: Option<Method>,

@@ -1,4 +1,5 @@
-//! Laws of several clients. Each law is the contract of a function that does nothing.
+//! Laws about several clients. A law is a function that does nothing: its caller gets what the contract of
+//! the law states.
 
 ghost use Rattle.std.specs.Prelude.{◌≡◌, ℕ, List, None, Some};
 ghost use Rattle.std.specs.List.{AllByRecursion};
@@ -37,15 +38,15 @@ use csi_types::laws::{inclusions, overlays};
 
 /// A request that took effect remains in effect while other requests leave its object alone.
 ///
-/// Start from a State that has the invariant, with requests that pass the checks of their arguments. A
-/// request is answered OK, or its change exists already. Then others make any requests that leave its
-/// object alone. The same request again is answered with the same body and changes nothing. It does not
-/// matter whether the client heard the first answer: the reply may be lost, or the call may be refused and
-/// a stop may leave its change.
+/// The law starts in a State that meets the invariant, with requests that pass the checks of their arguments.
+/// A request is answered OK, or its change exists already. After it, other clients make any requests that
+/// leave its object alone. If the first request is then made again, it is answered with the same body and
+/// changes nothing. It does not matter whether the client heard the first answer: the reply may be lost, or
+/// the call may be refused and a stop may leave the State with its change.
 ///
-/// The object of a create is the volume with its name, including the mutable parameters that the create
-/// gives. The object of a delete is the volume id; of a publish or an unpublish, the volume at the node;
-/// and of a modify, the parameters of the volume that it sets.
+/// The object of a CreateVolume is the volume with its name, including the mutable parameters that the
+/// request gives. The object of a DeleteVolume is the volume id. The object of a publish or an unpublish is
+/// the volume at the node. The object of a ControllerModifyVolume is the set of parameters that it sets.
 pub fn stays_done(config: &Config)
     ensures taken { (s : State) (r : Request) (others : List Request) (body : List ℕ)
         → IsInvariant config.now s
@@ -68,10 +69,11 @@ pub fn stays_done(config: &Config)
     inclusions();
 }
 
-/// A create may change the object of a delete, if the delete guessed an id that no volume was given yet.
+/// A CreateVolume may change the object of a DeleteVolume, if the DeleteVolume guesses an id that no volume
+/// had yet.
 ///
-/// The delete is answered OK at once, since no volume has the id. If a create then gets the number of this
-/// id, the same delete again deletes the new volume.
+/// The DeleteVolume is answered OK at once, since no volume has the id. If a CreateVolume then gets the
+/// number in this id, the same DeleteVolume, made again, deletes the new volume.
 pub fn guessed_id(config: &Config)
     ensures { (s : State) (d : DeleteVolume) (r : CreateVolume) (c : Change) → IsInvariant config.now s
         → number_of_id d.volume_id ≡ Some s.next → (create config.now s r).change ≡ Some c
@@ -79,14 +81,14 @@ pub fn guessed_id(config: &Config)
         × (delete (changed s c) d ≡ make response.Delete (RemoveVolume s.next)) }
 {}
 
-/// The plan of a request does not depend on requests of others for other volumes made before it, with the
+/// The plan of a request does not depend on earlier requests of other clients for other volumes, with the
 /// exceptions below.
 ///
-/// Start from a State that has the invariant, and let others make requests that pass the checks of their
-/// arguments. A delete, an unpublish, a modify and a question about a volume have the same plan before and
-/// after these requests. So does a publish, unless its node is full in one of the two States. A create with
-/// a new name has the same size, name and parameters, but the room and the next number are those of the
-/// later State. So the create may be refused in one of the two States and not in the other.
+/// The law starts in a State that meets the invariant, and other clients make requests that pass the checks
+/// of their arguments. A delete, an unpublish, a modify and a question about a volume have the same plan
+/// before and after these requests. So does a publish, unless its node is full in one of the two States. A
+/// create with a new name has the same size, name and parameters, but its pool and its number come from the
+/// later State. So it may be refused in one of the two States and not in the other.
 pub fn made_later(config: &Config)
     ensures { (s : State) (r : Request) (others : List Request) → IsInvariant config.now s
         → AllByRecursion (λ q. checked q ≡ None) others → AreOfOtherVolumes config.now s others r
@@ -97,25 +99,28 @@ pub fn made_later(config: &Config)
 
 /// A history of several clients is linearizable if no two of them work on one object at once.
 ///
-/// Start from a State that has the invariant. Each client tries requests that pass the checks of their
-/// arguments, in order, each until it is answered. A try may be refused for memory or by the store, or
-/// because the store is down; an answer may be lost. Between any two tries a stop may end the session,
-/// which leaves the State after its tries, or the State with the change of a refused try. A client may be
-/// gone after any try, because its process ends or it gives up. Others may make requests that change
-/// nothing at any time.
+/// The history starts in a State that meets the invariant. Each client tries its requests in order, and tries
+/// each request until it is answered. All requests pass the checks of their arguments. A try may be refused
+/// for memory or by the store, or because the store is down. An answer may be lost. Between any two tries a
+/// stop may end the session, and leaves the State after its tries, or the State with the change of a refused
+/// try. A client may be gone after any try, because its process ends or because it gives up. At any time,
+/// requests may be made that change nothing.
 ///
-/// The tries are *separate*. A request is unsettled from its first try until it is answered or its client
-/// is gone; if it was refused for memory or by the store, until it is done or the session ends. While a
-/// request is unsettled, it leaves alone the object of each request that another client tries, and each of
-/// those requests leaves its object alone. The object of a request that changes nothing need not be left
-/// alone.
+/// The tries are *separate*. A request is unsettled from its first try until it is answered or its client is
+/// gone. If it was refused for memory or by the store, it stays unsettled until it is done or the session
+/// ends. While a request is unsettled, it leaves alone the object of each request that another client tries,
+/// and each such request leaves alone the object of the unsettled request. The object of a request that
+/// changes nothing need not be left alone.
 ///
-/// Then there is an order of requests in which no request occurs twice. The requests of each client are in
-/// the client's order. Each client hears the answers that its requests get in this order, and the final
-/// State is the State after all of them. The order keeps the real-time order: a request that was answered
-/// comes before each request that was first tried later. The order contains all requests that were answered
-/// and, for each client, at most one request that was tried and not answered. If all requests are answered,
-/// it contains all of them.
+/// Then there is an order of requests with these properties:
+///
+/// - No request occurs twice, and the requests of each client are in the client's order.
+/// - Each client hears the answers that its requests get in this order, and the final State is the State
+///   after all of them.
+/// - A request that was answered comes before each request that was first tried later. This is the real-time
+///   order.
+/// - The order contains all requests that were answered and, for each client, at most one request that was
+///   tried and not answered. If all requests are answered, it contains all of them.
 pub fn linearizable(config: &Config)
     ensures begun { (s t : State) (todo : ℕ → List Request) (sessions : Sessions)
         (heard : ℕ → List Report) → IsInvariant config.now s
@@ -135,24 +140,25 @@ pub fn linearizable(config: &Config)
     inclusions();
 }
 
-/// There is a history of two clients, with a stop between the tries of one of them.
+/// A history of two clients exists in which a stop comes between the tries of one of them.
 ///
-/// One client makes a request and its answer is lost. Another client makes a request and is answered. After
-/// a stop the first client tries again and is answered. When the second request is tried, the two requests
-/// leave each other's objects alone. So the premises of [`linearizable`] can be met.
+/// One client makes a request, and its answer is lost. Another client makes a request and is answered. After
+/// a stop the first client tries again and is answered. If the two requests leave each other's objects alone
+/// when the second is tried, the history meets the premises of [`linearizable`].
 pub fn two_clients(config: &Config)
     ensures { (s : State) (r q : Request) → LeaveEachOtherAlone (step config.now s r).1 q r
         → AreTwo config.now s r q }
 {}
 
-/// There is a history in which one client gives up and another client continues with the same object.
+/// A history exists in which one client gives up and another client continues with the same object.
 ///
-/// An attacher sends ControllerPublishVolume, hears nothing, gives up and sends ControllerUnpublishVolume
-/// for the same volume and node. These are two clients, and the first is gone. If the first request was
-/// executed, the second is executed after it (`lost`). If the first was refused for memory or by the store
-/// and a stop ended the session, the second is executed in the State that the stop left: the State before
-/// the first request or the State after it (`refused`). The first request never takes effect after the
-/// second. The law has no premise on the two requests.
+/// An attacher sends ControllerPublishVolume, hears no answer, gives up and sends ControllerUnpublishVolume
+/// for the same volume and node. The law treats the attacher as two clients, and the first of the two is
+/// gone. If the first request was executed, the second is executed after it (`lost`). The first request may
+/// also be refused for memory or by the store, and a stop may end the session. The second is then executed in
+/// the State that the stop left (`refused`). This is the State without or with the change of the first
+/// request. The first request never takes effect after the second. The law has no premise about the two
+/// requests.
 pub fn gives_up(config: &Config)
     ensures lost { (s : State) (r q : Request)
         → IsGivenUp config.now s (step config.now s r).1 r q (given_up r q) }
@@ -161,8 +167,8 @@ pub fn gives_up(config: &Config)
         × IsGivenUp config.now s (step config.now s r).1 r q (given_up_refused r q) }
 {}
 
-/// The law of one client among others that only read, `csi_machine::laws::retry`, follows from
-/// [`linearizable`], applied to a single client and to tries without a client.
+/// `csi_machine::laws::retry`, the law of one client among others that only read, follows from
+/// [`linearizable`] for a single client.
 pub fn retry_alone(config: &Config)
     ensures { (s t : State) (requests : List Request) (sessions : List (List Try)) (reported : List Report)
         → IsInvariant config.now s
@@ -175,16 +181,17 @@ pub fn retry_alone(config: &Config)
 
 /// A history of calls of several clients is linearizable if no two of them work on one object at once.
 ///
-/// This is [`linearizable`] for calls, marks and replies in bytes, over any keeper. Each client repeats a
-/// call until it hears the reply. A call may be refused for memory or by the store, a reply may be lost,
-/// and a stop leaves what `csi_server::laws::pending` allows. A call that is not a request, or that is
-/// refused for its arguments, does not count as a try: anyone may make it at any time.
+/// This is the law [`linearizable`] for calls and replies in bytes, over any keeper. Calls may be marked as
+/// refused. Each client repeats a call until it hears the reply. A call may be refused for memory or by the
+/// store, a reply may be lost, and a stop leaves a State that `csi_server::laws::pending` allows. If a call
+/// is not a request, or is refused for its arguments, it does not count as a try. So any client may make such
+/// a call at any time.
 ///
 /// # Not promised
 ///
-/// That a call is ever answered. What two clients hear that work on the same object at once. That the calls
-/// of a front, a sidecar or a person are separate, which is a premise (docs/DEPLOY.md, "Clients that share
-/// a front").
+/// A call may never be answered. The law does not say what two clients hear that work on the same object at
+/// once. It assumes that the calls of a front, a sidecar or a person are separate (docs/DEPLOY.md, "Clients
+/// that share a front").
 pub fn linearizable_calls<K: Keeper>(config: &Config)
     ensures begun { (s t : State) (todo : ℕ → List Request) (sessions : List (List ClientExchange))
         (heard : ℕ → List ReplyBytes) → IsInvariant config.now s
@@ -204,11 +211,13 @@ pub fn linearizable_calls<K: Keeper>(config: &Config)
     tries::<K>(config);
 }
 
-/// Runs over two files, each ended by a stop, are a linearizable history of calls if no two clients work on
-/// one object at once.
+/// If runs over two files each end in a stop, and no two clients work on one object at once, the calls of all
+/// runs are a linearizable history.
 ///
-/// The tries must be separate for each State that a stop may leave. After the last run, the files contain
-/// the State after the requests in their order. The runs are those of `csi_files::laws::lived`.
+/// The tries must be separate ([`linearizable`]) for each State that a stop may leave. After the last run,
+/// the files have the State that the requests make in the order of the history. The first run may be over
+/// files that hold no database yet, and each later run over any contents that a crash may leave
+/// (`csi_files::laws::lived`).
 pub fn linearizable_files<K: Keeper>(config: &Config)
     ensures { LivesAreLinearizable config.now }
 {

@@ -11,16 +11,18 @@
 //! the answer that its client hears is the response, and the step of the machine is the sequential
 //! specification.
 //!
-//! - `specs/Objects.antt`: which request does not change the object of another request (it leaves that
-//!   object alone)
+//! - `specs/Objects.antt`: which requests leave the object of another request alone, that is, do not change
+//!   it
 //! - `specs/Clients.antt`: clients, their tries, and when tries are separate
-//! - `specs/Histories.antt`: sessions of tries, with stops between them, and what each client hears
-//! - `specs/Linearizability.antt`: the order of operations, and that it keeps the real-time order
+//! - `specs/Histories.antt`: sessions of tries, with stops between them, and the answers that each client
+//!   hears
+//! - `specs/Linearizability.antt`: the order of operations, which keeps the real-time order
 //! - `specs/Calls.antt`, `specs/Files.antt`: histories of calls and replies in bytes, and of runs over files
 //! - `specs/Examples.antt`: two worked examples
-//! - `specs/OtherVolumes.antt`: requests that work on other volumes than a request that was not made yet
+//! - `specs/OtherVolumes.antt`: requests of other clients for other volumes, made before a request
 //!
-//! The crate has no code that runs: each of its [`laws`] is the contract of a function that does nothing.
+//! The crate has no code that runs. Each of its [`laws`] is a function that does nothing; the caller gets its
+//! contract.
 //!
 //! ```text
 //! client 0   CreateVolume, reply lost                              CreateVolume: OK, vol-1

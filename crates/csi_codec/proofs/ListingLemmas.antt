@@ -1,10 +1,10 @@
 -- The entry of a volume of which each length takes a byte.
-use Rattle.std.proofs.Common.{◌≡◌, ◌∙◌, Result, Ok, Err, OnOk, is_ok, if◌then◌else◌, ℕ, ℤ, List, [], ◌∷◌, ◌++◌, ◌+◌, ◌*◌, ◌^◌, ◌<◌, ◌≤◌, ap, ap₂, sym, refl, rules, subst, length, length-append, append_assoc, arith}
+use Rattle.std.proofs.Common.{◌≡◌, ◌∙◌, Result, Ok, Err, OnOk, is_ok, if◌then◌else◌, ℕ, List, [], ◌∷◌, ◌++◌, ◌+◌, ◌*◌, ◌^◌, ◌<◌, ◌≤◌, ap, ap₂, sym, refl, rules, subst, length, length-append, append_assoc, arith}
 use Rattle.std.proofs.lemmas.Grind.{flat_map-append}
 use Rattle.std.proofs.lemmas.List.{append-nil}
 use Rattle.std.specs.Fmt.{decimal}
 use Rattle.std.specs.Int.{cast_unsigned, w64}
-use Rattle.pbwire.specs.Wire.{WireField, Payload}
+use Rattle.pbwire.specs.Wire.{Payload}
 use Rattle.pbwire.specs.Writing.{varint, spelling, spellings}
 use Rattle.pbmessage.specs.Canon.{bytes_of, map_row, messages_row, payload_fields, row_fields, signed_row, text_row, FitsInner, FitsTexts}
 use Rattle.pbmessage.specs.facts.Writing.{joined_row}

@@ -1,5 +1,5 @@
 -- Entries of a listing by the parts that they are written from.
-use Rattle.std.specs.Prelude.{ℕ, ℤ, List, [], ◌∷◌, ◌+◌, ◌≤◌, ◌<◌, ◌++◌, Some, length}
+use Rattle.std.specs.Prelude.{ℕ, ℤ, List, ◌∷◌, ◌+◌, ◌≤◌, ◌<◌, ◌++◌, Some, length}
 use Rattle.std.specs.Fmt.{decimal}
 use Rattle.std.specs.Int.{cast_unsigned, w64}
 use Rattle.pbwire.specs.Writing.{spellings}

@@ -14,13 +14,13 @@ use csi_types::Map;
 use pbmessage::{Written, put_joined, put_message, put_signed, put_single, whole_or_none};
 use std::alloc::AllocError;
 
-/// A volume that was created, or that exists already as the request asks (CSI specification,
-/// `CreateVolumeResponse.volume`). All parts are borrowed.
+/// A volume as CreateVolume returns it, both if the call created the volume and if it existed already (CSI
+/// specification, `CreateVolumeResponse.volume`). All parts are borrowed.
 #[derive(Drop)]
 pub struct CreatedVolume<'a> {
     /// `capacity_bytes`: the size of the volume in bytes.
     pub bytes: i64,
-    /// The first part of the volume's id.
+    /// The first part of the volume's id: the id is `prefix` followed by `suffix`.
     pub prefix: &'a str,
     /// The last part of the volume's id.
     pub suffix: &'a str,
@@ -67,7 +67,7 @@ impl Written<Csi> for CreatedVolume<'_> {
 ///
 /// # Errors
 ///
-/// If memory is refused; the vector is unchanged.
+/// If memory is refused. The vector is unchanged.
 #[tactic(auto, unfolding(pbmessage::specs::Canon::row_fields, crate::specs::Methods::response_bytes, crate::specs::Methods::FitsResponse))]
 pub fn encode_created(volume: &CreatedVolume, out: &mut Vec<u8>) -> Result<(), AllocError>
     ensures ok { OnOk result (out.new.items

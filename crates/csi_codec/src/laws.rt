@@ -1,4 +1,5 @@
-//! Laws of the definitions that the contracts cite.
+//! Laws about which bytes encode which requests and responses. A law is a function that does nothing: its
+//! caller gets what the contract of the law states.
 
 ghost use Rattle.std.specs.Prelude.{◌≡◌, ℕ, ℤ, Bool, List, Option, Ok, Err, IsTrue};
 ghost use Rattle.csi_types.specs.declared.method.Method.{Method};
@@ -24,9 +25,9 @@ ghost use Rattle.csi_codec.specs.Reading.{read_request, IsRead, read_response, I
 use csi_types::laws::map_entries;
 use pbwire::laws::{spelled, written};
 
-/// Decoding an encoded request or response gives the same value, if that value fits.
+/// If a request or a response can be encoded, decoding its encoding gives the same value.
 /// [`encode_request`](crate::encode_request) and [`encode_response`](crate::encode_response) return `Ok` only
-/// for values that fit.
+/// for such values.
 pub fn round_trip()
     ensures requests { (r : Request) → FitsRequest r → MeansRequest (request_method r) (request_bytes r) r }
     ensures responses { (r : Response) → FitsResponse r
@@ -37,7 +38,7 @@ pub fn round_trip()
     map_entries();
 }
 
-/// Bytes encode at most one request of a method, and at most one response.
+/// The same bytes encode at most one request of a method, and at most one response of a method.
 pub fn one_meaning()
     ensures requests { (m : Method) (bytes : List ℕ) (r s : Request) → MeansRequest m bytes r
         → MeansRequest m bytes s → r ≡ s }
@@ -47,8 +48,8 @@ pub fn one_meaning()
     spelled();
 }
 
-/// Bytes that pass the checks of a method's message encode a request of the method. The same holds for
-/// responses.
+/// If bytes pass the checks of the request message of a method, they encode a request of the method. The same
+/// holds for responses.
 pub fn a_meaning()
     ensures requests { (m : Method) (bytes : List ℕ) → IsGoodRequest m bytes → (r : Request)
         × MeansRequest m bytes r }
@@ -56,7 +57,7 @@ pub fn a_meaning()
         × MeansResponse m bytes r }
 {}
 
-/// Bytes that are refused as malformed encode no request of the method. The same holds for responses.
+/// If bytes are refused as malformed, they encode no request of the method. The same holds for responses.
 pub fn no_meaning()
     ensures requests { (m : Method) (bytes : List ℕ) (at : ℕ) → IsNoRequest m bytes at → (r : Request)
         → MeansRequest m bytes r → ⊥ }
@@ -64,7 +65,7 @@ pub fn no_meaning()
         → MeansResponse m bytes r → ⊥ }
 {}
 
-/// Bytes that encode no request of a method are refused at one offset only. The same holds for responses.
+/// If bytes encode no request of a method, they are refused at one offset only. The same holds for responses.
 pub fn one_offset()
     ensures requests { (m : Method) (bytes : List ℕ) (a b : ℕ) → IsNoRequest m bytes a → IsNoRequest m bytes b
         → a ≡ b }
@@ -72,9 +73,9 @@ pub fn one_offset()
         → IsNoResponse m bytes b → a ≡ b }
 {}
 
-/// What [`decode`](crate::decode) and [`decode_response`](crate::decode_response) find in any bytes, as a
-/// function of the method and the bytes: the value that the bytes encode, or the offset at which they are
-/// refused.
+/// `read_request` and `read_response` compute the result of decoding from a method and any bytes. The result
+/// is the value that the bytes encode, or the offset at which [`decode`](crate::decode) or
+/// [`decode_response`](crate::decode_response) refuses the bytes.
 pub fn reading()
     ensures requests { (m : Method) (bytes : List ℕ) → IsRead m bytes (read_request m bytes) }
     ensures responses { (m : Method) (bytes : List ℕ) → IsReadResponse m bytes (read_response m bytes) }
@@ -82,8 +83,8 @@ pub fn reading()
     spelled();
 }
 
-/// The function of [`reading`] returns the value that the bytes encode, or the offset at which they are
-/// refused.
+/// If bytes encode a value, `read_request` and `read_response` return this value. If bytes encode no value,
+/// both return the offset at which decoding refuses the bytes.
 pub fn read_as_meant()
     ensures requests { (m : Method) (bytes : List ℕ) (r : Request) → MeansRequest m bytes r
         → read_request m bytes ≡ Ok r }
@@ -100,14 +101,15 @@ pub fn read_as_meant()
     one_offset();
 }
 
-/// In an encoding, the field numbers of the message rise, and lie between 1 and 2^29 - 1 (Protocol Buffers
-/// language guide, 'Assigning Field Numbers').
+/// In the encoding of a request or a response, the field numbers rise, and each is from 1 to 2^29 - 1
+/// (Protocol Buffers language guide, 'Assigning Field Numbers').
 pub fn rising()
     ensures requests { (r : Request) → IsTrue (rises (canon_request r)) }
     ensures responses { (r : Response) → IsTrue (rises (canon_response r)) }
 {}
 
-/// The law [`rising`] for each message inside another one. All encodings consist of these messages.
+/// In the encoding of each message that can be inside another message, the field numbers rise, and each is
+/// from 1 to 2^29 - 1. With [`rising`] this covers each message in an encoding.
 pub fn rising_within()
     ensures ranges { (r : CapacityRange) → IsTrue (rises (canon_range r)) }
     ensures mounts { (m : Mount) → IsTrue (rises (canon_mount m)) }

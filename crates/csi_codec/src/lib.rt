@@ -1,15 +1,16 @@
 //! Messages of the Container Storage Interface to and from bytes (Protocol Buffers, proto3).
 //!
-//! Each message is three short definitions over `pbmessage`, which reads and writes messages of any type:
-//! which view gives each part of its value, its schema, and how the value is written. The definitions are in
-//! `specs/messages/`, the code in `src/messages/` and the round trips in `proofs/`, with one file of the same
-//! name for each subject.
+//! Three short definitions describe each message: the view that gives each part of its value, its schema, and
+//! how the value is written. The crate `pbmessage` reads and writes any message by such definitions. The
+//! definitions are in `specs/messages/`, and the round trips in `proofs/` (`TopologyLemmas.antt` for
+//! `Topology.antt`). The code is in `src/messages/`, in one file each for requests, responses, volumes and
+//! other values.
 //!
-//! `MeansRequest` and `IsNoRequest` define which request bytes encode, without an order of reading.
-//! `specs/Reading.antt` defines it as a function, for crates above that must compute with it, and the law
-//! [`laws::reading`] proves that the two agree. Decoding takes two passes. The first looks for faults and
-//! takes no memory, so a malformed message is never refused for lack of memory; the second builds the value.
-//! Embedded messages are merged in place and written in place.
+//! `MeansRequest` and `IsNoRequest` define which bytes encode a request, without an order of reading.
+//! `specs/Reading.antt` defines the same by a function, for crates above that compute with it. The law
+//! [`laws::reading`] proves that both definitions agree. Decoding takes two passes. The first looks for
+//! faults and takes no memory, so a malformed message is never refused for lack of memory. The second builds
+//! the value. Embedded messages are merged and written without a copy.
 //!
 //! ```rust
 //! match decode(alloc, method, message) {
@@ -34,5 +35,5 @@ pub use created::{CreatedVolume, encode_created};
 pub use listing::{ListedEntry, encode_entry};
 pub use placement::Placement;
 pub use published::encode_published;
-pub use requests::{decode, decode_create, encode_create, encode_request};
+pub use requests::{decode, decode_create, encode_request};
 pub use responses::{decode_response, encode_response};

@@ -50,7 +50,7 @@ pub struct ListedEntry<'a> {
     pub bytes: i64,
     /// The part of the volume's id before its number.
     pub prefix: &'a str,
-    /// The number of the volume, with whose decimal digits its id ends.
+    /// The number of the volume. The id is `prefix` followed by the decimal digits of the number.
     pub number: u64,
     /// The context and the topology of the volume's pool, already encoded.
     pub placement: &'a Placement,
@@ -79,12 +79,12 @@ impl Written<Csi> for ListedEntry<'_> {
     }
 }
 
-/// Appends an entry, encoded as a `ListVolumesResponse` with this entry and no token. The encoding of a whole
-/// response is the encodings of its entries in order, followed by the encoding of its token.
+/// Appends an entry, encoded as a `ListVolumesResponse` that has only this entry. So a whole response is the
+/// encodings of its entries in order, and then the encoding of its token.
 ///
 /// # Errors
 ///
-/// If memory is refused; the vector is unchanged.
+/// If memory is refused. The vector is unchanged.
 #[inline(always)]
 #[tactic(auto, using(crate::specs::facts::Listing::entries_only), unfolding(crate::specs::Methods::FitsResponse))]
 pub fn encode_entry(entry: &ListedEntry, out: &mut Vec<u8>) -> Result<(), AllocError>

@@ -6,7 +6,8 @@ pub mod responses;
 pub mod values;
 pub mod volumes;
 
-/// The package `csi.v1`, whose messages are defined here. The types of their values belong to another crate,
-/// so the traits need a type of this crate as a parameter.
+/// Marks the messages of the package `csi.v1`. Their values are types of another crate. So a trait can be
+/// implemented for these values here only if the trait has a type of this crate as a parameter, such as this
+/// type.
 #[derive(Clone, Copy)]
 pub struct Csi;

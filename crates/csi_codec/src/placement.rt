@@ -1,4 +1,4 @@
-//! The context and topology that all volumes of a pool share, encoded.
+//! The encoded context and topology that all volumes of a pool share.
 
 ghost use Rattle.std.specs.Prelude.{◌≡◌, ◌++◌, IfOk, OnOk, OnErr};
 ghost use Rattle.std.proofs.Props.{props};
@@ -13,8 +13,9 @@ use std::alloc::{AllocError, Global};
 // The status of a volume that is published to no node: field 2 of its entry, empty.
 const NO_NODES: [u8; 2] = [18, 0];
 
-/// The context and the topology that all volumes of a pool share, with their encoding. A listing encodes them
-/// once for each pool (CSI specification, the fields `volume_context` and `accessible_topology` of `Volume`).
+/// The context and the topology that all volumes of a pool share, with their encoding (CSI specification, the
+/// fields `volume_context` and `accessible_topology` of `Volume`). So a listing encodes them once for each
+/// pool and not once for each volume.
 #[derive(Drop)]
 pub struct Placement {
     context: Map,
@@ -45,7 +46,7 @@ impl Placement {
         })
     }
 
-    /// The encoded context and topology, as fields of a `Volume`.
+    /// Returns the encoded context and topology, as fields of a `Volume`.
     #[inline(always)]
     pub(crate) fn as_bytes(&self) -> &[u8]
         ensures value { result.now ≡ placement_bytes self.now.context self.now.topology }
@@ -54,7 +55,8 @@ impl Placement {
         &self.ending[..len]
     }
 
-    /// The encoded context and topology, followed by the end of a listing's entry that has no nodes.
+    /// Returns the encoded context and topology, and after them the last bytes of an entry whose volume is
+    /// published to no node.
     #[inline(always)]
     pub(crate) fn ending(&self) -> &[u8]
         ensures value { result.now ≡ placement_bytes self.now.context self.now.topology ++ no_nodes }

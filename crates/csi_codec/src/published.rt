@@ -14,7 +14,7 @@ use std::alloc::AllocError;
 ///
 /// # Errors
 ///
-/// If memory is refused; the vector is unchanged.
+/// If memory is refused. The vector is unchanged.
 #[tactic(auto, unfolding(pbmessage::specs::Canon::row_fields, crate::specs::Methods::response_bytes, crate::specs::Methods::FitsResponse))]
 pub fn encode_published(key: &str, value: &str, out: &mut Vec<u8>) -> Result<(), AllocError>
     ensures ok { OnOk result (out.new.items

@@ -1,11 +1,10 @@
-//! Decoding and encoding requests by their method.
+//! Decodes and encodes requests, by their method.
 
 ghost use Rattle.std.specs.Prelude.{◌≡◌, ◌++◌, OnOk, OnErr, IfOk, IfErr};
 ghost use Rattle.pbmessage.specs.Kept.{Keeps};
 ghost use Rattle.csi_codec.specs.Methods.{RefusesRequest, MeansRequest, request_bytes, FitsRequest};
 ghost use Rattle.csi_codec.specs.Reading.{read_request, as_create, Decodes};
 ghost use Rattle.csi_types.specs.declared.method.Method.TheVariants.{CreateVolume as Creating};
-ghost use Rattle.csi_types.specs.declared.requests.Request.TheVariants.{Create};
 
 use crate::messages::Csi;
 use crate::messages::values::NoFields;
@@ -16,14 +15,15 @@ use std::alloc::{AllocError, Global};
 
 /// Decodes the request of this method (Protocol Buffers encoding guide; CSI specification, csi.proto).
 ///
-/// Fields may come in any order, and unknown fields are skipped. If a field of a number or a text is
-/// repeated, the last occurrence counts; the occurrences of an embedded message are merged; and those of a
-/// repeated field are its elements. All bytes are checked for faults before memory is taken.
+/// Fields may come in any order, and unknown fields are skipped. If a field occurs more than once, the result
+/// depends on its kind. For a number or a text, the last occurrence counts. An embedded message is merged
+/// from all occurrences. In a repeated field, each occurrence is one element. All bytes are checked for
+/// faults before memory is taken.
 ///
 /// # Errors
 ///
-/// [`DecodeFault::Malformed`] exactly if the bytes encode no request of this method;
-/// [`DecodeFault::NoMemory`] if they encode one and memory is refused.
+/// [`DecodeFault::Malformed`] if and only if the bytes encode no request of this method.
+/// [`DecodeFault::NoMemory`] if the bytes encode a request and memory is refused.
 pub fn decode(alloc: Global, method: Method, bytes: &[u8]) -> Result<Request, DecodeFault>
     ensures ok { IfOk result (MeansRequest method bytes.now) }
     ensures err { IfErr result (RefusesRequest method bytes.now) }
@@ -33,11 +33,12 @@ pub fn decode(alloc: Global, method: Method, bytes: &[u8]) -> Result<Request, De
     decode_by_method(alloc, method, bytes)
 }
 
-/// Decodes a `CreateVolumeRequest`, as [`decode`] does.
+/// Decodes a `CreateVolumeRequest`. [`decode`] describes which fields the bytes may have.
 ///
 /// # Errors
 ///
-/// The errors of [`decode`].
+/// [`DecodeFault::Malformed`] if and only if the bytes encode no `CreateVolumeRequest`.
+/// [`DecodeFault::NoMemory`] if the bytes encode a request and memory is refused.
 pub fn decode_create(alloc: Global, bytes: &[u8]) -> Result<CreateVolume, DecodeFault>
     ensures { Decodes (read_request Creating bytes.now) (as_create result) }
 {
@@ -78,7 +79,7 @@ fn decode_by_method(alloc: Global, method: Method, bytes: &[u8]) -> Result<Reque
     }
 }
 
-// Appends the encoding. If memory is refused, a part of the encoding may have been appended.
+// Appends the encoding of the request. If memory is refused, a part of the encoding may have been appended.
 #[tactic(auto, unfolding(crate::specs::Methods::request_bytes, crate::specs::Methods::FitsRequest))]
 fn write_request(request: &Request, out: &mut Vec<u8>) -> Result<(), AllocError>
     ensures ok { OnOk result (out.new.items ≡ out.old.items ++ request_bytes request.now) }
@@ -101,13 +102,16 @@ fn write_request(request: &Request, out: &mut Vec<u8>) -> Result<(), AllocError>
     }
 }
 
-/// Appends the encoding of the request, in one fixed form. Field numbers rise, and varints have their least
-/// length. Default scalars and empty texts are left out; present messages are written even if empty. Map
-/// entries come in byte order of their keys, with key and value both written.
+/// Appends the encoding of the request, in one fixed form:
+///
+/// - Field numbers rise, and each varint has its least length.
+/// - A number that is 0, a flag that is false and an empty text are left out. A message that is present is
+///   written even if it is empty.
+/// - Map entries come in byte order of their keys, and both the key and the value are written.
 ///
 /// # Errors
 ///
-/// If memory is refused; the vector is unchanged.
+/// If memory is refused. The vector is unchanged.
 pub fn encode_request(request: &Request, out: &mut Vec<u8>) -> Result<(), AllocError>
     ensures ok { OnOk result (out.new.items ≡ out.old.items ++ request_bytes request.now) }
     ensures fitting { OnOk result (FitsRequest request.now) }
@@ -115,21 +119,5 @@ pub fn encode_request(request: &Request, out: &mut Vec<u8>) -> Result<(), AllocE
 {
     let from = out.len();
     let written = write_request(request, out);
-    whole_or_none(out, from, written)
-}
-
-/// Appends the encoding of a `CreateVolumeRequest`, in the one form that [`encode_request`] describes.
-///
-/// # Errors
-///
-/// If memory is refused; the vector is unchanged.
-#[tactic(auto, unfolding(crate::specs::Methods::request_bytes, crate::specs::Methods::FitsRequest))]
-pub fn encode_create(message: &CreateVolume, out: &mut Vec<u8>) -> Result<(), AllocError>
-    ensures ok { OnOk result (out.new.items ≡ out.old.items ++ request_bytes (Create message.now)) }
-    ensures fitting { OnOk result (FitsRequest (Create message.now)) }
-    ensures err { OnErr result (out.new.items ≡ out.old.items) }
-{
-    let from = out.len();
-    let written = message.write(out);
     whole_or_none(out, from, written)
 }

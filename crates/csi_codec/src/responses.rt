@@ -1,4 +1,4 @@
-//! Decoding and encoding responses by their method.
+//! Decodes and encodes responses, by their method.
 
 ghost use Rattle.std.specs.Prelude.{◌≡◌, ◌++◌, OnOk, OnErr, IfOk, IfErr};
 ghost use Rattle.pbmessage.specs.Kept.{Keeps};
@@ -15,12 +15,13 @@ use pbmessage::{DecodeFault, Written, decode_message, whole_or_none};
 use pbwire::laws::spelled;
 use std::alloc::{AllocError, Global};
 
-/// Decodes the response of this method, as [`decode`](crate::decode) decodes requests.
+/// Decodes the response of this method. Fields may come in any order, unknown fields are skipped, and
+/// [`decode`](crate::decode) describes the effect of a field that occurs more than once.
 ///
 /// # Errors
 ///
-/// [`DecodeFault::Malformed`] exactly if the bytes encode no response of this method;
-/// [`DecodeFault::NoMemory`] if they encode one and memory is refused.
+/// [`DecodeFault::Malformed`] if and only if the bytes encode no response of this method.
+/// [`DecodeFault::NoMemory`] if the bytes encode a response and memory is refused.
 pub fn decode_response(alloc: Global, method: Method, bytes: &[u8]) -> Result<Response, DecodeFault>
     ensures ok { IfOk result (MeansResponse method bytes.now) }
     ensures err { IfErr result (RefusesResponse method bytes.now) }
@@ -76,7 +77,7 @@ fn decode_by_method(alloc: Global, method: Method, bytes: &[u8]) -> Result<Respo
     }
 }
 
-// Appends the encoding. If memory is refused, a part of the encoding may have been appended.
+// Appends the encoding of the response. If memory is refused, a part of the encoding may have been appended.
 #[tactic(auto, unfolding(crate::specs::Methods::response_bytes, crate::specs::Methods::FitsResponse))]
 fn write_response(response: &Response, out: &mut Vec<u8>) -> Result<(), AllocError>
     ensures ok { OnOk result (out.new.items ≡ out.old.items ++ response_bytes response.now) }
@@ -98,12 +99,13 @@ fn write_response(response: &Response, out: &mut Vec<u8>) -> Result<(), AllocErr
     }
 }
 
-/// Appends the encoding of the response, in the one form that [`encode_request`](crate::encode_request)
-/// describes.
+/// Appends the encoding of the response, in one fixed form. Field numbers rise, a number that is 0, a flag
+/// that is false and an empty text are left out, and map entries come in byte order of their keys.
+/// [`encode_request`](crate::encode_request) has all rules of this form.
 ///
 /// # Errors
 ///
-/// If memory is refused; the vector is unchanged.
+/// If memory is refused. The vector is unchanged.
 pub fn encode_response(response: &Response, out: &mut Vec<u8>) -> Result<(), AllocError>
     ensures ok { OnOk result (out.new.items ≡ out.old.items ++ response_bytes response.now) }
     ensures fitting { OnOk result (FitsResponse response.now) }

@@ -1,5 +1,5 @@
-//! Short entries of ListVolumes, of volumes published to no node. An entry is written into a buffer from its
-//! last byte to its first, so that each length is known when it is written.
+//! Encodes entries of ListVolumes that are short, for volumes that are published to no node. The bytes of an
+//! entry are written from the last to the first, so the length of a part is known before its head is written.
 
 ghost use Rattle.std.specs.Prelude.{◌≡◌, ◌≤◌, ◌+◌, ◌++◌, ◌∷◌, IfSome, length, drop};
 ghost use Rattle.std.specs.Fmt.{decimal};
@@ -11,24 +11,26 @@ ghost use Rattle.csi_codec.specs.messages.Volume.{FitsVolume};
 use crate::listing::ListedEntry;
 use itoa::write_digits;
 
-/// The bytes of a buffer: 4 for the heads of entry and volume, 11 for the size field, 38 for the id field
-/// (its head 2, prefix 16, digits 20), and 123 for the longest ending.
+/// The size in bytes of the buffer for one entry. The heads of entry and volume take 4 bytes, the size field
+/// 11, the id field 38 (head 2, prefix 16, digits 20), and the longest ending 123.
 pub(crate) const BUFFER_BYTES: usize = 176;
 
-// The longest prefix of an id that fits the buffer.
+// The greatest length of an id's prefix for which the buffer has room, in bytes.
 const LONGEST_PREFIX: usize = 16;
 
-// The longest ending of a short entry: the context and topology of its pool, and an empty status.
+// The greatest length of a short entry's ending, in bytes. The ending has the context and topology of the
+// pool, and an empty status.
 const LONGEST_ENDING: usize = 123;
 
-// The bytes of the status of a volume that is published to no node.
+// The length of the status of a volume that is published to no node, in bytes.
 const STATUS_BYTES: usize = 2;
 
-// An entry of a volume of fewer bytes than this, published to no node, has at most 127 bytes, so each length
-// in it takes one byte.
+// A volume whose encoding is shorter than this number of bytes makes an entry of at most 127 bytes, with the
+// heads and the empty status. So each length in the entry takes one byte.
 const SHORT_VOLUME: usize = 122;
 
-// Writes bytes that end at `end`, and returns the offset at which they begin.
+// Writes `bytes` into the buffer so that they end before the offset `end`. Returns the offset at which they
+// begin.
 #[inline(always)]
 fn put_before(buffer: &mut [u8], end: usize, bytes: &[u8]) -> usize
     requires { (length bytes.now ≤ end) × (end ≤ length buffer.old) }
@@ -40,7 +42,8 @@ fn put_before(buffer: &mut [u8], end: usize, bytes: &[u8]) -> usize
     start
 }
 
-// Writes a varint that ends at `end`, its last group first, and returns the offset at which it begins.
+// Writes a varint into the buffer so that it ends before the offset `end`, and returns the offset at which it
+// begins. The last group of 7 bits is written first.
 #[tactic(auto, using(crate::proofs::ShortLemmas::varint_one, crate::proofs::ShortLemmas::varint_more))]
 fn put_varint(buffer: &mut [u8], end: usize, number: u64) -> usize
     requires { (length (varint number) ≤ end) × (end ≤ length buffer.old) }
@@ -54,8 +57,8 @@ fn put_varint(buffer: &mut [u8], end: usize, number: u64) -> usize
     put_before(buffer, start, &[(number % 128) as u8 + 128])
 }
 
-// Writes the field of a size, so that it ends at `end`; writes nothing for 0. Returns the offset at which it
-// begins.
+// Writes the size field of a volume so that it ends before the offset `end`, and returns the offset at which
+// it begins. A size of 0 has no field, so nothing is written.
 #[inline(always)]
 fn put_size(buffer: &mut [u8], end: usize, bytes: u64) -> usize
     requires { (11 ≤ end) × (end ≤ length buffer.old) }
@@ -70,7 +73,8 @@ fn put_size(buffer: &mut [u8], end: usize, bytes: u64) -> usize
     put_before(buffer, start, &[8])
 }
 
-// Writes the field of an id, so that it ends at `end`, and returns the offset at which it begins.
+// Writes the id field of a volume so that it ends before the offset `end`, and returns the offset at which it
+// begins.
 #[inline(always)]
 fn put_id(buffer: &mut [u8], end: usize, prefix: &str, number: u64) -> usize
     requires { (length prefix.now ≤ 16) × (38 ≤ end) × (end ≤ length buffer.old) }
@@ -84,8 +88,8 @@ fn put_id(buffer: &mut [u8], end: usize, prefix: &str, number: u64) -> usize
     put_before(buffer, id, &[18, (end - id) as u8])
 }
 
-/// Writes an entry without nodes at the end of the buffer and returns the offset at which it begins; `None`
-/// if the entry may be too long for a short one. The nodes of the entry are ignored.
+/// Writes an entry without nodes into the last bytes of the buffer, and returns the offset of its first byte.
+/// Returns `None` if the entry may be too long for the buffer. The nodes in `entry` are ignored.
 #[inline(always)]
 pub(crate) fn put_short(buffer: &mut [u8], entry: &ListedEntry) -> Option<usize>
     requires { length buffer.old ≡ 176 }

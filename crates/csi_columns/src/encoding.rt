@@ -1,8 +1,8 @@
-//! Encodes capabilities and parameters for a column: as the canonical bytes of a `CreateVolumeRequest` that
-//! has no other field set.
+//! Encodes capabilities and parameters for a column, as the canonical bytes of a `CreateVolumeRequest` that
+//! has no other fields.
 //!
-//! So the format of a column depends on the field numbers of the request, and a change of how these fields
-//! are encoded needs a migration of every file.
+//! So the format of a column depends on the field numbers of this request. A change of how the fields are
+//! encoded needs a migration of every file.
 
 ghost use Rattle.std.specs.Prelude.{◌≡◌, ◌++◌, IfOk, OnOk};
 ghost use Rattle.pbmessage.specs.Canon.{bytes_of};
@@ -16,14 +16,14 @@ use csi_types::{Map, Text};
 use pbmessage::{Written, put_map, put_message, put_presence, put_text};
 use std::alloc::{AllocError, Global};
 
-// The room for one capability in bytes. A block capability takes 8 bytes; a mount takes 10 and the name of
-// its file system.
+// The memory in bytes for one encoded capability. A block capability takes 8 bytes, and a mount takes 10
+// bytes and the name of its file system.
 const KEY_BYTES: usize = 16;
 
-// The package of messages that are encoded from borrowed parts, without a copy.
+// Marks messages that are encoded from borrowed parts, without a copy of the parts.
 struct Borrowed;
 
-// A `VolumeCapability.MountVolume` that has only a file system type.
+// A `VolumeCapability.MountVolume` that has no field but the file system type.
 #[derive(Drop)]
 struct BorrowedMount<'a> {
     fs_type: &'a Text,
@@ -42,7 +42,8 @@ impl Written<Borrowed> for BorrowedMount<'_> {
     }
 }
 
-// Appends `VolumeCapability.access_type` for a kind.
+// Appends the field `VolumeCapability.access_type` of a capability: block, or mount with its file system
+// type.
 #[tactic(auto, unfolding(pbmessage::specs::Canon::row_fields))]
 fn put_kind(out: &mut Vec<u8>, kind: &Kind) -> Result<(), AllocError>
     ensures ok { OnOk result (out.new.items
@@ -56,7 +57,7 @@ fn put_kind(out: &mut Vec<u8>, kind: &Kind) -> Result<(), AllocError>
     }
 }
 
-// The `VolumeCapability` with this key.
+// A `VolumeCapability` that has this key, and no mount flags and no mount group.
 #[derive(Drop)]
 struct BorrowedKey<'a> {
     key: &'a CapKey,
@@ -76,7 +77,7 @@ impl Written<Borrowed> for BorrowedKey<'_> {
     }
 }
 
-// Appends the capability of each key as field 3.
+// Appends the capability of each key as field 3 of a `CreateVolumeRequest`.
 #[tactic(auto, unfolding(pbmessage::specs::Canon::row_fields))]
 fn put_keys(out: &mut Vec<u8>, keys: &[CapKey]) -> Result<(), AllocError>
     ensures bytes { OnOk result (out.new.items ≡ out.old.items ++ caps_bytes keys.now) }

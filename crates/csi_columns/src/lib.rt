@@ -2,10 +2,10 @@
 //! in a column.
 //!
 //! [`write_caps`] and [`write_params`] encode these bytes (`encoding.rt`): the canonical bytes of a
-//! `CreateVolumeRequest` that has no other field set (`specs/Encoding.antt`). `specs/Entries.antt` defines
-//! the rows that represent a volume and an attachment, and `specs/facts/` what several crates need about
-//! both. Crates above decode the columns: `csi_tables` decodes what it wrote, `csi_constraints` tests any
-//! bytes.
+//! `CreateVolumeRequest` that has no other fields (`specs/Encoding.antt`). `specs/Entries.antt` defines the
+//! rows that represent a volume and an attachment, and `specs/facts/` has facts about columns and rows that
+//! several crates need. Crates above decode the columns: `csi_tables` decodes what it wrote, and
+//! `csi_constraints` tests any bytes.
 //!
 //! ```rust
 //! let caps = write_caps(alloc, volume.caps.as_slice())?;

@@ -1,4 +1,4 @@
-//! A configuration without faults.
+//! The type of configurations that have no fault.
 
 ghost use Rattle.std.specs.Prelude.{◌≡◌, IfOk, IfErr, OnOk, Some, None};
 ghost use Rattle.csi_config.specs.Faults.{fault_of};
@@ -10,8 +10,8 @@ use crate::pools::{Pool, check_bytes, check_names, check_segments};
 use crate::sizes::{Sizes, check_sizes};
 use csi_types::Items;
 
-/// A configuration, which has none of the faults of [`ConfigFault`]: either [`Config::new`] made it, or the
-/// code that made it has proved that.
+/// A configuration that has none of the faults of [`ConfigFault`]. Such a value is made by [`Config::new`],
+/// which checks it, or by code that proves that it has no fault.
 #[derive(Debug)]
 pub struct Config {
     /// The name and the version of the plugin.
@@ -25,8 +25,8 @@ pub struct Config {
     ghost faultless: { fault_of plugin sizes pools nodes ≡ None },
 }
 
-// Written out, so that code which drops a configuration has one call for that, and its proof no branch for
-// each part.
+// Written by hand and not derived: the proof of code that drops a configuration then has one call for the
+// drop, and no branch for each part.
 impl Drop for Config {
     #[inline(always)]
     fn drop(self) {
@@ -40,11 +40,12 @@ impl Drop for Config {
 }
 
 impl Config {
-    /// Makes a configuration of these parts. It takes no memory.
+    /// Makes a configuration of these parts, if they have no fault. The call takes no memory.
     ///
     /// # Errors
     ///
-    /// The first fault, in the order of docs/OPERATING.md, 'Configuration'; the parts are dropped.
+    /// Returns the first fault, in the order of docs/OPERATING.md, 'Configuration'. The parts are then
+    /// dropped.
     pub fn new(
         plugin: Plugin,
         sizes: Sizes,
@@ -70,28 +71,28 @@ impl Config {
         })
     }
 
-    /// The name and the version of the plugin.
+    /// Returns the name and the version of the plugin.
     pub fn plugin(&self) -> &Plugin
         ensures { result.now ≡ self.now.plugin }
     {
         &self.plugin
     }
 
-    /// The default size and the greatest size of a volume, in bytes.
+    /// Returns the default size and the greatest size of a volume, in bytes.
     pub fn sizes(&self) -> &Sizes
         ensures { result.now ≡ self.now.sizes }
     {
         &self.sizes
     }
 
-    /// The pools, at least 1 and at most 16, in the order in which a new volume tries them.
+    /// Returns the pools, at least 1 and at most 16, in the order in which a new volume tries them.
     pub fn pools(&self) -> &[Pool]
         ensures { result.now ≡ self.now.pools }
     {
         self.pools.as_slice()
     }
 
-    /// The nodes, at most 64, in the order of the configuration file.
+    /// Returns the nodes, at most 64, in the order in which the configuration names them.
     pub fn nodes(&self) -> &[Node]
         ensures { result.now ≡ self.now.nodes }
     {

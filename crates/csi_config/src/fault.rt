@@ -3,7 +3,7 @@
 use csi_types::Text;
 use thiserror::Error;
 
-/// Which rule the default size and the greatest size of a volume break.
+/// The rule that the default size or the greatest size of a volume breaks.
 #[derive(Clone, Copy, Debug, Error)]
 pub enum SizeRule {
     /// The default size is 0 or not a multiple of 1 MiB.
@@ -20,7 +20,7 @@ pub enum SizeRule {
     Limit,
 }
 
-/// Which rule a pool breaks.
+/// The rule that a pool breaks.
 #[derive(Clone, Copy, Debug, Error)]
 pub enum PoolRule {
     /// The name is not 1 to 63 ASCII letters, digits, `-`, `_` and `.`.
@@ -49,7 +49,7 @@ pub enum PoolRule {
     KeysAlike,
 }
 
-/// Which rule a node breaks.
+/// The rule that a node breaks.
 #[derive(Clone, Copy, Debug, Error)]
 pub enum NodeRule {
     /// The id is empty, is longer than 256 bytes, or contains a byte below 0x20 or the byte 0x7F.
@@ -63,7 +63,8 @@ pub enum NodeRule {
     Volumes,
 }
 
-/// Why a configuration is invalid. Its `Display` names the faulty item and the rule that it breaks.
+/// The reason why a configuration is invalid. Its `Display` names the faulty item and the rule that it
+/// breaks.
 #[derive(Debug, Drop, Error)]
 pub enum ConfigFault {
     /// The plugin's name is not 1 to 63 ASCII letters, digits, `-` and `.`, or its first or last byte is
@@ -91,7 +92,7 @@ pub enum ConfigFault {
     /// A pool breaks a rule about its name, its size or its segments.
     #[error("pool {name}: {rule}")]
     Pool {
-        /// The name of the pool; its number, counted from 1, if the file gives no name.
+        /// The name of the pool. If the file gives no name, the number of the pool, counted from 1.
         name: Text,
         /// The first rule that the pool breaks, in the order of [`PoolRule`].
         rule: PoolRule,
@@ -102,7 +103,7 @@ pub enum ConfigFault {
     /// A node breaks a rule about its id or its greatest number of volumes.
     #[error("node {id}: {rule}")]
     Node {
-        /// The id of the node; its number, counted from 1, if the file gives no id.
+        /// The id of the node. If the file gives no id, the number of the node, counted from 1.
         id: Text,
         /// The first rule that the node breaks, in the order of [`NodeRule`].
         rule: NodeRule,

@@ -1,5 +1,5 @@
-//! Laws of a configuration, which follow because it has none of the faults. Each law is the contract of a
-//! function that does nothing.
+//! Laws that hold for each configuration, because a configuration has no fault. A law is a function that does
+//! nothing: its caller gets what the contract of the law states.
 
 ghost use Rattle.std.specs.Prelude.{◌≡◌, ◌≤◌, ◌<◌, ◌^◌, false, true, length};
 ghost use Rattle.std.specs.FinMap.{len};
@@ -27,8 +27,8 @@ pub fn plugin_named(config: &Config)
     ensures version_short { length config.now.plugin.version ≤ MAX_TEXT_BYTES }
 {}
 
-/// The two sizes are positive multiples of 1 MiB. The default size is at most the greatest size, and the
-/// greatest size is at most 2^62 bytes.
+/// The default size and the greatest size are positive multiples of 1 MiB. The default size is at most the
+/// greatest size, and the greatest size is at most 2^62 bytes.
 #[inline(always)]
 pub fn sizes_whole(config: &Config)
     ensures default { is_whole config.now.sizes.default_bytes ≡ true }
@@ -37,7 +37,7 @@ pub fn sizes_whole(config: &Config)
     ensures limit { config.now.sizes.greatest_bytes ≤ 2 ^ 62 }
 {}
 
-/// There are 1 to 16 pools, each with a valid name.
+/// A configuration has 1 to 16 pools, each with a valid name.
 #[inline(always)]
 pub fn pools_named(config: &Config)
     ensures positive { 0 < length config.now.pools }
@@ -69,7 +69,7 @@ pub fn pool_keys_differ(config: &Config)
     ensures differ { (p : Pool) → Has config.now.pools p → has_alike_keys p.segments ≡ false }
 {}
 
-/// There are at most 64 nodes, and no two have the same id.
+/// A configuration has at most 64 nodes, and no two nodes have the same id.
 #[inline(always)]
 pub fn node_ids_differ(config: &Config)
     ensures bounded { length config.now.nodes ≤ MAX_NODES }

@@ -1,12 +1,11 @@
-//! The configuration of the plugin: its name and version, the sizes of its volumes, its pools and its
-//! nodes.
+//! The configuration of the plugin: its name and version, the sizes of its volumes, its pools and its nodes.
 //!
 //! `specs/Faults.antt` is the table of faults, one definition a line; `fault_of` returns the first fault.
-//! `plugin.rt`, `sizes.rt`, `pools.rt` and `nodes.rt` each define one part of a configuration and its
-//! checks. A check takes the part, and returns it or a fault that owns the name of the faulty item, so it
-//! takes no memory. [`Config::new`] runs the checks in the order of the table. A `Config` has public
+//! `plugin.rt`, `sizes.rt`, `pools.rt` and `nodes.rt` each define one part of a configuration and its checks.
+//! A check takes a part, and returns the part or a fault. The fault owns the name of the faulty item, so a
+//! check takes no memory. [`Config::new`] runs the checks in the order of the table. A `Config` has public
 //! fields, which any code may read, and a ghost field `faultless`, which proves that it has none of the
-//! faults; [`laws`] lists what follows from that, for the crates above. [`Config::sample`] is the sample
+//! faults. [`laws`] states the consequences for the crates above. [`Config::sample`] is the sample
 //! configuration.
 //!
 //! ```rust

@@ -39,7 +39,7 @@ fn is_bad_id(id: &[u8]) -> bool
     id.is_empty() || id.len() > MAX_NODE_ID_BYTES || has_bad_byte(id)
 }
 
-// Whether one of the first `count` nodes has the id.
+// Returns true if one of the first `count` nodes has this id.
 fn has_id_before(nodes: &[Node], count: usize, id: &Text) -> bool
     ensures { result ≡ list_any (λ n. same_text n.id id.now) (take count nodes.now) }
 {
@@ -72,7 +72,7 @@ impl Ruled for Node {
 ///
 /// # Errors
 ///
-/// If there are too many nodes, or an id is invalid or occurs twice.
+/// Returns a fault if there are more than 64 nodes, or if an id is invalid or occurs twice.
 #[tactic(auto, unfolding(crate::specs::Faults::node_ids_fault))]
 pub(crate) fn check_ids(nodes: Vec<Node>) -> Result<Vec<Node>, ConfigFault>
     ensures unchanged { IfOk result (λ same. same.items ≡ nodes.items) }
@@ -90,7 +90,7 @@ pub(crate) fn check_ids(nodes: Vec<Node>) -> Result<Vec<Node>, ConfigFault>
 ///
 /// # Errors
 ///
-/// If the greatest number of volumes of a node is out of range.
+/// Returns a fault if the greatest number of volumes of a node is 0 or above 100,000.
 #[tactic(auto, unfolding(crate::specs::Faults::node_volumes_fault))]
 pub(crate) fn check_volumes(nodes: Vec<Node>) -> Result<Vec<Node>, ConfigFault>
     ensures unchanged { IfOk result (λ same. same.items ≡ nodes.items) }

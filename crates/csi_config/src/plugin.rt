@@ -7,8 +7,8 @@ ghost use Rattle.csi_config.specs.Faults.{is_plugin_byte, is_plugin_name, plugin
 use crate::fault::ConfigFault;
 use csi_types::{MAX_TEXT_BYTES, Text};
 
-/// The greatest length of the name of the plugin or of a pool, in bytes (CSI specification,
-/// 'GetPluginInfo': at most 63 characters, in the form of a domain name).
+/// The greatest length in bytes of the plugin's name and of a pool's name. The CSI specification,
+/// 'GetPluginInfo', allows a plugin's name at most 63 characters, in the form of a domain name.
 pub const MAX_NAME_BYTES: usize = 63;
 
 const _: () = prove!(MAX_NAME_BYTES == 63);
@@ -49,7 +49,7 @@ fn is_plugin_name(name: &[u8]) -> bool
 ///
 /// # Errors
 ///
-/// If its name or its version is invalid; the name is checked first.
+/// Returns a fault if the name or the version is invalid. The name is checked first.
 #[tactic(auto, unfolding(crate::specs::Faults::plugin_fault))]
 pub(crate) fn check_plugin(plugin: Plugin) -> Result<Plugin, ConfigFault>
     ensures unchanged { IfOk result (λ same. same ≡ plugin) }

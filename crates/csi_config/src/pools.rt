@@ -15,16 +15,16 @@ use csi_types::{
     MAX_POOL_BYTES, MAX_POOLS, MAX_SEGMENTS, MAX_TEXT_BYTES, Map, Text, has_alike_keys,
 };
 
-/// A pool of storage. Each volume takes its bytes from one pool.
+/// A pool of storage. The bytes of each volume come from one pool.
 #[derive(Debug, Drop)]
 pub struct Pool {
     /// The name of the pool: 1 to 63 ASCII letters, digits, `-`, `_` and `.`.
     pub name: Text,
     /// The size in bytes: a positive multiple of 1 MiB. The sizes of all pools add up to at most 2^62.
     pub bytes: u64,
-    /// The topology from which the pool's volumes are accessible, at most 8 segments; without segments they
-    /// are accessible from everywhere (CSI specification, 'CreateVolume', `Topology`). Keys have 1 to 128
-    /// bytes, and no two are equal ignoring the case of ASCII letters. Values have at most 128 bytes.
+    /// The topology from which the pool's volumes are accessible, at most 8 segments (CSI specification,
+    /// 'CreateVolume', `Topology`). A pool without segments is accessible from everywhere. Keys have 1 to 128
+    /// bytes, and no two keys are equal ignoring the case of ASCII letters. Values have at most 128 bytes.
     pub segments: Map,
 }
 
@@ -47,7 +47,7 @@ fn is_pool_name(name: &[u8]) -> bool
     !name.is_empty() && name.len() <= MAX_NAME_BYTES && are_pool_bytes(name)
 }
 
-// Whether one of the first `count` pools has the name.
+// Returns true if one of the first `count` pools has the name.
 fn is_named_before(pools: &[Pool], count: usize, name: &Text) -> bool
     ensures { result ≡ list_any (λ p. same_text p.name name.now) (take count pools.now) }
 {
@@ -57,7 +57,7 @@ fn is_named_before(pools: &[Pool], count: usize, name: &Text) -> bool
         .any(|earlier| earlier.name == *name)
 }
 
-// Whether a segment breaks a rule of its key or its value.
+// Returns true if a segment with this key and value breaks the rule.
 fn breaks_segment(rule: PoolRule, key: &Text, value: &Text) -> bool
     ensures { result ≡ breaks_segment rule (key.now, value.now) }
 {
@@ -111,7 +111,7 @@ impl Ruled for Pool {
 ///
 /// # Errors
 ///
-/// If there is no pool or too many, or a name is invalid or occurs twice.
+/// Returns a fault if there is no pool or more than 16 pools, or if a name is invalid or occurs twice.
 #[tactic(auto, unfolding(crate::specs::Faults::pool_names_fault))]
 pub(crate) fn check_names(pools: Vec<Pool>) -> Result<Vec<Pool>, ConfigFault>
     ensures unchanged { IfOk result (λ same. same.items ≡ pools.items) }
@@ -128,7 +128,7 @@ pub(crate) fn check_names(pools: Vec<Pool>) -> Result<Vec<Pool>, ConfigFault>
     check_rule(PoolRule::NameTwice, named)
 }
 
-// Returns the sum of the sizes of all pools in bytes, at most 2^64 - 1.
+// Returns the sum of the sizes of all pools in bytes, or 2^64 - 1 if the sum is greater.
 fn all_bytes(pools: &[Pool]) -> u64
     ensures { result ≡ min (all_bytes pools.now) (2 ^ 64 - 1) }
 {
@@ -143,7 +143,8 @@ fn all_bytes(pools: &[Pool]) -> u64
 ///
 /// # Errors
 ///
-/// If the size of a pool is invalid, or the sizes add up to more than 2^62 bytes.
+/// Returns a fault if the size of a pool is not a positive multiple of 1 MiB, or the sizes add up to more
+/// than 2^62 bytes.
 #[tactic(auto, unfolding(crate::specs::Faults::pool_bytes_fault))]
 pub(crate) fn check_bytes(pools: Vec<Pool>) -> Result<Vec<Pool>, ConfigFault>
     ensures unchanged { IfOk result (λ same. same.items ≡ pools.items) }
@@ -161,7 +162,12 @@ pub(crate) fn check_bytes(pools: Vec<Pool>) -> Result<Vec<Pool>, ConfigFault>
 ///
 /// # Errors
 ///
-/// If the segments of a pool break a rule.
+/// Returns a fault in these cases:
+///
+/// - a pool has more than 8 segments
+/// - the key of a segment is empty
+/// - a key or a value has more than 128 bytes
+/// - two keys of a pool are equal, ignoring the case of ASCII letters
 #[tactic(auto, unfolding(crate::specs::Faults::segments_fault))]
 pub(crate) fn check_segments(pools: Vec<Pool>) -> Result<Vec<Pool>, ConfigFault>
     ensures unchanged { IfOk result (λ same. same.items ≡ pools.items) }

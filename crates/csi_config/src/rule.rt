@@ -5,22 +5,23 @@ ghost use Rattle.csi_config.specs.Faults.{first_broken, place_broken};
 
 use crate::fault::ConfigFault;
 
-/// An item in a list of a configuration. It has a name, which a fault contains.
+/// An item of a list in a configuration: a pool or a node. It has a name, which faults of the item contain.
 pub(crate) trait Ruled: Drop {
     ghost use Rattle.std.specs.Prelude.{ℕ, Bool, List};
     ghost use Rattle.csi_config.specs.declared.fault.ConfigFault.{ConfigFault};
 
     type Rule: Copy;
 
-    // Whether an item that comes after earlier items breaks a rule; its name; the fault with a name and a
-    // rule.
+    // `breaks_rule` says if an item breaks a rule, given the items before it. `name_of` is the item's name,
+    // and `fault_of` makes the fault from a name and a rule.
     ghost breaks_rule: { Self.Rule → List Self → Self → Bool };
 
     ghost name_of: { Self → List ℕ };
 
     ghost fault_of: { List ℕ → Self.Rule → ConfigFault };
 
-    /// Whether an item breaks a rule, given the first `count` items, which come before it.
+    /// Returns true if `item` breaks the rule. The first `count` of `items` are the items before it, for
+    /// rules that compare an item with earlier items.
     fn breaks(rule: Self::Rule, items: &[Self], count: usize, item: &Self) -> bool
         ensures { result ≡ breaks_rule rule (take count items.now) item.now };
 
@@ -44,7 +45,7 @@ fn place_of<T: Ruled>(rule: T::Rule, items: &[T]) -> Option<usize>
 ///
 /// # Errors
 ///
-/// The fault of the first item that breaks the rule.
+/// Returns the fault of the first item that breaks the rule.
 pub(crate) fn check_rule<T: Ruled>(rule: T::Rule, mut items: Vec<T>) -> Result<Vec<T>, ConfigFault>
     ensures unchanged { IfOk result (λ same. same.items ≡ items.items) }
     ensures passed { OnOk result (first_broken T.breaks_rule T.name_of T.fault_of rule items.items ≡ None) }

@@ -62,9 +62,12 @@ fn nodes(alloc: Global) -> Result<Vec<Node>, AllocError>
 }
 
 impl Config {
-    /// Makes the sample configuration: the plugin `pools.example.org` in version 1.0.0, volumes of 1 MiB by
-    /// default and 8 MiB at most, the pool `p1` of 10 MiB in zone `a`, the pool `p2` of 4 MiB in zone `b`,
-    /// and the nodes `n1` and `n2` for two volumes each.
+    /// Makes the sample configuration:
+    ///
+    /// - the plugin `pools.example.org` in version 1.0.0
+    /// - volumes of 1 MiB by default and 8 MiB at most
+    /// - the pool `p1` of 10 MiB in zone `a`, and the pool `p2` of 4 MiB in zone `b`
+    /// - the nodes `n1` and `n2`, for two volumes each
     ///
     /// # Errors
     ///

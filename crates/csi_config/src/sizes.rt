@@ -6,7 +6,7 @@ ghost use Rattle.csi_config.specs.Faults.{broken_sizes, is_whole, sizes_fault};
 use crate::fault::{ConfigFault, SizeRule};
 use csi_types::MAX_POOL_BYTES;
 
-/// The granularity of sizes in bytes: 1 MiB. The size of each volume and each pool is a multiple of it.
+/// The granularity of sizes in bytes: 1 MiB. The size of each volume and each pool is a multiple of 1 MiB.
 pub const GRANULE_BYTES: u64 = 1_048_576;
 
 const _: () = prove!(GRANULE_BYTES == 1_048_576);
@@ -20,7 +20,7 @@ pub struct Sizes {
     pub greatest_bytes: u64,
 }
 
-/// Whether a size in bytes is a positive multiple of 1 MiB.
+/// Returns true if a size in bytes is a positive multiple of 1 MiB.
 pub fn is_whole(bytes: u64) -> bool
     ensures { result ≡ is_whole bytes }
 {
@@ -43,11 +43,11 @@ fn broken_rule(sizes: &Sizes) -> Option<SizeRule>
     }
 }
 
-/// Checks the two sizes.
+/// Checks the default size and the greatest size of a volume.
 ///
 /// # Errors
 ///
-/// The first rule that they break, in the order of [`SizeRule`].
+/// Returns the first rule that the sizes break, in the order of [`SizeRule`].
 #[tactic(auto, unfolding(crate::specs::Faults::sizes_fault))]
 pub(crate) fn check_sizes(sizes: &Sizes) -> Result<(), ConfigFault>
     ensures passed { OnOk result (sizes_fault sizes.now ≡ None) }

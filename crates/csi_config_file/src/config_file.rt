@@ -1,7 +1,7 @@
 //! Reads a configuration from a TOML document (TOML 1.0).
 //!
-//! The document is read key by key, because a derived reader has no contract on the value and describes
-//! faults poorly.
+//! The document is read key by key and not by a derived reader, because a derived reader has no contract
+//! about the value, and its messages describe faults poorly.
 
 ghost use Rattle.std.specs.Prelude.{◌≡◌, IfOk, OnOk, Some, None, if◌then◌else◌, option_and_then, option_map};
 ghost use Rattle.std.specs.FinMap.{insert};
@@ -26,9 +26,9 @@ use toml::{Table, Value};
 pub enum Section {
     /// The top of the document: the keys before the first table.
     Top,
-    /// A table of the array `pool`: its number, counted from 1.
+    /// A table of the array `pool`. The value is the table's number, counted from 1.
     Pool(usize),
-    /// A table of the array `node`: its number, counted from 1.
+    /// A table of the array `node`. The value is the table's number, counted from 1.
     Node(usize),
 }
 
@@ -93,10 +93,10 @@ impl fmt::Display for Key {
     }
 }
 
-/// Which rule a key or its value breaks.
+/// The rule that a key or its value breaks.
 #[derive(Clone, Copy, Debug, Error)]
 pub enum KeyRule {
-    /// The key is required and missing.
+    /// The key is required, but the section does not have it.
     #[error("is missing")]
     Missing,
     /// The value of the key is not a string.
@@ -113,8 +113,8 @@ pub enum KeyRule {
     Texts,
 }
 
-/// Why a document is not a valid configuration. Its `Display` is one line that names the place of the
-/// fault.
+/// The reason why no configuration was read from a document. Its `Display` is one line. If the document is at
+/// fault, this line names the line, key or item at fault, or the rule that is broken.
 #[derive(Debug, Drop, Error)]
 pub enum ConfigError {
     /// The bytes are not UTF-8, or not a TOML document.
@@ -136,7 +136,7 @@ pub enum ConfigError {
     /// All keys were read, but the configuration breaks a rule.
     #[error("{0}")]
     Fault(ConfigFault),
-    /// Memory for reading was refused.
+    /// Memory was refused while the document was read.
     #[error("out of memory")]
     NoMemory,
 }
@@ -175,7 +175,7 @@ fn insert_segment(
     segments.insert(key, Text::from_str(alloc, value)?)
 }
 
-// Adds the texts of a table. Returns false if the table contains a value that is not a text.
+// Adds the texts of a table to `texts`. Returns false if the table has a value that is not a text.
 fn insert_texts(alloc: Global, table: &Table, texts: &mut Map) -> Result<bool, AllocError>
     ensures { IfOk result (λ all. with_texts texts.old (table_view table.now)
         ≡ (if all then Some texts.new else None)) }
@@ -189,7 +189,7 @@ fn insert_texts(alloc: Global, table: &Table, texts: &mut Map) -> Result<bool, A
     Ok(true)
 }
 
-// Reads the keys of one table.
+// Reads the keys of one table: the top of the document, a pool or a node.
 #[derive(Clone, Copy)]
 pub(crate) struct Keys<'a> {
     pub(crate) section: Section,
@@ -217,7 +217,7 @@ impl<'a> Keys<'a> {
         }
     }
 
-    // Returns the value of a key; `None` if the key is missing.
+    // Returns the value of a key, or `None` if the table lacks the key.
     pub(crate) fn find(&self, key: Key) -> Option<&'a Value>
         ensures { option_map (λ value. view value.now) result
             ≡ get_member (key_text key) (table_view self.now.table.now) }
@@ -225,7 +225,7 @@ impl<'a> Keys<'a> {
         self.table.get(key.text())
     }
 
-    // Returns the array of a key; `None` if the key is missing or its value is not an array.
+    // Returns the array under a key, or `None` if the table lacks the key or its value is not an array.
     pub(crate) fn array(&self, key: Key) -> Option<&'a [Value]>
         ensures { option_map (λ array. items_view array.now) result
             ≡ option_and_then as_array (get_member (key_text key) (table_view self.now.table.now)) }
@@ -266,7 +266,7 @@ impl<'a> Keys<'a> {
         }
     }
 
-    // Returns the segments of a pool; an empty map if the key is missing.
+    // Reads the segments of a pool. Without the key, a pool has no segments.
     pub(crate) fn segments(&self, alloc: Global) -> Result<Map, ConfigError>
         ensures { IsRead (λ read. read) (texts_of self.now.section
             (get_member (key_text key_of.Segments) (table_view self.now.table.now))) result }
@@ -282,7 +282,7 @@ impl<'a> Keys<'a> {
     }
 }
 
-// Returns the keys of one element of an array of tables.
+// Returns a reader of the keys of one element of an array of tables.
 pub(crate) fn element<'a>(
     value: &'a Value,
     key: Key,
@@ -320,7 +320,7 @@ fn node(alloc: Global, keys: Keys<'_>) -> Result<Node, ConfigError>
     })
 }
 
-// Reads a pool from an element of the array.
+// Reads a pool from an element of the array `pool`; `number` is its number, counted from 1.
 fn pool_at(alloc: Global, value: &Value, number: usize) -> Result<Pool, ConfigError>
     ensures { IsRead (λ pool. pool) (pool_at number (view value.now)) result }
 {
@@ -347,7 +347,7 @@ fn pools(alloc: Global, table: &Table) -> Result<Vec<Pool>, ConfigError>
     }
 }
 
-// Reads a node from an element of the array.
+// Reads a node from an element of the array `node`; `number` is its number, counted from 1.
 fn node_at(alloc: Global, value: &Value, number: usize) -> Result<Node, ConfigError>
     ensures { IsRead (λ node. node) (node_at number (view value.now)) result }
 {
@@ -364,7 +364,7 @@ fn nodes_of(alloc: Global, array: &[Value]) -> Result<Vec<Node>, ConfigError>
     Ok(nodes)
 }
 
-// Reads the nodes; an empty list if the key is missing.
+// Reads the nodes of the document. Without the key `node` there are none.
 fn nodes(alloc: Global, table: &Table) -> Result<Vec<Node>, ConfigError>
     ensures { IsRead (λ nodes. nodes.items)
         (nodes_in (get_member (key_text key_of.Node) (table_view table.now))) result }
@@ -409,7 +409,7 @@ fn config(alloc: Global, table: &Table) -> Result<Config, ConfigError>
     Config::new(plugin, sizes, pools, nodes).map_err(ConfigError::Fault)
 }
 
-// Returns the number of the line after these bytes, counted from 1.
+// Returns the number of the line that follows the bytes `before`, counted from 1.
 fn line_of(before: &[u8]) -> usize {
     before
         .iter()
@@ -425,14 +425,15 @@ fn line_of(before: &[u8]) -> usize {
 ///
 /// # Errors
 ///
-/// [`ConfigError::NotToml`] only if the bytes are not UTF-8 or not a TOML document. For a document, the
-/// first key in the order above that is missing or has a value of the wrong type; then the first fault of
-/// [`Config::new`]. [`ConfigError::NoMemory`] if memory is refused.
+/// If the bytes are not UTF-8 or not a TOML document: [`ConfigError::NotToml`]. If a key is missing or its
+/// value has the wrong type: [`ConfigError::Key`] with the first such key, in the order above. If the
+/// configuration that was read breaks a rule: [`ConfigError::Fault`] with the first fault of [`Config::new`].
+/// If memory is refused: [`ConfigError::NoMemory`].
 ///
 /// # Not promised
 ///
-/// Which line [`ConfigError::NotToml`] contains; tests show it. Whether the document has a fault if memory
-/// is refused.
+/// Which line [`ConfigError::NotToml`] contains is not promised; tests show it. If memory is refused, the
+/// document may or may not have a fault.
 pub fn read_config(alloc: Global, bytes: &[u8]) -> Result<Config, ConfigError>
     ensures { IsOfText bytes.now result }
 {

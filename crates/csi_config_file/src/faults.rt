@@ -14,7 +14,7 @@ const FAULTLESS_SIZES: Sizes = Sizes {
     greatest_bytes: GRANULE_BYTES,
 };
 
-// Writes the number of a pool or node as text. Faults use it if the name or id cannot be read.
+// Returns the number of a pool or node as a text. Faults contain it if the name or id cannot be read.
 fn number_text(alloc: Global, number: usize) -> Result<Text, AllocError> {
     Ok(Text::from_string(format!(in alloc; "{number}")?))
 }
@@ -32,7 +32,7 @@ impl Faults {
         Ok(())
     }
 
-    // Returns the value that was read; otherwise adds its fault and returns `None`.
+    // Returns the value that was read. If reading failed, adds the fault to the list and returns `None`.
     fn keep<T: Drop>(&mut self, read: Result<T, ConfigError>) -> Result<Option<T>, AllocError> {
         match read {
             Ok(part) => Ok(Some(part)),
@@ -44,7 +44,7 @@ impl Faults {
         }
     }
 
-    // Makes a plugin without faults.
+    // Makes a valid plugin, so that `judge` finds only the faults of other parts.
     fn plugin(&self) -> Result<Plugin, AllocError> {
         Ok(Plugin {
             name: Text::from_str(self.alloc, "a")?,
@@ -52,7 +52,7 @@ impl Faults {
         })
     }
 
-    // Makes a pool without faults.
+    // Makes a valid pool, so that `judge` finds only the faults of other parts.
     fn pool(&self) -> Result<Pool, AllocError> {
         Ok(Pool {
             name: Text::from_str(self.alloc, "a")?,
@@ -61,7 +61,8 @@ impl Faults {
         })
     }
 
-    // Adds the first fault of these parts, of which only one may have faults.
+    // Makes a configuration of these parts, and adds its first fault. The caller makes all parts but one
+    // valid, so the fault is in the one part.
     fn judge(
         &mut self,
         plugin: Plugin,
@@ -107,7 +108,7 @@ impl Faults {
         self.judge(plugin, FAULTLESS_SIZES, pool, Some(node))
     }
 
-    // Adds the faults of the plugin.
+    // Adds the faults of the plugin's name and version.
     fn add_plugin(&mut self, top: &Keys<'_>) -> Result<(), AllocError> {
         let name = self.keep(top.text(self.alloc, Key::Name))?;
         let version = self.keep(top.text(self.alloc, Key::VendorVersion))?;
@@ -124,7 +125,8 @@ impl Faults {
         Ok(())
     }
 
-    // Adds the faults of each size alone. If neither has a fault, adds the fault of the two together.
+    // Adds the faults of the default size and of the greatest size. If both are valid, adds the fault of
+    // their order.
     fn add_sizes(&mut self, top: &Keys<'_>) -> Result<(), AllocError> {
         let default_bytes = self.keep(top.count(Key::DefaultBytes))?;
         let greatest_bytes = self.keep(top.count(Key::GreatestBytes))?;
@@ -143,8 +145,8 @@ impl Faults {
         }
     }
 
-    // Adds the faults of the pool with this number, which comes after the pools with these names. Returns
-    // the bytes of the pool; 0 if they cannot be read.
+    // Adds the faults of one pool; `number` is its number, and `names` are the names of the pools before it.
+    // Returns the bytes of the pool, or 0 if they cannot be read.
     fn add_pool(
         &mut self,
         number: usize,
@@ -161,8 +163,8 @@ impl Faults {
         if let Some(name) = &name {
             pool.name = name.copy(self.alloc)?;
         }
-        // If the size of this pool is a multiple of 1 MiB and exceeds the limit alone, the fault is that of
-        // all pools together.
+        // If the size of this pool is a multiple of 1 MiB but alone exceeds the limit of all pools together,
+        // only the fault of all pools is reported.
         if let Some(bytes) = bytes.filter(|bytes| *bytes <= MAX_POOL_BYTES || !is_whole(*bytes)) {
             pool.bytes = bytes;
         }
@@ -192,7 +194,8 @@ impl Faults {
         Ok(())
     }
 
-    // Adds the faults of the pools.
+    // Adds the fault of the number of pools, the faults of each pool, and the fault of the sum of their
+    // sizes.
     fn add_pools(&mut self, top: &Keys<'_>) -> Result<(), AllocError> {
         if let Some(pools) = self.keep(top.value(Key::Pool))? {
             let Some(array) = pools.as_array() else {
@@ -210,7 +213,7 @@ impl Faults {
         Ok(())
     }
 
-    // Adds the faults of the node with this number, which comes after the nodes with these ids.
+    // Adds the faults of one node; `number` is its number, and `ids` are the ids of the nodes before it.
     fn add_node(
         &mut self,
         number: usize,
@@ -252,7 +255,7 @@ impl Faults {
         Ok(())
     }
 
-    // Adds the faults of the nodes.
+    // Adds the fault of the number of nodes, then the faults of each node.
     fn add_nodes(&mut self, top: &Keys<'_>) -> Result<(), AllocError> {
         let Some(nodes) = top.find(Key::Node) else {
             return Ok(());
@@ -277,9 +280,9 @@ impl Faults {
     }
 }
 
-/// Finds all faults of a document that [`read_config`](crate::read_config) refuses: those of keys, the
-/// first rule that each pool and each node breaks, and those of the pools and nodes together. If the bytes
-/// are not a TOML document, the list is empty.
+/// Returns all faults of a document that [`read_config`](crate::read_config) refuses: the faults of keys, the
+/// first rule that each pool and each node breaks, and the faults of all pools or all nodes together. The
+/// list is empty if the bytes are not a TOML document.
 ///
 /// # Errors
 ///
@@ -287,7 +290,8 @@ impl Faults {
 ///
 /// # Not promised
 ///
-/// Which faults are found; tests show them. Only `read_config` decides whether a document is refused.
+/// Which faults are found is not promised; tests show them. Only `read_config` decides if a document is
+/// refused.
 pub fn config_faults(alloc: Global, bytes: &[u8]) -> Result<Vec<ConfigError>, AllocError> {
     let mut faults = Faults {
         alloc,

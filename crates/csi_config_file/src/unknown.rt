@@ -30,8 +30,8 @@ fn known_in(section: Section) -> &'static [Key]
     }
 }
 
-/// A key that is not known, and which [`read_config`](crate::read_config) ignores. Its `Display` names the
-/// key and its section.
+/// A key of the document that no part of a configuration has. [`read_config`](crate::read_config) ignores it.
+/// Its `Display` names the key and its section.
 #[derive(Debug, Drop)]
 pub struct UnknownKey {
     /// The part of the document that contains the key.
@@ -54,7 +54,7 @@ fn is_known(known: &[Key], key: &str) -> bool
     known.iter().any(|one| one.text() == key)
 }
 
-// Adds the keys of a table that are not in `known`.
+// Adds to `found` the keys of a table that are not in `known`.
 fn add_unknown(
     alloc: Global,
     found: &mut Vec<UnknownKey>,
@@ -74,7 +74,7 @@ fn add_unknown(
     Ok(())
 }
 
-// Adds the unknown keys of an element of an array, if the element is a table.
+// Adds to `found` the unknown keys of an element of an array, if the element is a table.
 fn add_of_table(
     alloc: Global,
     found: &mut Vec<UnknownKey>,
@@ -135,8 +135,8 @@ fn add_all(alloc: Global, found: &mut Vec<UnknownKey>, top: &Table) -> Result<()
     Ok(())
 }
 
-/// Returns the unknown keys of a configuration file: those at the top, then those of the pools, then those
-/// of the nodes. If the bytes are not a TOML document, the list is empty.
+/// Returns the unknown keys of a configuration file: first the keys at the top of the document, then the keys
+/// of the pools, then the keys of the nodes. The list is empty if the bytes are not a TOML document.
 ///
 /// # Errors
 ///

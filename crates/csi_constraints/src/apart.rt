@@ -1,5 +1,5 @@
-//! The constraint that attachments of one volume can coexist. One attachment represents all earlier ones of
-//! the volume.
+//! The constraint that any two attachments of one volume can coexist. The scan keeps one attachment, which
+//! represents all earlier attachments of the volume.
 
 ghost use Rattle.std.specs.Prelude.{◌≡◌, None, IfOk, IsSome, OnErr};
 ghost use Rattle.sqlite.specs.Order.{column};
@@ -16,17 +16,17 @@ use csi_sql::Fold;
 use sqlite::{Error, Row};
 use std::alloc::Global;
 
-/// An attachment that represents all attachments of its volume so far: what can coexist with this
-/// attachment can coexist with each of them.
+/// One attachment that represents all attachments of a volume that the scan has met so far. If another
+/// attachment can coexist with this one, it can coexist with all of them.
 #[derive(Drop)]
 pub struct LastAttachment {
-    /// The number of the attachment's volume.
+    /// The number of the volume that the attachment belongs to.
     pub number: i64,
-    /// The attachment; `None` if `cap` or `readonly` of the row cannot be decoded.
+    /// The attachment, or `None` if `cap` or `readonly` of the row cannot be decoded.
     pub attachment: Option<Attachment>,
 }
 
-// Decodes the attachment of a row; `None` if the row has no number.
+// Decodes the attachment of a row. Returns `None` if the row has no number.
 fn last_attachment_at(alloc: Global, row: &Row) -> Result<Option<LastAttachment>, Error>
     ensures value { IfOk result (λ led. led ≡ last_attachment_at row.now) }
     ensures memory { FailsForMemory result }
@@ -57,7 +57,7 @@ fn is_written(attachment: &Option<Attachment>) -> bool
     }
 }
 
-// Whether the next attachment can coexist with all attachments of its volume so far.
+// Returns true if the next attachment can coexist with all attachments of its volume that the scan has met.
 fn admits(last: &Option<LastAttachment>, next: &LastAttachment) -> bool
     ensures { result ≡ admits last.now next.now }
 {
@@ -67,8 +67,7 @@ fn admits(last: &Option<LastAttachment>, next: &LastAttachment) -> bool
     }
 }
 
-// Whether the representative of the attachments so far represents the next attachment too, given that the
-// two can coexist.
+// Returns true if `last` also represents the next attachment, given that the two attachments can coexist.
 fn covers(last: &Option<LastAttachment>, next: &LastAttachment) -> bool
     ensures { result ≡ covers last.now next.now }
 {
@@ -78,18 +77,19 @@ fn covers(last: &Option<LastAttachment>, next: &LastAttachment) -> bool
     }
 }
 
-/// Finds the first attachment that cannot coexist with an earlier attachment of the same volume, over rows
-/// whose numbers do not fall (`scan_places`).
+/// Finds the first attachment that cannot coexist with an earlier attachment of the same volume. The rows
+/// must be ordered by number, like the rows of `scan_places`.
 ///
-/// The fold keeps one attachment of each volume: a written one if the volume has one, since what can
-/// coexist with a written attachment can coexist with those that are only read.
+/// The fold keeps one attachment of the last volume: an attachment that writes, if the volume has one,
+/// otherwise an attachment that only reads. An attachment that can coexist with a writing attachment can
+/// coexist with the attachments that only read.
 #[derive(Drop)]
 pub struct FirstApart {
     /// The allocator of the decoded capabilities and of the text in `found`.
     pub alloc: Global,
-    /// The representative of the last volume; `None` while no row had a number. It begins as `None`.
+    /// The representative of the last volume, or `None` while no row had a number. Initially `None`.
     pub last: Option<LastAttachment>,
-    /// The first row that breaks the constraint; `None` while no row breaks it. It begins as `None`.
+    /// The first row that breaks the constraint, or `None` if no row has broken it yet. Initially `None`.
     pub found: Option<RowName>,
 }
 

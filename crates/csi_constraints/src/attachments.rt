@@ -1,4 +1,4 @@
-//! The constraints on the node and on `readonly` of a row of attachments.
+//! The constraints on the columns `node` and `readonly` of a row of attachments.
 
 ghost use Rattle.std.specs.Prelude.{◌≡◌};
 ghost use Rattle.csi_constraints.specs.Attachments.{has_flag, is_at_node, is_node};
@@ -8,7 +8,7 @@ use csi_config::{Config, Node};
 use csi_sql::values::{flag_at, text_at};
 use sqlite::Row;
 
-/// The test that `readonly` of an attachment is 0 or 1.
+/// Tests that `readonly` of an attachment is 0 or 1.
 #[derive(Clone, Copy)]
 pub struct HasFlag;
 
@@ -26,7 +26,7 @@ fn is_node(nodes: &[Node], id: &[u8]) -> bool
     nodes.iter().any(|node| node.id.as_bytes() == id)
 }
 
-/// The test that the configuration has the node of an attachment.
+/// Tests that the configuration has the node of an attachment.
 #[derive(Clone, Copy)]
 pub struct IsAtNode<'a> {
     /// The configuration whose nodes are allowed.

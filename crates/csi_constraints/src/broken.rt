@@ -1,4 +1,4 @@
-//! Which constraint stored rows break, and which row breaks it.
+//! The constraints of stored rows, and the report of a broken constraint with its row.
 
 use csi_types::Text;
 use thiserror::Error;
@@ -6,10 +6,10 @@ use thiserror::Error;
 /// A constraint that each row of volumes must meet.
 #[derive(Clone, Copy, Debug, Error)]
 pub enum VolumeConstraint {
-    /// The number is at least 1 and below the next number in `meta`.
+    /// The number is at least 1 and below the next number in the table `meta`.
     #[error("its number is not from 1 to below the next number")]
     Number,
-    /// The name is one that a volume can be created with.
+    /// CreateVolume accepts the name of the volume.
     #[error("its name is not one that a volume can be made with")]
     Name,
     /// The configuration contains the pool of the volume.
@@ -21,8 +21,8 @@ pub enum VolumeConstraint {
     /// `caps` encodes at least one capability; the capabilities are in order and each is supported.
     #[error("its caps are not the bytes of supported capabilities in order")]
     Caps,
-    /// `params` encodes the parameters and the mutable parameters, each of at most 4,096 bytes. In tables
-    /// of format 1 there are no mutable parameters.
+    /// `params` encodes the parameters and the mutable parameters, each of at most 4,096 bytes. In tables of
+    /// format 1 no parameters are mutable.
     #[error("its params are not the bytes of parameters of at most 4096 bytes")]
     Params,
 }
@@ -36,7 +36,7 @@ pub enum AttachmentConstraint {
     /// `readonly` is 0 or 1, the integers for false and true.
     #[error("its readonly is not 0 or 1")]
     Readonly,
-    /// The volume exists and has the capability of the attachment.
+    /// The volume exists, and its capabilities include the capability of the attachment.
     #[error("no volume of its number has its capability")]
     Owner,
     /// The configuration contains the node of the attachment.
@@ -50,7 +50,7 @@ pub enum AttachmentConstraint {
 /// A constraint that stored rows break. Its `Display` names the row.
 #[derive(Debug, Drop, Error)]
 pub enum BrokenConstraint {
-    /// The next number in `meta` is not between 1 and 2^62, both included.
+    /// The next number in the table `meta` is not between 1 and 2^62, both included.
     #[error("the next number is not 1 to 2^62")]
     Next,
     /// A row of volumes breaks one of the constraints for volumes.

@@ -1,4 +1,4 @@
-//! Reads the cells of a row, each by the kind of its value.
+//! Reads the cells of a row by the types of their values.
 
 ghost use Rattle.std.specs.Prelude.{◌≡◌, Some, option_copied};
 ghost use Rattle.std.specs.Str.{is_utf8};
@@ -12,7 +12,7 @@ use sqlite::Row;
 use sqlite::types::ValueRef;
 use std::str;
 
-/// Returns the integer in column `at`, counted from 0; `None` if the value there is not an integer.
+/// Returns the integer in column `at`, counted from 0, or `None` if the column has no integer.
 pub fn integer_at(row: &Row, at: usize) -> Option<i64>
     ensures { result ≡ as_integer (column row.now at) }
 {
@@ -22,14 +22,14 @@ pub fn integer_at(row: &Row, at: usize) -> Option<i64>
     }
 }
 
-/// Whether the value in column `at`, counted from 0, is an integer.
+/// Returns true if the value in column `at`, counted from 0, is an integer.
 pub(crate) fn has_integer(row: &Row, at: usize) -> bool
     ensures { result ≡ is_integer (column row.now at) }
 {
     matches!(row.get_ref(at), Ok(ValueRef::Int(_)))
 }
 
-/// Returns the bytes as a text; `None` if they are not UTF-8.
+/// Returns the bytes as a text, or `None` if they are not UTF-8.
 pub(crate) fn as_utf8(bytes: &[u8]) -> Option<&str>
     ensures { option_copied result ≡ if_passes is_utf8 (Some bytes.now) }
 {
@@ -45,7 +45,7 @@ fn is_utf8(bytes: &[u8]) -> bool
     str::from_utf8(bytes).is_ok()
 }
 
-/// Whether the value in column `at`, counted from 0, is a text in UTF-8.
+/// Returns true if the value in column `at`, counted from 0, is a text in UTF-8.
 pub(crate) fn has_text(row: &Row, at: usize) -> bool
     ensures { result ≡ is_text (column row.now at) }
 {
@@ -55,7 +55,7 @@ pub(crate) fn has_text(row: &Row, at: usize) -> bool
     }
 }
 
-/// Whether the value in column `at`, counted from 0, is a blob.
+/// Returns true if the value in column `at`, counted from 0, is a blob.
 pub(crate) fn has_blob(row: &Row, at: usize) -> bool
     ensures { result ≡ is_blob (column row.now at) }
 {

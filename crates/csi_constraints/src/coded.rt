@@ -1,4 +1,4 @@
-//! The constraints of a row that decode capabilities or parameters from its bytes.
+//! The constraints on columns that encode capabilities or parameters.
 
 ghost use Rattle.std.specs.Prelude.{◌≡◌, IfOk, IfSome, OnErr, ◌∷◌, []};
 ghost use Rattle.csi_columns.specs.Encoding.{FitCaps, FitParams};
@@ -13,8 +13,8 @@ use csi_types::{Items, Map};
 use sqlite::{Error, Row};
 use std::alloc::Global;
 
-/// Decodes the capability keys in column `at`, counted from 0; `None` if the value there is not the
-/// canonical bytes of capabilities.
+/// Decodes the capability keys in column `at`, counted from 0. Returns `None` if the value in the column is
+/// not the canonical bytes of capabilities.
 pub(crate) fn keys_at(alloc: Global, row: &Row, at: usize) -> Result<Option<Items<CapKey>>, Error>
     ensures value { IfOk result (λ keys. keys ≡ keys_at at row.now) }
     ensures fits { IfOk result (λ keys. IfSome keys FitCaps) }
@@ -27,8 +27,8 @@ pub(crate) fn keys_at(alloc: Global, row: &Row, at: usize) -> Result<Option<Item
     }
 }
 
-/// Decodes the capability key in column `at`, counted from 0; `None` if the value there is not the
-/// canonical bytes of exactly one key.
+/// Decodes the capability key in column `at`, counted from 0. Returns `None` if the value in the column is
+/// not the canonical bytes of exactly one key.
 pub(crate) fn key_at(alloc: Global, row: &Row, at: usize) -> Result<Option<CapKey>, Error>
     ensures value { IfOk result (λ key. key ≡ key_at at row.now) }
     ensures fits { IfOk result (λ key. IfSome key (λ k. FitCaps (k ∷ []))) }
@@ -53,8 +53,8 @@ fn params_at(alloc: Global, row: &Row, at: usize) -> Result<Option<(Map, Map)>, 
     }
 }
 
-/// The test that `caps` of a volume is the canonical bytes of at least one capability, and that the
-/// capabilities are in order and supported.
+/// Tests that `caps` of a volume is the canonical bytes of at least one capability, and that the capabilities
+/// are in order and supported.
 #[derive(Clone, Copy)]
 pub struct HasCaps {
     /// The allocator of the decoded capabilities.
@@ -76,13 +76,13 @@ impl RowTrial for HasCaps {
     }
 }
 
-/// The test that `params` of a volume is the canonical bytes of parameters and mutable parameters, each of
-/// at most 4,096 bytes. In tables of format 1 there must be no mutable parameters.
+/// Tests that `params` of a volume is the canonical bytes of parameters and mutable parameters, each of at
+/// most 4,096 bytes. In tables of format 1 no parameters are mutable.
 #[derive(Clone, Copy)]
 pub struct HasParams {
     /// The allocator of the decoded parameters.
     pub alloc: Global,
-    /// The format number of the tables, as it is in `meta`.
+    /// The number of the tables' format, as it is in the table `meta`.
     pub format: u32,
 }
 
@@ -101,7 +101,7 @@ impl RowTrial for HasParams {
     }
 }
 
-/// The test that `cap` of an attachment is the canonical bytes of exactly one supported capability.
+/// Tests that `cap` of an attachment is the canonical bytes of exactly one supported capability.
 #[derive(Clone, Copy)]
 pub struct HasCap {
     /// The allocator of the decoded capability.

@@ -1,5 +1,6 @@
-//! Decodes capabilities and parameters from their canonical bytes. Other bytes, even if they can be
-//! decoded, give `None`.
+//! Decodes capabilities and parameters, but only from canonical bytes. Bytes are canonical if encoding the
+//! decoded value gives the same bytes. For all other bytes the functions return `None`, even if a decoder
+//! would accept the bytes.
 
 ghost use Rattle.std.specs.Prelude.{◌≡◌, ◌^◌, ◌-◌, ◌∷◌, [], min, Some, Ok, IfOk, IfSome, OnErr, OnOk, bytes_eq, map};
 ghost use Rattle.std.specs.List.{list_all};
@@ -22,7 +23,7 @@ use sqlite::{Error, ErrorCode};
 use std::alloc::{AllocError, Global};
 use std::cmp::Ordering;
 
-// ---- what is read
+// ---- decoding
 
 fn message_in(alloc: Global, bytes: &[u8]) -> Result<Option<CreateVolume>, Error>
     ensures value { IfOk result (λ message. message ≡ message_in bytes.now) }
@@ -50,7 +51,7 @@ fn each_key(alloc: Global, capabilities: &[Capability]) -> Result<Option<Items<C
     Ok(Some(keys))
 }
 
-// ---- what is written
+// ---- comparing with the canonical bytes
 
 fn are_caps(alloc: Global, keys: &[CapKey], bytes: &[u8]) -> Result<bool, AllocError>
     ensures value { IfOk result (λ same. same ≡ bytes_eq (caps_bytes keys.now) bytes.now) }
@@ -71,9 +72,9 @@ fn are_params_of(
     Ok(write_params(alloc, params, mutable)?.as_slice() == bytes)
 }
 
-// ---- what bytes encode
+// ---- decoding canonical bytes
 
-/// Decodes capability keys; `None` if `bytes` are not the canonical bytes of capabilities.
+/// Decodes capability keys. Returns `None` if `bytes` are not the canonical bytes of capabilities.
 ///
 /// # Errors
 ///
@@ -90,7 +91,7 @@ pub(crate) fn keys_in(alloc: Global, bytes: &[u8]) -> Result<Option<Items<CapKey
     }
 }
 
-// Returns the keys of the capabilities; `None` if `bytes` are not their canonical bytes.
+// Returns the keys of the capabilities, or `None` if `bytes` are not the canonical bytes of these keys.
 fn keys_of(
     alloc: Global,
     capabilities: &[Capability],
@@ -111,7 +112,7 @@ fn keys_of(
     }
 }
 
-// Returns the key of a list with exactly one key; `None` for any other list.
+// Returns the only key of a list, or `None` if the list has no key or several.
 fn only(keys: Items<CapKey>) -> Option<CapKey>
     ensures { result ≡ only keys }
 {
@@ -119,7 +120,7 @@ fn only(keys: Items<CapKey>) -> Option<CapKey>
     if keys.len() == 1 { keys.pop() } else { None }
 }
 
-/// Decodes one capability key; `None` if `bytes` are not the canonical bytes of exactly one key.
+/// Decodes one capability key. Returns `None` if `bytes` are not the canonical bytes of exactly one key.
 ///
 /// # Errors
 ///
@@ -136,7 +137,8 @@ pub(crate) fn key_in(alloc: Global, bytes: &[u8]) -> Result<Option<CapKey>, Erro
     }
 }
 
-/// Decodes parameters and mutable parameters; `None` if `bytes` are not the canonical bytes of parameters.
+/// Decodes parameters and mutable parameters. Returns `None` if `bytes` are not the canonical bytes of such
+/// parameters.
 ///
 /// # Errors
 ///
@@ -162,7 +164,7 @@ pub(crate) fn params_in(alloc: Global, bytes: &[u8]) -> Result<Option<(Map, Map)
     }
 }
 
-// ---- the constraints of what is decoded
+// ---- constraints on the decoded values
 
 fn is_before(one: &CapKey, next: &CapKey) -> bool
     ensures { result ≡ is_before one.now next.now }
@@ -187,7 +189,7 @@ fn all_supported(keys: &[CapKey]) -> bool
     keys.iter().all(|key| supported(key))
 }
 
-/// Whether there is at least one key, the keys are in order, and each is supported.
+/// Returns true if the list has at least one key, the keys are in order, and each key is supported.
 pub(crate) fn are_keys(keys: &[CapKey]) -> bool
     ensures { result ≡ are_keys keys.now }
 {
@@ -200,8 +202,8 @@ fn is_small(map: &Map) -> bool
     map_bytes(map) <= MAX_MAP_BYTES
 }
 
-/// Whether parameters and mutable parameters have at most 4,096 bytes each, and no parameters are mutable
-/// in tables of format 1.
+/// Returns true if the parameters and the mutable parameters have at most 4,096 bytes each. In tables of
+/// format 1 no parameters may be mutable.
 pub(crate) fn are_params(format: u32, params: &Map, mutable: &Map) -> bool
     ensures { result ≡ are_params format (params.now, mutable.now) }
 {

@@ -1,4 +1,4 @@
-//! Counts rows.
+//! Counts the rows of a scan.
 
 ghost use Rattle.csi_constraints.specs.Folds.{CountsRows};
 ghost use Rattle.csi_constraints.specs.facts.Starts.{counts_none};
@@ -6,10 +6,10 @@ ghost use Rattle.csi_constraints.specs.facts.Starts.{counts_none};
 use csi_sql::Fold;
 use sqlite::{Error, Row};
 
-/// A fold that counts rows.
+/// A fold that counts the rows that it takes.
 #[derive(Drop)]
 pub struct RowCount {
-    /// The number of rows so far, at most 2^64 - 1. It begins as 0.
+    /// The number of rows, at most 2^64 - 1. Initially 0.
     pub rows: u64,
 }
 

@@ -1,4 +1,4 @@
-//! Several folds of one type over the same rows.
+//! Runs several folds of one type over the same rows.
 
 ghost use Rattle.std.specs.Prelude.{[]};
 ghost use Rattle.std.specs.List.{AllZip};

@@ -1,4 +1,4 @@
-//! Decodes the attachment of a row.
+//! Decodes the attachment in a row.
 
 ghost use Rattle.std.specs.Prelude.{◌≡◌, IfOk};
 ghost use Rattle.csi_sql.specs.Folding.{FailsForMemory};
@@ -11,8 +11,9 @@ use csi_types::Text;
 use sqlite::{Error, Row};
 use std::alloc::Global;
 
-/// Decodes the attachment whose capability and `readonly` are in the columns `cap` and `readonly`, counted
-/// from 0; `None` if either cannot be decoded. The node is left empty.
+/// Decodes the attachment whose capability is in the column `cap` and whose flag is in the column `readonly`,
+/// both counted from 0. Returns `None` if the capability or the flag cannot be decoded. The node of the
+/// result is empty.
 ///
 /// # Errors
 ///

@@ -6,8 +6,8 @@ use crate::cells::{has_blob, has_integer, has_text};
 use crate::trial::RowTest;
 use sqlite::Row;
 
-/// The test that the number and the bytes of a row of volumes are integers, its name and pool are texts in
-/// UTF-8, and its caps and params are bytes.
+/// Tests the types in a row of volumes: the number and the size are integers, the name and the pool are texts
+/// in UTF-8, and `caps` and `params` are blobs.
 #[derive(Clone, Copy)]
 pub struct HasVolumeKinds;
 
@@ -24,8 +24,8 @@ impl RowTest for HasVolumeKinds {
     }
 }
 
-/// The test that, after the rowid, the number of a row of attachments is an integer, its node is a text in
-/// UTF-8, its cap is bytes, and readonly is an integer.
+/// Tests the types in a row of attachments. After the rowid, the number and `readonly` must be integers, the
+/// node must be a text in UTF-8, and `cap` must be a blob.
 #[derive(Clone, Copy)]
 pub struct HasAttachmentKinds;
 

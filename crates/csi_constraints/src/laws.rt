@@ -1,4 +1,4 @@
-//! Laws of the constraints: a row that represents a volume or an attachment passes a constraint if and only
+//! Laws of the constraints. If a row represents a volume or an attachment, it passes a constraint if and only
 //! if a State may have that volume or attachment.
 
 ghost use Rattle.std.specs.Prelude.{ℕ, List};
@@ -12,15 +12,15 @@ ghost use Rattle.csi_constraints.specs.Agreement.{AttachmentAgrees, OwnerAgrees,
 
 use csi_columns::laws::read_back;
 
-/// A row of volumes meets the constraints if and only if a State may have the volume it represents.
+/// A row of volumes meets the constraints if and only if a State may have the volume that the row represents.
 pub fn volumes()
     ensures { (config : Config) (format next : ℕ) (e : ℕ × Volume) → VolumeAgrees config format next e }
 {
     read_back();
 }
 
-/// A row of attachments meets the constraints if and only if a State may have the attachment it represents,
-/// at that volume and that node.
+/// A row of attachments meets the constraints if and only if a State may have the attachment that the row
+/// represents, for the volume and the node in the row.
 pub fn attachments()
     ensures { (config : Config) (rowid : Value) (e : AttachmentKey × Attachment)
         → AttachmentAgrees config rowid e }
@@ -28,15 +28,16 @@ pub fn attachments()
     read_back();
 }
 
-/// An attachment meets the constraint with its volume if and only if the volume exists and has the
-/// attachment's capability.
+/// An attachment meets the constraint `Owner` if and only if its volume exists and has the attachment's
+/// capability.
 pub fn owners()
     ensures { (e : AttachmentKey × Attachment) (own : List CapKey) → OwnerAgrees e own }
 {
     read_back();
 }
 
-/// Two attachments break the constraint exactly if they are of the same volume and cannot coexist.
+/// Two attachments break the constraint `Coexist` if and only if they belong to the same volume and cannot
+/// coexist.
 pub fn pairs()
     ensures { (e f : AttachmentKey × Attachment) → PairAgrees e f }
 {

@@ -1,37 +1,37 @@
 //! The constraints that stored rows must meet, and the scans that test each row for these constraints, in
 //! memory that does not grow with the number of rows.
 //!
-//! A scan is a query with a fixed text, and `csi_sql::each_row` hands the rows of its answer to a
-//! `csi_sql::Fold`, in order. A fold has a relation between its value before some rows, the rows, and its
-//! value after them (`folds`). The relation holds between a value and itself for no rows, and one more row
-//! extends it. [`TextSum`] adds up over the rows of a text, [`RowCount`] counts them, [`Rising`] tests
-//! whether the integers of a column rise. A struct of folds that passes each row to all of its parts is a
-//! fold too; [`FoldEach`] is one for several folds of one type. So one scan tests a table for many
-//! constraints. `scans.rt` has the five scans: meta, volumes by number, attachments by rowid, the
-//! attachments by their numbers, and each with the caps of its volume. SQL joins two tables, so a
-//! constraint over a row of each is a test of one; `specs/Scans.antt` says which rows are shown, and
-//! `specs/facts/` what follows from a test of each.
+//! A scan is a query with a fixed text. `csi_sql::each_row` passes the rows of its answer to a
+//! `csi_sql::Fold`, in order. The relation `folds` states what a fold becomes: it relates the fold before
+//! some rows, the rows, and the fold after them. A fold that takes no row is unchanged, and each further row
+//! extends the relation. [`TextSum`] sums over the rows with a text, [`RowCount`] counts rows, and [`Rising`]
+//! tests that the integers of a column rise. A struct of folds is a fold too, which passes each row to all of
+//! its parts. [`FoldEach`] is such a struct for several folds of one type. So many constraints of a table are
+//! tested in one scan. `scans.rt` has the five scans: the table `meta`, volumes by number, attachments by
+//! rowid, attachments by number, and attachments with the caps of their volumes. Some constraints are about a
+//! volume and an attachment together. SQL joins the two rows, and the constraint is a test of the joined row.
+//! `specs/Scans.antt` defines the rows of each scan, and `specs/facts/` has the facts that follow if each row
+//! passes a test.
 //!
-//! A constraint is a function in `specs/` from a row to a Bool: kinds (`Kinds`), numbers and texts of a
-//! volume (`Volumes`) and of an attachment (`Attachments`), bytes (`Coded`), and an attachment with the
-//! caps of its volume (`Joins`). A constraint that needs no memory is a `RowTest`. A constraint that
-//! decodes capabilities or parameters is a [`RowTrial`]: it fails if memory is refused, and a row that
-//! passes it can be decoded again. [`InfallibleTest`] makes a trial of a test. Two constraints depend on
-//! earlier rows, and so are folds. [`FirstUnowned`] keeps the capabilities of the last volume (`Known`).
-//! [`FirstApart`] keeps one attachment that represents all attachments of the last volume (`Apart`): a
-//! written one if there is one, since what can coexist with a written attachment can coexist with those
-//! that are only read. [`FirstBroken`] finds the first row that breaks a constraint, with the number and
-//! the text that name it, and [`BrokenConstraint`] displays it.
+//! A constraint is a function in `specs/` from a row to a Bool. `Kinds` has the types of columns, `Volumes`
+//! and `Attachments` have numbers and texts, `Coded` has encoded columns, and `Joins` has an attachment with
+//! the caps of its volume. A constraint that needs no memory is a [`RowTest`]. A constraint that decodes
+//! capabilities or parameters is a [`RowTrial`]: it fails if memory is refused, and a row that passes can be
+//! decoded again. [`InfallibleTest`] makes a trial of a test. Two constraints depend on earlier rows, and so
+//! are folds. [`FirstUnowned`] keeps the capabilities of the last volume (`Known`). [`FirstApart`] keeps one
+//! attachment that represents all attachments of the last volume (`Apart`). [`FirstBroken`] finds the first
+//! row that breaks a constraint, with the number and the text that name the row. The `Display` of
+//! [`BrokenConstraint`] is the message about it.
 //!
-//! `specs/Coding.antt` defines what bytes encode: the keys or parameters whose canonical bytes they are. So
-//! `coding.rt` decodes the bytes, encodes the result, and compares the two. [`laws`] ties each constraint
-//! to the State (`specs/Agreement.antt`): a row that represents a volume or an attachment passes if and
-//! only if a State may have that volume or attachment. Sums over rows, such as the bytes of a pool or the
-//! attachments of a node, are folds and not tests of one row.
+//! `specs/Coding.antt` defines which keys or parameters some bytes encode: the keys or parameters whose
+//! canonical bytes are these bytes. So `coding.rt` decodes the bytes, encodes the result, and compares both.
+//! [`laws`] ties each constraint to the State (`specs/Agreement.antt`): a row that represents a volume or an
+//! attachment passes if and only if a State may have that volume or attachment. Sums over rows, such as the
+//! bytes of a pool or the attachments of a node, are folds and not tests of one row.
 //!
-//! The contracts about the rows hold if the connection is clean when the call ends (`HasCleanDisk`) and the
-//! schema is the one that `csi_sql::make_tables` makes. A scan does not change the tables, and adds nothing
-//! to what a stop may leave.
+//! The contracts about rows hold if the disk is clean when the call ends (`HasCleanDisk`) and the schema is
+//! the schema that `csi_sql::make_tables` makes. A scan changes neither the tables nor the contents that a
+//! stop may leave.
 //!
 //! ```rust
 //! let mut unsized_volume = FirstBroken {
@@ -46,8 +46,8 @@
 //!
 //! # Not promised
 //!
-//! That a scan succeeds, the state of a fold after an error, and how much memory a scan takes. Tests of
-//! `test_tables` show each column of a scan and the displayed texts.
+//! The contracts do not promise that a scan succeeds, the value of a fold after an error, or how much memory
+//! a scan takes. Tests of `test_tables` show each column of a scan and the displayed texts.
 #![tactic(auto)]
 
 mod apart;

@@ -1,4 +1,5 @@
-//! Finds the first row that breaks a constraint, and names it by its number and its text.
+//! Finds the first row that breaks a constraint, and names the row by a number and a text in two of its
+//! columns.
 
 ghost use Rattle.std.specs.Prelude.{◌≡◌, ◌⊎◌, false, None, IfOk, OnErr};
 ghost use Rattle.std.specs.Str.{is_utf8};
@@ -19,9 +20,9 @@ use std::alloc::{AllocError, Global};
 /// The name of a row: the number and the text in two of its columns.
 #[derive(Drop)]
 pub struct RowName {
-    /// The integer in the first of the two columns; `None` if the value there is not an integer.
+    /// The integer in the column of the number, or `None` if the column has no integer.
     pub number: Option<i64>,
-    /// The text in the second column; `None` if the value there is not a text in UTF-8.
+    /// The text in the column of the text, or `None` if the column has no text in UTF-8.
     pub text: Option<Text>,
 }
 
@@ -56,7 +57,7 @@ pub(crate) fn name_at(
     })
 }
 
-/// Finds the first row that breaks a constraint.
+/// Finds the first row that breaks a constraint. The rows after it are not tested.
 #[derive(Drop)]
 pub struct FirstBroken<T> {
     /// The allocator of the text in `found`.
@@ -67,14 +68,14 @@ pub struct FirstBroken<T> {
     pub number: usize,
     /// The column of the text that names a row, counted from 0.
     pub text: usize,
-    /// The first row that breaks the constraint; `None` while no row breaks it. It begins as `None`.
+    /// The first row that breaks the constraint, or `None` if no row has broken it yet. Initially `None`.
     pub found: Option<RowName>,
 }
 
 impl<T: RowTrial> FirstBroken<T> {
     ghost use Rattle.csi_constraints.specs.Named.{name_if};
 
-    // Returns the name of the row if it breaks the constraint, `None` if it meets the constraint.
+    // Returns the name of the row if the row breaks the constraint, and `None` if it meets the constraint.
     fn name_if_broken(&self, row: &Row) -> Result<Option<RowName>, Error>
         ensures value { IfOk result (λ name. name
             ≡ name_if self.now.number self.now.text (T.accepts self.now.test) row.now) }
@@ -109,10 +110,10 @@ impl<T: RowTrial> Fold for FirstBroken<T> {
     }
 }
 
-/// Makes a [`RowTrial`] of a [`RowTest`]: a test that cannot fail and takes no memory.
+/// Makes a [`RowTrial`] of a [`RowTest`]. The trial never fails, as the test takes no memory.
 #[derive(Drop)]
 pub struct InfallibleTest<T> {
-    /// The infallible test, which is called for each row.
+    /// The test, which is called for each row.
     pub test: T,
 }
 

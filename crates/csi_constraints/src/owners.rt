@@ -1,5 +1,5 @@
-//! The constraint that an attachment's volume exists and has its capability. The capabilities of a volume
-//! are decoded once for all of its attachments.
+//! The constraint that the volume of an attachment exists and has the capability of the attachment. The
+//! capabilities of a volume are decoded once for all of its attachments.
 
 ghost use Rattle.std.specs.Prelude.{◌≡◌, None, Some, IfOk, OnOk};
 ghost use Rattle.csi_keeper.specs.Capability.{has_key};
@@ -21,17 +21,17 @@ use csi_types::Items;
 use sqlite::{Error, Row};
 use std::alloc::Global;
 
-/// The `caps` bytes of a volume's row, and the capability keys decoded from them.
+/// The bytes in `caps` of a volume, and the capability keys decoded from these bytes.
 #[derive(Drop)]
 pub struct KnownCaps {
-    /// The value of `caps`, as it is in the row.
+    /// The bytes of the column `caps` in the row of the volume.
     pub bytes: Vec<u8>,
-    /// The decoded keys; `None` if `bytes` are not the canonical bytes of capabilities.
+    /// The decoded keys, or `None` if `bytes` are not the canonical bytes of capabilities.
     pub caps: Option<Items<CapKey>>,
 }
 
 impl KnownCaps {
-    // Whether the volume has this key.
+    // Returns true if the volume has this capability key.
     fn have(&self, key: &CapKey) -> bool
         ensures { result ≡ is_some_and (λ caps. has_key caps (Some key.now)) self.now.caps }
     {
@@ -42,20 +42,22 @@ impl KnownCaps {
     }
 }
 
-/// Finds the first attachment whose volume does not exist or lacks its capability (`scan_owners`).
+/// Finds the first attachment whose volume does not exist or lacks the attachment's capability
+/// (`scan_owners`).
 ///
-/// The caps decoded last are kept, so consecutive attachments of one volume decode its caps once.
+/// The caps that were decoded last are kept. So the caps of a volume are decoded once for consecutive
+/// attachments of the volume.
 #[derive(Drop)]
 pub struct FirstUnowned {
     /// The allocator of the decoded capabilities and of the text in `found`.
     pub alloc: Global,
-    /// The caps decoded last; `None` while none were decoded. It begins as `None`.
+    /// The caps that were decoded last, or `None` while no caps were decoded. Initially `None`.
     pub last: Option<KnownCaps>,
-    /// The first row that breaks the constraint; `None` while no row breaks it. It begins as `None`.
+    /// The first row that breaks the constraint, or `None` if no row has broken it yet. Initially `None`.
     pub found: Option<RowName>,
 }
 
-// Whether the bytes equal those decoded last, so that they need not be decoded again.
+// Returns true if `bytes` are the caps that were decoded last, so that they need not be decoded again.
 fn are_last(last: &Option<KnownCaps>, bytes: &[u8]) -> bool
     ensures { result ≡ are_last last.now bytes.now }
 {
@@ -79,7 +81,7 @@ fn read_caps(alloc: Global, last: &mut Option<KnownCaps>, bytes: &[u8]) -> Resul
     Ok(())
 }
 
-// Whether the caps decoded last contain this key.
+// Returns true if the caps that were decoded last contain this key.
 fn have_key(last: &Option<KnownCaps>, key: &CapKey) -> bool
     ensures { result ≡ is_some_and (λ caps. has_key caps (Some key.now)) (last_keys last.now) }
 {
@@ -89,7 +91,7 @@ fn have_key(last: &Option<KnownCaps>, key: &CapKey) -> bool
     }
 }
 
-// Whether the volume of an attachment exists and has its capability.
+// Returns true if the volume of an attachment exists and has its capability.
 fn is_owned(alloc: Global, last: &mut Option<KnownCaps>, row: &Row) -> Result<bool, Error>
     ensures known { AreCached last.old → AreCached last.new }
     ensures exact { AreCached last.old → IfOk result (λ owned. owned ≡ is_owned row.now) }

@@ -1,7 +1,7 @@
 //! Tests that the integers of a column rise.
 //!
-//! If rowids do not rise, the database has failed. The contracts of a connection do not rule that out, and
-//! an attachment is deleted by its rowid.
+//! Rowids that do not rise mean that the database has failed, which the contracts of a connection do not
+//! exclude. The test is needed since an attachment is deleted by its rowid.
 
 ghost use Rattle.std.specs.Prelude.{◌≡◌};
 ghost use Rattle.csi_constraints.specs.Folds.{RisesOver, is_above};
@@ -20,15 +20,15 @@ fn is_above_last(last: Option<i64>, integer: i64) -> bool
     }
 }
 
-/// A fold that tests whether each row has an integer in a column and each integer is above the one before
-/// it.
+/// Tests that each row has an integer in a column, and that each integer is greater than the integer in the
+/// row before.
 #[derive(Drop)]
 pub struct Rising {
     /// The column of the integers, counted from 0.
     pub column: usize,
-    /// The integer of the last row that passed; `None` before the first.
+    /// The integer of the last row that passed, or `None` before the first row.
     pub last: Option<i64>,
-    /// Whether the integers have risen so far. It begins as `true`.
+    /// True while the integers rise. Initially true.
     pub good: bool,
 }
 

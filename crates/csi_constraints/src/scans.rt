@@ -1,4 +1,4 @@
-//! The scans. Each is a query with a fixed text over the tables.
+//! Scans of the tables. Each scan is a query with a fixed text, whose rows go to a fold.
 
 ghost use Rattle.std.specs.Prelude.{◌≡◌, IsPermutation, map};
 ghost use Rattle.sqlite.specs.Held.{state};
@@ -12,7 +12,7 @@ ghost use Rattle.csi_constraints.specs.Scans.{IsInOrder, keyed_attachment, owner
 use csi_sql::{Fold, IdleConnection, each_row};
 use sqlite::{Alter, Error};
 
-/// Folds each row of `meta`. The columns are `k`, `format_no` and `next_number`.
+/// Passes each row of the table `meta` to a fold. The columns are `k`, `format_no` and `next_number`.
 ///
 /// # Errors
 ///
@@ -26,8 +26,8 @@ pub fn scan_meta<S: Alter, F: Fold>(conn: &mut IdleConnection<S>, fold: &mut F) 
     each_row(conn, "SELECT k, format_no, next_number FROM meta", fold)
 }
 
-/// Folds each row of volumes, ordered by number. The columns are number, name, bytes, pool, caps and
-/// params.
+/// Passes each row of volumes to a fold, ordered by number. The columns are number, name, bytes, pool, caps
+/// and params.
 ///
 /// # Errors
 ///
@@ -48,7 +48,8 @@ pub fn scan_volumes<S: Alter, F: Fold>(
     )
 }
 
-/// Folds each row of attachments, ordered by rowid. The columns are rowid, number, node, cap and readonly.
+/// Passes each row of attachments to a fold, ordered by rowid. The columns are rowid, number, node, cap and
+/// readonly.
 ///
 /// # Errors
 ///
@@ -69,8 +70,9 @@ pub fn scan_attachments<S: Alter, F: Fold>(
     )
 }
 
-/// Folds each attachment together with the caps of its volume, ordered by number. The columns are number,
-/// node, cap, readonly and the caps of the volume, which are NULL if no volume has the number.
+/// Passes each attachment to a fold, together with the caps of its volume. The attachments are ordered by
+/// number. The columns are number, node, cap, readonly and the caps of the volume. The last column is NULL if
+/// no volume has the number.
 ///
 /// # Errors
 ///
@@ -91,8 +93,8 @@ pub fn scan_owners<S: Alter, F: Fold>(
     )
 }
 
-/// Folds each attachment, ordered by number, so that attachments of one volume are consecutive. The columns
-/// are number, node, cap and readonly.
+/// Passes each attachment to a fold, ordered by number, so that attachments of one volume are consecutive.
+/// The columns are number, node, cap and readonly.
 ///
 /// # Errors
 ///

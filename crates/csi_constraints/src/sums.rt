@@ -16,7 +16,7 @@ use std::cmp::Ordering;
 pub enum Weight {
     /// Each row adds 1, so the sum is the number of rows.
     One,
-    /// Each row adds the number in this column, counted from 0. A row with another value there adds
+    /// Each row adds the integer in this column, counted from 0. A row without an integer in the column adds
     /// nothing.
     Number(usize),
 }
@@ -45,16 +45,16 @@ fn weight_in(row: &Row, weight: Weight) -> u64
     }
 }
 
-/// Adds up over the rows with a given text in a column, for example the bytes of the volumes in a pool.
+/// Sums over the rows with a given text in a column, for example the sizes of the volumes in a pool.
 #[derive(Drop)]
 pub struct TextSum {
     /// The column of the text, counted from 0.
     pub column: usize,
-    /// The text to compare with. A row with any other value in the column adds nothing.
+    /// The text that a row must have in the column. A row with any other value there adds nothing.
     pub text: Vec<u8>,
     /// The amount that a row with the text adds.
     pub weight: Weight,
-    /// The sum so far, at most 2^64 - 1.
+    /// The sum of the rows so far, or 2^64 - 1 if the sum is greater.
     pub sum: u64,
 }
 

@@ -8,7 +8,7 @@ use sqlite::{Error, Row};
 
 /// A test of a single row that takes no memory and cannot fail.
 pub trait RowTest {
-    /// Whether a row with these values passes the test.
+    /// True if a row with these values passes the test.
     ghost accepts: { Self → Values → Bool };
 
     /// Returns true if the row passes the test.
@@ -18,10 +18,10 @@ pub trait RowTest {
 
 /// A test of a single row that may take memory.
 pub trait RowTrial {
-    /// Whether a row with these values passes the test.
+    /// True if a row with these values passes the test.
     ghost accepts: { Self → Values → Bool };
 
-    /// A fact about each row that passes.
+    /// A fact that holds for each row that passes.
     ghost knows: { Self → Values → Type 0 };
 
     /// The condition under which the test takes memory for a row.

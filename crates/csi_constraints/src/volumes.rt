@@ -10,10 +10,10 @@ use csi_sql::values::{number_at, text_at};
 use csi_types::name_reason;
 use sqlite::Row;
 
-/// The test that the number of a volume is at least 1 and below the next number.
+/// Tests that the number of a volume is at least 1 and below the next number.
 #[derive(Clone, Copy)]
 pub struct IsNumbered {
-    /// The next number in `meta`: every volume's number must be below it.
+    /// The next number, from the table `meta`.
     pub next: u64,
 }
 
@@ -37,7 +37,7 @@ fn is_name(name: &[u8]) -> bool
     }
 }
 
-/// The test that a volume can be created with this name (`csi_types::name_reason`).
+/// Tests that CreateVolume accepts the name of a volume (`csi_types::name_reason`).
 #[derive(Clone, Copy)]
 pub struct IsNamed;
 
@@ -52,7 +52,7 @@ impl RowTest for IsNamed {
     }
 }
 
-/// The test that the size of a volume is a positive multiple of 1 MiB.
+/// Tests that the size of a volume is a positive multiple of 1 MiB.
 #[derive(Clone, Copy)]
 pub struct IsSized;
 
@@ -73,7 +73,7 @@ fn is_pool(pools: &[Pool], name: &[u8]) -> bool
     pools.iter().any(|pool| pool.name.as_bytes() == name)
 }
 
-/// The test that the configuration has the pool of a volume.
+/// Tests that the configuration has the pool of a volume.
 #[derive(Clone, Copy)]
 pub struct IsInPools<'a> {
     /// The configuration whose pools are allowed.

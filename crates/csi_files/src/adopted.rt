@@ -18,12 +18,12 @@ use csi_through::{KeeperChanges, NotCopied, Through};
 use sqlite::{Alter, Connection};
 use std::io::{Read, Write};
 
-/// Adopts the tables on a connection, and returns true if they are new. A database without a table gets new
-/// ones, unless the options require tables.
+/// Adopts the tables on a connection, and returns true if the tables are new. A database without tables gets
+/// new tables, unless the options require existing tables.
 ///
 /// # Errors
 ///
-/// Why the database is refused, with the connection to it.
+/// Returns the reason why the database is refused, and the connection to the database.
 pub(crate) fn adopt_tables<S: Alter + Drop, O: Observer>(
     run: &Run<'_, O>,
     conn: Connection<S>,
@@ -51,17 +51,17 @@ pub(crate) fn adopt_tables<S: Alter + Drop, O: Observer>(
     }
 }
 
-// A copy in memory of the volumes of tables. Each change is made in the tables first.
+// A copy in memory of the volumes in the tables. A change is made in the tables first, then in the copy.
 type Copied<'a, S, O> = Through<MemKeeper, KeeperChanges<Reserved<'a, S, O>>>;
 
-// Where calls get their answers from: the copy in memory, or the file.
+// The source of the answers to calls: the copy in memory, or the file.
 #[derive(Drop)]
 enum Source<'a, S: Alter, O> {
     Copy(Copied<'a, S, O>),
     File(Reserved<'a, S, O>),
 }
 
-// Copies the volumes of tables into memory. Memory for calls is held back until the copy is made.
+// Copies the volumes in the tables into memory. While the copy is made, memory for calls is held back.
 fn copy_tables<'a, S: Alter + Drop, O: Observer>(
     run: &Run<'a, O>,
     tables: Tables<S>,
@@ -88,7 +88,7 @@ fn copy_tables<'a, S: Alter + Drop, O: Observer>(
     }
 }
 
-// The source for calls over tables: a copy in memory, if the options want one and memory has room for it;
+// Returns the source of answers: a copy in memory, if the options allow a copy and memory has room for it;
 // otherwise the file.
 fn source_of<'a, S: Alter + Drop, O: Observer>(
     run: &Run<'a, O>,
@@ -112,12 +112,12 @@ fn source_of<'a, S: Alter + Drop, O: Observer>(
             Ok(Source::File(Reserved::new(run.alloc, keeper, reserve, run.observer)))
         }
         StoreFault::Refused | StoreFault::Down => {
-            Err((Refusal::NotCopied(fault), keeper.into_connection()))
+            Err((Refusal::NotCopied(fault), give_back(run, keeper)))
         }
     }
 }
 
-// The connection of tables after calls. The observer gets the cause of the first call that the database
+// Returns the connection of tables, and reports to the observer the cause of the first call that the database
 // refused.
 fn give_back<S: Alter, O: Observer>(run: &Run<'_, O>, tables: Tables<S>) -> Connection<S>
     ensures { result ≡ connection_of S.Store tables }
@@ -128,11 +128,13 @@ fn give_back<S: Alter, O: Observer>(run: &Run<'_, O>, tables: Tables<S>) -> Conn
     tables.into_connection()
 }
 
-/// Serves calls over adopted tables, and returns the connection to them. `is_new` is copied into the report.
+/// Serves calls over adopted tables, and returns the report of the run and the connection. `is_new` is copied
+/// into the report.
 ///
 /// # Errors
 ///
-/// If the database refuses a read while the volumes are copied into memory. No call is read.
+/// If the database refuses a read while the volumes are copied into memory. No call was read, and the error
+/// contains the connection.
 pub(crate) fn serve_adopted<S: Alter + Drop, O: Observer, R: Read, W: Write>(
     run: &Run<'_, O>,
     tables: Tables<S>,

@@ -1,4 +1,4 @@
-//! Copies a WAL into its database file, once the store over both files was given up.
+//! Copies the WAL into the database file, after the store over both files was given up.
 
 ghost use Rattle.std.specs.Prelude.{◌≡◌, ◌<◌, false, length, IfErr, IfOk, IsTrue, OnOk};
 ghost use Rattle.sqlite_wal.specs.Log.{AreUsable, image, state};
@@ -15,10 +15,10 @@ use sqlite_wal::{Log, probe_page_size};
 use std::alloc::{AllocFailed, Global};
 use std::io;
 
-// The headers of a WAL and of its first frame, in bytes. Recovery ignores a shorter file.
+// The size in bytes of a WAL's header and of the header of its first frame. Recovery ignores a shorter WAL.
 const LEAST_WAL_BYTES: usize = 32 + 24;
 
-// Returns true if the file of the WAL is long enough for both headers.
+// Returns true if the WAL is long enough for the header of a WAL and of a frame.
 fn has_wal<D: Disk>(pair: &mut Files<D>) -> io::Result<bool>
     requires log { IsTrue (D.Disk.is_usable pair.old.log) }
     requires db { IsTrue (D.Disk.is_usable pair.old.db) }
@@ -31,7 +31,7 @@ fn has_wal<D: Disk>(pair: &mut Files<D>) -> io::Result<bool>
     Ok(len >= LEAST_WAL_BYTES)
 }
 
-// Recovers the log, copies its committed frames into the database file, and cuts the WAL to 41 bytes.
+// Recovers the WAL, copies its committed frames into the database file, and cuts the WAL to 41 bytes.
 fn copy_frames<D: Disk>(log: &mut Log<D>) -> Result<(), wal::Error>
     requires { AreUsable log.old }
     ensures keeps { CopiesLog log.old log.new }
@@ -42,7 +42,7 @@ fn copy_frames<D: Disk>(log: &mut Log<D>) -> Result<(), wal::Error>
     log.finish()
 }
 
-// As `copy_frames`, but takes the log and gives its files back.
+// Does the same as `copy_frames`, but takes the log by value and returns its files.
 fn copy_log<D: Disk>(mut log: Log<D>) -> Result<Files<D>, (wal::Error, Files<D>)>
     requires { AreUsable log }
     ensures moved { IfOk result (λ pair. LeavesLog log pair) }
@@ -57,7 +57,7 @@ fn copy_log<D: Disk>(mut log: Log<D>) -> Result<Files<D>, (wal::Error, Files<D>)
     }
 }
 
-// Copies a WAL of at least `LEAST_WAL_BYTES`.
+// Copies a WAL of at least `LEAST_WAL_BYTES` bytes into the database file.
 fn copy_long<D: Disk>(
     alloc: Global,
     mut pair: Files<D>,
@@ -81,14 +81,14 @@ fn copy_long<D: Disk>(
     }
 }
 
-/// Copies the committed frames of the WAL into the database file, which is then complete without the WAL. A
-/// WAL that is too short for its header and the header of a frame is unchanged. `seed` is for the salts of
-/// the WAL's next header.
+/// Copies the committed frames of the WAL into the database file. The database file is then complete without
+/// the WAL. If the WAL is shorter than its header and the header of one frame, both files are unchanged.
+/// `seed` is the seed of the random salts in the next header of the WAL.
 ///
 /// # Errors
 ///
-/// If the files name no page size, memory is refused or the disk fails. After an error, or after a crash
-/// during the copy, recovery finds the pages that it might have found before.
+/// If the files name no page size, memory is refused, or the disk fails. After an error or a crash during the
+/// copy, recovery finds a content of the database that it could also have found before the copy.
 pub(crate) fn copy_wal<D: Disk>(
     alloc: Global,
     mut pair: Files<D>,
@@ -106,7 +106,7 @@ pub(crate) fn copy_wal<D: Disk>(
     }
 }
 
-/// Converts an error of copying the WAL to a [`StoreError`]. An I/O error of the disk becomes `fault`.
+/// Converts an error of copying the WAL to a [`StoreError`]; an I/O error of the disk becomes `fault`.
 pub(crate) fn cause_of(error: wal::Error, fault: StoreError) -> StoreError
     ensures { result ≡ cause_of error fault }
 {

@@ -1,4 +1,4 @@
-//! States what the next run finds in files, and what many runs leave.
+//! Laws of runs: the State that the next run finds in the files, and the effect of many runs.
 
 ghost use Rattle.csi_files.specs.Again.{AreFoundAgain};
 ghost use Rattle.csi_files.specs.Lives.{LivesOnce, NumbersOnce, PathGoesOn, RunsGoOn};
@@ -9,35 +9,37 @@ use csi_tables::laws::one_state;
 use sqlite::Start;
 use sqlite_disk::Disk;
 
-/// If files have a State of the invariant, a connection from any opening of these files is adopted with that
-/// State, unless the disk or memory fails.
+/// If the State of two files meets the invariant, and neither the disk nor memory fails, each opening of the
+/// files adopts this State.
 pub fn found_again<D: Disk>(config: &Config)
     ensures { AreFoundAgain D.Disk config.now }
 {
     one_state();
 }
 
-/// A run of [`create_and_serve`](crate::Run::create_and_serve) over two files, however it ends, is a run in a
-/// life of these files. So is a first run, over files that hold no database yet. The law holds for each
-/// outcome of a crash after the run.
+/// A life of two files is a series of runs over them. Each run of
+/// [`create_and_serve`](crate::Run::create_and_serve) continues the life of its files, however the run ends
+/// and whatever a crash after it leaves. A run over files that hold no database yet can begin a life.
 ///
-/// One end is left out: an opening that fails while it reads the schema, because memory is refused or a read
-/// fails. Such a run writes nothing (docs/THEOREMS.md, "From files to files").
+/// The law leaves out one end: an opening that fails while it reads the schema, because memory is refused or
+/// a read fails. Such a run writes nothing (docs/THEOREMS.md, "From files to files").
 pub fn went_on<D: Disk>(config: &Config)
     ensures { RunsGoOn D.Disk config.now }
 {}
 
-/// States [`went_on`] for runs of [`serve_path`](crate::Run::serve_path). The files at the path have the
-/// contents that `S` names, and a crash before the run leaves these contents unchanged.
+/// Each run of [`serve_path`](crate::Run::serve_path) continues the life of its files, however the run ends
+/// and whatever a crash after it leaves. This is the law [`went_on`] for the files at a path. The files have
+/// the contents that `S` names, and a crash before the run leaves these contents unchanged.
 pub fn went_on_at<S: Start>(config: &Config)
     ensures { PathGoesOn S.Start config.now }
 {}
 
-/// A client that repeats each call until it gets a reply gets, over runs that end in stops, the replies and
-/// the State of executing each request once, if no other client changes anything.
+/// If a client repeats each call until it gets a reply, it gets the same replies as if each request were
+/// executed once. The State is also the same. This holds even if runs end in stops. No other client may
+/// change anything.
 ///
-/// The first run may be over files that hold no database yet. A run may end in any way that [`went_on`] does
-/// not leave out, its calls may fail with an internal error and its replies be lost, and the next run is over
+/// The first run may be over files that hold no database yet. A run may end in any way that [`went_on`]
+/// covers. The calls of a run may fail with an internal error, and replies may be lost. The next run is over
 /// any contents that a crash may leave in the files.
 pub fn lived(config: &Config)
     ensures { LivesOnce config.now }
@@ -45,11 +47,12 @@ pub fn lived(config: &Config)
     retry(config);
 }
 
-/// Runs over two files that end in stops, with any calls in each run, give no number twice: the next number
-/// never falls, no volume has the number of a deleted volume, and only the mutable parameters of a volume
-/// change. So an id never names another volume.
+/// No two volumes ever get the same number. This holds over many runs, for any calls in each run, and also if
+/// runs end in stops. The number for the next volume never falls, and a volume never gets the number of a
+/// deleted volume. Only the mutable parameters of a volume change. So an id never names another volume.
 ///
-/// The runs are those of [`lived`].
+/// The first run may be over files that hold no database yet. Each later run is over any contents that a
+/// crash after the run before it may leave, as in [`lived`].
 pub fn numbered(config: &Config)
     ensures { NumbersOnce config.now }
 {

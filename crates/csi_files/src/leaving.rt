@@ -1,4 +1,4 @@
-//! Closes the files of a connection, or gives them back as a stop would leave them.
+//! Closes the files of a connection, or returns them in a state that a stop could leave.
 
 ghost use Rattle.std.specs.Prelude.{◌≡◌, false, IfErr, IfOk, IsTrue};
 ghost use Rattle.sqlite.specs.Files.{file_state};
@@ -13,17 +13,17 @@ use sqlite_trees::error::StoreError;
 use sqlite_trees::store::Store;
 use std::alloc::Global;
 
-/// Returns the files of a connection, without any further input or output on them. The last commit may be in
-/// the WAL alone; changes that were not committed are lost.
+/// Returns the files of a connection without reading or writing them. The last commit may be in the WAL
+/// alone. Changes that were not committed are lost.
 ///
-/// The next opening finds a database that a stop at this moment may have left.
+/// The next opening finds a database that a stop at this moment could have left.
 pub fn leave<D: Disk + Drop>(conn: Connection<FileStore<D>>) -> Files<D>
     ensures { IsLeft D.Disk conn result }
 {
     conn.into_store().close()
 }
 
-// Does what `leave` does, and also returns true if the store was open. A store that meets a fault shuts
+// Does the same as `leave`, and also returns true if the store was open. A store that meets a fault shuts
 // itself, and keeps the last commit.
 fn leave_open<D: Disk + Drop>(conn: Connection<FileStore<D>>) -> (Files<D>, bool)
     ensures left { IsLeft D.Disk conn result.0 }
@@ -35,13 +35,13 @@ fn leave_open<D: Disk + Drop>(conn: Connection<FileStore<D>>) -> (Files<D>, bool
     (store.close(), is_open)
 }
 
-/// Closes a connection: copies the WAL into the database file, which is then complete without the WAL. `seed`
-/// is for the salts of the WAL's next header.
+/// Closes a connection and copies the WAL into the database file, which is then complete without the WAL.
+/// `seed` is the seed of the random salts in the next header of the WAL.
 ///
 /// # Errors
 ///
-/// If a fault has shut the store, or if copying the WAL fails. The files are then as [`leave`] leaves them:
-/// the last commit is in the WAL, in the database file or in both.
+/// If a fault has shut the store, or if copying the WAL fails. The error contains the files. Their last
+/// commit is in the WAL, in the database file or in both.
 pub(crate) fn close<D: Disk + Drop>(
     alloc: Global,
     conn: Connection<FileStore<D>>,
@@ -71,7 +71,9 @@ pub(crate) fn close<D: Disk + Drop>(
     }
 }
 
-/// Closes a connection as [`close`] does, but returns the files without an error if copying the WAL fails.
+/// Closes a connection and copies the WAL into the database file. If the copy fails, returns the files all
+/// the same, without an error: the last commit is in the WAL, in the database file or in both. `seed` is the
+/// seed of the random salts in the next header of the WAL.
 pub(crate) fn close_or_leave<D: Disk + Drop>(
     alloc: Global,
     conn: Connection<FileStore<D>>,

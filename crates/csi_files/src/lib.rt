@@ -1,30 +1,31 @@
 //! A run of calls over a database file and its WAL, from the bytes of both before the run to their bytes
 //! after it.
 //!
-//! A [`Run`] does what `csid` does with files. [`Run::create_and_serve`] takes two files over any disks: it
-//! makes a database if they hold none yet, opens them, adopts their tables, copies the volumes into memory
-//! unless the options forbid a copy, serves calls, and closes the files. [`Run::adopt_and_serve`] is the same
-//! over an open connection, and [`Run::serve_path`] is `create_and_serve` over the files at a path.
+//! A [`Run`] does what `csid` does with files. [`Run::create_and_serve`] takes two files over any disks. It
+//! makes a database if the files hold none yet, opens them, adopts their tables, serves calls, and closes the
+//! files. It first copies the volumes into memory, unless the options forbid a copy. [`Run::adopt_and_serve`]
+//! begins with an open connection: it adopts the tables, serves calls, and closes the files.
+//! [`Run::serve_path`] opens the files at a path, and runs over them like `create_and_serve`.
 //!
-//! `specs/Files.antt` says which State the bytes of two files have (`HasState`). That is the premise of a run
-//! and its promise, so runs compose: the next run begins from the files that the last one left (`laws`),
-//! unless an opening fails while it reads the schema. `specs/Starting.antt` has the files that a first run
-//! may start from (`MayStart`), and `specs/Serving.antt` the files of a run that did not close them. A stop
-//! is modelled as a disk that freezes: the outcomes of a crash of such a disk are the files that a stop
-//! leaves.
+//! `specs/Files.antt` defines which State the bytes of two files have (`HasState`). A run requires files that
+//! have a State, and leaves files that have a State. So the next run can begin from the files that the last
+//! run left ([`laws`]). The exception is an opening that fails while it reads the schema.
+//! `specs/Starting.antt` has the files that a first run may start from (`MayStart`), and `specs/Serving.antt`
+//! the files of a run that did not close them. The model of a stop is a disk that freezes: a stop may leave
+//! any outcome of a crash of the frozen disk.
 //!
-//! `run.rt` has the parts of a run, its report and its failures. `path.rt` goes from a path to files,
-//! `starting.rt` from files that may hold no database yet to a connection, `serving.rt` from a connection to
-//! closed files, and `adopted.rt` serves calls over the tables on a connection to any store. `making.rt`
-//! makes a database in files that hold none, and `reserve.rt` keeps memory for the next opening of tables;
-//! `leaving.rt` gives files up as they are or closes them, and `copying.rt` copies the WAL into the database
+//! `run.rt` has the parts of a run, its report and its failures. `path.rt` opens the files at a path,
+//! `starting.rt` makes a database in files that hold none and opens it, `serving.rt` serves calls over open
+//! files and closes them, and `adopted.rt` serves calls over the tables on a connection to any store.
+//! `making.rt` makes an empty database, and `reserve.rt` holds memory for the next opening of tables.
+//! `leaving.rt` closes files or gives them up as they are, and `copying.rt` copies the WAL into the database
 //! file. `specs/Streams.antt` has the bytes that a run reads and writes.
 //!
-//! The lemmas go the same way: a run is seen through other models of its store (`RunLemmas`), as a run over a
-//! copy in memory is (`ThroughLemmas`); files that are given up hold an outcome of the connection
-//! (`LeaveLemmas`), as do files whose WAL is copied (`CopyLemmas`) and files that are not opened
-//! (`UnopenedLemmas`); the State of files is the State of the tables on them (`FilesLemmas`); and files with
-//! a new database have the first State (`StartingLemmas`).
+//! The files of lemmas follow the same steps. `RunLemmas` carries a run over to other models of its store,
+//! and `ThroughLemmas` to a copy in memory. `LeaveLemmas`, `CopyLemmas` and `UnopenedLemmas` show that files
+//! hold an outcome of the connection: files that are given up, files whose WAL is copied, and files that are
+//! not opened. `FilesLemmas` shows that the State of files is the State of their tables, and `StartingLemmas`
+//! that files with a new database have the first State.
 //!
 //! ```rust
 //! let run = Run { alloc, config: &config, options, observer: &observer };

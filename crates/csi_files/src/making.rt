@@ -18,17 +18,18 @@ use sqlite_wal::PageSize;
 use std::alloc::{AllocFailed, Global};
 use std::io::{self, ErrorKind};
 
-// The page size of a new database file, in bytes. A change writes each page that it touches as a whole, about
-// five of them, and most rows have a few hundred bytes: with SQLite's default, 4,096, four times as much is
-// written.
+// The page size of a new database file, in bytes. A change writes about five pages, each as a whole, and most
+// rows have a few hundred bytes. With SQLite's default of 4,096 bytes, a change would write four times as
+// much.
 const PAGE_BYTES: usize = 1024;
 
-/// The smallest size of a WAL with a change, in bytes: the header of the WAL, and the smallest frame, which
-/// is a header of its own and a page of 512 bytes.
+/// The smallest size in bytes of a WAL that contains a change: the header of the WAL, and the smallest frame.
+/// This frame is its header and a page of 512 bytes.
 pub const WAL_WITH_FRAME_BYTES: usize = 32 + 24 + 512;
 
-// The first bytes of a first page as earlier releases wrote it, which a stop could tear: its header, and a
-// leaf of no cells. All other bytes are 0.
+// The beginning of the first page that earlier releases wrote to a new file: the database header, and a leaf
+// of the schema table without cells. The rest of the page is 0. A stop could leave a part of this page in the
+// file.
 const HEAD: [u8; 108] = *b"SQLite format 3\0\
     \x04\x00\x02\x02\x00\x40\x20\x20\0\0\0\0\0\0\0\x01\
     \0\0\0\0\0\0\0\0\0\0\0\0\0\0\0\x04\
@@ -37,16 +38,17 @@ const HEAD: [u8; 108] = *b"SQLite format 3\0\
     \0\0\0\0\0\0\0\0\0\0\0\0\0\0\0\0\
     \x00\x2e\x76\x88\x0d\0\0\0\0\x04\0\0";
 
-/// Why no database was made.
+/// The reason why no database was made.
 #[derive(Clone, Copy, Debug)]
 pub enum NotLaidOut {
-    /// The database file is empty, but its WAL is long enough to have changes, which would be lost.
+    /// The database file is empty, but its WAL is long enough to contain changes, which a new database would
+    /// lose.
     Emptied,
     /// The files could not be read or written, or memory was refused.
     Failed(Error),
 }
 
-// The options of an opening in which only the first page is written, so no page is kept in memory.
+// Returns the options of an opening that only writes the first page, so no page is kept in memory.
 fn options(seed: u64) -> Options {
     Options {
         cache_pages: 1,
@@ -73,7 +75,7 @@ fn pages_of<D: Disk>(alloc: Global, pair: Files<D>, seed: u64) -> Result<Pool<D>
     }
 }
 
-// Gives the files back; an error if a sync of one of them has failed.
+// Returns the files of a pool of pages, or an error and the files if a sync of one of them has failed.
 fn given_back<D: Disk>(pool: Pool<D>) -> Result<Files<D>, (Error, Files<D>)>
     ensures ok { IfOk result (λ pair. ((pair.log, pair.db) ≡ files pool) × IsTrue (D.Disk.is_usable pair.log)
         × IsTrue (D.Disk.is_usable pair.db)) }
@@ -87,7 +89,7 @@ fn given_back<D: Disk>(pool: Pool<D>) -> Result<Files<D>, (Error, Files<D>)>
     }
 }
 
-// Makes an empty database in files that hold none yet. Other files are unchanged.
+// Makes an empty database in files that hold no database yet. Leaves all other files unchanged.
 fn make<D: Disk>(alloc: Global, pair: Files<D>, seed: u64) -> Result<Files<D>, (Error, Files<D>)>
     requires log { IsTrue (D.Disk.is_usable pair.log) }
     requires db { IsTrue (D.Disk.is_usable pair.db) }
@@ -106,14 +108,15 @@ fn make<D: Disk>(alloc: Global, pair: Files<D>, seed: u64) -> Result<Files<D>, (
     }
 }
 
-// The state of files by their lengths, so that no part of a database is read or synced here.
+// The kinds of files, by their lengths alone, so that no page is read or synced.
 #[derive(Clone, Copy)]
 enum Lengths {
     // The database file is longer than a page.
     Larger,
-    // The file is empty, and its WAL may have changes.
+    // The database file is empty, and its WAL is long enough to contain changes.
     Emptied,
-    // Neither: the file has at most one page, and no changes can be in its WAL.
+    // All other files: the database file has at most one page and, if it is empty, a WAL too short to contain
+    // changes.
     Short,
 }
 
@@ -144,14 +147,14 @@ fn is_zero(bytes: &[u8]) -> bool
     bytes.iter().all(|byte| *byte == 0)
 }
 
-// Returns the byte at this place of a new first page.
+// Returns the byte at the offset `at` of the first page of a new file.
 fn page_byte(at: usize) -> u8
     ensures { result ≡ page_byte at }
 {
     if at < HEAD.len() { HEAD[at] } else { 0 }
 }
 
-// Returns whether a new first page begins with these bytes.
+// Returns true if the first page of a new file begins with these bytes.
 fn begins_page(bytes: &[u8]) -> bool
     ensures { IsTrue result ↔ BeginsPage bytes.now }
 {
@@ -163,7 +166,7 @@ fn begins_page(bytes: &[u8]) -> bool
     true
 }
 
-// Returns whether a stop may have left these bytes of a new first page.
+// Returns true if a stop during the write of the first page could leave these bytes.
 fn is_torn(bytes: &[u8]) -> bool
     ensures { IsTrue result ↔ IsPart bytes.now }
 {
@@ -174,8 +177,8 @@ fn is_torn(bytes: &[u8]) -> bool
     is_zero(bytes) || (len < PAGE_BYTES && begins_page(bytes))
 }
 
-// Reads a file into `room`, which is as long as the file, and returns whether the file is what a stop may
-// have left of a new first page.
+// Reads a file into `room`, which must be as long as the file. Returns true if a stop during the write of the
+// first page could leave this file.
 fn reads_torn<D: Disk>(file: &mut D, room: &mut [u8]) -> io::Result<bool>
     requires { IsTrue (D.Disk.is_usable file.old) }
     ensures value { IfOk result (λ is. IsTrue (D.Disk.is_clean file.new)
@@ -187,7 +190,7 @@ fn reads_torn<D: Disk>(file: &mut D, room: &mut [u8]) -> io::Result<bool>
     Ok(is_torn(room))
 }
 
-// Does what `reads_torn` does, for a file of `len` bytes, in memory of its own.
+// Does the same as `reads_torn` for a file of `len` bytes, and allocates the memory for them.
 fn has_torn<D: Disk>(alloc: Global, file: &mut D, len: usize) -> io::Result<bool>
     requires { IsTrue (D.Disk.is_usable file.old) }
     ensures value { IfOk result (λ is. IsTrue (D.Disk.is_clean file.new) → len ≡ length (D.Disk.seen file.old)
@@ -198,7 +201,8 @@ fn has_torn<D: Disk>(alloc: Global, file: &mut D, len: usize) -> io::Result<bool
     reads_torn(file, bytes.as_mut_slice())
 }
 
-// Returns whether the database file is what a stop may have left of a new first page, and the WAL is empty.
+// Returns true if a stop during the write of the first page could leave this database file, and the WAL is
+// empty.
 fn holds_torn<D: Disk>(alloc: Global, pair: &mut Files<D>) -> io::Result<bool>
     requires log { IsTrue (D.Disk.is_usable pair.old.log) }
     requires db { IsTrue (D.Disk.is_usable pair.old.db) }
@@ -215,7 +219,7 @@ fn holds_torn<D: Disk>(alloc: Global, pair: &mut Files<D>) -> io::Result<bool>
     has_torn(alloc, &mut pair.db, len)
 }
 
-// Cuts the file to 0 bytes, and syncs it.
+// Cuts the database file to 0 bytes and syncs it.
 fn clear<D: Disk>(db: &mut D) -> io::Result<()>
     requires { IsTrue (D.Disk.is_usable db.old) }
     ensures empty { OnOk result (length (D.Disk.seen db.new) ≡ 0) }
@@ -226,7 +230,7 @@ fn clear<D: Disk>(db: &mut D) -> io::Result<()>
     db.sync()
 }
 
-// Clears a database file that is what a stop may have left of a new first page. Other files are unchanged.
+// Clears a database file that a stop during the write of the first page left. Leaves other files unchanged.
 fn clear_torn<D: Disk>(alloc: Global, pair: &mut Files<D>) -> io::Result<()>
     requires log { IsTrue (D.Disk.is_usable pair.old.log) }
     requires db { IsTrue (D.Disk.is_usable pair.old.db) }
@@ -244,7 +248,7 @@ fn clear_torn<D: Disk>(alloc: Global, pair: &mut Files<D>) -> io::Result<()>
     Ok(())
 }
 
-// Converts the error of a failed clearing to the reason why no database was made.
+// Converts the error of `clear_torn` to the reason why no database was made.
 fn failed(error: io::Error) -> NotLaidOut
     ensures { result ≡ not_cleared (error_kind error) }
 {
@@ -254,17 +258,18 @@ fn failed(error: io::Error) -> NotLaidOut
     }
 }
 
-/// Makes an empty database in files that hold none yet: new files, or what a stop left of an earlier call.
-/// Other files are unchanged. After a stop at any moment, the next call makes the database.
+/// Makes an empty database in files that hold no database yet: new files, or files of an earlier call that a
+/// stop interrupted. Other files are unchanged. After a stop at any moment, the next call makes the database.
 ///
-/// First, the call clears what a stop left of the first page in an earlier release: bytes of 0, or the
-/// beginning of the page without a WAL.
+/// If an earlier release was stopped while it wrote the first page, the file has only bytes of 0, or the
+/// beginning of the page, and no WAL. The call clears such a file first.
 ///
 /// # Errors
 ///
 /// If the WAL of an empty database file may have changes, if the files cannot be read or written, or if
-/// memory is refused. The files come back: unchanged in the first case, otherwise as a stop might have left
-/// them. This function never reports files as corrupt: files that are not a database are left to the opening.
+/// memory is refused. The error contains the files. In the first case the files are unchanged. In the other
+/// cases they have bytes that a stop could have left too. The function does not report corrupt files: their
+/// opening does that.
 pub fn lay_out<D: Disk>(
     alloc: Global,
     mut pair: Files<D>,

@@ -24,21 +24,22 @@ const CANNOT_OPEN: Error = Error::SqliteFailure(ErrorCode::CannotOpen);
 
 const BUSY: Error = Error::SqliteFailure(ErrorCode::DatabaseBusy);
 
-/// The files at a path, before they are opened.
+/// The files at a path that a run opens.
 ///
-/// It is trusted that these are the files at the path, and that no other program writes to them, as in
-/// `sqlite_std_file::open`.
+/// The contracts rest on two assumptions, like the contract of `sqlite_std_file::open`: the operating system
+/// gives the files at the path, and no other program writes to these files.
 pub struct FilesAt<'a, S> {
     /// The operating system, which gives the files.
     pub rt: HostRuntime,
-    /// The path of the database file. Its WAL is next to it. A path that is `:memory:` or begins with `file:`
-    /// is refused, since SQLite would not take it for a file name.
+    /// The path of the database file. The WAL has the same path with `-wal` at its end. A path that is
+    /// `:memory:` or begins with `file:` is refused, since SQLite would not take it as the name of a file.
     pub path: &'a str,
     /// The contents of the files before the run. The contracts of a run hold for any contents.
     pub start: S,
-    /// The greatest number of pages of the database file that are kept in memory. An opening looks each row
-    /// up in the index of names, in no order of pages: if fewer pages are kept than this index has, the
-    /// opening reads a page again for nearly each row.
+    /// The greatest number of pages of the database file that are kept in memory.
+    ///
+    /// An opening looks up each row in the index of names, and reads the pages of the index in any order. If
+    /// the index has more pages than this number, the opening reads a page again for nearly each row.
     pub cache_pages: usize,
 }
 
@@ -54,8 +55,8 @@ fn open_error(cause: OpenError) -> Error
     }
 }
 
-// Opens the files at a path, and makes missing files. A path that is `:memory:` or begins with `file:` is
-// refused, since SQLite would not take it for a file name.
+// Opens the files at a path, and creates missing files. A path that is `:memory:` or begins with `file:` is
+// refused, since SQLite would not take it as the name of a file.
 fn files_at<S: Start>(rt: &HostRuntime, path: &str, start: S) -> Result<Files<FileFrom<S>>, Error>
     ensures usable { IfOk result (λ files. IsTrue (file_is_usable S.Start files.log)
         × IsTrue (file_is_usable S.Start files.db)) }
@@ -71,8 +72,8 @@ fn files_at<S: Start>(rt: &HostRuntime, path: &str, start: S) -> Result<Files<Fi
     }
 }
 
-// The options of an opening, with a random seed. The seed tells the frames of a new WAL from the frames of an
-// old one.
+// Returns the options of an opening, with a random seed. The seed makes the frames of a new WAL differ from
+// the frames of an old WAL.
 fn opening(rt: &HostRuntime, cache_pages: usize) -> Result<Options, Error>
     ensures { IfErr result (λ e. e ≡ no_file_error NotSeeded) }
 {
@@ -86,17 +87,22 @@ fn opening(rt: &HostRuntime, cache_pages: usize) -> Result<Options, Error>
 }
 
 impl<O: Observer> Run<'_, O> {
-    /// Serves the volume machine over the database file at a path and its WAL, as
-    /// [`create_and_serve`](Run::create_and_serve) does over two files.
+    /// Serves the volume machine over the database file at a path and its WAL. Makes a database if the files
+    /// hold none yet, opens the files, adopts their tables, serves calls, and closes the files.
+    /// [`create_and_serve`](Run::create_and_serve) does the same over two given files, and states more about
+    /// the run.
     ///
     /// # Errors
     ///
-    /// As for [`create_and_serve`](Run::create_and_serve); also `NoFiles`, if the operating system does not
-    /// give the files or a random seed. No call is read then.
+    /// - `NoFiles`: the operating system gives no files or no random seed. No call was read.
+    /// - `NotOpened` or `Refused`: the files were not opened, or their database was refused. No call was
+    ///   read.
+    /// - `Left`: the store refused a call.
+    /// - `NotClosed`: copying the WAL into the database file failed after the calls.
     ///
     /// # Not promised
     ///
-    /// What the program that contains the run and its sockets do.
+    /// The contract does not say what the program around the run, or its sockets, do.
     pub fn serve_path<S: Start, R: Read, W: Write>(
         &self,
         at: FilesAt<'_, S>,

@@ -1,11 +1,11 @@
 //! Holds memory for the next opening of tables.
 //!
-//! An opening reads each table whole, but calls over a file need only a few pages. So tables could grow, call
-//! by call, until no opening of them has enough memory, and then no volume could be deleted any more.
+//! An opening reads each table whole, but a call over a file needs only a few pages. So calls could add rows
+//! until no opening of the tables has enough memory, and then no volume could be deleted any more.
 //!
-//! On systems that refuse memory, blocks are held for the next opening. A control group ends a process that
-//! uses too much memory, and does not count memory that is held but not used. So the observer is also asked
-//! whether there is room.
+//! On systems that refuse memory, blocks are held for the next opening. But a control group of Linux ends a
+//! process that uses too much memory, and does not count memory that is held and not used. So the observer is
+//! also asked if there is room.
 
 ghost use Rattle.std.specs.Prelude.{◌≡◌, ◌≤◌, ◌<◌, true, false, IfErr, IfOk, IsTrue, Ok, OnErr, OnOk, vec_capacity, vec_len};
 ghost use Rattle.csi_keeper.specs.declared.change.StoreFault.TheVariants.{NoMemory};
@@ -22,21 +22,22 @@ use csi_types::{Items, Text, map_bytes};
 use sqlite::Alter;
 use std::alloc::{AllocError, Global};
 
-// An opening reads each table whole. A row takes this number of bytes, and the bytes of its texts and blobs.
+// The memory that an opening takes for a row, in bytes, without the bytes of its texts and blobs. An opening
+// reads each table whole.
 const ROW_BYTES: usize = 256;
 
-// The bytes that an opening takes for a capability, without the name of its file system.
+// The memory that an opening takes for a capability, in bytes, without the name of its file system.
 const CAP_BYTES: usize = 4;
 
-// Memory is held in blocks of this number of bytes.
+// The size of a block of held memory, in bytes.
 const BLOCK_BYTES: usize = 1 << 20;
 
-// The number of blocks that are left for calls once no more memory can be held: for the pages that calls read
-// and write, their frames and their replies.
+// The number of blocks that stay free for calls if memory becomes short: for the pages that calls read and
+// write, their frames and their replies.
 const ROOM_BLOCKS: usize = 4;
 
-// A block of memory that is held and not used. The call is not inlined: a compiler may otherwise see that the
-// block is not used, and allocate none.
+// Allocates a block of memory that is held and not used. The call is not inlined, since a compiler could
+// otherwise see that the block is not used, and allocate no memory.
 #[inline(never)]
 fn held(alloc: Global, bytes: usize) -> Result<Vec<u8>, AllocError>
     ensures { IfOk result (λ block. bytes ≤ vec_capacity block) }
@@ -44,7 +45,7 @@ fn held(alloc: Global, bytes: usize) -> Result<Vec<u8>, AllocError>
     Vec::with_capacity(alloc, bytes)
 }
 
-/// Holds 4 MiB of memory for calls, until the result is dropped. Each of the four blocks is as large as the
+/// Holds 4 MiB of memory for calls until the result is dropped. Each of the four blocks is as large as the
 /// longest message, since free memory is seldom in one piece.
 ///
 /// # Errors
@@ -62,17 +63,18 @@ pub(crate) fn room(alloc: Global) -> Result<Vec<Vec<u8>>, AllocError>
     Ok(blocks)
 }
 
-// The observer is asked again whether there is room once the next opening takes this many bytes more.
+// After each growth of the next opening by this number of bytes, the observer is asked again if there is
+// room.
 const STEP_BYTES: usize = 1 << 18;
 
-// Memory for the next opening.
+// The memory that is held for the next opening.
 struct Reserve {
     alloc: Global,
     blocks: Vec<Vec<u8>>,
-    // The bytes of memory that the next opening takes.
+    // The memory that the next opening takes, in bytes.
     wanted: usize,
-    // Whether blocks are held for the next opening. They are not while a copy of the volumes is in memory:
-    // it is dropped before the next opening, and takes more than that.
+    // True if blocks are held for the next opening. No blocks are held while a copy of the volumes is in
+    // memory: the copy takes more memory than an opening, and is dropped before the next opening.
     is_held: bool,
 }
 
@@ -88,8 +90,8 @@ impl Drop for Reserve {
 }
 
 impl Reserve {
-    // Makes a reserve for an opening that takes this many bytes. If the memory is to be held, as much of it
-    // is held as the system gives.
+    // Makes a reserve for an opening that takes `wanted` bytes. If `is_held` is true, holds as much of that
+    // memory as the system gives.
     #[tactic(auto, using(crate::proofs::ReserveLemmas::no_blocks))]
     fn new(alloc: Global, wanted: usize, is_held: bool) -> Reserve
         ensures wanted { result.wanted ≡ wanted }
@@ -109,7 +111,7 @@ impl Reserve {
         reserve
     }
 
-    // Holds all memory that the next opening takes.
+    // Holds all of the memory that the next opening takes.
     #[tactic(auto, using(crate::proofs::ReserveLemmas::one_more))]
     fn fill(&mut self) -> Result<(), AllocError>
         ensures full { OnOk result (IsFull self.new) }
@@ -127,7 +129,8 @@ impl Reserve {
         Ok(())
     }
 
-    // Adds this many bytes to the memory that the next opening takes, and holds them if memory is held.
+    // Adds a number of bytes to the memory that the next opening takes. If memory is held, holds these bytes
+    // too.
     fn grow(&mut self, bytes: usize) -> Result<(), AllocError>
         ensures full { OnOk result (IsTrue self.old.is_held → IsFull self.new) }
         ensures wanted { OnOk result (self.new.wanted ≡ wanted_with self.old bytes) }
@@ -173,7 +176,7 @@ fn volume_bytes(volume: &Volume) -> usize
         .saturating_add(map_bytes(&volume.mutable))
 }
 
-// The bytes that a change adds to the next opening.
+// Returns the memory in bytes that the rows added by a change take in the next opening.
 fn bytes_of(change: &Change) -> usize
     ensures { result ≡ up_to_u64 (change_bytes change.now) }
 {
@@ -189,23 +192,24 @@ fn bytes_of(change: &Change) -> usize
     }
 }
 
-/// Tables, with memory for their next opening. A change that adds to the tables first holds memory for its
-/// rows. If this memory is refused, the change is answered `NoMemory` and not made, and the tables are not
-/// down. A change that removes rows holds no memory.
+/// Tables, and memory that is held for the next opening of their file. A change that adds rows needs more of
+/// this memory, and reserves it first. If the memory is refused, the change is not made and fails with
+/// `NoMemory`, but the tables do not go down. A change that removes rows reserves nothing.
 ///
-/// Over tables that are copied into memory, a page is answered `NoMemory` if the observer has no room.
+/// While tables are copied into memory, reading a page of volumes fails with `NoMemory` if the observer has
+/// no room.
 #[derive(Drop)]
 pub(crate) struct Reserved<'a, S: Alter, O> {
     tables: Tables<S>,
     reserve: Reserve,
     observer: &'a O,
-    // The size of the next opening, in bytes, at which the observer is asked again.
+    // The observer is asked again when the next opening takes this number of bytes.
     asks_at: usize,
 }
 
 impl<'a, S: Alter, O: Observer> Reserved<'a, S, O> {
-    /// Wraps tables whose reads go to the file. Holds memory for their next opening, which takes `opening`
-    /// bytes, or as much of it as the system gives.
+    /// Wraps tables whose reads go to the file. Their next opening takes `opening` bytes. Holds as much of
+    /// this memory as the system gives.
     pub(crate) fn new(
         alloc: Global,
         tables: Tables<S>,
@@ -224,8 +228,8 @@ impl<'a, S: Alter, O: Observer> Reserved<'a, S, O> {
         }
     }
 
-    /// Wraps tables that are to be copied into memory, and holds no memory. Their next opening takes
-    /// `opening` bytes.
+    /// Wraps tables that will be copied into memory, and holds no memory. Their next opening takes `opening`
+    /// bytes.
     pub(crate) fn for_copy(
         alloc: Global,
         tables: Tables<S>,
@@ -244,7 +248,7 @@ impl<'a, S: Alter, O: Observer> Reserved<'a, S, O> {
         }
     }
 
-    /// Returns whether the tables are down, and every further call is answered `Down`.
+    /// Returns true if the tables are down. If they are down, each further call fails with `Down`.
     pub(crate) fn is_down(&self) -> bool
         ensures { result ≡ is_down S.Store self.now.tables }
     {
@@ -258,8 +262,8 @@ impl<'a, S: Alter, O: Observer> Reserved<'a, S, O> {
         self.tables
     }
 
-    // Whether the observer has no room for a further page of a copy. Tables that are down answer `Down`
-    // instead.
+    // Returns true if the observer has no room for another page of the copy. Returns false if the tables are
+    // down, since reading a page fails with `Down` then.
     fn lacks_room(&self) -> bool
         ensures { IsTrue result → is_down S.Store self.now.tables ≡ false }
     {
@@ -268,7 +272,8 @@ impl<'a, S: Alter, O: Observer> Reserved<'a, S, O> {
             && !self.observer.has_room(self.reserve.wanted)
     }
 
-    // Whether there is room for a next opening of this many bytes. The observer is asked now and then.
+    // Returns true if there is room for a next opening of `opening` bytes. The observer is asked only after
+    // the opening has grown by `STEP_BYTES`.
     fn has_room(&mut self, opening: usize) -> bool
         ensures unchanged { (self.new.tables ≡ self.old.tables) × (self.new.reserve ≡ self.old.reserve) }
     {
@@ -282,8 +287,8 @@ impl<'a, S: Alter, O: Observer> Reserved<'a, S, O> {
         has_room
     }
 
-    // Holds memory for the rows that a change adds. A change that removes rows is made also if less memory is
-    // held than wanted.
+    // Holds memory for the rows that a change adds. A change that only removes rows succeeds even if less
+    // memory is held than the next opening takes.
     fn reserve_for(&mut self, change: &Change) -> Result<(), StoreFault>
         ensures unchanged { self.new.tables ≡ self.old.tables }
         ensures kept { OnOk result (0 < change_bytes change.now → is_down S.Store self.old.tables ≡ false

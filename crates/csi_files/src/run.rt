@@ -1,4 +1,4 @@
-//! A run of calls over tables in files: its parts, its report, and its failures.
+//! The parts of a run of calls over tables in files: its inputs, its report and its failures.
 
 ghost use Rattle.std.specs.Prelude.{◌≡◌, option_map};
 ghost use Rattle.csi_files.specs.Leaving.{files_of};
@@ -11,43 +11,44 @@ use sqlite::{Error, Files, Leftover};
 use sqlite_disk::Disk;
 use std::alloc::Global;
 
-/// An observer of a run. It gets notice of each step before the first call is answered and, after the last
-/// call, of the first error of the database.
+/// A run reports its progress to its observer: each step before the first call, and after the last call the
+/// first error of the database.
 pub trait Observer {
     /// Called after new tables were made, in a database that had no table.
     fn made(&self);
 
-    /// Called after the tables were adopted, with their counts. No call was read yet.
+    /// Called after the tables were adopted, with the counts of their rows. No call was read yet.
     fn adopted(&self, content: &Content);
 
     /// Called if memory has no room for a copy of the volumes. Each read is then answered from the file.
     fn uncopied(&self);
 
-    /// Called after the last call if the database refused any, with its first error, such as a full disk.
+    /// Called after the last call if the database refused any call. `cause` is its first error, such as a
+    /// full disk.
     fn refused(&self, cause: &Error);
 
-    /// Returns whether the process has memory for its calls, and for a next opening of the tables, which
-    /// takes `opening` bytes. A run calls this function before each page of volumes that is copied into
-    /// memory, and as the tables grow. Without room the volumes are not copied, and a change that adds to the
-    /// tables is answered as if memory were refused.
+    /// Returns true if the process has memory for its calls and for the next opening of the tables, which
+    /// takes `opening` bytes. A run calls this function before each page of volumes that it copies into
+    /// memory, and as the tables grow. If the function returns false, the volumes are not copied, and a
+    /// change that adds rows fails as if memory were refused.
     ///
-    /// Count limits at which the process is killed, such as the memory limit of a Linux control group. Limits
-    /// at which an allocation fails need not be counted.
+    /// An implementation must count limits at which the process is killed, such as the memory limit of a
+    /// Linux control group. It need not count limits at which an allocation fails.
     fn has_room(&self, opening: usize) -> bool;
 }
 
-/// Options of a run over tables.
+/// The options of a run over tables: how it opens the tables, and from where it answers reads.
 #[derive(Clone, Copy)]
 pub struct RunOptions {
-    /// Whether a database without a table is refused. Otherwise it gets new tables.
+    /// If true, a database without tables is refused. If false, it gets new tables.
     pub is_existing: bool,
-    /// Whether reads are answered from the file. Otherwise the volumes are copied into memory, and reads are
+    /// If true, reads are answered from the file. If false, the volumes are copied into memory, and reads are
     /// answered from the copy.
     pub is_low_memory: bool,
-    /// The bytes of memory that an opening of the tables takes, since it reads each table whole. While reads
-    /// are answered from the file, up to this much memory is held for the next opening, and each call first
-    /// holds memory for the rows that it adds. The call is answered as if memory were refused if the memory
-    /// for its rows cannot be held, or if the observer has no room.
+    /// The memory in bytes that an opening of the tables takes, since an opening reads each table whole.
+    /// While reads are answered from the file, memory is held for the next opening, at most this number of
+    /// bytes. A call that adds rows holds memory for them first. If this memory is refused, or the observer
+    /// has no room, the call fails as if memory were refused.
     pub reserve: usize,
 }
 
@@ -58,40 +59,42 @@ pub struct Run<'a, O> {
     pub alloc: Global,
     /// The configuration under which tables are adopted and calls are answered.
     pub config: &'a Config,
-    /// The options of the run.
+    /// How the run opens tables and answers reads.
     pub options: RunOptions,
-    /// The observer, which gets notice of the steps of the run.
+    /// The observer, to which the run reports its steps.
     pub observer: &'a O,
 }
 
-/// The report of a run of calls.
+/// The report of a run of calls: why the run ended, how it answered reads, and how many calls the store
+/// refused.
 #[derive(Clone, Copy)]
 pub struct RunReport {
-    /// Why the run ended, as the server reports it.
+    /// The reason why the run ended, as the server reports it.
     pub end: RunEnd,
-    /// The number of calls that the store refused; the greatest `u64` if there are more.
+    /// The number of calls that the store refused, at most 2^64 - 1.
     pub refusals: u64,
-    /// Whether the store was down at the end, and answered no more calls.
+    /// True if the store was down at the end. It answered no call after the call that brought it down.
     pub is_down: bool,
-    /// Whether reads were answered from a copy of the volumes in memory, and not from the file.
+    /// True if reads were answered from a copy of the volumes in memory, and false if from the file.
     pub is_copied: bool,
-    /// Whether the database had no table, so that new ones were made.
+    /// True if the database had no tables and got new ones.
     pub is_new: bool,
 }
 
-/// The report of a run after which the files were closed, and these files.
+/// The report of a run that closed its files, and the files.
 #[derive(Drop)]
 pub struct Closed<D: Disk> {
-    /// The report of the run.
+    /// The report of the calls that were served.
     pub report: RunReport,
-    /// The files. The database file contains all that was committed, and is complete without its WAL.
+    /// The files after the run. The database file contains all committed changes, and is complete without its
+    /// WAL.
     pub files: Files<D>,
 }
 
-/// Why no calls were served over a database that was opened.
+/// The reason why an open database was refused and no call was served.
 #[derive(Drop)]
 pub enum Refusal {
-    /// The database has no table, and tables were required.
+    /// The database has no tables, and the options required existing tables.
     Blank,
     /// The tables were not adopted, because of this fault.
     NotAdopted(AdoptFault),
@@ -99,23 +102,25 @@ pub enum Refusal {
     NotCopied(StoreFault),
 }
 
-/// Where a run over files failed, with the error, and the files after the failure.
+/// The step at which a run over files failed. Each variant has the reason, or the report of the calls that
+/// were served. Each variant except `NoFiles` also has what is left of the files.
 pub enum RunFailure<D: Disk> {
-    /// The operating system did not give the files at a path. No call was read.
+    /// The operating system gave no files at the path. No call was read.
     NoFiles(Error),
     /// The files were not opened. No call was read.
     NotOpened(Error, Leftover<D>),
     /// The database was refused, and the files are unchanged. No call was read.
     Refused(Refusal, Files<D>),
-    /// Calls were served, but the store refused some of them. The WAL was copied into the database file, if
-    /// the disk and memory allowed it: the committed changes are in the WAL, in the database file or in both.
+    /// Calls were served, but the store refused some of them. The WAL was copied into the database file if
+    /// the disk and memory allowed it. The committed changes are in the WAL, in the database file or in both.
     Left(RunReport, Files<D>),
     /// Calls were served, but copying the WAL into the database file failed with this error. The committed
     /// changes are in the WAL, in the database file or in both.
     NotClosed(RunReport, Error, Files<D>),
 }
 
-// Written out, so that what drops one has one call for it, and its proof no branch for each of its parts.
+// Written by hand and not derived: the proof of code that drops a failure then has one call for the drop, and
+// no branch for each part.
 impl<D: Disk + Drop> Drop for RunFailure<D> {
     fn drop(self) {
         match self {
@@ -129,8 +134,8 @@ impl<D: Disk + Drop> Drop for RunFailure<D> {
 }
 
 impl<D: Disk + Drop> RunFailure<D> {
-    /// Returns the files after the run, without any further input or output on them. `None` if the operating
-    /// system did not give the files.
+    /// Returns the files after the run without reading or writing them, or `None` if the operating system
+    /// gave no files.
     pub fn into_files(self) -> Option<Files<D>>
         ensures { option_map (λ files. (files.log, files.db)) result ≡ files_of self }
     {

@@ -1,4 +1,4 @@
-//! Serves calls over two files that are open.
+//! Serves calls over two open files.
 
 ghost use Rattle.std.specs.Prelude.{◌≡◌, ◌↔◌, false, IfErr, IfOk, IsTrue};
 ghost use Rattle.sqlite.specs.Files.{file_state};
@@ -25,8 +25,8 @@ use sqlite_disk::Disk;
 use std::alloc::Global;
 use std::io::{Read, Write};
 
-// Closes the connection to files after calls. If the store refused some, it does not matter whether the WAL
-// is copied.
+// Closes the connection after calls. If the store refused some calls, the result is `Left`, whether or not
+// the WAL can be copied.
 fn finish<D: Disk + Drop>(
     alloc: Global,
     report: RunReport,
@@ -47,19 +47,21 @@ fn finish<D: Disk + Drop>(
 }
 
 impl<O: Observer> Run<'_, O> {
-    /// Serves the volume machine over the database of two files that are open: adopts their tables, serves
-    /// calls, and closes the files.
+    /// Serves the volume machine over the database of two open files: adopts their tables, serves calls, and
+    /// closes the files.
     ///
-    /// A database without a table gets new ones, unless the options require tables. If memory has no room for
-    /// a copy of the volumes, reads are answered from the file. A change is committed to the file before its
-    /// call is answered.
+    /// A database without tables gets new tables, unless the options require existing tables. If memory has
+    /// no room for a copy of the volumes, reads are answered from the file. A change is committed to the file
+    /// before its call is answered.
     ///
-    /// The contract holds for any bytes that the files held when they were opened (`Opens`). `seed` is for
-    /// the salts of the WAL's next header.
+    /// The contract holds for any bytes that the files had when they were opened (`Opens`). `seed` is the
+    /// seed of the random salts in the next header of the WAL.
     ///
     /// # Errors
     ///
-    /// As for [`create_and_serve`](Run::create_and_serve), without `NotOpened`.
+    /// - `Refused`: the database is refused. No call was read.
+    /// - `Left`: the store refused a call.
+    /// - `NotClosed`: copying the WAL into the database file failed after the calls.
     pub fn adopt_and_serve<D: Disk + Drop, R: Read, W: Write>(
         &self,
         conn: Connection<FileStore<D>>,

@@ -1,4 +1,4 @@
-//! Serves calls over two files. If the files hold no database, one is made first.
+//! Serves calls over two files. If the files hold no database yet, makes one first.
 
 ghost use Rattle.std.specs.Prelude.{◌≡◌, false, IfErr, IfOk, IsTrue};
 ghost use Rattle.sqlite_wal.specs.Reads.{AreClean};
@@ -21,7 +21,8 @@ use sqlite_trees::error::StoreError;
 use std::alloc::Global;
 use std::io::{Read, Write};
 
-// SQLite's error code for a database that was not made, from the disk's fault if the disk failed.
+// Returns SQLite's error code for a database that could not be made. If the disk failed, `fault` is the
+// failure.
 fn code_of(why: NotLaidOut, fault: StoreError) -> ErrorCode
     ensures { result ≡ code_of why fault }
 {
@@ -38,7 +39,7 @@ fn code_of(why: NotLaidOut, fault: StoreError) -> ErrorCode
     }
 }
 
-// Makes a database in files that hold none yet. Errors are SQLite's.
+// Makes a database in files that hold none yet, and converts its failure to SQLite's error.
 fn made<D: Disk + Drop>(
     alloc: Global,
     files: Files<D>,
@@ -60,35 +61,38 @@ fn made<D: Disk + Drop>(
 }
 
 impl<O: Observer> Run<'_, O> {
-    /// Serves the volume machine over a database file and its WAL: makes a database if the files hold none
+    /// Serves the volume machine over a database file and its WAL. Makes a database if the files hold none
     /// yet, opens the files, adopts their tables, serves calls, and closes the files.
     ///
-    /// For each State that the files have before (`HasState`), the table of ends of `csi_server::serve` shows
-    /// which bytes are read and written, how the run ends and which calls it counts; the files then have the
-    /// State after the calls. A first run starts from the first State, also after a stop while the database
-    /// was made (`MayStart`). Files without a table get new tables, and the first State, unless the options
-    /// require tables. If memory has no room for a copy of the volumes, reads are answered from the file.
+    /// The run depends only on the State that the files have before it (`HasState`). The table of ends of
+    /// `csi_server::serve` shows which bytes are read and written, how the run ends and which calls it
+    /// counts. After the run the files have the State after these calls. A first run starts from the first
+    /// State, also if a stop interrupted the making of the database (`MayStart`). Files without tables get
+    /// new tables and the first State, unless the options require existing tables. If memory has no room for
+    /// a copy of the volumes, reads are answered from the file.
     ///
-    /// All of this is promised while the disks return the bytes that were written to them (`AreClean`). Over
-    /// any disk the calls that were read have their replies, in order (`writes`), and after `Ok` the store
-    /// has refused no call.
+    /// These promises hold while the disks return the bytes that were written to them (`AreClean`). Over any
+    /// disk, each call that was read has its reply, in order (`writes`), and after `Ok` the store has refused
+    /// no call.
     ///
     /// # Errors
     ///
-    /// `NotOpened` and `Refused`: the next run starts as this one would have, and no call is read and no
-    /// reply written. `Left`, if the store refused a call, and `NotClosed`, if copying the WAL into the
-    /// database file failed: the run is as above, and the files have the State after the calls, or the State
-    /// that a refused call would have made.
+    /// `NotOpened` means that the files were not opened, and `Refused` that their database was refused. No
+    /// call was read and no reply written, and the next run starts as this run would have. `Left` means that
+    /// the store refused a call, and `NotClosed` that copying the WAL into the database file failed. After
+    /// `Left` or `NotClosed` the run is as described above, and the files have the State after the calls, or
+    /// the State that a refused call would have made.
     ///
     /// # Not promised
     ///
-    /// That the disk returns the bytes that were written. That memory is there, and so that a run returns
-    /// `Ok`: tests rule out a body that always returns `NotOpened`. That the volumes are copied into memory
-    /// if memory allows it.
+    /// The disk may return other bytes than were written. Memory may be refused, so a run need not return
+    /// `Ok`; tests exclude a body that always returns `NotOpened`. The volumes may not be copied into memory
+    /// even if memory allows it.
     ///
-    /// The files after a stop in the repair of a file in which an earlier release was stopped, and that a
-    /// half-made file is never refused for its WAL: rows show both. If an opening fails while it reads the
-    /// schema, the clauses speak of the trees that the store reads, and not of bytes.
+    /// The contract does not cover a stop while this program repairs a file in which an earlier release was
+    /// stopped. It also does not exclude that such a file is refused because of its WAL. Rows of tests show
+    /// both. If an opening fails while it reads the schema, the clauses speak of the trees that the store
+    /// reads, and not of bytes.
     pub fn create_and_serve<D: Disk + Drop, R: Read, W: Write>(
         &self,
         files: Files<D>,

@@ -9,7 +9,7 @@ use csi_types::{
 use std::alloc::{AllocError, Global};
 use std::cmp::Ordering;
 
-/// The way that a volume is offered (CSI 1.x, `VolumeCapability.access_type`).
+/// How a volume is offered to its user (CSI 1.x, `VolumeCapability.access_type`).
 #[derive(Debug, Drop)]
 pub enum Kind {
     /// A raw block device (`BlockVolume`).
@@ -19,11 +19,11 @@ pub enum Kind {
     Mount(Text),
 }
 
-/// The key of a capability: the access type and the access mode.
+/// The key of a capability: its access type and its access mode.
 ///
-/// Mount flags and the mount group are not part of the key: two capabilities that differ only in these have
-/// the same key. Keys are ordered: block before mount, then mounts by the bytes of their file system type,
-/// then by the number of the mode.
+/// Mount flags and the mount group are not part of the key, so two capabilities that differ only in these
+/// have the same key. Block keys come before mount keys in the order of keys. Mount keys are ordered by the
+/// bytes of their file system type. Equal access types are ordered by the number of the mode.
 #[derive(Debug, Drop)]
 pub struct CapKey {
     /// The access type: block, or mount with a file system type.
@@ -111,8 +111,8 @@ impl Ord for CapKey {
     }
 }
 
-// `SINGLE_NODE_WRITER` is wider than `SINGLE_NODE_SINGLE_WRITER` and `SINGLE_NODE_MULTI_WRITER`, into
-// which CSI 1.5 split it.
+// Returns the mode that is wider than `mode`, if there is one. CSI 1.5 split `SINGLE_NODE_WRITER` into
+// `SINGLE_NODE_SINGLE_WRITER` and `SINGLE_NODE_MULTI_WRITER`, so it is wider than these two.
 fn wider_mode(mode: u8) -> Option<u8>
     ensures { result ≡ wider_mode mode }
 {
@@ -123,8 +123,9 @@ fn wider_mode(mode: u8) -> Option<u8>
     }
 }
 
-/// Returns the key with the same access type and the wider mode; `None` if no mode is wider than the key's.
-/// A volume with the wider key can be used as the key allows.
+/// Returns the key with the same access type and the wider mode, or `None` if no mode is wider. Only
+/// `SINGLE_NODE_SINGLE_WRITER` and `SINGLE_NODE_MULTI_WRITER` have a wider mode, `SINGLE_NODE_WRITER`. A
+/// volume with the wider key can be used in each way that this key allows.
 pub fn wider_key(key: CapKey) -> Option<CapKey>
     ensures { result ≡ wider_key key }
 {
@@ -137,7 +138,7 @@ pub fn wider_key(key: CapKey) -> Option<CapKey>
     }
 }
 
-// Whether `own` is the wider key of `key`.
+// Returns true if `own` is the wider key of `key`.
 fn is_wider(own: &CapKey, key: &CapKey) -> bool
     ensures { result ≡ is_key (wider_key key.now) own.now }
 {
@@ -159,16 +160,16 @@ fn has_wider(keys: &[CapKey], key: &CapKey) -> bool
     keys.iter().any(|own| is_wider(own, key))
 }
 
-/// Whether a list of keys contains this key or its wider key ([`wider_key`]).
+/// Returns true if a list of keys contains this key or its wider key ([`wider_key`]).
 pub fn has_key(keys: &[CapKey], key: &CapKey) -> bool
     ensures { result ≡ has_key keys.now (Some key.now) }
 {
     has_same(keys, key) || has_wider(keys, key)
 }
 
-/// Returns true if a volume can be created for the key: block with each known mode, or mount with each
-/// known mode that lets no node write while other nodes have the volume (CSI specification,
-/// 'CreateVolume').
+/// Returns true if a volume can be created with this key (CSI specification, 'CreateVolume'). Block access
+/// allows each known mode. Mount access allows the known modes in which no node writes while other nodes have
+/// the volume.
 pub fn supported(key: &CapKey) -> bool
     ensures { result ≡ is_supported_key key.now }
 {
@@ -179,7 +180,7 @@ pub fn supported(key: &CapKey) -> bool
     }
 }
 
-// Returns the number of an access mode; `None` if the mode is missing or unknown.
+// Returns the number of an access mode, or `None` if the mode is missing or unknown.
 fn mode_of(mode: Option<i32>) -> Option<u8>
     ensures { result ≡ mode_of mode }
 {
@@ -204,7 +205,7 @@ fn key_with(alloc: Global, access: &Access, mode: u8) -> Result<Option<CapKey>, 
     Ok(Some(CapKey { kind, mode }))
 }
 
-/// Returns the key of a capability; `None` if it has no access type, or its mode is unknown.
+/// Returns the key of a capability, or `None` if it has no access type or its mode is unknown.
 ///
 /// # Errors
 ///
@@ -234,7 +235,7 @@ fn access_of(alloc: Global, kind: &Kind) -> Result<Access, AllocError>
     }
 }
 
-/// Makes a capability with this key, without mount flags and mount group.
+/// Makes a capability that has this key, without mount flags and mount group.
 ///
 /// # Errors
 ///

@@ -11,8 +11,8 @@ use std::alloc::{AllocError, AllocFailed};
 /// One change of the State, which is made as a whole or not at all.
 #[derive(Debug)]
 pub enum Change {
-    /// Adds a volume. Its number must be the State's next number, no other volume may have its name, and it
-    /// has at most 2^62 bytes. The next number rises by 1.
+    /// Adds a volume. The number of the volume must be the State's next number, no other volume may have its
+    /// name, and its size must be at most 2^62 bytes. The next number rises by 1.
     AddVolume(Volume),
     /// Removes the volume with this number, which must have no attachments. Its number is never used again.
     /// If no volume has the number, nothing changes.
@@ -22,15 +22,15 @@ pub enum Change {
     /// Detaches the volume with this number from the node with this id. If the volume is not attached
     /// there, nothing changes.
     Detach(u64, Text),
-    /// Detaches the volume with this number from every node.
+    /// Detaches the volume with this number from every node. If the volume does not exist, nothing changes.
     DetachAll(u64),
-    /// Replaces the mutable parameters of the volume with this number, which must exist. The new ones have
-    /// at most 4,096 bytes.
+    /// Replaces the mutable parameters of the volume with this number, which must exist. The new parameters
+    /// have at most 4,096 bytes.
     SetMutable(u64, Map),
 }
 
-// Written out, so that code which drops a change has one call for that, and its proof no branch for each
-// variant.
+// Written by hand and not derived: the proof of code that drops a change then has one call for the drop, and
+// no branch for each variant.
 impl Drop for Change {
     #[inline(always)]
     fn drop(self) {
@@ -50,7 +50,7 @@ impl Change {
     ///
     /// # Errors
     ///
-    /// If the change is another one, which is returned unchanged.
+    /// Returns the change itself if it is not [`Change::AddVolume`].
     pub fn into_added(self) -> Result<Volume, Change>
         ensures added { IfOk result (λ volume. self ≡ AddVolume volume) }
         ensures other { IfErr result (λ change. (change ≡ self)
@@ -63,23 +63,23 @@ impl Change {
     }
 }
 
-/// What the volumes of a pool use: their number, and the sum of their sizes.
+/// The usage of a pool: the number of volumes in it, and the sum of their sizes.
 #[derive(Clone, Copy, Debug)]
 pub struct Usage {
     /// The number of volumes in the pool.
     pub volumes: u64,
-    /// The sum of the volumes' sizes in bytes, at most 2^64 - 1.
+    /// The sum of the volumes' sizes in bytes, or 2^64 - 1 if the sum is greater.
     pub bytes: u64,
 }
 
-/// Why a keeper's call failed.
+/// The reason why a keeper's call failed.
 #[derive(Clone, Copy, Debug, PartialEq, Eq)]
 pub enum StoreFault {
     /// Memory for the call was refused.
     NoMemory,
-    /// The store below the keeper, such as a file, failed the call.
+    /// The store below the keeper, such as a file, failed during the call.
     Refused,
-    /// The keeper is down: every call except `refusals` fails until the keeper is opened again.
+    /// The keeper is down. Every call except `refusals` fails until the keeper is opened again.
     Down,
 }
 

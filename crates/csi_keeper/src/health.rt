@@ -1,4 +1,4 @@
-//! Whether a keeper is down, and how many calls it refused.
+//! Keeps track of whether a keeper is down, and counts the calls that it refused.
 
 ghost use Rattle.std.specs.Prelude.{◌≡◌, ◌≢◌, ◌+◌, ◌-◌, ◌^◌, min, true, false, Err, OnOk, OnErr};
 ghost use Rattle.csi_keeper.specs.Keeper.{count_after};
@@ -7,10 +7,10 @@ ghost use Rattle.csi_keeper.specs.declared.change.StoreFault.TheVariants.{Down};
 
 use crate::change::StoreFault;
 
-/// Whether a keeper is down, and how many calls it refused.
+/// The state of a keeper's service: whether the keeper is down, and how many calls it refused.
 ///
-/// A keeper calls `start_call` at the start of each call, and `finish_call` or `finish_change` with the
-/// result at its end.
+/// A keeper calls `start_call` at the start of each call. At the end of the call it passes the result through
+/// `finish_call` for a read, or `finish_change` for a change.
 ///
 /// ```rust
 /// self.health.start_call()?;
@@ -21,12 +21,12 @@ use crate::change::StoreFault;
 pub struct Health {
     /// The number of calls that returned `Refused` or `Down`, at most 2^64 - 1.
     pub refusals: u64,
-    /// Whether the keeper is down, so that each further call returns `Down`.
+    /// True if the keeper is down, so that each further call returns `Down`.
     pub is_down: bool,
 }
 
 impl Health {
-    /// Creates the health of a keeper before its first call: not down, with no refusals.
+    /// Returns the health of a keeper before its first call: the keeper is not down and has refused no call.
     pub fn new() -> Health
         ensures fresh { result.refusals ≡ 0 }
         ensures up { result.is_down ≡ false }
@@ -47,7 +47,7 @@ impl Health {
     ///
     /// # Errors
     ///
-    /// `Down` if the keeper is down; the refusal is counted.
+    /// `Down` if the keeper is down. The refusal is counted.
     pub fn start_call(&mut self) -> Result<(), StoreFault>
         ensures { Starts self.old self.new result }
     {
@@ -58,12 +58,12 @@ impl Health {
         Ok(())
     }
 
-    /// Finishes a read with its result. Whether the keeper is down is unchanged.
+    /// Finishes a read with its result. The keeper does not go down, whatever the result is.
     ///
     /// # Errors
     ///
-    /// The fault in `answer`. `Refused` is counted. `Down` becomes `Refused`: this keeper is not down, but
-    /// the keeper below it may be.
+    /// Returns the fault in `answer`, but returns `Refused` instead of `Down`: this keeper is not down, but a
+    /// keeper below it may be. Each `Refused` that is returned is counted.
     pub fn finish_call<T>(&mut self, answer: Result<T, StoreFault>) -> Result<T, StoreFault>
         ensures { Finishes self.old self.new answer result }
     {
@@ -77,11 +77,12 @@ impl Health {
         }
     }
 
-    /// Finishes a change with its result. After any fault, `NoMemory` too, the keeper is down.
+    /// Finishes a change with its result. After any fault, also `NoMemory`, the keeper is down.
     ///
     /// # Errors
     ///
-    /// As `finish_call`.
+    /// Returns the fault in `answer`, but returns `Refused` instead of `Down`. Each `Refused` that is
+    /// returned is counted.
     pub fn finish_change(&mut self, answer: Result<(), StoreFault>) -> Result<(), StoreFault>
         ensures answers { result ≡ answered answer }
         ensures up { result ≢ Err Down }

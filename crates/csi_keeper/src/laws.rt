@@ -1,4 +1,5 @@
-//! Laws of the definitions that contracts use. Each law is the contract of a function that does nothing.
+//! Laws about attachments that coexist, and about the first State. A law is a function that does nothing: its
+//! caller gets what the contract of the law states.
 
 ghost use Rattle.std.specs.Prelude.{◌≡◌, ◌≤◌, ℕ};
 ghost use Rattle.csi_keeper.specs.Coexistence.{coexist};
@@ -9,14 +10,15 @@ ghost use Rattle.csi_types.specs.declared.limits.TheConstants.{MAX_NUMBER};
 
 use csi_config::Config;
 
-/// Coexistence is symmetric: `coexist` returns the same for both orders of two attachments.
+/// Whether two attachments can coexist does not depend on their order: `coexist a b` and `coexist b a` are
+/// equal.
 #[inline(always)]
 #[tactic(auto, using(crate::specs::facts::Coexistence::coexist_turned))]
 pub fn coexist_symmetric()
     ensures { (a b : Attachment) → coexist a b ≡ coexist b a }
 {}
 
-/// A State without volumes has the invariant, with any number for its first volume.
+/// A State without volumes meets the invariant if its next number is from 1 to 2^62.
 #[inline(always)]
 pub fn first(config: &Config)
     ensures { (n : ℕ) → 1 ≤ n → n ≤ MAX_NUMBER → IsInvariant config.now (first_state n) }

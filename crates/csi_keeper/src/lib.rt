@@ -1,16 +1,19 @@
 //! The State of volumes, its changes, and the trait of the stores that keep it.
 //!
-//! `specs/State.antt` defines the State of volumes as finite maps, its reads as filters of their entries,
-//! and its changes. `specs/Invariant.antt` defines the invariant that each State the machine reaches has.
+//! `specs/State.antt` defines the State of volumes as finite maps, its reads as filters of their entries, and
+//! its changes. `specs/Invariant.antt` defines the invariant: each State that the machine reaches meets it.
 //! `specs/Keeper.antt` defines the effect of each call on the model of a keeper. docs/MACHINE.md describes
-//! them in prose. `specs/facts/` has facts about these definitions that crates above use too: sums over a
-//! pool after a change, the orders of the maps, chains of reads, supported keys.
+//! these definitions in prose. `specs/facts/` has facts about these definitions that crates above also use:
+//! sums over a pool after a change, the orders of the maps, chains of reads, and supported keys.
 //!
-//! The step of requests uses only the trait [`Keeper`]. This crate also has the parts that keepers share:
-//! the running totals of pools, [`Totals`], copies of volumes and attachments ([`copy_volume`],
-//! [`copy_attachment`]), the count of refusals and whether a keeper is down ([`Health`]), the entries of a
-//! listing ([`listed_at`], [`listed_each`]), and folds over them ([`PageFold`]). The keepers are in crates
-//! above: `csi_memory` in memory, `csi_tables` in SQLite, `csi_through` over two keepers.
+//! The step of requests uses only the trait [`Keeper`]. The keepers are in crates above: `csi_memory` keeps
+//! volumes in memory, `csi_tables` in SQLite, and `csi_through` in two keepers. This crate also has the parts
+//! that keepers share:
+//!
+//! - [`Totals`]: the running totals of pools
+//! - [`copy_volume`], [`copy_attachment`]: copies of volumes and attachments
+//! - [`Health`]: the count of refusals, and whether a keeper is down
+//! - [`listed_at`], [`listed_each`], [`PageFold`]: the entries of a listing, and folds over them
 //!
 //! ```rust
 //! let number = keeper.next_number()?;

@@ -21,7 +21,7 @@ pub struct Listed {
 }
 
 impl Listed {
-    /// Borrows the fields as a [`ListedRow`].
+    /// Borrows the fields as a [`ListedRow`], without copying them.
     #[inline(always)]
     pub fn lent(&self) -> ListedRow<'_>
         ensures { row_reported result ≡ self.now }
@@ -48,7 +48,7 @@ pub struct ListedRow<'a> {
     pub nodes: &'a Items<Text>,
 }
 
-/// A page of volumes, and the nodes that each is published to.
+/// A page of volumes, and the nodes that each volume is published to.
 #[derive(Drop)]
 pub struct PageWithNodes {
     /// The volumes of the page, in rising order of their numbers.
@@ -74,8 +74,8 @@ pub fn listed_at(alloc: Global, volume: &Volume, nodes: Items<Text>) -> Result<L
     })
 }
 
-/// Makes the listing entries of volumes, each with the nodes at the same place in `nodes`. The result is as
-/// long as the shorter of the two lists.
+/// Makes the listing entries of volumes. The volume at an index is published to the nodes at the same index
+/// in `nodes`. If the lists have different lengths, the rest of the longer list is ignored.
 ///
 /// # Errors
 ///

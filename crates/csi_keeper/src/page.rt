@@ -9,11 +9,10 @@ use std::alloc::AllocError;
 
 /// A fold over the entries of a listing, which it takes one by one in order.
 pub trait PageFold {
-    /// The relation between the fold before it takes some entries, the entries in order, and the fold after
-    /// it.
+    /// The relation between a fold, the entries that it takes in order, and the fold after it has taken them.
     ghost folds: { Self → List Report → Self → Type 0 };
 
-    /// A relation between the fold before a call and the fold after it, which holds even if the call fails.
+    /// The relation between the fold before a call and the fold after it. It holds even if the call fails.
     ghost keeps: { Self → Self → Type 0 };
 
     /// Adds the entry of the next volume to the fold.
@@ -29,15 +28,15 @@ pub trait PageFold {
     /// A fold that takes no entry is unchanged.
     ghost starts: { (fold : Self) → folds fold [] fold };
 
-    /// `keeps` is reflexive: it holds between a fold and itself, as when the fold takes no entry.
+    /// The relation `keeps` holds between each fold and itself.
     ghost stays: { (fold : Self) → keeps fold fold };
 }
 
-/// Passes entries of a listing to a fold, in order.
+/// Passes the entries of a listing to a fold, from the first to the last.
 ///
 /// # Errors
 ///
-/// If `add` fails; the fold may have taken some of the entries then.
+/// If `add` fails. The fold may then have taken some of the entries.
 pub fn fold_listed<F: PageFold>(listed: &[Listed], fold: &mut F) -> Result<(), AllocError>
     ensures folded { OnOk result (F.folds fold.old listed.now fold.new) }
     ensures kept { F.keeps fold.old fold.new }

@@ -1,4 +1,4 @@
-//! Running totals: the number of volumes in each pool, and the sum of their bytes.
+//! Running totals of each pool: the number of its volumes, and the sum of their bytes.
 
 ghost use Rattle.std.specs.Prelude.{◌≡◌, ◌↔◌, List, ℕ, false, IsTrue, OnOk, OnErr, if◌then◌else◌};
 ghost use Rattle.csi_types.specs.Maps.{same_text};
@@ -9,7 +9,7 @@ use csi_types::Text;
 use std::alloc::{AllocError, Global};
 use std::collections::BTreeMap;
 
-/// The running total of one pool: the number of its volumes, and the sum of their sizes.
+/// The total of one pool: the number of its volumes, and the sum of their sizes.
 #[derive(Clone, Copy, Debug)]
 pub struct Total {
     /// The number of volumes in the pool.
@@ -18,17 +18,17 @@ pub struct Total {
     pub bytes: u128,
 }
 
-/// The total of each pool. A pool to which no volume was ever added has the total of 0 volumes and 0 bytes.
+/// The total of each pool. A pool that never had a volume has a total of 0 volumes and 0 bytes.
 ///
-/// A keeper has these totals in addition to its rows, so that the usage of a pool is found in O(log n) for
-/// n pools. The entry of a pool is never removed.
+/// A keeper keeps these totals next to its rows, so that it finds the usage of a pool in O(log n) time for n
+/// pools. The entry of a pool is never removed.
 #[derive(Drop)]
 pub struct Totals {
     tree: BTreeMap<Text, Total>,
 }
 
 impl Totals {
-    /// Creates totals of 0 for every pool. It takes no memory.
+    /// Returns totals of 0 for every pool. Takes no memory.
     pub fn new(alloc: Global) -> Totals
         ensures { (q : List ℕ) → total_of result q ≡ zero_total }
     {
@@ -64,7 +64,7 @@ impl Totals {
     ///
     /// # Errors
     ///
-    /// If memory is refused; every total is unchanged.
+    /// If memory is refused. The totals are unchanged.
     #[tactic(auto, using(crate::proofs::TotalsLemmas::total_set))]
     pub fn set(&mut self, pool: Text, total: Total) -> Result<(), AllocError>
         ensures set { OnOk result ((q : List ℕ)
@@ -75,13 +75,13 @@ impl Totals {
         Ok(())
     }
 
-    /// Adds a volume of `bytes` bytes to the total of a pool. The totals of other pools are unchanged.
-    /// Nothing is promised about the pool's total if it has 2^64 - 1 volumes already, or if the sum of
-    /// bytes would exceed 2^128 - 1.
+    /// Adds a volume of `bytes` bytes to the total of a pool. The totals of other pools are unchanged. If the
+    /// pool has 2^64 - 1 volumes already, or if the sum of bytes would exceed 2^128 - 1, the new total of the
+    /// pool is unspecified.
     ///
     /// # Errors
     ///
-    /// If memory is refused; every total is unchanged.
+    /// If memory is refused. The totals are unchanged.
     #[tactic(auto, using(crate::proofs::TotalsLemmas::total_set, crate::proofs::TotalsLemmas::total_other))]
     pub fn add(&mut self, pool: Text, bytes: u64) -> Result<(), AllocError>
         ensures counted { OnOk result (HasRoom (total_of self.old pool) bytes → (q : List ℕ)
@@ -96,8 +96,8 @@ impl Totals {
         Ok(())
     }
 
-    /// Whether a volume of `bytes` bytes can be added to the total of a pool: the pool has fewer than 2^64
-    /// - 1 volumes, and the sum of bytes would remain below 2^128.
+    /// Returns true if the total of a pool has room for a volume of `bytes` bytes. The pool must have fewer
+    /// than 2^64 - 1 volumes, and the sum of bytes with this volume must be below 2^128.
     pub fn has_room(&self, pool: &Text, bytes: u64) -> bool
         ensures { IsTrue result ↔ HasRoom (total_of self.now pool.now) bytes }
     {
@@ -105,7 +105,7 @@ impl Totals {
         total.volumes < u64::MAX && total.bytes <= u128::MAX - bytes as u128
     }
 
-    /// Takes the memory that [`count`](Totals::count) needs for a pool. Every total is unchanged.
+    /// Takes the memory that [`count`](Totals::count) needs for a pool. The totals are unchanged.
     ///
     /// # Errors
     ///
@@ -121,8 +121,8 @@ impl Totals {
     }
 
     /// Adds a volume of `bytes` bytes to the total of a pool that has an entry, for example after
-    /// [`reserve`](Totals::reserve). The totals of other pools are unchanged. It takes no memory. Nothing
-    /// is promised about the pool's total if [`has_room`](Totals::has_room) is false.
+    /// [`reserve`](Totals::reserve). The totals of other pools are unchanged. Takes no memory. If
+    /// [`has_room`](Totals::has_room) is false, the new total of the pool is unspecified.
     #[tactic(auto, using(crate::proofs::TotalsLemmas::total_set, crate::proofs::TotalsLemmas::total_other))]
     pub fn count(&mut self, pool: &Text, bytes: u64)
         requires { IsReserved self.old pool.now }
@@ -137,8 +137,8 @@ impl Totals {
         }
     }
 
-    /// Subtracts a volume of `bytes` bytes from the total of a pool. The totals of other pools are
-    /// unchanged. It takes no memory. Neither the count nor the sum falls below 0.
+    /// Subtracts a volume of `bytes` bytes from the total of a pool. The totals of other pools are unchanged.
+    /// Takes no memory. Neither the count nor the sum falls below 0.
     #[tactic(auto, using(crate::proofs::TotalsLemmas::total_set))]
     pub fn remove(&mut self, pool: &Text, bytes: u64)
         ensures { (q : List ℕ) → total_of self.new q
@@ -151,7 +151,7 @@ impl Totals {
     }
 }
 
-// Returns the total with one more volume. Neither the count nor the sum overflows.
+// Returns the total with one more volume of `bytes` bytes. The result is exact if the total has room.
 fn more_total(total: Total, bytes: u64) -> Total
     ensures { HasRoom total bytes → result ≡ more total bytes }
 {
@@ -161,7 +161,7 @@ fn more_total(total: Total, bytes: u64) -> Total
     }
 }
 
-// Returns the total with one volume less.
+// Returns the total with one volume of `bytes` bytes less.
 fn less_total(total: Total, bytes: u64) -> Total
     ensures { result ≡ less total bytes }
 {

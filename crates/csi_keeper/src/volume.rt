@@ -1,9 +1,10 @@
-//! The form in which keepers keep volumes and attachments.
+//! Volumes and attachments, as keepers store them.
 
 use crate::capability::CapKey;
 use csi_types::{Items, Map, Text};
 
-/// A volume with all that a keeper stores of it (CSI 1.x, `Volume` and the request that created it).
+/// A volume with everything that a keeper stores about it (CSI 1.x, `Volume` and the request that created
+/// it).
 #[derive(Debug, Drop)]
 pub struct Volume {
     /// The number of the volume, 1 to 2^62 - 1. No other volume ever has the same number, not even after
@@ -31,6 +32,6 @@ pub struct Attachment {
     pub node: Text,
     /// The key of the capability that the volume is published with: one of the volume's keys.
     pub cap: CapKey,
-    /// Whether the volume is published as read-only (`ControllerPublishVolumeRequest.readonly`).
+    /// True if the volume is published as read-only (`ControllerPublishVolumeRequest.readonly`).
     pub readonly: bool,
 }

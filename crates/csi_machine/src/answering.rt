@@ -1,4 +1,4 @@
-//! Answers requests over any keeper.
+//! Answers requests over any keeper by carrying out their plans.
 
 ghost use Rattle.std.specs.Prelude.{◌≡◌, ◌≤◌, ◌++◌, length, [], OnOk, OnErr, IfSome, IsTrue, None};
 ghost use Rattle.csi_types.specs.Checks.{checked};
@@ -21,8 +21,8 @@ use csi_keeper::{Keeper, StoreFault};
 use csi_types::{CreateVolume, Map, Request};
 use std::alloc::Global;
 
-// Appends the body of a plan's response, and then makes its change. If memory is refused for the body, the
-// State is unchanged; if the keeper returns a fault, the body is removed again.
+// Appends the body of a plan's response, and then makes the plan's change. If memory for the body is refused,
+// the State is unchanged. If the keeper returns a fault, the body is removed from the reply.
 #[inline(always)]
 fn finish<K: Keeper, P: Outcome>(
     alloc: Global,
@@ -49,7 +49,7 @@ fn finish<K: Keeper, P: Outcome>(
     }
 }
 
-// Answers a request by its plan.
+// Plans a request, appends the body of its response, and makes its change.
 fn append_planned<K: Keeper>(
     alloc: Global,
     config: &Config,
@@ -67,7 +67,7 @@ fn append_planned<K: Keeper>(
     finish(alloc, keeper, plan, out)
 }
 
-// Answers a create, whose response is written from the volume.
+// Answers CreateVolume. Its response is written from the volume, without a plan in memory.
 fn append_creation<K: Keeper>(
     alloc: Global,
     config: &Config,
@@ -85,22 +85,23 @@ fn append_creation<K: Keeper>(
     finish(alloc, keeper, creation, out)
 }
 
-/// Answers a request over any keeper by one step of the machine, the plan of the request in the keeper's
-/// State: appends the body of the response to `out`, and then makes the change.
+/// Answers a request over any keeper by one step of the machine: plans the request in the keeper's State,
+/// appends the body of the response to `out`, and then makes the change.
 ///
-/// The promises about the State hold while the keeper's doubt is 0, for each State of the invariant that the
-/// keeper may have. After an answer that changed the State, a stop leaves the changed State.
+/// The promises about the State hold while the keeper's doubt is 0, that is, while the keeper's store returns
+/// what was written to it. They hold for each State that the keeper may have, if this State meets the
+/// invariant. After an answer that changed the State, a stop leaves the changed State.
 ///
 /// # Errors
 ///
-/// The fault that the keeper returns, or [`StoreFault::NoMemory`] if memory for the body is refused. The
-/// State is unchanged, but a stop may then leave the change made. `out` is unchanged after an error and after
-/// a refusal.
+/// Returns the fault of the keeper, or [`StoreFault::NoMemory`] if memory for the body is refused. The State
+/// is unchanged, but a stop may then leave the State with the change. `out` is unchanged after an error and
+/// after a refusal.
 ///
 /// # Not promised
 ///
-/// That the keeper or memory does not fail, and how long an answer takes. The change of a request that was
-/// answered with a fault may be made after all: a stop may leave the change.
+/// The keeper and memory may fail at any time, and an answer may take any time. If a request was answered
+/// with a fault, a stop may still leave the State with its change.
 #[inline(always)]
 pub fn append_answer<K: Keeper>(
     alloc: Global,
@@ -124,11 +125,15 @@ pub fn append_answer<K: Keeper>(
     }
 }
 
-/// Answers a request as [`append_answer`] does, and empties `out` first.
+/// Empties `out` and answers a request over any keeper: plans the request in the keeper's State, writes the
+/// body of the response to `out`, and then makes the change. [`append_answer`] states the promises about the
+/// State.
 ///
 /// # Errors
 ///
-/// As for [`append_answer`]. `out` is empty after an error and after a refusal.
+/// Returns the fault of the keeper, or [`StoreFault::NoMemory`] if memory for the body is refused. The State
+/// is unchanged, but a stop may then leave the State with the change. `out` is empty after an error and after
+/// a refusal.
 pub fn answer<K: Keeper>(
     alloc: Global,
     config: &Config,

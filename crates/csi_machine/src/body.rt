@@ -1,4 +1,4 @@
-//! The body of a reply.
+//! Appends the body of a reply, and limits its length.
 
 ghost use Rattle.std.specs.Prelude.{◌≤◌, drop, length, take, Ok};
 ghost use Rattle.std.specs.declared.alloc.AllocError.{AllocError as AnyError};
@@ -10,7 +10,7 @@ use csi_types::{Reason, Response};
 use envelope::MAX_BODY_BYTES;
 use std::alloc::AllocError;
 
-/// Whether a request is done or refused.
+/// The verdict on a request: its response was written, or the request is refused.
 #[derive(Clone, Copy, Debug)]
 pub enum Verdict {
     /// The request is done, and the body of its response is written.
@@ -19,8 +19,8 @@ pub enum Verdict {
     Refused(Reason),
 }
 
-/// Checks the body that begins at `from`. A body of more than [`MAX_BODY_BYTES`] is cut off again and refused
-/// with [`Reason::ReplyTooLarge`].
+/// Checks the length of the body that begins at the offset `from`. A body of more than [`MAX_BODY_BYTES`] is
+/// removed, and refused with [`Reason::ReplyTooLarge`].
 pub(crate) fn limit_body(out: &mut Vec<u8>, from: usize) -> Verdict
     requires { from ≤ length out.old.items }
     ensures appended { Appended {E = AnyError} (take from out.old.items) out.new.items (Ok result) }

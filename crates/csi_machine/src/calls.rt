@@ -1,5 +1,5 @@
-//! Plans each request by reads alone: its answer, and the one change that it makes. Pages of a listing are
-//! written as they are read, without a plan.
+//! Plans each request with reads alone. A plan is the answer, and at most one change. A page of a listing has
+//! no plan: its entries are written while they are read.
 #![tactic(auto, using(csi_keeper::specs::facts::Reads::quiet_same, csi_keeper::specs::facts::Reads::quiet_then))]
 
 ghost use Rattle.std.specs.Prelude.{◌≡◌, None, IfErr, IfOk, IfSome, IsTrue};
@@ -27,7 +27,8 @@ use csi_types::Request;
 pub(crate) use listing::append_page;
 use std::alloc::Global;
 
-/// Returns the plan of a request. Probe, ListVolumes and CreateVolume are answered without this function.
+/// Returns the plan of a request, except Probe, ListVolumes and CreateVolume, which are answered without a
+/// plan.
 pub(crate) fn plan_of<K: Keeper>(
     alloc: Global,
     config: &Config,

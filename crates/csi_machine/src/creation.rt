@@ -1,4 +1,4 @@
-//! The outcome of a create, whose response is encoded straight from the volume.
+//! The outcome of CreateVolume, whose response is encoded from the volume, without a copy.
 
 ghost use Rattle.std.specs.Prelude.{Some};
 ghost use Rattle.csi_types.specs.declared.responses.Response.TheVariants as response;
@@ -16,19 +16,19 @@ use csi_types::{Map, Reason};
 use itoa::Buffer;
 use std::alloc::{AllocError, Global};
 
-/// The outcome of a create. A volume comes with the segments of its pool.
+/// The outcome of CreateVolume: a refusal, or a volume together with the segments of the volume's pool.
 #[derive(Drop)]
 pub(crate) enum Creation<'a> {
-    /// The create is refused, for this reason.
+    /// The request is refused for this reason.
     Refused(Reason),
-    /// A volume with this name exists and is as the request asks.
+    /// A volume with this name exists and is compatible with the request.
     Existing(Volume, &'a Map),
-    /// The volume is new, and is to be added.
+    /// The volume is new, and the change will add it.
     Made(Volume, &'a Map),
 }
 
-// Appends the response with this volume, whose pool has these segments, or refuses a response that is too
-// large for a reply.
+// Appends the response with this volume, whose pool has these segments. Refuses a response that is too large
+// for a reply.
 fn append_created(volume: &Volume, segments: &Map, out: &mut Vec<u8>) -> Result<Verdict, AllocError>
     ensures appended { Appended out.old.items out.new.items result }
     ensures reported { IsReported (within (response_bytes

@@ -48,7 +48,8 @@ pub(crate) fn plan_plugin_capabilities(alloc: Global) -> Result<Plan, AllocError
     Ok(respond(PlannedResponse::of(alloc, Response::PluginCapabilities(types))?))
 }
 
-/// Appends the answer to Probe, which is always ready. Probes are frequent, so no plan is made for them.
+/// Appends the answer to Probe, which always says that the plugin is ready. Probes are frequent, so they need
+/// no plan.
 ///
 /// # Errors
 ///

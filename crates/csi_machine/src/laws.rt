@@ -1,5 +1,5 @@
-//! Laws of the definitions that the contracts cite: each is the contract of a function that does
-//! nothing.
+//! Laws about the answers of the volume machine and about sequences of requests. A law is a function that
+//! does nothing: its caller gets what the contract of the law states.
 
 ghost use Rattle.std.specs.Prelude.{◌≡◌, ◌<◌, ◌^◌, ℕ, List, [], ◌∷◌, None, Some, true};
 ghost use Rattle.csi_rules.specs.Ids.{id, number_of_id};
@@ -35,7 +35,7 @@ use csi_config::Config;
 use csi_config::laws::{pool_keys_differ, pools_named};
 use csi_types::laws::{equal_topologies, inclusions, overlays};
 
-/// The id that is made of a volume's number names this volume, and no other text does.
+/// The id that is made of a volume's number names this volume, and no other text names it.
 #[inline(always)]
 #[tactic(auto, using(csi_rules::specs::facts::Ids::id_named, csi_rules::specs::facts::Ids::named_id))]
 pub fn ids()
@@ -43,8 +43,8 @@ pub fn ids()
     ensures only { (t : Text) (n : ℕ) → number_of_id t ≡ Some n → t ≡ id n }
 {}
 
-/// The State after a request meets the invariant if the State before the request does and the request passes
-/// the checks of its arguments. This holds whether or not the request is answered.
+/// If the State before a request meets the invariant, and the request passes the checks of its arguments, the
+/// State after the request meets the invariant. This holds whether or not the request is answered.
 #[inline(always)]
 pub fn kept(config: &Config)
     ensures { (s : State) (r : Request) → IsInvariant config.now s → checked r ≡ None
@@ -53,9 +53,9 @@ pub fn kept(config: &Config)
     configured(config);
 }
 
-/// No number is given twice: a request never lowers the next number, never gives the number of a deleted
-/// volume again, and changes only the mutable parameters of a volume that exists before and after. This holds
-/// whether or not the request is answered.
+/// No two volumes ever get the same number. A request never lowers the number for the next volume, and never
+/// gives a volume the number of a deleted volume. If a volume exists before and after a request, only its
+/// mutable parameters may change. This holds whether or not the request is answered.
 #[inline(always)]
 pub fn numbers(config: &Config)
     ensures { (s : State) (r : Request) → IsInvariant config.now s → checked r ≡ None
@@ -64,18 +64,23 @@ pub fn numbers(config: &Config)
     configured(config);
 }
 
-/// A walk over the pages of a listing, from a State of the invariant (CSI specification, 'ListVolumes').
+/// A walk over the pages of a listing lists each volume at most once (CSI specification, 'ListVolumes'). The
+/// walk begins in a State that meets the invariant.
 ///
-/// The first page has an empty token, and each next page the token that the page before it returned. Other
-/// requests that pass the checks of their arguments may come between the pages. Then no page is refused for
-/// its token; each listed volume existed when its page was read; no volume is listed twice; and a walk that
-/// reached its end has listed each volume that existed at all of its pages.
+/// The token of the first page is empty, and the token of each later page is the token that the page before
+/// returned. Between the pages, any requests that pass the checks of their arguments may come. The law
+/// states:
+///
+/// - no page is refused for its token
+/// - each listed volume existed when its page was read
+/// - no volume is listed twice
+/// - a walk that reached its end has listed each volume that existed at all of its pages
 ///
 /// # Not promised
 ///
-/// That a walk ends while other clients add volumes, and that all pages show the same moment. A page that is
-/// too large for a reply is refused and does not count as a page of the walk: the client asks for it again
-/// with the same token and fewer entries.
+/// While other clients add volumes, a walk may have no end. The pages of a walk may show the State at
+/// different moments. A page that is too large for a reply is refused and does not count as a page of the
+/// walk. The client asks for it again, with the same token and fewer entries.
 #[inline(always)]
 pub fn walk(config: &Config)
     ensures read { (s : State) (calls : List Call) → IsInvariant config.now s → AreChecked calls
@@ -93,15 +98,17 @@ pub fn walk(config: &Config)
     configured(config);
 }
 
-/// A volume of the size that GetCapacity offers can be made (CSI specification, 'GetCapacity',
+/// If GetCapacity offers a size, a volume of this size can be created (CSI specification, 'GetCapacity',
 /// `maximum_volume_size`).
 ///
-/// In a State of the invariant, if the maximum in the answer is above zero, a pool of the configuration is
-/// chosen for this size under the topology of the request. So a create that asks for this size, with the
-/// topology among its terms, is answered with a volume of this size in a pool of the configuration, and the
-/// volume exists from then on. The create may use any range that results in this size, such as a range with
-/// this size as both limits. Its name must be new, and neither the count of volumes nor their numbers may be
-/// used up.
+/// The State must meet the invariant, and the size is the maximum in the answer, which must be above 0. Then
+/// a pool of the configuration can be chosen for this size and for the topology of the GetCapacity request.
+/// So a CreateVolume for this size, with this topology among its requisite or preferred topologies, is
+/// answered with a volume of this size in a pool of the configuration. The volume then exists.
+///
+/// The CreateVolume may have any range that results in this size, such as a range with this size as both
+/// limits. Its name must be new. The greatest number of volumes must not be reached, and the volume numbers
+/// must not be used up.
 #[inline(always)]
 pub fn room(config: &Config)
     ensures chosen { (s : State) (g : GetCapacity) (available n : ℕ) → IsInvariant config.now s
@@ -135,8 +142,9 @@ pub fn room(config: &Config)
 
 /// Each request is idempotent (CSI specification, 'Timeouts').
 ///
-/// In a State of the invariant, a request that passes the checks of its arguments and is repeated at once
-/// gets the same answer again, and the repetition does not change the State.
+/// If a request is made twice, one directly after the other, both get the same answer, and the second does
+/// not change the State. The State before them must meet the invariant, and the request must pass the checks
+/// of its arguments.
 #[inline(always)]
 pub fn repeat(config: &Config)
     ensures { (s : State) (r : Request) → IsInvariant config.now s → checked r ≡ None
@@ -148,15 +156,15 @@ pub fn repeat(config: &Config)
     inclusions();
 }
 
-/// Requests that a client repeats until each is answered have the effect of executing each once (CSI
-/// specification, 'Timeouts').
+/// If a client repeats each request until it is answered, the effect is the same as executing each request
+/// once (CSI specification, 'Timeouts').
 ///
-/// From a State of the invariant, a client sends requests that pass the checks of their arguments, in order,
-/// and tries each again until it is answered. A try may fail with an internal error or because the store is
-/// down, an answer may be lost, and a stop may end the session between any two tries. Other clients may make
-/// requests that change nothing at any time: Probe, ListVolumes, GetCapacity, ValidateVolumeCapabilities, and
-/// the calls about the plugin. The answers, and each State that may be left in the end, are the answers and
-/// the State of executing each request once.
+/// The first State meets the invariant. A client sends requests that pass the checks of their arguments, one
+/// after the other, and tries each request again until it is answered. A try may fail with an internal error
+/// or because the store is down. An answer may be lost, and a stop may end the session between any two tries.
+/// Other clients may at any time make requests that change nothing: Probe, ListVolumes, GetCapacity,
+/// ValidateVolumeCapabilities, and the calls about the plugin. The answers, and each State that may be left
+/// in the end, are the same as if each request were executed once.
 #[inline(always)]
 pub fn retry(config: &Config)
     ensures { (s t : State) (requests : List Request) (sessions : List (List Try)) (reported : List Report)
@@ -171,11 +179,12 @@ pub fn retry(config: &Config)
     inclusions();
 }
 
-/// Lives as in [`retry`] exist, for each request and from each State, so [`retry`] is not empty.
+/// The premises of [`retry`] can be met: there are lives with two tries, for each request and from each
+/// State.
 ///
-/// Either the request is made and its answer is lost, or the request fails with an internal error and a stop
-/// leaves its change all the same. In the next session the client tries the request again, and it is
-/// answered. Before that, another client may make a request that changes nothing.
+/// Either the request is executed and its answer is lost, or the request fails with an internal error and a
+/// stop leaves the State with its change. In the next session the client tries the request again, and it is
+/// answered. Before this second try, another client may make a request that changes nothing.
 #[inline(always)]
 pub fn tried_twice(config: &Config)
     ensures lost { (s : State) (r : Request) → IsLifeOfTwo config.now s r Unanswered }

@@ -1,20 +1,20 @@
-//! The volume machine: how requests are answered from the volumes of a keeper, and what they change.
+//! The volume machine: it answers requests from the volumes of a keeper, and changes the volumes.
 //!
-//! A request is answered by its *plan* ([`Plan`], `plan.rt`): a response or a refusal, and at most one
-//! change. `response.rt` has the responses, and `body.rt` appends the body of a response to a reply, or
-//! refuses a body that is too large for a reply. Plans are made by reads of the keeper and by the rules of
-//! `csi_rules`, each next to its definitions in `specs/`: `identity.rt` plans the calls about the plugin,
-//! `modify.rt` ControllerModifyVolume, `validate.rt` ValidateVolumeCapabilities, and `calls/` has a file for
-//! each other request (`planned.rt`).
+//! The answer to a request is its *plan* ([`Plan`], `plan.rt`): a response or a refusal, and at most one
+//! change. `response.rt` has the responses. `body.rt` appends the body of a response to a reply, or refuses a
+//! body that is too large for a reply. A plan is made from reads of the keeper by the rules of `csi_rules`,
+//! and `specs/` defines the plan of each request. `identity.rt` plans the calls about the plugin, `modify.rt`
+//! ControllerModifyVolume, and `validate.rt` ValidateVolumeCapabilities. `calls/` has a file for each other
+//! request, and `planned.rt` the trait of requests that can be planned.
 //!
 //! `answering.rt` carries a plan out (`outcome.rt`): it appends the body of the response, makes the change,
-//! and cuts the body off again if the change fails. Three requests are answered as their plans define, but no
-//! plan is made in memory: Probe; ListVolumes, whose page is written as it is read (`calls/listing.rt`,
+//! and removes the body again if the change fails. Three requests are answered as their plans define, but
+//! without a plan in memory: Probe; ListVolumes, whose page is written while it is read (`calls/listing.rt`,
 //! `page.rt`, `places.rt`); and CreateVolume, whose response is written from the volume (`creation.rt`).
 //!
-//! The proofs that plans are what the definitions ask for are in `proofs/CreateLemmas.antt` and the like, and
-//! are put together in `proofs/AnsweringLemmas.antt`. [`laws`] has what follows for whole sequences of
-//! requests: the invariant, walks over pages, requests that are sent again.
+//! `proofs/CreateLemmas.antt` and similar files prove that plans meet the definitions, and
+//! `proofs/AnsweringLemmas.antt` puts the proofs together. [`laws`] has what follows for sequences of
+//! requests: the invariant, walks over pages, and requests that are sent again.
 //!
 //! ```rust
 //! match append_answer(alloc, config, &mut keeper, &request, &mut reply)? {

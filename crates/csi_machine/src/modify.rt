@@ -1,4 +1,5 @@
-//! ControllerModifyVolume (CSI specification, 'ControllerModifyVolume').
+//! Plans ControllerModifyVolume: changes the mutable parameters of a volume (CSI specification,
+//! 'ControllerModifyVolume').
 
 ghost use Rattle.std.specs.Prelude.{◌≡◌, nat_lt, Ok, None, IfOk, IfSome};
 ghost use Rattle.csi_types.specs.Checks.{map_bytes};
@@ -22,7 +23,8 @@ fn is_large(map: &Map) -> bool
     map_bytes(map) > MAX_MAP_BYTES
 }
 
-// The plan for a volume with these parameters of its own. What it has already is not written again.
+// Plans ControllerModifyVolume for a volume whose mutable parameters are `own`. If the volume already has
+// each given parameter, the plan changes nothing.
 fn modify_own(alloc: Global, number: u64, own: &Map, given: &Map) -> Result<Plan, AllocError>
     ensures bounded { IfOk result (λ p. IfSome p.change IsBounded) }
     ensures value { IfOk result (λ p. p ≡ modify_own number own.now given.now) }
@@ -43,13 +45,14 @@ fn modify_own(alloc: Global, number: u64, own: &Map, given: &Map) -> Result<Plan
 
 /// Plans ControllerModifyVolume, by reads of the keeper alone.
 ///
-/// The given parameters replace or extend the volume's own, whether it is published or not. A result of more
-/// than 4,096 bytes is refused. If the volume already has each given parameter, nothing changes. If the text
-/// is not the id of a volume, the keeper is not read.
+/// Each given parameter is added to the volume's mutable parameters, or replaces the value under its key. It
+/// does not matter if the volume is published. If the result has more than 4,096 bytes, the request is
+/// refused. If the volume already has each given parameter, nothing changes. If the text is not the id of a
+/// volume, the keeper is not called.
 ///
 /// # Errors
 ///
-/// The fault that the keeper returns, or `StoreFault::NoMemory` if memory is refused.
+/// Returns the fault of the keeper, or `StoreFault::NoMemory` if memory is refused.
 #[tactic(auto, using(csi_keeper::specs::facts::Reads::quiet_same, csi_keeper::specs::facts::Reads::quiet_then))]
 pub(crate) fn plan_modify<K: Keeper>(alloc: Global, keeper: &mut K, request: &Modify) -> Planning
     ensures bounded { IfOk result (λ p. IfSome p.change IsBounded) }

@@ -1,5 +1,5 @@
-//! The outcome of a request: a body or a refusal, and at most one change, which is made after the body is
-//! written.
+//! The outcome of a request: a body or a refusal, and at most one change. The change is made after the body
+//! is written.
 
 ghost use Rattle.std.specs.Prelude.{◌≡◌, ◌≤◌, ◌++◌, length, IfOk, OnOk, OnErr, IfSome};
 ghost use Rattle.envelope.specs.declared.limits.TheConstants.{MAX_BODY_BYTES};
@@ -13,13 +13,13 @@ use crate::plan::Plan;
 use csi_keeper::{Keeper, StoreFault};
 use std::alloc::{AllocError, Global};
 
-/// A plan that can be carried out: its body is appended first, and then its change is made.
+/// A plan that can be carried out: first its body is appended, then its change is made.
 pub(crate) trait Outcome: Drop {
     /// The plan as a value, for contracts.
     ghost plan: { Self → AnyPlan };
 
-    /// Appends the body of the plan's response. A body that is too large for a reply becomes a refusal, and
-    /// then the plan makes no change.
+    /// Appends the body of the plan's response. If the body is too large for a reply, the plan becomes a
+    /// refusal and makes no change.
     fn append(&self, out: &mut Vec<u8>) -> Result<Verdict, AllocError>
         ensures value { IfOk result (λ v. limited (plan self.now) ≡ by_verdict (plan self.now) v) }
         ensures body { OnOk result (out.new.items

@@ -1,4 +1,4 @@
-//! Pages of a listing, written as they are read: no list of their volumes is made.
+//! Writes pages of a listing while they are read, without a list of their volumes.
 
 ghost use Rattle.std.specs.Prelude.{◌≡◌, ◌++◌, ◌∷◌, [], OnOk};
 ghost use Rattle.pbmessage.specs.Kept.{Keeps};
@@ -15,7 +15,7 @@ use csi_keeper::{ListedRow, PageFold};
 use csi_rules::{ID_PREFIX, signed};
 use std::alloc::{AllocError, Global};
 
-// Appends the entry of a volume of this place.
+// Appends the entry of a volume, whose pool has this placement.
 fn put_placed(
     row: &ListedRow<'_>,
     place: &PoolPlacement,
@@ -59,7 +59,7 @@ fn put_first(
     Ok(())
 }
 
-// Appends the entry of a volume.
+// Appends the entry of a volume. Looks up or encodes the placement of its pool.
 #[inline(always)]
 fn put_row(
     alloc: Global,
@@ -86,11 +86,12 @@ fn put_row(
 pub(crate) struct Page<'a> {
     pub(crate) alloc: Global,
     pub(crate) config: &'a Config,
-    /// The context and topology of each pool met so far, encoded.
+    /// The encoded context and topology of each pool that a volume of the page is in.
     pub(crate) places: Vec<PoolPlacement>,
-    /// The number of the last volume on the page; while the page is empty, the number after which it begins.
+    /// The number of the last volume on the page. While the page is empty, the number after which the page
+    /// begins.
     pub(crate) last: u64,
-    /// The body that the entries are appended to.
+    /// The body of the reply, to which the entries are appended.
     pub(crate) body: Vec<u8>,
 }
 
@@ -121,10 +122,10 @@ impl PageFold for Page<'_> {
     }
 }
 
-/// A fold that finds out whether there is any volume.
+/// A fold that finds out if there is any volume.
 #[derive(Drop)]
 pub(crate) struct AnyVolume {
-    /// Whether a volume was met. It begins as `false`.
+    /// True if the fold has taken a volume. Initially false.
     pub(crate) is_any: bool,
 }
 

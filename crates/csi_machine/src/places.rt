@@ -1,5 +1,5 @@
-//! The context and topology that a configuration gives the volumes of each pool, encoded when a listing first
-//! needs them.
+//! The placement of each pool: the encoded context and topology of its volumes. A listing encodes the
+//! placement of a pool when it meets the first volume of the pool.
 
 ghost use Rattle.std.specs.Prelude.{◌≡◌, ◌↔◌, IfOk, IfSome, IsTrue, find, option_copied};
 ghost use Rattle.csi_types.specs.Maps.{same_text};
@@ -19,7 +19,7 @@ pub(crate) struct PoolPlacement {
     pub(crate) placement: Placement,
 }
 
-/// Encodes the context and topology that the configuration gives to every volume of a pool.
+/// Encodes the context and topology that the configuration gives to each volume of a pool.
 pub(crate) fn placement_of(
     alloc: Global,
     config: &Config,
@@ -44,7 +44,7 @@ fn is_of(place: &PoolPlacement, pool: &str) -> bool
     place.pool.as_str() == pool
 }
 
-/// Returns the placement of a pool; `None` if no volume of the pool was met yet.
+/// Returns the placement of a pool, or `None` if the listing has met no volume of the pool yet.
 #[inline(always)]
 pub(crate) fn placement_named<'a>(
     places: &'a [PoolPlacement],

@@ -10,18 +10,19 @@ use csi_keeper::{Change, StoreFault};
 use csi_types::{Boxed, Reason};
 use std::alloc::{AllocError, Global};
 
-/// A plan; or the fault that the keeper returned, or [`StoreFault::NoMemory`] if memory was refused.
+/// A plan, or the fault of the keeper, or [`StoreFault::NoMemory`] if memory was refused.
 pub(crate) type Planning = Result<Plan, StoreFault>;
 
 /// The answer to a request, and the change to make before the answer is sent.
 pub struct Plan {
-    /// The response, or the reason of a refusal, which changes nothing.
+    /// The response, or the reason of a refusal. A refused request changes nothing.
     pub outcome: Result<PlannedResponse, Reason>,
     /// The change to make, or `None` if the request changes nothing.
     pub change: Option<Boxed<Change>>,
 }
 
-// Written out, so that what drops one has one call for it, and its proof no branch for each of its parts.
+// Written by hand and not derived: the proof of code that drops a plan then has one call for the drop, and no
+// branch for each part.
 impl Drop for Plan {
     #[inline(always)]
     fn drop(self) {
@@ -61,8 +62,8 @@ pub(crate) fn refuse(reason: Reason) -> Plan
     }
 }
 
-/// Returns the plan that makes a change and answers with a response. This function is inlined, so the change,
-/// whose kind the caller knows, is not moved whole.
+/// Returns the plan that makes a change and answers with a response. The function is inlined: the caller
+/// knows the kind of the change, so only the bytes of this kind are moved.
 ///
 /// # Errors
 ///

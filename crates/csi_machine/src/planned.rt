@@ -1,4 +1,4 @@
-//! How a request is planned, by the State alone.
+//! The trait of requests whose plan depends on the State alone.
 
 ghost use Rattle.std.specs.Prelude.{◌≡◌, None, IfErr, IfOk, IfSome};
 ghost use Rattle.csi_config.specs.declared.config.Config.{Config as AnyConfig};
@@ -13,15 +13,16 @@ use csi_keeper::Keeper;
 use csi_types::Boxed;
 use std::alloc::Global;
 
-/// A request that can be planned: a request of one method, or a request of any method.
+/// A request that can be planned. It is implemented for the requests of single methods and for the request of
+/// any method.
 pub(crate) trait Planned {
     /// The plan of the request in a State.
     ghost planned: { AnyConfig → State → Self → AnyPlan };
 
-    /// Holds for a request about a volume whose id is not the id of a volume. Its plan needs no State.
+    /// Holds if the request has a volume id that no volume can have. Such a request needs no State.
     ghost names_none: { Self → Type 0 };
 
-    /// Plans the request, by reads of the keeper alone. A request that needs no State reads nothing.
+    /// Plans the request by reads of the keeper alone. A request that needs no State makes no read.
     fn plan<K: Keeper>(&self, alloc: Global, config: &Config, keeper: &mut K) -> Planning
         ensures bounded { IfOk result (λ p. IfSome p.change IsBounded) }
         ensures asks_nothing { names_none self.now

@@ -1,4 +1,4 @@
-//! The response of a plan.
+//! The response in a plan, in a form that takes little memory.
 
 ghost use Rattle.std.specs.Prelude.{◌≡◌, IfOk};
 ghost use Rattle.csi_types.specs.declared.responses.Response.TheVariants as response;
@@ -12,20 +12,20 @@ use csi_types::{Boxed, Response};
 use std::alloc::{AllocError, Global};
 use std::marker::Model;
 
-// Where a response is kept.
+// The form in which a plan keeps its response.
 #[derive(Drop)]
 enum ResponseForm {
-    // In memory of the response's own.
+    // The whole response, in allocated memory.
     Made(Boxed<Response>),
-    // Not kept: the response has no field.
+    // The response has no field, so nothing is kept.
     Delete,
     Unpublish,
     Modify,
-    // Not kept but for one flag: whether the publication is read-only.
+    // Only one flag of the response is kept: true if the publication is read-only.
     Published(bool),
 }
 
-// The only key of a publication's context.
+// The only key of the `publish_context` of a publication.
 const READONLY: &str = "readonly";
 
 fn flag_text(flag: bool) -> &'static str
@@ -34,7 +34,7 @@ fn flag_text(flag: bool) -> &'static str
     if flag { "true" } else { "false" }
 }
 
-// Appends the response of a publication, or refuses a response that is too large for a reply.
+// Appends the response of ControllerPublishVolume. Refuses a response that is too large for a reply.
 fn append_published(readonly: bool, out: &mut Vec<u8>) -> Result<Verdict, AllocError>
     ensures appended { Appended out.old.items out.new.items result }
     ensures reported { IsReported (within (response_bytes
@@ -66,7 +66,7 @@ impl Model for PlannedResponse {
 }
 
 impl PlannedResponse {
-    /// Moves a response into memory of its own.
+    /// Makes the response of a plan from any response, which is moved into allocated memory.
     ///
     /// # Errors
     ///
@@ -107,7 +107,8 @@ impl PlannedResponse {
         }
     }
 
-    /// Returns `ControllerPublishVolumeResponse`. Its publish context has the one key `readonly`.
+    /// Returns `ControllerPublishVolumeResponse`. Its `publish_context` has one entry: the key is `readonly`,
+    /// and the value is the text of the flag.
     pub fn published(readonly: bool) -> PlannedResponse
         ensures { result ≡ response.Publish (publication readonly) }
     {
@@ -116,11 +117,12 @@ impl PlannedResponse {
         }
     }
 
-    /// Appends the body of the response, as [`append_body`] does.
+    /// Appends the body of the response to `out`. A body of more than [`MAX_BODY_BYTES`] is refused with
+    /// [`Reason::ReplyTooLarge`], and `out` is unchanged.
     ///
     /// # Errors
     ///
-    /// As for [`append_body`].
+    /// If memory is refused. `out` is unchanged.
     pub fn append(&self, out: &mut Vec<u8>) -> Result<Verdict, AllocError>
         ensures appended { Appended out.old.items out.new.items result }
         ensures reported { IsReported (within (response_bytes self.now)) out.old.items out.new.items result }

@@ -1,4 +1,5 @@
-//! ValidateVolumeCapabilities (CSI specification, 'ValidateVolumeCapabilities').
+//! Plans ValidateVolumeCapabilities: confirms capabilities and parameters of a volume (CSI specification,
+//! 'ValidateVolumeCapabilities').
 
 ghost use Rattle.std.specs.Prelude.{◌≡◌, ◌&&◌, ◌||◌, ◌==◌, Ok, None, IfOk, IfSome};
 ghost use Rattle.std.specs.FinMap.{len};
@@ -91,13 +92,13 @@ fn validate_volume(alloc: Global, request: &Validate, volume: &Volume) -> Result
 
 /// Plans ValidateVolumeCapabilities, by reads of the keeper alone.
 ///
-/// The answer confirms the request's capabilities and parameters if the volume has the key of each capability
-/// and, if the request has parameters, they are the volume's. Nothing changes. If the text is not the id of a
-/// volume, the keeper is not read.
+/// The answer confirms the capabilities and the parameters of the request if both conditions hold. The volume
+/// has the key of each capability. The parameters of the request are empty or equal the parameters of the
+/// volume. Nothing changes. If the text is not the id of a volume, the keeper is not called.
 ///
 /// # Errors
 ///
-/// The fault that the keeper returns, or `StoreFault::NoMemory` if memory is refused.
+/// Returns the fault of the keeper, or `StoreFault::NoMemory` if memory is refused.
 #[tactic(auto, using(csi_keeper::specs::facts::Reads::quiet_same, csi_keeper::specs::facts::Reads::quiet_then))]
 pub(crate) fn plan_validate<K: Keeper>(
     alloc: Global,

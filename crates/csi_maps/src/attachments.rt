@@ -1,5 +1,5 @@
-//! The attachments in memory, in a map from places. A place is the pair of a volume's number and a node's
-//! id.
+//! The attachments in memory, in a map whose keys are their places. A place is the pair of a volume's number
+//! and a node's id.
 
 ghost use Rattle.std.specs.Prelude.{◌≡◌, ◌+◌, ◌<◌, ◌^◌, ◌==◌, [], ◌∷◌, ◌++◌, if◌then◌else◌, ℕ, None, IfOk, IfErr, OnOk, OnErr, map, filter, not};
 ghost use Rattle.std.specs.BTreeMap.Range.{entries_between};
@@ -18,7 +18,7 @@ use std::collections::btree_map::Range;
 use std::collections::{BTreeMap, BTreeSet};
 use std::ops::Bound;
 
-// Returns the end of the range of places with this number.
+// Returns the end of the range of places whose number is `number`.
 fn end_of(alloc: Global, number: u64) -> Bound<(u64, Text)>
     ensures { result ≡ place_end number }
 {
@@ -81,7 +81,7 @@ pub fn attached_to(
     Ok(copies)
 }
 
-/// Adds the node of an attachment if `place` has the number `number`.
+/// Adds the node of the attachment at `place` to a list if the number of `place` is `number`.
 ///
 /// # Errors
 ///
@@ -102,7 +102,7 @@ pub(crate) fn push_node(
     Ok(())
 }
 
-/// Copies the node ids of the attachments of the volume with this number, in byte order.
+/// Copies the node ids of the attachments of the volume with this number, in byte order of the ids.
 ///
 /// # Errors
 ///
@@ -121,7 +121,8 @@ pub(crate) fn nodes_of(
     Ok(nodes)
 }
 
-// If memory is refused, the map is unchanged, and the error contains the place and the attachment.
+// Adds an attachment at a place. If memory is refused, the map is unchanged, and the error contains the place
+// and the attachment.
 #[tactic(auto, using(crate::specs::facts::Trees::one_place))]
 fn put_place(
     attachments: &mut BTreeMap<(u64, Text), Attachment>,
@@ -137,8 +138,9 @@ fn put_place(
     Ok(())
 }
 
-/// Adds a copy of an attachment to the volume with this number, and adds its node and number to the index
-/// of nodes. If the volume was not attached to that node, the index then agrees with the attachments.
+/// Adds a copy of an attachment to the volume with this number. Also adds the attachment's node and the
+/// number to the index of nodes. If the volume was not attached to that node before, the index then agrees
+/// with the attachments.
 ///
 /// # Errors
 ///
@@ -190,7 +192,7 @@ fn push_place(
     Ok(())
 }
 
-/// Copies the places with this number.
+/// Copies the places whose number is `number`, in byte order of their nodes.
 fn places_to(
     alloc: Global,
     attachments: &BTreeMap<(u64, Text), Attachment>,

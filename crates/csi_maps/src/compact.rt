@@ -1,4 +1,4 @@
-//! A map that takes little memory if it is empty.
+//! A map that takes no memory of its own if it is empty.
 
 ghost use Rattle.std.specs.Prelude.{◌≡◌, IfOk};
 
@@ -6,10 +6,10 @@ use csi_types::{Boxed, Map, copy_map};
 use std::alloc::{AllocError, Global};
 use std::marker::Model;
 
-/// A map from texts to texts that takes two words, and no other memory if it is empty.
+/// A map from texts to texts that takes two words. An empty map takes no other memory.
 #[derive(Drop)]
 pub struct CompactMap {
-    // The entries; `None` for an empty map, which then owns no memory.
+    // The entries, or `None` for an empty map.
     map: Option<Boxed<Map>>,
 }
 
@@ -29,7 +29,7 @@ impl Model for CompactMap {
 }
 
 impl CompactMap {
-    /// Makes a compact map of a map, which is moved.
+    /// Makes a compact map of a map. The entries are moved and not copied.
     ///
     /// # Errors
     ///
@@ -45,7 +45,7 @@ impl CompactMap {
         })
     }
 
-    /// Copies the map into one that is not compact.
+    /// Copies the compact map into an ordinary map.
     ///
     /// # Errors
     ///

@@ -6,8 +6,8 @@ ghost use Rattle.csi_maps.specs.Hashing.{hashed, name_hash, word_hashed};
 // An odd number without a pattern in its bits: 2^64 divided by the golden ratio.
 const MULTIPLIER: u64 = 0x9e37_79b9_7f4a_7c15;
 
-// Returns the hash after one more word. It is one-to-one in the word, so two names of the same length that
-// differ in one word only have different hashes.
+// Returns the hash after one more word. For a fixed hash, different words give different results. So two
+// names of the same length that differ in only one word have different hashes.
 #[inline(always)]
 fn hash_word(hash: u64, word: u64) -> u64
     ensures { result ≡ word_hashed hash word }
@@ -16,7 +16,8 @@ fn hash_word(hash: u64, word: u64) -> u64
     product ^ (product >> 32)
 }
 
-// Returns the hash after fewer than eight more bytes, each taken as a word.
+// Returns the hash after the last bytes of a name. There are fewer than eight, and each byte counts as a
+// word.
 #[inline(always)]
 #[tactic(auto, using(crate::proofs::HashLemmas::byte_next))]
 fn hash_tail(start: u64, tail: &[u8]) -> u64
@@ -30,8 +31,7 @@ fn hash_tail(start: u64, tail: &[u8]) -> u64
     hash
 }
 
-/// Returns the hash of a name, over all of its bytes. Equal names have the same hash; different names
-/// rarely do.
+/// Returns the hash of a name, which depends on all of its bytes. Different names rarely have the same hash.
 #[tactic(auto, using(crate::proofs::HashLemmas::word_first), unfolding(crate::specs::Hashing::name_hash))]
 pub(crate) fn name_hash(name: &[u8]) -> u64
     ensures { result ≡ name_hash name.now }

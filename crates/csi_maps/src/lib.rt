@@ -1,15 +1,15 @@
 //! Ordered maps of volumes and attachments in memory, and the indexes that find them.
 //!
-//! `rows.rt` defines the volumes by number, in the form of `stored.rt` and `compact.rt`; `attachments.rt`
-//! the attachments by number and node; `names.rt` the index of names, which uses the hash of `hash.rt`; and
+//! `rows.rt` defines the volumes by number, in the form of `stored.rt` and `compact.rt`. `attachments.rt` has
+//! the attachments by number and node, `names.rt` the index of names, which uses the hash of `hash.rt`, and
 //! `nodes.rt` the index of nodes. The indexes agree with the rows, also after memory was refused. `walk.rt`
-//! visits the attachments along with a page of volumes.
+//! visits the attachments of a page of volumes.
 //!
 //! `specs/Stored.antt` defines which volume a row is. `specs/Rows.antt` defines which finite maps of the
-//! State the rows represent, and the contents of the index of nodes. `specs/Naming.antt` defines what the
-//! index of names finds, and `specs/Walking.antt` which attachments a walk has not passed. `specs/facts/`
-//! lists what follows from these definitions: ordered maps as finite maps, stored volumes, pages and ranges
-//! of rows, and the index of nodes after a change.
+//! State the rows represent, and the contents of the index of nodes. `specs/Naming.antt` defines which volume
+//! the index of names finds, and `specs/Walking.antt` which attachments a walk has not passed. `specs/facts/`
+//! has facts that follow from these definitions: about ordered maps as finite maps, stored volumes, pages and
+//! ranges of rows, and the index of nodes after a change.
 //!
 //! ```rust
 //! let stored = StoredVolume::new(alloc, volume)?;

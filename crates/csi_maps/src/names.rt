@@ -1,8 +1,8 @@
 //! The index of names in memory, which finds a volume by its name.
 //!
-//! The index does not copy each name. A name is looked up by its hash; the volume found has that name or
-//! another name with the same hash. If several names have the same hash, the name added first is found by
-//! the hash, and each other name is found by its text.
+//! The index does not copy each name. It looks a name up by its hash. The volume that is found has the name,
+//! or another name with the same hash. If several names have the same hash, the name that was added first is
+//! found by the hash, and each other name is found by its text.
 
 ghost use Rattle.std.specs.Prelude.{◌≡◌, ◌≢◌, ◌↔◌, [], None, Some, IfOk, IsTrue, OnOk, OnErr};
 ghost use Rattle.std.specs.BTreeMap.{is_at};
@@ -42,8 +42,8 @@ impl Names {
     }
 }
 
-/// Copies the volume that the index finds by a name; `None` if it finds no volume. It takes O(log n) for n
-/// volumes.
+/// Copies the volume with this name, or returns `None` if the index finds no such volume. Takes O(log n) time
+/// for n volumes.
 ///
 /// # Errors
 ///
@@ -71,7 +71,7 @@ pub fn volume_named(
     }
 }
 
-// Sets the number of a hash to the number that it had before.
+// Sets the number of a hash back to its earlier value.
 fn put_back(by_hash: &mut BTreeMap<u64, u64>, hash: u64, number: u64)
     requires { lookup (is_at (nat_cmp hash)) by_hash.old.entries ≢ None }
     ensures { IsSetAt nat_cmp hash (Some number) by_hash.old.entries by_hash.new.entries }
@@ -81,7 +81,7 @@ fn put_back(by_hash: &mut BTreeMap<u64, u64>, hash: u64, number: u64)
     };
 }
 
-/// Adds a name, which no volume has, with the number of its volume.
+/// Adds a name with the number of its volume. No volume may have the name already.
 ///
 /// # Errors
 ///
@@ -123,7 +123,8 @@ fn drop_hash(by_hash: &mut BTreeMap<u64, u64>, hash: u64, number: u64)
     by_hash.remove(&hash);
 }
 
-/// Removes a name, whose number is `number`. Every other name keeps its number.
+/// Removes the name of the volume with the number `number`. Each other name still leads to the number of its
+/// volume.
 pub fn drop_name(names: &mut Names, name: &Text, number: u64)
     ensures { IsUnnamed name.now number names.old names.new }
 {

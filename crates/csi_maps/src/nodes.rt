@@ -1,5 +1,5 @@
-//! The index of nodes in memory: a map from the id of a node to the numbers of the volumes that are
-//! attached to the node. A node without attached volumes has no entry. A spot is the pair of a node and a
+//! The index of nodes in memory: a map from the id of a node to the numbers of the volumes that are attached
+//! to the node. A node without attached volumes has no entry. A spot is the pair of a node's id and a
 //! volume's number.
 
 ghost use Rattle.std.specs.List.Sorted.{IsStrictlySortedBy};
@@ -36,7 +36,7 @@ pub(crate) fn put_spot(
     Ok(())
 }
 
-/// Removes a spot from the index. A node without further spots is removed too.
+/// Removes a spot from the index. If the node has no other spot, the entry of the node is removed too.
 pub(crate) fn drop_spot(nodes: &mut BTreeMap<Text, BTreeSet<u64>>, spot: &(Text, u64))
     ensures gone { IsSpotSet spot.now false nodes.old.entries nodes.new.entries }
     ensures full { HasNoEmpty nodes.old.entries → HasNoEmpty nodes.new.entries }
@@ -82,7 +82,7 @@ pub fn numbers_at(
     }
 }
 
-/// Returns the number of volumes that are attached to a node; 0 if the index does not contain the node.
+/// Returns the number of volumes that are attached to a node, or 0 if the index does not contain the node.
 pub fn count_at(nodes: &BTreeMap<Text, BTreeSet<u64>>, node: &Text) -> u64
     ensures value { result ≡ length (numbers_by nodes.now.entries node.now) }
     ensures ordered { IsStrictlySortedBy nat_cmp (numbers_by nodes.now.entries node.now) }

@@ -1,4 +1,4 @@
-//! The volumes in memory, in a map from their numbers.
+//! The volumes in memory, in a map whose keys are their numbers.
 
 ghost use Rattle.std.specs.Prelude.{◌≡◌, ℕ, IfErr, IfOk, OnOk, OnErr, is_some, map, filter, take};
 ghost use Rattle.std.specs.BTreeMap.{values};
@@ -26,7 +26,7 @@ use std::collections::btree_map::Range;
 use std::mem::replace;
 use std::ops::Bound;
 
-/// Copies the volume with this number; `None` if no volume has it.
+/// Copies the volume with this number, or returns `None` if no volume has it.
 ///
 /// # Errors
 ///
@@ -53,8 +53,8 @@ pub fn has_volume(volumes: &BTreeMap<u64, StoredVolume>, number: u64) -> bool
     volumes.contains_key(&number)
 }
 
-/// Copies the volume with this number if its name is `name`; `None` if it has another name or does not
-/// exist.
+/// Copies the volume with this number if its name is `name`. Returns `None` if the volume has another name or
+/// does not exist.
 ///
 /// # Errors
 ///
@@ -75,7 +75,7 @@ pub(crate) fn volume_if_named(
     }
 }
 
-/// Copies the capability keys of the volume with this number; `None` if no volume has it.
+/// Copies the capability keys of the volume with this number, or returns `None` if no volume has it.
 ///
 /// # Errors
 ///
@@ -101,8 +101,8 @@ fn is_in(volume: &StoredVolume, pool: &str) -> bool
     volume.pool.as_str() == pool
 }
 
-/// Returns the size in bytes of each volume of a pool, in rising order of the volumes' numbers. It looks
-/// through all volumes.
+/// Returns the size in bytes of each volume of a pool, in rising order of the volumes' numbers. Looks through
+/// all volumes.
 ///
 /// # Errors
 ///
@@ -134,7 +134,7 @@ fn beyond(volumes: &BTreeMap<u64, StoredVolume>, after: u64) -> Range<'_, u64, S
 }
 
 /// Copies the first `count` volumes whose numbers are greater than `after`, in rising order of the numbers.
-/// If there are fewer such volumes, it copies all of them.
+/// If there are fewer such volumes, copies all of them.
 ///
 /// # Errors
 ///
@@ -161,8 +161,8 @@ pub fn volumes_after(
     Ok(copies)
 }
 
-/// Returns the nodes of the first `count` volumes whose numbers are greater than `after`: one list of node
-/// ids for each volume, in byte order.
+/// Returns a list of node ids, in byte order, for each of the first `count` volumes whose numbers are greater
+/// than `after`.
 ///
 /// # Errors
 ///
@@ -192,12 +192,12 @@ pub fn nodes_after(
     Ok(nodes)
 }
 
-/// Passes the listing entries of the first `count` volumes whose numbers are greater than `after`, with
-/// their nodes, to a fold, in rising order of the numbers.
+/// Passes the first `count` volumes whose numbers are greater than `after` to a fold, in rising order of the
+/// numbers. Each volume is passed as a listing entry, with the ids of its nodes.
 ///
 /// # Errors
 ///
-/// If memory is refused, also to the fold. The fold keeps the entries that it has taken so far.
+/// If memory is refused to this call or to the fold. The fold keeps the entries that it has taken.
 #[inline(always)]
 pub fn fold_after<F: PageFold>(
     alloc: Global,
@@ -227,7 +227,7 @@ pub fn fold_after<F: PageFold>(
     Ok(())
 }
 
-/// Inserts a volume under a number, in place of an earlier volume with this number.
+/// Inserts a volume under its number. If the map has a volume with this number, that volume is replaced.
 ///
 /// # Errors
 ///
@@ -247,7 +247,7 @@ pub fn put_volume(
     Ok(())
 }
 
-/// Removes the volume with this number and returns it; `None` if no volume has it.
+/// Removes the volume with this number and returns it, or returns `None` if no volume has the number.
 #[tactic(auto, using(crate::specs::facts::Stored::none_stored, crate::specs::facts::Stored::get_stored))]
 pub fn remove_volume(volumes: &mut BTreeMap<u64, StoredVolume>, number: u64) -> Option<StoredVolume>
     ensures value { option_map (as_volume number) result
@@ -258,8 +258,8 @@ pub fn remove_volume(volumes: &mut BTreeMap<u64, StoredVolume>, number: u64) -> 
     volumes.remove(&number)
 }
 
-/// Replaces the mutable parameters of the volume with this number. If no volume has it, nothing changes. It
-/// takes no memory.
+/// Replaces the mutable parameters of the volume with this number. If no volume has it, nothing changes. The
+/// call takes no memory.
 #[tactic(auto, using(crate::proofs::RowChangeLemmas::one_mutable, crate::proofs::RowChangeLemmas::no_mutable))]
 pub fn set_mutable(volumes: &mut BTreeMap<u64, StoredVolume>, number: u64, mutable: CompactMap)
     ensures { volumes_of (as_volumes volumes.new.entries)

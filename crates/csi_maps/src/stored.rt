@@ -9,13 +9,13 @@ use csi_keeper::{CapKey, ListedRow, Volume, copy_keys};
 use csi_types::{Items, Text};
 use std::alloc::{AllocError, Global};
 
-/// A volume without its number, which is the key of the map.
+/// A volume without its number. The number is the key under which the map has the volume.
 ///
-/// The nodes of the tree have room for up to twice as many rows as they contain, so each byte of this
-/// struct counts twice.
+/// The tree of the map has room for up to twice as many rows as it contains. So each byte of this struct can
+/// take two bytes of memory.
 #[derive(Drop)]
 pub struct StoredVolume {
-    /// The name of the volume. No other volume has it.
+    /// The name of the volume. No other volume has the same name.
     pub name: Text,
     /// The size of the volume in bytes.
     pub bytes: u64,
@@ -27,7 +27,8 @@ pub struct StoredVolume {
 }
 
 impl StoredVolume {
-    /// Makes the stored form of a volume, without its number. The fields of the volume are moved.
+    /// Makes the stored form of a volume, without its number. The fields of the volume are moved and not
+    /// copied.
     ///
     /// # Errors
     ///
@@ -64,7 +65,7 @@ impl StoredVolume {
         })
     }
 
-    /// Borrows the part of the volume that a listing shows, with this number and these nodes.
+    /// Borrows the part of the volume that a listing shows, as an entry with this number and these nodes.
     #[inline(always)]
     pub(crate) fn listed_at<'a>(&'a self, number: u64, nodes: &'a Items<Text>) -> ListedRow<'a>
         ensures { row_reported result ≡ listed_at (as_volume number self.now) nodes.now }

@@ -1,4 +1,4 @@
-//! A walk over the attachments in memory, along with a walk over the volumes.
+//! A walk over the attachments in memory, for a page of volumes.
 
 ghost use Rattle.std.specs.Prelude.{◌≡◌, [], OnOk};
 ghost use Rattle.csi_maps.specs.Rows.{nodes_in};
@@ -12,14 +12,15 @@ use std::collections::BTreeMap;
 use std::collections::btree_map::Range;
 use std::ops::Bound;
 
-/// Visits volume numbers in rising order along with their attachments, passing each attachment once. For a
-/// number that is not above the last one, the attachments are looked up in the map.
+/// Finds the attachments of one volume after another. If the numbers of the volumes rise, the walk passes
+/// each attachment once. If a number is not greater than the number before it, its attachments are looked up
+/// in the map.
 #[derive(Drop)]
 pub(crate) struct Walk<'a> {
     // The next attachment, and the iterator over the attachments after it.
     next: Option<(&'a (u64, Text), &'a Attachment)>,
     rest: Range<'a, (u64, Text), Attachment>,
-    // The last number that was visited. The attachments of all greater numbers are still to come.
+    // The last number that was visited. The walk has not yet passed the attachments of greater numbers.
     passed: u64,
     /// The nodes of the volume number that was visited last, in byte order.
     pub(crate) nodes: Items<Text>,
@@ -33,8 +34,8 @@ pub(crate) fn walk_after(
 ) -> Walk<'_>
     ensures { IsOver attachments.now.entries result }
 {
-    // No number is greater than `u64::MAX`. A walk after `u64::MAX` may begin at `u64::MAX`, as each number
-    // is looked up in the map then.
+    // The addition saturates, so a walk after `u64::MAX` begins at `u64::MAX`. That does no harm: no number
+    // is greater, and the attachments of other numbers are looked up in the map.
     let first = (after.saturating_add(1), Text::new(alloc));
     let mut rest = attachments.range((Bound::Included(first), Bound::Unbounded));
     Walk {
@@ -45,7 +46,7 @@ pub(crate) fn walk_after(
     }
 }
 
-// Removes all nodes.
+// Removes all nodes from the list.
 #[inline(always)]
 fn clear(alloc: Global, nodes: &mut Items<Text>)
     ensures { nodes.new ≡ [] }
@@ -57,7 +58,7 @@ fn clear(alloc: Global, nodes: &mut Items<Text>)
 }
 
 impl<'a> Walk<'a> {
-    // Takes the next attachment, unless its number is greater than `number`.
+    // Returns the next attachment and passes it, unless its number is greater than `number`.
     #[inline(always)]
     fn next_up_to(&mut self, number: u64) -> Option<(&'a (u64, Text), &'a Attachment)>
         ensures takes { TakesUpTo number (ahead self.old) result (ahead self.new) }

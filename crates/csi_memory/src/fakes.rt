@@ -1,4 +1,4 @@
-//! Keepers for tests, which fail on a chosen call.
+//! Keepers for tests, which fail at a chosen call.
 
 ghost use Rattle.std.specs.Prelude.{◌≡◌, ◌≢◌, ◌≤◌, ◌^◌, ◌↔◌, false, Some, Err, IfOk, IsTrue, is_some};
 ghost use Rattle.std.specs.FinMap.{get};
@@ -17,16 +17,16 @@ use csi_keeper::{
 use csi_types::{Items, Text};
 use std::alloc::{AllocError, Global};
 
-// A counter that refuses one call.
+// A counter of calls that refuses one of them.
 #[derive(Drop)]
 struct Fuse {
-    // The number of calls that still pass before the refused call; `None` after the refusal.
+    // The number of calls before the refused call, or `None` after the refusal.
     left: Option<u64>,
     health: Health,
 }
 
 impl Fuse {
-    // Counts a call, and refuses it if its turn has come.
+    // Counts a call. Refuses it if it is the chosen call.
     fn burn(&mut self) -> Result<(), StoreFault>
         ensures counts_calls { self.old.health.is_down ≡ false → (result ≡ (burnt self.old.left).0)
             × (self.new.left ≡ (burnt self.old.left).1) }
@@ -52,9 +52,9 @@ impl Fuse {
 /// A keeper in memory that refuses one call, which is chosen by its number. Calls are counted from 0;
 /// [`refusals`](Keeper::refusals) and [`is_down`](FusedMem::is_down) are not counted.
 ///
-/// If the refused call is a read, the keeper goes on after it. If the refused call is
-/// [`apply`](Keeper::apply), the change is not made, and each later call is answered `Down`. A stop leaves
-/// nothing.
+/// If the refused call is a read, later calls succeed. If the refused call is [`apply`](Keeper::apply), the
+/// change is not made, and each later call fails with `Down`. The volumes end with the process, so a stop
+/// leaves nothing.
 #[derive(Drop)]
 pub struct FusedMem {
     keeper: MemKeeper,
@@ -84,14 +84,14 @@ impl FusedMem {
         })
     }
 
-    /// Returns whether the keeper is down, and every further call is answered `Down`.
+    /// Returns true if the keeper is down. If it is down, each further call fails with `Down`.
     pub fn is_down(&self) -> bool
         ensures { result ≡ is_shut self.now }
     {
         self.fuse.health.is_down
     }
 
-    /// Opens the keeper again: returns a keeper with the same volumes that refuses no call.
+    /// Returns a keeper that has the same volumes and refuses no call.
     pub fn into_keeper(self) -> MemKeeper
         ensures { result ≡ kept self }
     {

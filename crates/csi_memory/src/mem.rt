@@ -1,8 +1,8 @@
 //! A keeper in memory.
 //!
-//! Its rows are in ordered maps and not in vectors: a search by number or name, and a removal, then take
-//! logarithmic time, so a call over 100,000 volumes with removed ones between them costs little more than one
-//! over a few.
+//! The rows are in ordered maps and not in vectors, so searches by number or name and removals take
+//! logarithmic time. A call over 100,000 volumes, with removed volumes between them, costs little more than a
+//! call over a few.
 
 ghost use Rattle.std.specs.Prelude.{◌≤◌, ◌<◌, ◌^◌, IfOk, OnOk, OnErr};
 ghost use Rattle.csi_keeper.specs.State.{State, Allows, changed, first_state};
@@ -24,15 +24,19 @@ use csi_types::{Items, Map, Text, copy_map, copy_text};
 use std::alloc::{AllocError, Global};
 use std::collections::{BTreeMap, BTreeSet};
 
-/// A keeper in memory. It is never down, and refuses a call only if memory is refused; its State is then
-/// unchanged, and it goes on. Its volumes end with it, so a stop leaves nothing.
+/// A keeper in memory. It is never down. It refuses a call only if memory is refused; its State is then
+/// unchanged, and later calls may succeed. Its volumes end with the process, so a stop leaves nothing.
 ///
-/// Each volume is stored once, and answers are copies. For n volumes, m attachments, p pools and d nodes with
-/// attachments, calls take this time: a volume by its number or name, O(log n); the attachments of a volume,
-/// O(log m) and one step for each; a page, O(log n) and one step for each entry, and with nodes O(log m) more
-/// and one step for each node; the used bytes of a pool, O(log p); the number of volumes at a node, O(log d);
-/// the numbers of the volumes at a node, O(log d) and one step for each; a change, O(log n + log m), and
-/// `DetachAll` one step for each attachment that it removes. `sizes_in` looks through all volumes.
+/// Each volume is stored once, and the values that calls return are copies. For n volumes, m attachments, p
+/// pools and d nodes with attachments, calls take this time:
+///
+/// - a volume by its number or name: O(log n)
+/// - the attachments of a volume: O(log m), and one step for each
+/// - a page: O(log n), and one step for each entry; with nodes also O(log m), and one step for each node
+/// - the used bytes of a pool: O(log p)
+/// - the number of volumes at a node: O(log d); their numbers also take one step for each
+/// - a change: O(log n + log m); `DetachAll` also takes one step for each attachment that it removes
+/// - `sizes_in`: one step for each volume
 #[derive(Drop)]
 pub struct MemKeeper {
     next: u64,
@@ -40,13 +44,13 @@ pub struct MemKeeper {
     names: Names,
     pools: Totals,
     attachments: BTreeMap<(u64, Text), Attachment>,
-    // The numbers of the volumes that are attached at a node, for each node with attachments.
+    // For each node with attachments, the numbers of the volumes that are attached to it.
     nodes: BTreeMap<Text, BTreeSet<u64>>,
 }
 
 impl MemKeeper {
     /// Returns a keeper without volumes and attachments, whose first volume gets the number `first`, from 1
-    /// to 2^62.
+    /// to 2^62. Fails only if memory is refused.
     pub fn new(alloc: Global, first: u64) -> Result<MemKeeper, AllocError>
         requires least { 1 ≤ first }
         requires most { first ≤ 2 ^ 62 }
@@ -62,8 +66,8 @@ impl MemKeeper {
         })
     }
 
-    /// Raises the next number to `number`, at most 2^62. Changes nothing if the next number is already as
-    /// great.
+    /// Raises the next number to `number`, which is at most 2^62. Changes nothing if the next number is
+    /// already `number` or greater.
     #[tactic(auto, using(crate::proofs::KeptLemmas::kept_next))]
     pub fn skip_to(&mut self, number: u64)
         requires { number ≤ 2 ^ 62 }
@@ -72,10 +76,10 @@ impl MemKeeper {
         self.next = self.next.max(number);
     }
 
-    /// Adds a volume that already has a number, and sets the next number to the number after it. The volume's
+    /// Adds a volume that already has a number, and sets the next number to this number plus 1. The volume's
     /// number must not be below the next number, and no other volume may have its name. The volume is moved
-    /// into the rows: only the name of its pool is copied, and its own name if another name has the same
-    /// hash.
+    /// into the rows. Only the name of the volume's pool is copied, and the name of the volume if another
+    /// name has the same hash.
     ///
     /// # Errors
     ///
@@ -83,7 +87,7 @@ impl MemKeeper {
     ///
     /// # Not promised
     ///
-    /// That the next number is unchanged after an error: it may have risen to the number of the volume.
+    /// After an error the next number may have risen to the number of the volume.
     pub fn restore(&mut self, alloc: Global, volume: Volume) -> Result<(), AllocError>
         requires number { volume.number < 2 ^ 62 }
         requires bytes { volume.bytes ≤ 2 ^ 62 }
@@ -286,7 +290,7 @@ impl Keeper for MemKeeper {
     }
 
     fn apply_owned(&mut self, alloc: Global, change: Change) -> Result<(), StoreFault> {
-        // (any other is not moved)
+        // Only `AddVolume` is taken by value; the other changes are applied by reference.
         if !matches!(&change, Change::AddVolume(_)) {
             return self.apply(alloc, &change);
         }

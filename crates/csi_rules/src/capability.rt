@@ -1,4 +1,4 @@
-//! Sets of capability keys.
+//! Computes the capability keys of requests, and compares them with the keys of a volume.
 
 ghost use Rattle.std.specs.Prelude.{◌≡◌, ◌∷◌, [], Some, IfOk};
 ghost use Rattle.csi_keeper.specs.Capability.{key_of, wider_key, has_same, has_key, have_keys, ordered, keys_of};
@@ -8,9 +8,9 @@ use csi_types::{Capability, Items};
 use std::alloc::{AllocError, Global};
 use std::collections::BTreeSet;
 
-// Up to this number of keys, keys are compared one by one; more keys are put into a set first. The keys of a
-// volume are in order by the invariant, which a `requires` cannot name, so their set is built again for each
-// comparison.
+// The greatest number of keys that are compared one by one. More keys are put into a set first. The keys of a
+// volume are in order by the invariant, but a `requires` cannot name the invariant, so the set is built for
+// each comparison.
 const FEW_KEYS: usize = 4;
 
 #[tactic(auto, using(crate::specs::facts::Capability::keys_more, crate::specs::facts::Capability::keys_same, crate::specs::facts::Capability::keys_none))]
@@ -47,8 +47,8 @@ fn key_alone(alloc: Global, capability: &Capability) -> Result<Items<CapKey>, Al
     Ok(alone)
 }
 
-/// Returns the keys of the capabilities, sorted and without duplicates, in O(n log n) for n capabilities. A
-/// capability without a key is skipped.
+/// Returns the keys of the capabilities, sorted and without duplicates, in O(n log n) time for n
+/// capabilities. A capability without a key is skipped.
 ///
 /// # Errors
 ///
@@ -113,7 +113,8 @@ fn have_all(
     Ok(true)
 }
 
-// `has_key` for a few keys, which are compared one by one, without allocating a set.
+// Returns true if `keys` has the key of the capability or its wider key. The keys are few, so they are
+// compared one by one, without a set.
 #[tactic(auto, using(crate::specs::facts::Capability::has_none))]
 fn few_have_key(alloc: Global, keys: &[CapKey], capability: &Capability) -> Result<bool, AllocError>
     ensures { IfOk result (λ has. has ≡ has_key keys.now (key_of capability.now)) }
@@ -135,8 +136,9 @@ fn few_have(alloc: Global, keys: &[CapKey], capabilities: &[Capability]) -> Resu
     Ok(true)
 }
 
-/// Whether `keys`, in any order, has for each capability its key or the wider key (`csi_keeper::wider_key`).
-/// Takes O((n + m) log m) time for n capabilities and m keys.
+/// Returns true if, for each capability, `keys` contains the capability's key or the wider key
+/// (`csi_keeper::wider_key`). The keys may be in any order. Takes O((n + m) log m) time for n capabilities
+/// and m keys.
 ///
 /// # Errors
 ///

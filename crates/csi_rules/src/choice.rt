@@ -1,4 +1,4 @@
-//! The choice of the pool of a new volume.
+//! Chooses the pool of a new volume.
 
 ghost use Rattle.std.specs.Prelude.{◌≡◌, ◌&&◌, nat_le, Some, [], ◌∷◌, find, map, IfOk};
 ghost use Rattle.std.specs.FinMap.{empty};
@@ -15,7 +15,7 @@ use csi_keeper::{Keeper, StoreFault, Usage};
 use csi_types::{Map, Requirement};
 use std::alloc::Global;
 
-/// A pool, and the usage of the pool by its volumes.
+/// A pool, with its usage by volumes.
 #[derive(Drop)]
 pub struct Room<'a> {
     pub pool: &'a Pool,
@@ -23,7 +23,8 @@ pub struct Room<'a> {
 }
 
 impl Room<'_> {
-    /// The bytes of the pool that no volume has; 0 if its volumes have more bytes than the pool.
+    /// Returns the bytes of the pool that no volume uses, or 0 if its volumes use more bytes than the pool
+    /// has.
     pub fn free(&self) -> u64
         ensures { result ≡ free (room_value self.now) }
     {
@@ -42,8 +43,8 @@ fn read_room<'a, K: Keeper>(keeper: &mut K, pool: &'a Pool) -> Result<Room<'a>, 
     Ok(Room { pool, used })
 }
 
-/// Reads the usage of each pool, in the order of the configuration. Fails with the error of the keeper, or if
-/// memory is refused.
+/// Reads the usage of each pool, in the order of the configuration. Fails if the keeper fails or memory is
+/// refused.
 #[tactic(auto, using(csi_keeper::specs::facts::Reads::quiet_same, csi_keeper::specs::facts::Reads::quiet_then))]
 #[inline(always)]
 pub fn read_rooms<'a, K: Keeper>(
@@ -80,7 +81,8 @@ fn fits(room: &Room<'_>, term: &Map, size: u64) -> bool
     serves(&room.pool.segments, term) && size <= room.free()
 }
 
-// The first pool, in the order of the configuration, that serves the term and has `size` bytes free.
+// Returns the first pool in the order of the configuration that serves the term and has `size` free bytes, or
+// `None` if no pool does.
 fn first_for<'a>(rooms: &[Room<'a>], term: &Map, size: u64) -> Option<&'a Pool>
     ensures { option_map (λ p. p.now) result
         ≡ option_map (λ r. r.pool.now) (find
@@ -148,8 +150,13 @@ fn pool_by<'a>(
     pool_requisite(alloc, rooms, wanted.requisite.as_slice(), size)
 }
 
-/// Chooses a new volume's pool: for the most preferred topology term that a pool with room for `size` bytes
-/// serves, the first such pool in the configuration; `None` if no such pool serves any term.
+/// Chooses the pool of a new volume of `size` bytes. The preferred topologies of the request are tried in
+/// order, and then the requisite topologies in order. For each topology, the pools are tried in the order of
+/// the configuration. The first pool that serves the topology and has room is chosen. Returns `None` if there
+/// is no such pool.
+///
+/// If the request has no requisite topology, any pool with room is chosen after the preferred topologies were
+/// tried: the first such pool of the configuration.
 pub fn choose<'a>(
     alloc: Global,
     rooms: &[Room<'a>],

@@ -1,4 +1,4 @@
-//! The volume that a request names.
+//! Finds the volume that a request names.
 
 ghost use Rattle.std.specs.Prelude.{◌≡◌, Ok, None};
 ghost use Rattle.csi_rules.specs.Finding.{Finds, caps_at, number_at, volume_at};
@@ -9,12 +9,12 @@ use csi_keeper::{CapKey, Keeper, StoreFault, Volume};
 use csi_types::{Items, Text};
 use std::alloc::Global;
 
-/// Finds the volume with this id, and its number; `None` if no volume has it. The keeper is not asked if `id`
-/// does not have the form of a volume id.
+/// Returns the number of the volume with this id, and the volume, or `None` if no volume has the id. If `id`
+/// does not have the form of a volume id, the keeper is not called.
 ///
 /// # Errors
 ///
-/// The error of the keeper.
+/// Returns the error of the keeper.
 #[tactic(auto, using(csi_keeper::specs::facts::Reads::quiet_same, csi_keeper::specs::facts::Reads::quiet_then))]
 pub fn volume_of<K: Keeper>(
     alloc: Global,
@@ -34,12 +34,12 @@ pub fn volume_of<K: Keeper>(
     }
 }
 
-/// Finds the number and capability keys of the volume with this id; `None` if no volume has it. The keeper is
-/// not asked if `id` does not have the form of a volume id.
+/// Returns the number and the capability keys of the volume with this id, or `None` if no volume has the id.
+/// If `id` does not have the form of a volume id, the keeper is not called.
 ///
 /// # Errors
 ///
-/// The error of the keeper.
+/// Returns the error of the keeper.
 #[tactic(auto, using(csi_keeper::specs::facts::Reads::quiet_same, csi_keeper::specs::facts::Reads::quiet_then))]
 pub fn caps_of<K: Keeper>(
     alloc: Global,
@@ -59,12 +59,12 @@ pub fn caps_of<K: Keeper>(
     }
 }
 
-/// Finds the number of the volume with this id, without copying the volume; `None` if no volume has it. The
-/// keeper is not asked if `id` does not have the form of a volume id.
+/// Returns the number of the volume with this id, without copying the volume, or `None` if no volume has the
+/// id. If `id` does not have the form of a volume id, the keeper is not called.
 ///
 /// # Errors
 ///
-/// The error of the keeper.
+/// Returns the error of the keeper.
 #[tactic(auto, using(csi_keeper::specs::facts::Reads::quiet_same, csi_keeper::specs::facts::Reads::quiet_then, crate::specs::facts::Finding::number_has, crate::specs::facts::Finding::number_none))]
 pub fn existing_number<K: Keeper>(keeper: &mut K, id: &Text) -> Result<Option<u64>, StoreFault>
     ensures asks_nothing { number_of_id id.now ≡ None → (keeper.new ≡ keeper.old) × (result ≡ Ok None) }

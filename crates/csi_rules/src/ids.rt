@@ -1,4 +1,4 @@
-//! Numbers of volumes as texts: volume ids, and tokens of a listing.
+//! Converts numbers of volumes to texts and back, for volume ids and the tokens of a listing.
 
 ghost use Rattle.std.specs.Prelude.{◌≡◌, IfOk};
 ghost use Rattle.std.specs.Fmt.{decimal};
@@ -9,7 +9,7 @@ use csi_types::Text;
 use itoa::Buffer;
 use std::alloc::{AllocError, Global};
 
-/// The first part of a volume's id, before its number in decimal.
+/// The first part of each volume id. The number of the volume in decimal follows it.
 pub const ID_PREFIX: &str = "vol-";
 
 /// Returns the number in decimal, without leading zeros.
@@ -29,8 +29,8 @@ fn is_decimal_of(number: u64, text: &str) -> bool
     Buffer::new().format(number) == text
 }
 
-/// Returns the number that the text is the decimal form of. `None` if there is no such number below 2^64, for
-/// example if the text has a leading zero.
+/// Returns the number whose decimal form is the text. Returns `None` if no number below 2^64 has this form,
+/// for example if the text has a leading zero.
 #[tactic(auto, using(crate::specs::facts::Ids::is_decimal, crate::specs::facts::Ids::no_decimal))]
 pub fn number_of(text: &str) -> Option<u64>
     ensures { result ≡ number_of text.now }
@@ -41,8 +41,8 @@ pub fn number_of(text: &str) -> Option<u64>
     is_decimal_of(number, text).then_some(number)
 }
 
-/// Returns the number in the id of a volume (CSI specification, 'CreateVolume', `Volume.volume_id`); `None`
-/// if the text does not have the form of a volume id. The volume need not exist.
+/// Returns the number in the id of a volume (CSI specification, 'CreateVolume', `Volume.volume_id`), or
+/// `None` if the text does not have the form of a volume id. The volume need not exist.
 pub fn number_of_id(text: &str) -> Option<u64>
     ensures { result ≡ number_of_id text.now }
 {

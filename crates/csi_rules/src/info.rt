@@ -1,4 +1,4 @@
-//! The parts of a reply that describe a volume.
+//! Makes the parts of a reply that describe a volume.
 
 ghost use Rattle.std.specs.Prelude.{◌≡◌, IfOk, codes};
 ghost use Rattle.std.specs.Option.{option_copied};
@@ -13,8 +13,8 @@ use std::alloc::{AllocError, Global};
 /// The one key of a volume's context. Its value is the name of the volume's pool.
 pub const CONTEXT_KEY: &str = "pool";
 
-/// Returns the context of a volume: one entry, with [`CONTEXT_KEY`] as its key and the name of the volume's
-/// pool as its value.
+/// Returns the context of a volume, which has one entry: the key is [`CONTEXT_KEY`], and the value is the
+/// name of the volume's pool.
 ///
 /// # Errors
 ///
@@ -30,8 +30,8 @@ pub fn context_of(alloc: Global, pool: &Text) -> Result<Map, AllocError>
     Ok(context)
 }
 
-/// Returns the topology of a volume: one term with the segments of its pool, or no term if the pool has no
-/// segments.
+/// Returns the topology of a volume: a list of one topology, which has the segments of the volume's pool. The
+/// list is empty if the pool has no segments.
 ///
 /// # Errors
 ///
@@ -46,7 +46,7 @@ pub fn topology_of(alloc: Global, segments: &Map) -> Result<Items<Map>, AllocErr
     Ok(terms)
 }
 
-/// Returns the number of bytes as an `int64`, or 2^63 - 1 if it is greater.
+/// Returns the number of bytes as an `int64`, or 2^63 - 1 if the number is greater.
 pub fn signed(bytes: u64) -> i64
     ensures { result ≡ signed bytes }
 {

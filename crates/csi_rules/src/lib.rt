@@ -1,13 +1,16 @@
 //! The rules that the volume machine plans by: values of the State and of requests, and the reads that they
 //! need.
 //!
-//! [`keys_of`] and [`have_keys`] give the keys of capabilities and compare them (`capability.rt`), [`size`]
-//! and [`has_size`] the size of a new volume (`sizes.rt`), [`serves`] and [`is_reachable`] the pools that
-//! serve a topology (`topology.rt`), [`choose`] the pool of a new volume (`choice.rt`). [`is_overcommitted`]
-//! finds a pool that is too small for its volumes (`commitment.rt`), and [`has_conflict`] attachments of a
-//! volume that cannot coexist (`conflict.rt`). `ids.rt` has ids and the numbers in ids and tokens, `info.rt`
-//! the parts of a reply that describe a volume, and `finding.rt` reads of a keeper. The definitions of each
-//! are in `specs/`; `specs/facts/` has facts about them that crates above use too.
+//! - `capability.rt`: [`keys_of`] and [`have_keys`] compute the keys of capabilities and compare them.
+//! - `sizes.rt`: [`size`] and [`has_size`] choose and compare the size of a volume.
+//! - `topology.rt`: [`serves`] and [`is_reachable`] test if a pool serves a topology.
+//! - `choice.rt`: [`choose`] chooses the pool of a new volume.
+//! - `commitment.rt`: [`is_overcommitted`] finds a pool that is too small for its volumes.
+//! - `conflict.rt`: [`has_conflict`] finds attachments of a volume that cannot coexist.
+//! - `ids.rt` has volume ids and the numbers in ids and tokens, `info.rt` the parts of a reply that describe
+//!   a volume, and `finding.rt` the reads that find a volume.
+//!
+//! The definitions are in `specs/`. `specs/facts/` has facts about them that crates above also use.
 //!
 //! ```rust
 //! let rooms = read_rooms(alloc, config, keeper)?;

@@ -1,4 +1,4 @@
-//! The size of a new volume.
+//! Chooses the size of a new volume.
 
 ghost use Rattle.std.specs.Prelude.{◌≡◌, ◌<◌, ◌≤◌, ◌^◌};
 ghost use Rattle.csi_rules.specs.Size.{whole, rounded_down, requested_bytes, size_by, size, has_size};
@@ -6,7 +6,7 @@ ghost use Rattle.csi_rules.specs.Size.{whole, rounded_down, requested_bytes, siz
 use csi_config::{GRANULE_BYTES, Sizes};
 use csi_types::CapacityRange;
 
-/// Returns the number, or 0 if it is negative.
+/// Returns the number as unsigned, or 0 if it is negative.
 fn whole(number: i64) -> u64
     ensures value { result ≡ whole number }
     ensures fits { result < 2 ^ 63 }
@@ -39,7 +39,7 @@ fn size_by(sizes: &Sizes, required: u64, limit: u64) -> Option<u64>
     ensures { result ≡ size_by sizes.now required limit }
 {
     let bytes = requested_bytes(sizes, required, limit);
-    // The required size is compared too, but never decides: rounded up it is no smaller.
+    // The comparison of the required size never decides, since the rounded size is at least as great.
     let is_within = bytes > 0
         && (limit == 0 || bytes <= limit)
         && bytes <= sizes.greatest_bytes
@@ -47,11 +47,14 @@ fn size_by(sizes: &Sizes, required: u64, limit: u64) -> Option<u64>
     if is_within { Some(bytes) } else { None }
 }
 
-/// Returns the size of a new volume in bytes for the requested range; `None` if it is 0, above the limit of
-/// the range or above the greatest size of a volume (CSI specification, 'CreateVolume', `CapacityRange`).
+/// Returns the size in bytes of a new volume for the requested range (CSI specification, 'CreateVolume',
+/// `CapacityRange`).
 ///
-/// The size is the required size, rounded up to a multiple of 1 MiB. If no size is required, it is the
-/// default size, or the limit rounded down to a multiple of 1 MiB if that is smaller.
+/// If the range requires a size, the result is this size, rounded up to a multiple of 1 MiB. Otherwise the
+/// result is the default size or the limit of the range, rounded down to a multiple of 1 MiB, whichever is
+/// smaller. A required size or a limit of 0 or below counts as absent.
+///
+/// Returns `None` if this size is 0, above the limit or above the greatest size of a volume.
 pub fn size(sizes: &Sizes, range: &Option<CapacityRange>) -> Option<u64>
     ensures { result ≡ size sizes.now range.now }
 {
@@ -61,7 +64,8 @@ pub fn size(sizes: &Sizes, range: &Option<CapacityRange>) -> Option<u64>
     }
 }
 
-/// Whether the size of a volume, in bytes, is within the requested range. True if no range is requested.
+/// Returns true if the size of a volume, in bytes, is within the requested range, or if no range is
+/// requested.
 pub fn has_size(bytes: u64, range: &Option<CapacityRange>) -> bool
     ensures { result ≡ has_size bytes range.now }
 {

@@ -1,4 +1,4 @@
-//! Which pools serve a topology.
+//! Tests if a pool serves a topology.
 
 ghost use Rattle.std.specs.Prelude.{◌≡◌};
 ghost use Rattle.std.specs.List.{list_any};
@@ -6,8 +6,9 @@ ghost use Rattle.csi_rules.specs.Topology.{serves, is_reachable};
 
 use csi_types::{Map, Requirement, is_within};
 
-/// Whether a pool with these segments serves a topology term: one of the two contains the other, without
-/// regard to the case of ASCII letters in keys.
+/// Returns true if a pool with these segments serves `term`, a topology of a request. It serves the topology
+/// if the segments contain the topology, or the topology contains the segments. The case of ASCII letters in
+/// keys does not count.
 pub fn serves(segments: &Map, term: &Map) -> bool
     ensures { result ≡ serves segments.now term.now }
 {
@@ -20,8 +21,8 @@ fn serves_one(segments: &Map, terms: &[Map]) -> bool
     terms.iter().any(|term| serves(segments, term))
 }
 
-/// Returns true if a pool with these segments serves at least one requisite term, or if no requisite term is
-/// given (CSI specification, 'CreateVolume', `TopologyRequirement`).
+/// Returns true if a pool with these segments serves at least one requisite topology, or if no requisite
+/// topology is given (CSI specification, 'CreateVolume', `TopologyRequirement`).
 pub fn is_reachable(segments: &Map, topology: &Option<Requirement>) -> bool
     ensures { result ≡ is_reachable segments.now topology.now }
 {

@@ -1,5 +1,5 @@
-//! The sample server: calls on standard input, replies on standard output, under the sample configuration,
-//! with the volumes in memory.
+//! The sample server: reads calls from standard input and writes replies to standard output, under the sample
+//! configuration, with the volumes in memory.
 #![tactic(auto)]
 
 use csi_config::Config;
@@ -11,7 +11,7 @@ use std::process::ExitCode;
 /// The number that the first volume gets.
 const FIRST_NUMBER: u64 = 1;
 
-// Serves standard input, and returns the end of the run.
+// Serves the calls on standard input, and returns how the run ended.
 fn run(rt: &HostRuntime) -> Result<RunEnd, AllocError> {
     let config = Config::sample(rt.alloc())?;
     let mut keeper = MemKeeper::new(rt.alloc(), FIRST_NUMBER)?;

@@ -1,18 +1,22 @@
+//! The ends of a run of the server.
+
 use envelope::FrameFault;
 
-/// Why the server stopped reading a stream of calls, and which calls were answered by then.
+/// The reason why the server stopped reading a stream of calls. Each reason also says which calls were
+/// answered.
 #[derive(Clone, Copy, Debug, PartialEq, Eq)]
 pub enum RunEnd {
-    /// The input ended after a whole frame, and all calls were answered.
+    /// The input ended after a complete frame, and all calls were answered.
     Done,
     /// A frame of the stream is malformed. All calls before it were answered, and then the frame was refused.
     Malformed(FrameFault),
-    /// A read failed. All calls whose frames were whole were answered.
+    /// A read failed. All calls whose frames were complete were answered.
     ReadFailed,
-    /// The limit of 2^32 reads was reached. All calls whose frames were whole were answered.
+    /// The limit of 2^32 reads was reached. All calls whose frames were complete were answered.
     TurnsSpent,
-    /// A write or a flush failed, or a write took no byte. All replies before that one were written.
+    /// A write or a flush of a reply failed, or a write took no byte. All earlier replies were written. Of
+    /// the bytes of this reply, none, some or all were written.
     WriteFailed,
-    /// Memory for the buffer of frames was refused, before anything was read or written.
+    /// Memory for the buffer of frames was refused. Nothing was read or written.
     NoMemory,
 }

@@ -1,3 +1,5 @@
+//! A server that answers only the two calls that identify a plugin.
+
 ghost use Rattle.std.specs.Prelude.{◌≡◌, ◌≤◌, ℕ, false, List, length, None, Ok, IfOk};
 ghost use Rattle.std.specs.Io.KnownBytes.{Consumes, IsAtEnd, Keeps};
 ghost use Rattle.csi_types.specs.declared.requests.Request.{Request as AnyRequest};
@@ -27,11 +29,11 @@ struct PluginNames<'a> {
     version: &'a str,
 }
 
-// A service that keeps nothing from call to call.
+// A service without a state: it keeps nothing from one call to the next.
 #[derive(Drop)]
 struct Identity {}
 
-// Makes the response to Probe or GetPluginInfo; `None` for any other request.
+// Makes the response to Probe or GetPluginInfo. Returns `None` for any other request.
 #[tactic(auto, unfolding(crate::specs::Identity::said))]
 fn respond(
     alloc: Global,
@@ -50,7 +52,7 @@ fn respond(
     }
 }
 
-// Replaces the content of the buffer with room for the head of a reply and the response to a request.
+// Clears the buffer, and puts the response to a request into it, after room for the head of a reply.
 fn put_response(
     alloc: Global,
     names: &PluginNames<'_>,
@@ -69,7 +71,7 @@ fn put_response(
     }
 }
 
-// Answers a request of Probe or GetPluginInfo.
+// Answers a Probe or GetPluginInfo request.
 fn answer_request(
     alloc: Global,
     names: &PluginNames<'_>,
@@ -110,7 +112,7 @@ fn answer_message(
     }
 }
 
-// The method with this path, if it is Probe or GetPluginInfo.
+// Returns the method with this path if it is Probe or GetPluginInfo, otherwise `None`.
 fn known_method(path: &[u8]) -> Option<Method>
     ensures { result ≡ known (method_at path.now) }
 {
@@ -145,12 +147,13 @@ impl<'a> Service<PluginNames<'a>> for Identity {
 }
 
 /// Serves the two calls that identify a plugin: Probe, whose response is that the plugin is ready, and
-/// GetPluginInfo (CSI specification, 'Identity Service RPC'). A call with any other path is refused with 12
-/// `unknown method`.
+/// GetPluginInfo (CSI specification, 'Identity Service RPC'). A call with any other path is refused with
+/// status 12 and the text `unknown method`.
 ///
-/// Name and version must have at most 128 bytes each; an empty one is left out of the response. A message
-/// that is not a list of fields is refused with 3 `malformed message in the field at byte N`. If memory for a
-/// body is refused, the call is refused with 13 `out of memory`.
+/// The name and the version must have at most 128 bytes each. If one of them is empty, the response leaves it
+/// out. A message that is not a list of fields is refused with status 3 and the text `malformed message in
+/// the field at byte N`. If memory for a body is refused, the call is refused with status 13 and the text
+/// `out of memory`.
 pub fn serve_identity<R: Read, W: Write>(
     alloc: Global,
     name: &str,

@@ -1,4 +1,5 @@
-//! Laws of the definitions, and of the machines that are served.
+//! Laws about runs of the server and about the calls that clients make. A law is a function that does
+//! nothing: its caller gets what the contract of the law states.
 
 ghost use Rattle.std.specs.Prelude.{[], ◌≡◌, ◌⊎◌, ◌↔◌, ◌≤◌, ◌<◌, ◌^◌, ◌++◌, ℕ, List, None, Some, true, false, length, decimal, map};
 ghost use Rattle.std.specs.List.{AllByRecursion};
@@ -37,9 +38,9 @@ use csi_machine::laws::{
 };
 use envelope::laws::decimal_is_text;
 
-/// A run without a refusal for memory or by the store: if before the run a stop could leave only the state at
-/// its start, then after the run a stop can leave only the state after it. Calls that are refused because the
-/// store is down add no state.
+/// If no call of a run is refused for memory or by the store, a stop after the run leaves only the state at
+/// its end. Before the run, a stop must leave only the state at the start. The run may have calls that are
+/// refused because the store is down.
 pub fn stop_leaves_state<C, S: Service<C>>(config: &C)
     ensures { (old new : S) (s : S.State) (events : List Event)
         → Runs (S.machine config.now) (S.model config.now old) (S.model config.now new) s events
@@ -49,8 +50,9 @@ pub fn stop_leaves_state<C, S: Service<C>>(config: &C)
         → t ≡ state_after (S.machine config.now) s events }
 {}
 
-/// Each reply in a run of any service is valid in the envelope: it has one of the status codes, and either a
-/// text and no body or, with status 0, a body and no text. The refusals of marked calls are valid too.
+/// Each reply in a run of any service is valid in the envelope. Its status is a status code. If the status is
+/// 0, the reply has a body and no text. If the status is not 0, the reply has a text and no body. This
+/// includes the replies to calls that are marked as refused for memory or by the store.
 pub fn formed<C, S: Service<C>>(config: &C)
     ensures { (old new : S) (s : S.State) (events : List Event)
         → Runs (S.machine config.now) (S.model config.now old) (S.model config.now new) s events
@@ -65,7 +67,7 @@ pub fn formed_fault()
     decimal_is_text();
 }
 
-/// Each reply of the identity service to any call, in a run or not, is valid in the envelope.
+/// Each reply of the identity service is valid in the envelope, whatever the call is.
 pub fn formed_identity()
     ensures { (name version : List ℕ) (call : CallBytes) → length call.message ≤ MAX_MESSAGE_BYTES
         → IsReply ((identity name version).respond tt call).0 }
@@ -74,7 +76,7 @@ pub fn formed_identity()
     reading();
 }
 
-/// Each reply of the volume machine to any call from any State, in a run or not, is valid in the envelope.
+/// Each reply of the volume machine is valid in the envelope, whatever the call and the State are.
 pub fn formed_volumes()
     ensures { (config : AnyConfig) (s : MachineState) (call : CallBytes)
         → length call.message ≤ MAX_MESSAGE_BYTES
@@ -84,8 +86,9 @@ pub fn formed_volumes()
     reading();
 }
 
-/// A run of the volume machine that starts in a State of the invariant, with any calls and marks, ends in a
-/// State of the invariant. Each State that a stop may leave ([`pending`]) is a State of the invariant too.
+/// If a run of the volume machine starts in a State that meets the invariant, it ends in a State that meets
+/// the invariant. This holds for any calls, and for any marks of calls as refused. Each State that a stop may
+/// leave ([`pending`]) meets the invariant too.
 pub fn kept(config: &Config)
     ensures run { (s : MachineState) (events : List Event) → IsInvariant config.now s
         → IsInvariant config.now (state_after (volumes config.now) s events) }
@@ -96,10 +99,11 @@ pub fn kept(config: &Config)
     kept_by_answers(config);
 }
 
-/// No volume number is used twice. A run of the volume machine from a State of the invariant, with any calls
-/// and marks, never lowers the next number and never reuses the number of a deleted volume. Of a volume that
-/// keeps its number it changes only the mutable parameters. So an id never names another volume. The same
-/// holds for each State that a stop may leave ([`pending`]).
+/// No two volumes ever get the same number. A run of the volume machine never lowers the number for the next
+/// volume, and never gives a volume the number of a deleted volume. This holds for any calls, and for any
+/// marks of calls as refused. The run must start in a State that meets the invariant. If a volume exists
+/// before and after the run, only its mutable parameters may change. So an id never names another volume. The
+/// same holds for each State that a stop may leave ([`pending`]).
 pub fn numbers(config: &Config)
     ensures run { (s : MachineState) (events : List Event) → IsInvariant config.now s
         → NumbersRise s (state_after (volumes config.now) s events) }
@@ -110,10 +114,12 @@ pub fn numbers(config: &Config)
     numbers_by_answers(config);
 }
 
-/// The States that a stop may leave after a run of the volume machine, if before the run it could leave only
-/// the State at the start: the State after the run, or the State that one call would have made which was
-/// refused for memory or by the store. The request of that call was decoded and passed the checks, and no
-/// later call changed the State.
+/// Before a run of the volume machine, a stop must leave only the State at the start. Then a stop after the
+/// run leaves one of two kinds of States:
+///
+/// - the State after the run
+/// - this State with the change of one call that was refused for memory or by the store. The request of this
+///   call was decoded and passed the checks, and no later call changed the State.
 pub fn pending<K: Keeper>(config: &Config)
     ensures { (old new : K) (s : MachineState) (events : List Event)
         → Runs (volumes config.now) (seen config.now (K.model old)) (seen config.now (K.model new)) s events
@@ -122,8 +128,8 @@ pub fn pending<K: Keeper>(config: &Config)
         ⊎ IsPending config.now s events t }
 {}
 
-/// A call with a known path, readable message and valid arguments gets the machine's answer to its request;
-/// any other call gets a fixed reply and changes no State. Each valid request has a call.
+/// A call with a known path, a readable message and valid arguments gets the machine's answer to its request.
+/// Any other call gets a fixed reply and changes no State. Each valid request has a call.
 pub fn asking()
     ensures exact { (call : CallBytes) (r : Request) → (asked call ≡ Some r) ↔ Asks call r }
     ensures answered { (config : AnyConfig) (s : MachineState) (call : CallBytes) (r : Request)
@@ -137,10 +143,10 @@ pub fn asking()
     round_trip();
 }
 
-/// The calls of a session are tries of the requests that the calls ask for. The State after the calls and the
-/// replies that were heard are the State after the tries and their answers, and the States that a stop may
-/// leave ([`pending`]) are the same for both. So over any keeper, if a stop before a run could leave only the
-/// State at the start, a stop after the run leaves a State that the tries leave.
+/// The calls of a session are tries of the requests in the calls. The State after the calls is the State
+/// after the tries, and the replies that clients hear are the answers to the tries. The States that a stop
+/// may leave ([`pending`]) are the same for both. If a stop before a run could leave only the State at the
+/// start, a stop after the run leaves a State that the tries leave. This holds over any keeper.
 pub fn tries<K: Keeper>(config: &Config)
     ensures after { (s : MachineState) (session : List Exchange)
         → state_after (volumes config.now) s (events_of session)
@@ -159,20 +165,20 @@ pub fn tries<K: Keeper>(config: &Config)
 /// If a client repeats each of its requests until it hears the reply, each request is executed once (CSI
 /// specification, 'Timeouts').
 ///
-/// The first State is one of the invariant. A call may be refused for memory or by the store, a reply may be
+/// The first State meets the invariant. A call may be refused for memory or by the store, a reply may be
 /// lost, and a stop may end the session between any two calls and leave a State of [`pending`]. At any time
-/// other clients may make calls that change nothing, such as Probe, ListVolumes and GetCapacity, and calls
-/// that are no request or are refused for their arguments. The replies that the client hears, and each State
-/// that may be left in the end, are the replies and the State of executing each request once.
+/// other clients may make calls that change nothing, such as Probe, ListVolumes and GetCapacity. They may
+/// also make calls that are no request or are refused for their arguments. The replies that the client hears,
+/// and each State that may be left in the end, are the same as if each request were executed once.
 ///
 /// # Not promised
 ///
-/// That a request is ever answered, or that a start succeeds. Which replies two clients hear if both make
-/// requests that may change something, each between the tries of the other. That a new connection starts from
-/// the State that the stop left, which the law assumes.
+/// A request may never be answered, and a start may fail. The law does not say which replies two clients hear
+/// if both make requests that may change something, each between the tries of the other. It assumes that a
+/// new connection starts from the State that the stop left.
 ///
-/// A contract is about calls that returned. The rows of stops of `test_tables` show that a process which ends
-/// inside a call leaves what a disk leaves that fails from there on.
+/// Contracts are about calls that return. A process that ends inside a call leaves the same as a disk that
+/// fails from that moment on. Rows of `test_tables` about stops show this.
 pub fn retry(config: &Config)
     ensures { (s t : MachineState) (requests : List Request) (sessions : List (List Exchange))
         (heard : List ReplyBytes) → IsInvariant config.now s
@@ -184,13 +190,14 @@ pub fn retry(config: &Config)
     retry_requests(config);
 }
 
-/// A walk over the pages of a listing, from a State of the invariant (CSI specification, 'ListVolumes').
+/// A walk over the pages of a listing lists each volume at most once (CSI specification, 'ListVolumes'). The
+/// walk begins in a State that meets the invariant.
 ///
-/// The first page is requested with an empty token, each next page with the token of the page before. If a
-/// call for a page is refused for memory or by the store, or its reply is not heard, the page is requested
-/// again with the same token. Any client may make other calls at any time. No page is refused for its token;
-/// each listed volume existed when its page was read; no volume is listed twice; and a walk that came to its
-/// end has listed each volume that existed at all of its pages.
+/// The first page is requested with an empty token, and each later page with the token of the page before it.
+/// A call for a page may be refused for memory or by the store, and its reply may be lost. The page is then
+/// requested again with the same token. Any client may make other calls at any time. No page is refused for
+/// its token, each listed volume existed when its page was read, and no volume is listed twice. A walk that
+/// came to its end has listed each volume that existed at all of its pages.
 pub fn walk(config: &Config)
     ensures read { (s : MachineState) (turns : List Turn) → IsInvariant config.now s
         → AreAsked config.now s [] turns → AreRead config.now s [] turns }
@@ -208,12 +215,12 @@ pub fn walk(config: &Config)
     walk_by_requests(config);
 }
 
-/// The premise of [`retry`] can be met: such sessions exist for each call that asks for a request, from each
-/// State.
+/// The premises of [`retry`] can be met: there are sessions with two calls, for each call with a request and
+/// from each State.
 ///
-/// The call is made and its reply is lost, or the call is refused for memory or by the store and a stop
-/// leaves its change nevertheless. In the next session the call is made again, and its reply is heard. Before
-/// that, another client may have made a call that changes nothing.
+/// Either the call is executed and its reply is lost, or the call is refused for memory or by the store and a
+/// stop leaves the State with its change. In the next session the call is made again, and its reply is heard.
+/// Before this second call, another client may make a call that changes nothing.
 pub fn made_twice(config: &Config)
     ensures lost { (s : MachineState) (call : CallBytes) (r : Request) → Asks call r
         → IsLifeOfTwo config.now s call r Unmarked }
@@ -223,9 +230,9 @@ pub fn made_twice(config: &Config)
         → is_read q ≡ true → IsLifeWithAnother config.now s call other r }
 {}
 
-/// Each call is idempotent (CSI specification, 'Timeouts'): from a State of the invariant, the same call made
-/// again at once gets the same reply and changes nothing more. This includes calls that cannot be decoded or
-/// do not pass the checks.
+/// Each call is idempotent (CSI specification, 'Timeouts'). If a call is made twice, the second directly
+/// after the first, the second gets the same reply and changes nothing more. The State before the calls must
+/// meet the invariant. The law includes calls that cannot be decoded or do not pass the checks.
 pub fn repeat(config: &Config)
     ensures { (s : MachineState) (call : CallBytes) → IsInvariant config.now s
         → (volumes config.now).respond ((volumes config.now).respond s call).1 call

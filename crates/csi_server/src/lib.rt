@@ -1,17 +1,16 @@
 //! The server: it reads frames of calls and writes the frames of their replies.
 //!
 //! The engine, [`run_service`], knows no methods: it feeds a `Framer`, passes each call to a [`Service`], and
-//! writes the service's answers. Its proof is over any service, reader and writer, from the public clauses of
-//! `frames_core` alone. `specs/Machine.antt` defines the replies and the states of a run over calls,
-//! `specs/Serving.antt` the bytes that are read and written for each end of a run.
+//! writes the service's answers. Its proof holds for any service, reader and writer, and uses only the public
+//! clauses of `frames_core`. `specs/Machine.antt` defines the replies to calls and the states between them,
+//! and `specs/Serving.antt` the bytes that are read and written for each end of a run.
 //!
-//! A service leaves room for the reply's head in a buffer and writes the body after it; the buffer is kept
+//! A service leaves room for the reply's head in a buffer and writes the body after it. The buffer is kept
 //! from call to call, and a reply goes out as one write. `message.rt` decodes and checks the message of a
-//! call. [`serve_identity`] is the engine over a service without a state; [`serve`] is the engine over a
-//! keeper: each keeper is a service (`volumes.rt`), which answers a request with
-//! `csi_machine::append_answer`. `specs/Requests.antt` defines the replies of a machine over requests, to
-//! which each machine adds only its step for a request. [`laws`] has what follows for runs and for calls that
-//! are made again.
+//! call. [`serve_identity`] runs a service without a state. [`serve`] runs a keeper: each keeper is a service
+//! (`volumes.rt`), which answers a request with `csi_machine::append_answer`. `specs/Requests.antt` defines
+//! the replies of a machine over requests; each machine adds only its step for a request. [`laws`] has what
+//! follows for runs and for calls that are made again.
 //!
 //! ```rust
 //! let mut keeper = MemKeeper::new(alloc, 1)?;

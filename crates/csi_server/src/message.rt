@@ -1,4 +1,4 @@
-//! Decoding and checking the message of a call.
+//! Decodes and checks the message of a call.
 
 ghost use Rattle.std.specs.Prelude.{◌≡◌, ℕ, List, None, Ok, IfOk, IfErr};
 ghost use Rattle.csi_types.specs.Checks.{checked};
@@ -14,7 +14,7 @@ use csi_types::{Method, Reason, Request};
 use pbmessage::DecodeFault;
 use std::alloc::Global;
 
-/// Decodes the request in a message and checks its arguments. Fails with the refusal if the message is
+/// Decodes the request in a message and checks its arguments. Returns the refusal if the message is
 /// malformed, a check fails, or memory is refused.
 pub(crate) fn read_message(
     alloc: Global,

@@ -1,4 +1,4 @@
-//! Refusals of calls.
+//! The reasons why calls are refused, and the replies that refuse them.
 
 ghost use Rattle.std.specs.Prelude.{◌≡◌, ◌≤◌, List, ℕ, All, codes, length};
 ghost use Rattle.envelope.specs.Envelope.{IsReply, IsTextByte, reply as reply_frame};
@@ -8,20 +8,21 @@ use csi_types::{Code, Reason};
 use envelope::{FixedFrame, refusal_frame, text_and_number};
 use pbmessage::MALFORMED_MESSAGE;
 
-/// Why a call is refused, which gives the status and the text of its reply.
+/// The reason why a call is refused, which gives the status and the text of its reply.
 #[derive(Clone, Copy, Debug, PartialEq, Eq)]
 pub enum Refusal {
-    /// The request is refused for this reason, with the status code and the text of the reason.
+    /// The request is refused for this reason, with the reason's status code and text.
     For(Reason),
-    /// The message is malformed in the field at this offset, in bytes from the start of the message.
+    /// The message is malformed in a field. The value is the offset of the field in bytes from the start of
+    /// the message.
     Malformed(u64),
 }
 
-/// The outcome of a call: `Ok` for status 0, otherwise why the call is refused.
+/// The outcome of a call: `Ok` means status 0, an error is the refusal of the call.
 pub type CallResult = Result<(), Refusal>;
 
 impl Refusal {
-    /// The frame of the reply that refuses the call.
+    /// Returns the frame of the reply that refuses the call.
     pub(crate) fn frame(self) -> FixedFrame
         ensures spelled { result ≡ reply_frame (refused_by self) }
         ensures formed { IsReply (refused_by self) }
@@ -50,7 +51,7 @@ fn malformed_frame(at: u64) -> FixedFrame
     )
 }
 
-// The text of the refusal up to the offset of the field.
+// Returns the text of the refusal of a malformed message, up to the offset of the field.
 fn malformed_start() -> &'static [u8]
     ensures value { result.now ≡ codes "malformed message in the field at byte " }
     ensures short { length result.now ≤ 120 }

@@ -1,3 +1,5 @@
+//! The engine of the server: reads calls, has a service answer them, and writes the replies.
+
 ghost use Rattle.std.specs.Prelude.{◌≡◌, ◌≤◌, ◌<◌, ◌+◌, ◌^◌, [], ◌++◌, length, ℕ, List, Option, None, take};
 ghost use Rattle.std.specs.Io.KnownBytes.{Keeps};
 ghost use Rattle.csi_server.specs.Serving.{Serves, Writes};
@@ -11,13 +13,13 @@ use frames_core::Framer;
 use std::alloc::Global;
 use std::io::{Read, Write};
 
-// At most this many reads are made in one run.
+// The greatest number of reads in one run.
 const MAX_READS: u64 = 1 << 32;
 
-// The most bytes of one read.
+// The greatest number of bytes that one read takes.
 const PIECE_BYTES: usize = 4096;
 
-// The outcome of one piece of the input.
+// The outcome of one piece of the input. A piece is the bytes of one read.
 #[derive(Clone, Copy)]
 pub(crate) enum PieceOutcome {
     Fed,
@@ -25,7 +27,7 @@ pub(crate) enum PieceOutcome {
     Cut,
 }
 
-// Feeds the piece to the framer, and answers each call whose frame becomes whole.
+// Feeds a piece to the framer, and answers each call whose frame becomes complete.
 #[inline(always)]
 fn answer_piece<C, S: Service<C>, W: Write>(
     alloc: Global,
@@ -73,26 +75,29 @@ fn answer_piece<C, S: Service<C>, W: Write>(
 
 /// Reads calls, has a service answer them, and writes the replies, until the input ends or the run fails.
 ///
-/// Each read takes at most 4,096 bytes, and at most 2^32 reads are made. Each call is answered and its reply
-/// flushed as soon as its frame is whole, before the next frame is looked at. Nothing is read after a fault
-/// or a failed write. An interrupted read or write is a failure. Memory is allocated for one buffer of frames
-/// at the start, and for the bodies of replies in one buffer that is kept from call to call. The second
-/// buffer is empty until the first body, so a refusal needs no memory; if memory for a body is refused, only
-/// that call is refused.
+/// Each read takes at most 4,096 bytes, and a run makes at most 2^32 reads. As soon as the frame of a call is
+/// complete, the call is answered and its reply flushed, before the bytes after the frame are looked at.
+/// Nothing is read after a fault or a failed write. An interrupted read or write is a failure.
 ///
-/// The clause `serves` holds if the model of the service has no doubt (`doubt` is 0) at the end. The clause
+/// A run allocates one buffer for frames at the start, and one buffer for the bodies of replies, which it
+/// keeps from call to call. The second buffer is empty until the first body, so a refusal needs no memory. If
+/// memory for a body is refused, only that call is refused.
+///
+/// The clause `serves` holds if `doubt`, a number in the model of the service, is 0 at the end. The clause
 /// `writes` holds for any service: one valid reply of the envelope is written for each call.
 ///
 /// # Not promised
 ///
-/// That memory is available, that a read or a write succeeds, that a peer receives the bytes, and anything
-/// about time. A call may be refused for memory although no memory was refused; tests rule that out.
+/// Memory may be refused, a read or a write may fail, and a peer may not receive the bytes. The contract says
+/// nothing about time. It allows that a call is refused for memory although no memory was refused; tests
+/// exclude that.
 ///
-/// No clause knows the bytes of a reader or writer that does not report them, such as a socket; the body
-/// treats all alike, and tests of `csid` as a process compare its output. Rows of `test_bytes` show that a
-/// reply is flushed before the next frame is looked at, and that no read is longer than 4,096 bytes. They
-/// also show that nothing is read after a fault or a failed write, and that a failed read, write or flush is
-/// not tried again.
+/// Some readers and writers, such as sockets, do not report their bytes, so no clause knows them. The body
+/// treats all readers and writers alike, and tests of `csid` as a process compare its output.
+///
+/// Rows of `test_bytes` show that a reply is flushed before the next frame is looked at and that no read is
+/// longer than 4,096 bytes. They also show that nothing is read after a fault or a failed write, and that a
+/// failed read, write or flush is not tried again.
 pub fn run_service<C, S: Service<C>, R: Read, W: Write>(
     alloc: Global,
     config: &C,
@@ -152,7 +157,7 @@ fn refuse<W: Write>(fault: &FrameFault, writer: &mut W) -> RunEnd
     }
 }
 
-// Ends the run when the input ended. A frame that has begun and is not whole is refused.
+// Ends the run at the end of the input. An incomplete frame at the end is refused.
 fn finish<W: Write>(framer: &mut Framer, writer: &mut W) -> RunEnd
     ensures { Finishes framer.old (W.contents writer.old) (W.contents writer.new) result }
 {

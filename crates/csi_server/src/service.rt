@@ -1,3 +1,5 @@
+//! The trait of services, which answer calls.
+
 ghost use Rattle.std.specs.Prelude.{◌≡◌, ◌≤◌, [], OnOk, OnErr};
 ghost use Rattle.envelope.specs.Envelope.{bytes_of};
 ghost use Rattle.csi_keeper.specs.Model.{Model};
@@ -10,7 +12,7 @@ use std::alloc::{AllocError, Global};
 
 /// A service that answers calls under a configuration of type `C`.
 pub trait Service<C> {
-    /// The state that the service keeps from call to call, for definitions.
+    /// The type of the state that the service keeps from call to call. Only definitions use it.
     ghost State: { Type 0 };
 
     /// The service as a machine: the reply to a call in a state, and the next state.
@@ -21,12 +23,12 @@ pub trait Service<C> {
 
     ghost use Rattle.csi_server.specs.Service.{reply_of, HoldsBody};
 
-    /// Answers one call. `Ok` means status 0: `reply` then has room for the reply's head,
-    /// [`REPLY_HEAD_BYTES`], followed by the body, of at most [`MAX_BODY_BYTES`](envelope::MAX_BODY_BYTES).
+    /// Answers one call. `Ok` means status 0. Then `reply` has [`REPLY_HEAD_BYTES`] bytes of room for the
+    /// reply's head, and after them the body, of at most [`MAX_BODY_BYTES`](envelope::MAX_BODY_BYTES) bytes.
     ///
     /// # Errors
     ///
-    /// If the call is refused. The reply then has the status and the text of the refusal, and the content of
+    /// If the call is refused. The error gives the status and the text of the reply, and the content of
     /// `reply` is ignored.
     fn answer(
         &mut self,
@@ -43,11 +45,11 @@ pub trait Service<C> {
         ensures room { HoldsBody result reply.new.items };
 }
 
-/// Clears `reply` and appends room for a reply's head, which the body is to follow.
+/// Clears `reply` and appends room for a reply's head. The caller then appends the body.
 ///
 /// # Errors
 ///
-/// If memory is refused; `reply` is then empty.
+/// If memory is refused. `reply` is then empty.
 pub fn begin_body(reply: &mut Vec<u8>) -> Result<(), AllocError>
     ensures ok { OnOk result (reply.new.items ≡ room) }
     ensures err { OnErr result (reply.new.items ≡ []) }

@@ -23,7 +23,7 @@ use envelope::Call;
 use std::alloc::Global;
 use std::io::{Read, Write};
 
-// The outcome of a call, from the machine's answer.
+// Converts the machine's answer to the outcome of a call.
 fn answer_of(verdict: Result<Verdict, StoreFault>) -> CallResult
     ensures reply { (buffer : List ℕ) → RepliesTo buffer (reply_of result buffer) verdict }
     ensures room { (buffer : List ℕ) → (verdict ≡ Ok Verdict.Done → HasBody buffer)
@@ -38,7 +38,7 @@ fn answer_of(verdict: Result<Verdict, StoreFault>) -> CallResult
     }
 }
 
-// Answers a request that passes the checks.
+// Answers a request that has passed the checks.
 #[inline(always)]
 fn answer_request<K: Keeper>(
     alloc: Global,
@@ -62,7 +62,7 @@ fn answer_request<K: Keeper>(
     }
 }
 
-/// Makes each keeper a service, which answers calls as the volume machine does under a configuration.
+/// Each keeper is a service, which answers calls as the volume machine does under a configuration.
 impl<K: Keeper> Service<Config> for K {
     ghost use Rattle.csi_keeper.specs.State.{State as MachineState};
     ghost use Rattle.csi_server.specs.Volumes.{volumes, seen};
@@ -84,7 +84,7 @@ impl<K: Keeper> Service<Config> for K {
         let Some(method) = method_of(call.path) else {
             return refuse(Reason::UnknownMethod);
         };
-        // (no `?`, which would move the request once more)
+        // A `match` and not `?`, which would move the request once more.
         match read_message(alloc, method, call.message) {
             Ok(request) => answer_request(alloc, config, self, &request, reply),
             Err(refusal) => Err(refusal),
@@ -95,25 +95,26 @@ impl<K: Keeper> Service<Config> for K {
 /// Serves the volume machine over a keeper, until the input ends or the run fails.
 ///
 /// For every stream of bytes, in any pieces, the bytes written are the framed replies of the volume machine
-/// to the calls in the stream. The first malformed frame is refused at its place, and ends the run.
-/// Afterwards the keeper has the State of that machine, in which no pool is overcommitted. A call that is
-/// refused for memory or by the store is answered `INTERNAL`, and the State is unchanged.
+/// to the calls in the stream. The first malformed frame is refused, and ends the run. After the run the
+/// keeper has the State of the volume machine after these calls. In this State no pool is overcommitted. A
+/// call that is refused for memory or by the store is answered `INTERNAL`, and the State is unchanged.
 ///
-/// The clause `serves` states this for each way in which a run can end, from each State of the invariant that
-/// the keeper may have had, if the keeper's store is not in doubt at the end. It also states that the
-/// keeper's count of refusals rose once for each call that was refused by the store or because the store is
-/// down, up to 2^64 - 1. If a stop at the start could leave only the State, a stop at the end leaves the last
-/// State, or a State that [`pending`](crate::laws::pending) allows.
+/// The clause `serves` says this for each way in which a run can end. It holds for each State that the keeper
+/// may have had at the start, if this State meets the invariant and the keeper's `doubt` is 0 at the end. It
+/// also says that the keeper's count of refusals, which is at most 2^64 - 1, rose by 1 for each of these
+/// calls: a call that was refused by the store, or because the store is down. If a stop at the start could
+/// leave only the State at the start, a stop at the end leaves the State at the end, or a State that
+/// [`pending`](crate::laws::pending) allows.
 ///
 /// The clause `writes` has no premise: one valid reply of the envelope is written for each call that was
-/// read. It also states that a fault or a failed write ends the reading, since the frame at fault or the call
-/// without a reply ends within the last 4,096 bytes that are read.
+/// read. It also says that a fault or a failed write ends the reading: the malformed frame, or the call
+/// without a reply, ends within the last 4,096 bytes that are read.
 ///
 /// # Not promised
 ///
-/// That no byte is read between a fault and its reply. Within those 4,096 bytes the clauses allow one more
-/// read, which would wait if the peer sends nothing and keeps the connection open. Rows of `test_bytes` show
-/// that nothing is read after a fault.
+/// Between a fault and its reply, the clauses allow one more read within these 4,096 bytes. Such a read would
+/// wait if the peer sends nothing and keeps the connection open. Rows of `test_bytes` show that nothing is
+/// read after a fault.
 pub fn serve<K: Keeper, R: Read, W: Write>(
     alloc: Global,
     config: &Config,

@@ -1,3 +1,5 @@
+//! Writes the replies to calls, and the reply to a malformed frame.
+
 ghost use Rattle.std.specs.Prelude.{◌≡◌, ◌≤◌, ◌+◌, [], length, drop, OnOk};
 ghost use Rattle.std.specs.Io.KnownBytes.{Appends};
 ghost use Rattle.envelope.specs.Envelope.{IsReply};
@@ -31,8 +33,8 @@ fn set_head(reply: &mut Vec<u8>)
         .copy_from_slice(head.bytes());
 }
 
-/// Writes the reply to a call and flushes the writer. Head and body are passed to the writer together, so
-/// they go out in one write if the writer takes all of it.
+/// Writes the reply to a call and flushes the writer. The head and the body are passed to the writer
+/// together, so they go out in one write if the writer takes all of their bytes.
 #[inline(always)]
 pub(crate) fn put_reply<W: Write>(
     writer: &mut W,

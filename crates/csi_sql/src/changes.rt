@@ -1,6 +1,7 @@
-//! The changes, each in one transaction.
+//! Makes each change of the tables in one transaction.
 //!
-//! An error is the error of the statement that failed, or of the commit. After an error nothing is changed.
+//! If a change fails, the error is the error of the statement that failed, or of the commit. The tables are
+//! then unchanged.
 
 ghost use Rattle.std.specs.Prelude.{◌≡◌, ◌+◌, ◌<◌, ◌^◌};
 ghost use Rattle.csi_sql.specs.Transactions.{CommitsOver};
@@ -19,8 +20,8 @@ use sqlite::{Alter, Error};
 
 /// Adds the row of a volume, and sets the next number to the volume's number plus 1.
 ///
-/// The number must be below 2^62 and the size in bytes below 2^63. `caps` and `params` are stored as given. A
-/// number or a name that already exists is refused.
+/// The number must be below 2^62 and the size below 2^63 bytes. `caps` and `params` are stored as given. A
+/// number or a name that another row has is refused.
 pub fn add_volume<S: Alter>(
     conn: &mut IdleConnection<S>,
     volume: u64,

@@ -1,4 +1,4 @@
-//! The rows of a query, one at a time.
+//! Passes the rows of a query to a fold, one row at a time.
 
 ghost use Rattle.std.specs.Prelude.{◌≡◌, ◌++◌, ◌∷◌, [], List, OnErr, OnOk};
 ghost use Rattle.sqlite.specs.Given.{IsPlain};
@@ -11,15 +11,15 @@ ghost use Rattle.csi_sql.specs.Folding.{FailsForMemory, FoldsOver, RefusesRows};
 use crate::idle_connection::IdleConnection;
 use sqlite::{Alter, Error, ErrorCode, Row};
 
-/// A value that is computed from rows, taken in order.
+/// A value that is computed from rows, which it takes one by one, in order.
 pub trait Fold {
     /// Relates a fold, the rows that it takes, and the fold after these rows.
     ghost folds: { Self → List Values → Self → Type 0 };
 
-    /// Holds if the fold may ask for memory to take this row; always, unless an implementation defines it.
+    /// Holds if the fold may ask for memory to take this row. By default it holds for every row.
     ghost takes_memory: { Self → Values → Type 0 } = { λ _ _. Unit {0} };
 
-    /// Takes the next row.
+    /// Takes the next row of the answer to a query.
     ///
     /// # Errors
     ///
@@ -34,13 +34,13 @@ pub trait Fold {
     ghost starts: { (fold : Self) → folds fold [] fold };
 }
 
-/// Runs a query and gives each row of its answer to the fold, in order. No row is kept.
+/// Runs a query and passes each row of its answer to the fold, in order. No row is kept.
 ///
-/// After an error the fold has taken some of the rows.
+/// After an error the fold may have taken some of the rows.
 ///
 /// # Errors
 ///
-/// If the query is refused or a row cannot be read, and the error that `add_row` returns.
+/// If the query is refused, if a row cannot be read, or if `add_row` fails.
 pub fn each_row<S: Alter, F: Fold>(
     conn: &mut IdleConnection<S>,
     sql: &str,

@@ -1,8 +1,8 @@
-//! The formats of the tables. The row of meta keeps the number of the format.
+//! The formats of the tables. The table `meta` has the number of the format.
 
 /// The first format, in which the `params` of a volume contain only its parameters.
 pub const FIRST_FORMAT: u32 = 1;
 
-/// The format of a new store, in which the `params` of a volume contain its parameters and its mutable
+/// The format of new tables, in which the `params` of a volume contain its parameters and its mutable
 /// parameters.
 pub const LATEST_FORMAT: u32 = 2;

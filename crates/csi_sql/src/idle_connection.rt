@@ -1,4 +1,4 @@
-//! A connection between two transactions.
+//! The type of connections on which no transaction is open.
 
 ghost use Rattle.std.specs.Prelude.{◌≡◌, false};
 ghost use Rattle.sqlite.specs.Held.{state};
@@ -10,7 +10,7 @@ use std::marker::Model;
 
 /// A connection on which no transaction is open. Each change and each read begins a transaction and ends it.
 ///
-/// In contracts, an idle connection is the connection itself.
+/// Contracts treat an idle connection as the connection in it.
 pub struct IdleConnection<S: Alter>(pub(crate) Connection<S>);
 
 impl<S: Alter> Model for IdleConnection<S> {
@@ -41,7 +41,7 @@ impl<S: Alter> IdleConnection<S> {
         IdleConnection(conn)
     }
 
-    /// The schema of the database.
+    /// Returns the schema of the database.
     pub fn schema(&self) -> &Schema
         ensures value { result.now ≡ (state S.Store self.now).now.schema }
         ensures live { IsLive (state S.Store self.now) }

@@ -1,36 +1,36 @@
-//! SQL over the tables that volumes are kept in: how they are made, each change, and each read.
+//! SQL over the tables of volumes: it makes the tables, and has a transaction for each change and each read.
 //!
-//! `specs/Tables.antt` has the three CREATE texts and the schema that they make: `meta` (its key, the number
-//! of the format, the next number), `volumes` by number, and `attachments` by number and node.
-//! `specs/Rows.antt` says what a row is as it is kept and as a SELECT shows it. The trees of a database have
-//! numbers: meta is 0, volumes 1 with its index of names 2, attachments 3 with its index 4.
-//! `specs/Transactions.antt` has the words for what a transaction did, and for what a stop in its commit may
-//! leave.
+//! `specs/Tables.antt` has the three CREATE texts and the schema that they make: `meta` (a key, the number of
+//! the format, and the next number), `volumes` by number, and `attachments` by number and node.
+//! `specs/Rows.antt` defines the rows, both as they are stored and as a SELECT shows them. The trees of a
+//! database have numbers: 0 is `meta`, 1 is `volumes` and 2 its index of names, 3 is `attachments` and 4 its
+//! index. `specs/Transactions.antt` defines what a transaction did, and what a stop in its commit may leave.
 //!
-//! - [`make_tables`] makes the tables in one transaction: whole, with the first row of meta, or not at all.
-//!   [`is_our_schema`] compares a schema with that of the tables, part by part (`specs/Ours.antt`): it looks
-//!   at no text of a CREATE, only at what it means.
-//! - [`IdleConnection`] is a connection on which no transaction is open. All that follows takes one.
-//! - [`changes`] has one transaction for each change. After `Ok` the change is made and committed, after an
-//!   error the tables are as they were; a stop leaves what it could leave before, or the tables after the
-//!   change.
-//! - [`reads`] has one transaction for each read, which is undone: a read returns rows, changes nothing, and
-//!   adds nothing to what a stop may leave. [`values`] decodes the cells of a row as numbers, flags, texts
-//!   and bytes.
-//! - [`each_row`] hands the rows of a query to a [`Fold`], in order, and keeps none.
-//! - [`statements`] has the statements with fixed texts, a table a module, inside a transaction that the
-//!   caller ends. The SELECTs of rows are each a variant (`statements/select.rt`).
+//! - [`make_tables`] makes the tables and the first row of `meta` in one transaction. [`is_our_schema`]
+//!   compares a schema with the schema of the tables, part by part (`specs/Ours.antt`). It compares the
+//!   meanings of the CREATE statements, and not their texts.
+//! - [`IdleConnection`] is a connection on which no transaction is open. All functions below take one.
+//! - [`changes`] has one transaction for each change. After `Ok` the change is made and committed; after an
+//!   error the tables are unchanged. A stop leaves tables that it could also have left before the change, or
+//!   the tables with the change.
+//! - [`reads`] has one transaction for each read, which is rolled back: a read returns rows, changes nothing,
+//!   and adds nothing to what a stop may leave. [`values`] decodes the cells of a row as numbers, flags,
+//!   texts and bytes.
+//! - [`each_row`] passes the rows of a query to a [`Fold`], in order, and keeps no row.
+//! - [`statements`] has the statements, each with a fixed text, inside a transaction that the caller ends. It
+//!   has a module for each table, and the SELECTs of rows are the variants of one enum
+//!   (`statements/select.rt`).
 //!
-//! The checker computes each text under the schema (`proofs/TextLemmas.antt`), so a contract cites not the
-//! text but its meaning: an INSERT adds a row (`specs/Effects.antt`), a DELETE is a filter of the table
-//! (`specs/Deletes.antt`), and a SELECT shows the rows that pass in an order (`specs/Shown.antt` over the
-//! queries of `specs/Statements.antt`). A DELETE goes by rowids, so it is a filter where no two rows share
-//! one (`AreKeyed`); an INSERT keeps that. `specs/facts/` says what INSERT, UPDATE and DELETE of a fixed text
-//! make of one table.
+//! The checker computes each text under the schema (`proofs/TextLemmas.antt`), so a contract names the
+//! meaning of a text and not the text. An INSERT adds a row (`specs/Effects.antt`). A DELETE is a filter of
+//! the table (`specs/Deletes.antt`). A SELECT shows the rows that pass a test, in an order
+//! (`specs/Shown.antt` over the queries of `specs/Statements.antt`). A DELETE removes rows by their rowids,
+//! so it is a filter if no two rows share a rowid (`AreKeyed`). After an INSERT, still no two rows share a
+//! rowid. `specs/facts/` states the rows of one table after an INSERT, UPDATE or DELETE with a fixed text.
 //!
-//! What is promised of the tables is promised while the connection is clean as the call ends (`HasCleanDisk`:
-//! the disk has returned what was written, and nobody else has written), under this schema; of
-//! [`make_tables`], where the store had no table. Which statements succeed is not promised.
+//! The promises about the tables hold for this schema, and if the connection is clean at the end of the call
+//! (`HasCleanDisk`). It is clean if the disk has returned the bytes that were written, and no other program
+//! has written. The promises of [`make_tables`] hold if the store had no table.
 //!
 //! ```rust
 //! if !is_our_schema(conn.schema()) {
@@ -43,9 +43,9 @@
 //!
 //! # Not promised
 //!
-//! That a statement succeeds; that memory was refused if an error says so, since a store may report this at
-//! any time; which of the three faults of a disk it was; that a number, a name or a place that already exists
-//! is refused, which rows of `test_tables` show.
+//! A statement may fail. An error may say that memory was refused although it was not, since a store may
+//! report this at any time. If the disk failed, the error does not name the fault of the disk. Rows of
+//! `test_tables` show that a number, a name or a place that already exists is refused.
 #![tactic(auto)]
 
 pub mod changes;

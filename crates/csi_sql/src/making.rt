@@ -8,13 +8,13 @@ ghost use Rattle.csi_sql.specs.Transactions.{CommitsOver, RunsOver};
 
 use sqlite::{Alter, Connection, Error, Transaction};
 
-// The statements that make the tables, in order.
+// The statements that make the tables, in the order in which they run.
 #[derive(Clone, Copy)]
 enum TableStatement {
     Meta,
     Volumes,
     Attachments,
-    // The row of meta: the latest format, 2, and the first volume gets number 1.
+    // Adds the row of `meta`: the latest format, 2, and 1 as the number of the first volume.
     First,
 }
 
@@ -55,11 +55,11 @@ fn create_tables<S: Alter>(tx: &mut Transaction<'_, S>) -> Result<(), Error>
     Ok(())
 }
 
-/// Makes the three tables and the first row of meta, in one transaction.
+/// Makes the three tables and the row of `meta`, in one transaction.
 ///
-/// After `Ok` a store that had no table has these three, with no volume, no attachment, the latest format and
-/// 1 as the next number, and all of this is committed. After an error nothing was made. A stop leaves what it
-/// could leave before the call, or the new tables.
+/// If the store had no table, `Ok` means that the three tables are made and committed. There is no volume and
+/// no attachment, the format is the latest format, and the next number is 1. After an error the store is
+/// unchanged. A stop leaves a store that it could also have left before the call, or the new tables.
 pub fn make_tables<S: Alter>(conn: &mut Connection<S>) -> Result<(), Error>
     requires { conn.old.in_transaction ≡ false }
     ensures idle { conn.new.in_transaction ≡ false }

@@ -1,4 +1,4 @@
-//! Compares a schema with the schema of our three tables.
+//! Compares a schema with the schema of the three tables that this crate makes.
 
 mod key_check;
 mod parts;
@@ -33,11 +33,15 @@ fn are_indexes(indexes: &[Index]) -> bool
         & is_index(places, b"sqlite_autoindex_attachments_1", 4, 3, &[1, 2])
 }
 
-/// Returns whether a schema is exactly the schema that `make_tables` makes.
+/// Returns true if a schema is exactly the schema that `make_tables` makes.
 ///
-/// The comparison is exact: each column has its name, kind, default and NOT NULL, each table its keys and its
-/// CHECK, each index its columns, all in the order and in the trees in which they were made, and there is no
-/// further table, index or view.
+/// These parts must agree, in the same order and in the same trees:
+///
+/// - the name, type, default and NOT NULL of each column
+/// - the keys and the CHECK of each table
+/// - the columns of each index
+///
+/// A further table, index or view makes the schemas differ.
 #[tactic(auto, using(crate::proofs::OursLemmas::is_ours, crate::proofs::OursLemmas::has_ours))]
 pub fn is_our_schema(schema: &Schema) -> bool
     ensures true_only_if { IsTrue result → schema.now ≡ our_schema }

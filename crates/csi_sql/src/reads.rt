@@ -1,7 +1,7 @@
-//! The reads, each in a transaction that is undone.
+//! Makes each read in a transaction that is rolled back.
 //!
 //! A number in a query must be below 2^63. A row of a volume has the columns number, name, bytes, pool, caps
-//! and params. An error is the error of the statement that failed.
+//! and params. If a read fails, the error is the error of the statement.
 
 ghost use Rattle.std.specs.Prelude.{◌≡◌, ◌<◌, ◌^◌, [], ◌∷◌};
 ghost use Rattle.sqlite.specs.declared.types.Value.TheVariants.{Text};
@@ -18,7 +18,7 @@ use crate::statements::select::{Select, select_rows};
 use crate::values::{first, number_at};
 use sqlite::{Alter, Error, Row};
 
-/// Reads the number that the next volume gets, as a row of one cell. Both formats have it.
+/// Reads the number that the next volume gets, as a row with one column.
 pub fn next_number<S: Alter>(conn: &mut IdleConnection<S>) -> Result<Row, Error>
     ensures { ReadsOnly S.Store conn.old conn.new IsNext HasNoNext result }
 {
@@ -39,7 +39,7 @@ fn rows_of<S: Alter>(conn: &mut IdleConnection<S>, read: &Select<'_>) -> Result<
     Ok(rows)
 }
 
-/// Reads the row of the volume with this number; `None` if there is no such volume.
+/// Reads the row of the volume with this number. Returns `None` if there is no such volume.
 pub fn by_number<S: Alter>(conn: &mut IdleConnection<S>, volume: u64) -> Result<Option<Row>, Error>
     requires volume { volume < 2 ^ 63 }
     ensures { ReadsOnly S.Store conn.old conn.new
@@ -50,7 +50,8 @@ pub fn by_number<S: Alter>(conn: &mut IdleConnection<S>, volume: u64) -> Result<
     Ok(first(rows))
 }
 
-/// Reads the row of the volume with this name, compared byte for byte; `None` if there is no such volume.
+/// Reads the row of the volume with this name, compared byte for byte. Returns `None` if there is no such
+/// volume.
 pub fn by_name<S: Alter>(conn: &mut IdleConnection<S>, name: &str) -> Result<Option<Row>, Error>
     ensures { ReadsOnly S.Store conn.old conn.new
         (λ db found. IsFoundBy named_query (db.trees 1) (Text name.now ∷ []) found) NothingRefuses result }
@@ -70,7 +71,7 @@ pub fn attachments<S: Alter>(conn: &mut IdleConnection<S>, volume: u64) -> Resul
     rows_of(conn, &Select::Nodes(volume))
 }
 
-/// The number of each volume that is attached at a node, in rising order.
+/// Reads the numbers of the volumes that are attached to a node, in rising order.
 pub fn attached_at<S: Alter>(conn: &mut IdleConnection<S>, node: &str) -> Result<Vec<Row>, Error>
     ensures { ReadsOnly S.Store conn.old conn.new
         (λ db rows. IsShownOf attached_query (db.trees 3)
@@ -102,13 +103,13 @@ pub fn page<S: Alter>(
     rows_of(conn, &Select::Page(after, count))
 }
 
-/// A page of volumes, and where they are attached.
+/// A page of volumes, and the nodes that they are attached to.
 #[derive(Drop)]
 pub struct PageRows {
     /// The volumes of the page, in rising order of their numbers.
     pub volumes: Vec<Row>,
-    /// The number and the node of each attachment of these volumes, in rising order of the numbers, and then
-    /// in byte order of the nodes.
+    /// The number and the node of each attachment of these volumes. The attachments are in rising order of
+    /// the numbers, and the attachments of one volume are in byte order of the nodes.
     pub places: Vec<Row>,
 }
 
@@ -124,8 +125,8 @@ fn last_of(volumes: &[Row], after: u64) -> u64
     }
 }
 
-/// Reads the page that [`page`] reads, and the nodes at which each of its volumes is attached, in one
-/// transaction.
+/// Reads the rows of the first `count` volumes with a number greater than `after`, and the nodes that each of
+/// these volumes is attached to. Both reads are in one transaction.
 pub fn page_with_nodes<S: Alter>(
     conn: &mut IdleConnection<S>,
     after: u64,

@@ -1,9 +1,10 @@
-//! The statements, inside a transaction that the caller ends: the changes of each table, and the SELECTs.
+//! The statements that change each table, and the SELECTs. They run inside a transaction that the caller
+//! ends.
 //!
-//! The contract of a change states what the change makes of the tables, if the transaction is open and the
-//! tables have the schema, and why the change failed. A change commits nothing, and adds nothing to what a
-//! stop may leave (`RunsOver`). The contract states nothing about the tables after an error: the caller
-//! undoes the transaction.
+//! The contract of a statement says how the statement changes the tables, and why it may fail. The
+//! transaction must be open, and the tables must have the schema of this crate. A statement commits nothing,
+//! and adds nothing to what a stop may leave (`RunsOver`). After an error the contract says nothing about the
+//! tables: the caller rolls the transaction back.
 
 pub mod attachments;
 pub mod meta;
@@ -12,6 +13,6 @@ pub mod volumes;
 
 use sqlite::Error;
 
-/// The result of a statement: `Ok` if it ran, or why it was refused. The contract of each statement says
-/// which rows it changes.
+/// The result of a statement: `Ok` if it ran, otherwise the error that refused it. The contract of each
+/// statement says which rows it changes.
 pub type Changed = Result<(), Error>;

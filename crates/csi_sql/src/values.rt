@@ -9,7 +9,8 @@ ghost use Rattle.csi_sql.specs.Rows.{bool_value, number_value};
 use sqlite::Row;
 use sqlite::types::ValueRef;
 
-/// Converts a number below 2^63 to a value of a statement. SQL's integers end there.
+/// Converts a number to an integer of SQL. The number must be below 2^63, because SQL has no greater
+/// integers.
 pub(crate) fn integer(number: u64) -> ValueRef<'static>
     requires { number < 2 ^ 63 }
     ensures { owned result ≡ number_value number }
@@ -17,14 +18,14 @@ pub(crate) fn integer(number: u64) -> ValueRef<'static>
     ValueRef::Int(number as i64)
 }
 
-/// Converts a flag to a value of a statement: 0 for false, 1 for true.
+/// Converts a flag to an integer of SQL: 0 for false, 1 for true.
 pub(crate) fn flag(is_true: bool) -> ValueRef<'static>
     ensures { owned result ≡ bool_value is_true }
 {
     ValueRef::Int(if is_true { 1 } else { 0 })
 }
 
-/// Returns the integer in column `at`, counted from 0; `None` if the value there is not an integer or is
+/// Returns the integer in column `at`, counted from 0, or `None` if the value is not an integer or is
 /// negative.
 pub fn number_at(row: &Row, at: usize) -> Option<u64>
     ensures value { result ≡ as_number (column row.now at) }
@@ -36,8 +37,8 @@ pub fn number_at(row: &Row, at: usize) -> Option<u64>
     }
 }
 
-/// Returns whether the value in column `at`, counted from 0, is 1; `None` if the value there is neither 0 nor
-/// 1.
+/// Returns the flag in column `at`, counted from 0: 0 is false and 1 is true. Returns `None` for any other
+/// value.
 pub fn flag_at(row: &Row, at: usize) -> Option<bool>
     ensures { result ≡ as_flag (column row.now at) }
 {
@@ -48,7 +49,7 @@ pub fn flag_at(row: &Row, at: usize) -> Option<bool>
     }
 }
 
-/// Returns the bytes of the text in column `at`, counted from 0; `None` if the value there is not a text.
+/// Returns the bytes of the text in column `at`, counted from 0, or `None` if the value is not a text.
 pub fn text_at(row: &Row, at: usize) -> Option<&[u8]>
     ensures { option_copied result ≡ as_text (column row.now at) }
 {
@@ -58,7 +59,7 @@ pub fn text_at(row: &Row, at: usize) -> Option<&[u8]>
     }
 }
 
-/// Returns the bytes of the BLOB in column `at`, counted from 0; `None` if the value there is not a BLOB.
+/// Returns the bytes of the BLOB in column `at`, counted from 0, or `None` if the value is not a BLOB.
 pub fn blob_at(row: &Row, at: usize) -> Option<&[u8]>
     ensures { option_copied result ≡ as_blob (column row.now at) }
 {
@@ -68,7 +69,7 @@ pub fn blob_at(row: &Row, at: usize) -> Option<&[u8]>
     }
 }
 
-/// Returns the first of the rows; `None` if there are no rows.
+/// Returns the first row, or `None` if there are no rows.
 pub(crate) fn first(rows: Vec<Row>) -> Option<Row>
     ensures { result ≡ slice_get rows.items 0 }
 {

@@ -1,13 +1,15 @@
-//! Each change over a connection, with the totals that are kept in memory.
+//! Makes each change over a connection, and keeps the totals in memory in step with the tables.
 //!
-//! Each function asks that no transaction is open on the connection, and leaves it so. After `Ok` the
-//! change is made and committed; after a fault the State stays, and a stop may leave the change made.
-//! The totals are moved only once the change is committed, and that takes no memory.
+//! No transaction may be open on the connection before a call, and no transaction is open after it. After
+//! `Ok` the change is made and committed. After a fault the State is unchanged, but a stop may leave the
+//! State with the change. The totals are updated only after the change is committed, and the update takes no
+//! memory.
 //!
-//! A change is one transaction, but a removal and a change of parameters are two: the first one reads what
-//! the row has. The total of a pool is set by the pool's name, which takes memory to hold, and nothing may
-//! fail after the commit; the other parameters are in the same column as those that change. The State is the
-//! same in between.
+//! A change is one transaction, except that removing a volume and changing parameters take two. The first
+//! transaction reads the row of the volume and leaves the State unchanged. A removal needs the name of the
+//! pool to update the pool's total. It reads the name first, since a name takes memory and nothing may fail
+//! after the commit. A change of parameters needs the parameters that stay, since they are in the same column
+//! as the parameters that change.
 
 ghost use Rattle.std.specs.Prelude.{◌≡◌, ◌<◌, ◌^◌, [], ◌∷◌, List, ℕ, IfOk, IsErrOf, IsUtf8, OnOk, option_map};
 ghost use Rattle.sqlite.specs.Held.{state};
@@ -31,10 +33,10 @@ use sqlite::Alter;
 use std::alloc::{AllocError, Global};
 use std::slice::from_ref;
 
-/// The first number that no row has: integers of SQLite are below 2^63.
+/// The numbers in rows are below this number, since integers of SQLite are below 2^63.
 pub(crate) const NUMBERS: u64 = 1 << 63;
 
-// Reserves the memory to count one more volume in a pool.
+// Reserves the memory that counting one more volume in a pool needs.
 fn reserve(alloc: Global, totals: &mut Totals, pool: &Text, bytes: u64) -> Result<(), TablesError>
     ensures room { OnOk result (HasRoom (total_of totals.old pool.now) bytes) }
     ensures reserved { OnOk result (IsReserved totals.new pool.now) }
@@ -48,7 +50,7 @@ fn reserve(alloc: Global, totals: &mut Totals, pool: &Text, bytes: u64) -> Resul
     Ok(())
 }
 
-/// Adds a volume, and counts it in the totals.
+/// Adds the row of a volume, and counts the volume in the total of its pool.
 pub(crate) fn make_volume<S: Alter>(
     alloc: Global,
     conn: &mut IdleConnection<S>,
@@ -76,8 +78,8 @@ pub(crate) fn make_volume<S: Alter>(
     Ok(())
 }
 
-// Makes a change that changes nothing, as for a number that no row has. It reads once, which fails if the
-// connection is shut; after a success a stop leaves the State.
+// Makes a change that changes nothing, such as a change of a number that no row has. It makes one read, which
+// fails if the connection is shut. After `Ok` a stop leaves the State.
 fn make_nothing<S: Alter>(conn: &mut IdleConnection<S>) -> Result<(), TablesError>
     ensures { ConnStays S.Store conn.old conn.new result }
 {
@@ -154,8 +156,8 @@ pub(crate) fn unmake_attachments<S: Alter>(
     Ok(())
 }
 
-/// Removes a volume. Its pool and its size are read first, so that the pool's total needs no memory after the
-/// volume is removed. The other values of its row are not decoded, which would take memory.
+/// Removes a volume. Reads its pool and its size first, so that updating the pool's total needs no memory
+/// after the removal. The other columns of the row are not decoded, which would take memory.
 pub(crate) fn unmake_volume<S: Alter>(
     conn: &mut IdleConnection<S>,
     totals: &mut Totals,
@@ -177,7 +179,8 @@ pub(crate) fn unmake_volume<S: Alter>(
     Ok(())
 }
 
-// The parameters of a volume. The volume is taken apart in a function of its own, in which nothing fails.
+// Returns the parameters of a volume. It is a function of its own, since nothing in it fails, which makes the
+// proof of its caller shorter.
 fn params_of(volume: Option<Volume>) -> Option<Map>
     ensures { result ≡ option_map (λ v. v.params) volume }
 {
@@ -187,8 +190,8 @@ fn params_of(volume: Option<Volume>) -> Option<Map>
     }
 }
 
-/// Replaces the mutable parameters of a volume. The volume is read first, since one column has both its
-/// parameters, which are unchanged, and its mutable parameters.
+/// Replaces the mutable parameters of a volume. Reads the volume first, since its other parameters are in the
+/// same column and stay.
 pub(crate) fn make_mutable<S: Alter>(
     alloc: Global,
     conn: &mut IdleConnection<S>,
@@ -214,7 +217,7 @@ pub(crate) fn make_mutable<S: Alter>(
     Ok(())
 }
 
-/// Makes a change in one transaction, and updates the totals of the pools.
+/// Makes a change, and updates the totals of the pools.
 pub(crate) fn make<S: Alter>(
     alloc: Global,
     conn: &mut IdleConnection<S>,

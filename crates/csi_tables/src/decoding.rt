@@ -1,4 +1,4 @@
-//! Capabilities and parameters of the bytes that are in a column.
+//! Decodes the capabilities and parameters in a column.
 
 ghost use Rattle.std.specs.Prelude.{◌≡◌, ◌≢◌, List, Some, Ok, IfOk, IsErrOf, map};
 ghost use Rattle.csi_types.specs.Maps.{TextMap};
@@ -41,7 +41,8 @@ fn keys_of(alloc: Global, capabilities: &[Capability]) -> Result<Items<CapKey>, 
     Ok(keys)
 }
 
-/// Decodes the capability keys in the column `caps`.
+/// Decodes the capability keys in the bytes of the column `caps`. Fails with `Refused` if the bytes are not
+/// the encoding of capability keys.
 pub(crate) fn read_caps(alloc: Global, bytes: &[u8]) -> Result<Items<CapKey>, TablesError>
     ensures ok { IfOk result (λ keys. (ks : List Key) → FitCaps ks → bytes.now ≡ caps_bytes ks → keys ≡ ks) }
     ensures refused { IsErrOf result Refused → (ks : List Key) → FitCaps ks → AreKnown ks
@@ -54,7 +55,8 @@ pub(crate) fn read_caps(alloc: Global, bytes: &[u8]) -> Result<Items<CapKey>, Ta
     keys_of(alloc, message.capabilities.as_slice())
 }
 
-/// Decodes the parameters and the mutable parameters in the column `params`.
+/// Decodes the parameters and the mutable parameters in the bytes of the column `params`. Fails with
+/// `Refused` if the bytes are not the encoding of such parameters.
 pub(crate) fn read_params(alloc: Global, bytes: &[u8]) -> Result<(Map, Map), TablesError>
     ensures ok { IfOk result (λ read. (p m : TextMap) → FitParams p m → bytes.now ≡ params_bytes p m
         → read ≡ (p, m)) }

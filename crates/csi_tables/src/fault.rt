@@ -1,4 +1,4 @@
-//! Why a call over the tables failed.
+//! The reasons why a call over the tables fails.
 
 ghost use Rattle.std.specs.Prelude.{◌≡◌};
 ghost use Rattle.csi_tables.specs.Answers.{answered, of_database, of_decoder};
@@ -10,7 +10,7 @@ use sqlite::{Error, ErrorCode};
 use std::alloc::{AllocError, AllocFailed};
 use std::marker::Model;
 
-/// Why a call over the tables failed, if the keeper was not down.
+/// The reason why a call over the tables failed, if the keeper was not down.
 #[derive(Clone, Copy)]
 pub enum TablesFault {
     /// Memory was refused.
@@ -19,12 +19,12 @@ pub enum TablesFault {
     Refused,
 }
 
-/// A fault, and the database's error if that is its cause. Contracts name only the fault.
+/// The fault of a call, with the database's error if that error is the cause. Contracts name only the fault.
 #[derive(Drop)]
 pub struct TablesError {
     /// The fault, without the database's error.
     pub fault: TablesFault,
-    /// The database's error, if one caused the fault.
+    /// The database's error, or `None` if the fault has another cause.
     pub cause: Option<Error>,
 }
 
@@ -46,7 +46,7 @@ impl TablesError {
         }
     }
 
-    /// The error for a row with values that this program does not write.
+    /// Returns the error for a row with values that this program does not write.
     pub(crate) fn refused() -> TablesError
         ensures { result ≡ Refused }
     {
@@ -98,7 +98,7 @@ impl From<Error> for TablesError {
     }
 }
 
-/// Converts an answer over the tables to the answer of a keeper that is not down.
+/// Converts the result of a call over the tables to the result of a keeper that is not down.
 pub(crate) fn store_answer<T>(answer: Result<T, TablesError>) -> Result<T, StoreFault>
     ensures { result ≡ answered answer }
 {

@@ -1,23 +1,24 @@
-//! Laws of the tables.
+//! Laws of the rows that represent a State.
 
 ghost use Rattle.csi_tables.specs.Laws.{HaveKnownModes, LatestHas, OneState};
 
 use csi_columns::laws::read_back;
 
-/// Tables of either format are the rows of exactly one State.
+/// The rows of tables, of either format, represent at most one State.
 pub fn one_state()
     ensures { OneState }
 {
     read_back();
 }
 
-/// Rows of either format represent the same State after the format number is set to the latest format.
+/// If rows of either format represent a State, they represent the same State after the format number is set
+/// to the latest format.
 pub fn latest()
     ensures { LatestHas }
 {}
 
-/// In a State that meets the invariant all access modes are known, which the clause on the refusal of a call
-/// needs.
+/// In a State that meets the invariant, all access modes are known. The clauses of the keeper about refused
+/// calls are only about States with known modes.
 pub fn known_modes()
     ensures { HaveKnownModes }
 {}

@@ -1,20 +1,22 @@
-//! A keeper of volumes in SQLite, over the tables of `csi_sql` by its transactions.
+//! A keeper of volumes in SQLite, which uses the tables and the transactions of `csi_sql`.
 //!
-//! A volume and an attachment are a row each (`csi_columns`). Capabilities are in a column as the canonical
-//! bytes of a `CreateVolumeRequest` that has these alone, and so are parameters, with the mutable ones after
-//! them; what can't be read again, or has a number from 2^63 on, is no row, and a row that is none of those
-//! is refused. `specs/Holding.antt` says which rows of a format represent a State (`IsRowsOf`, by what a
-//! SELECT of all columns sees, in any order), and which States a connection and the totals with it may have.
+//! Each volume and each attachment is a row (`csi_columns`). The column `caps` has the canonical bytes of a
+//! `CreateVolumeRequest` with only the capabilities. The column `params` has the canonical bytes of a request
+//! with only the parameters and the mutable parameters. A read of a row that this program cannot have written
+//! is refused. `specs/Holding.antt` defines which rows of a format represent a State (`IsRowsOf`). These are
+//! the rows that a SELECT of all columns shows, in any order. It also defines which States a connection with
+//! its totals may have.
 //!
-//! `rows.rt` and `decoding.rt` make values of rows and of bytes; `read.rt` has a function a read and
-//! `changes.rt` one a change, each over a connection, in words of the State; `nodes.rt` reads the nodes of a
-//! page's volumes from one list of places; `fault.rt` says why a call over the tables failed; `tables.rt` is
-//! the keeper, a line or two a call, with the count of refusals (`csi_keeper::Health`); `opening.rt` makes it
-//! over new tables, and gives the connection back. The lemmas go the same way: rows after a change are the
-//! rows of the changed State (`RowLemmas`), rows represent one State (`StateLemmas`), a sorted answer over
-//! the rows of a State is a filter of its entries (`SortedLemmas`, `ShownLemmas`, `PageLemmas`), what a
-//! transaction's clauses say of rows is what the trait asks of States (`KeepLemmas`, `TablesLemmas`), and new
-//! tables are the rows of the State without volumes (`NewLemmas`).
+//! `rows.rt` and `decoding.rt` decode rows and columns. `read.rt` has a function for each read and
+//! `changes.rt` a function for each change, both over a connection and in terms of the State. `nodes.rt`
+//! finds the nodes of a page's volumes in one list of places, and `fault.rt` has the reasons why a call
+//! fails. `tables.rt` is the keeper, which counts refusals with `csi_keeper::Health`. `opening.rt` makes the
+//! keeper over new tables, and returns the connection. The lemmas follow the same steps. `RowLemmas` shows
+//! that the rows after a change are the rows of the changed State, and `StateLemmas` that rows represent one
+//! State. `SortedLemmas`, `ShownLemmas` and `PageLemmas` show that a sorted answer over the rows of a State
+//! is a filter of its entries. `KeepLemmas` and `TablesLemmas` derive the clauses of the trait, which are
+//! about States, from the clauses of transactions, which are about rows. `NewLemmas` shows that new tables
+//! are the rows of the State without volumes.
 //!
 //! ```rust
 //! let mut keeper = Tables::make(alloc, conn)?;
@@ -24,10 +26,10 @@
 //!
 //! # Not promised
 //!
-//! That calls succeed, and what comes back out of the columns: rows of `test_tables` show both.
-//! That memory was refused where a call is answered `NoMemory`: `tests/memory --tables` refuses
-//! each allocation of each call in turn. Why a call is answered `Refused` is said of States whose
-//! capabilities have known modes, as those of the invariant have.
+//! The contracts do not promise that calls succeed, or which values the columns return; rows of `test_tables`
+//! show both. A call may return `NoMemory` although memory was not refused; `tests/memory --tables` refuses
+//! each allocation of each call in turn. The clauses about `Refused` hold for States whose capabilities have
+//! known modes, as each State that meets the invariant does.
 #![tactic(auto)]
 
 mod changes;

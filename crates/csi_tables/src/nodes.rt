@@ -1,4 +1,5 @@
-//! The nodes of the volumes of a page, of one list of places.
+//! Finds the nodes of the volumes of a page in one list of places. A place is a row with the number of a
+//! volume and the id of a node.
 
 ghost use Rattle.std.specs.Prelude.{◌≡◌, ◌≢◌, ◌==◌, ◌<◌, ◌≤◌, ℕ, List, IfOk, IsErrOf, length, drop, filter, map, nat_lt, take};
 ghost use Rattle.csi_keeper.specs.State.{AttachmentKey};
@@ -12,8 +13,8 @@ use csi_types::{Items, Text};
 use sqlite::Row;
 use std::alloc::Global;
 
-// The nodes of the volume with this number, and how many rows of `places` have no greater number. The rows
-// are in rising order of their numbers.
+// Returns the nodes of the volume with this number, and the count of rows in `places` whose number is at most
+// this number. The numbers of the rows must rise.
 fn nodes_of(alloc: Global, places: &[Row], number: u64) -> Result<(Items<Text>, usize), TablesError>
     ensures nodes { IfOk result (λ found. (ps : List AttachmentKey) → IsRisen ps
         → places.now ≡ map place_row ps → found.0 ≡ nodes_at ps number) }
@@ -38,8 +39,8 @@ fn nodes_of(alloc: Global, places: &[Row], number: u64) -> Result<(Items<Text>, 
     Ok((nodes, places.len()))
 }
 
-/// The nodes of the volume with each of these numbers, in the order of the rows. Numbers and rows rise, so
-/// that each row is looked at once.
+/// Returns the nodes of each volume in `numbers`. The nodes of a volume are in the order of their rows. The
+/// numbers in `numbers` must rise, and so must the numbers of the rows, so that each row is read once.
 pub(crate) fn nodes_of_each(
     alloc: Global,
     numbers: &[u64],

@@ -1,4 +1,4 @@
-//! How a keeper over tables takes a connection, and gives it back.
+//! Makes a keeper over the tables of a connection, and returns the connection of a keeper.
 
 ghost use Rattle.std.specs.Prelude.{◌≡◌, false, IfErr, IfOk, IsTrue};
 ghost use Rattle.sqlite.specs.Held.{state};
@@ -18,31 +18,31 @@ use csi_sql::{IdleConnection, make_tables};
 use sqlite::{Alter, Connection, Error};
 use std::alloc::Global;
 
-/// Why no tables were made, with the connection to the database.
+/// The reason why no tables were made, and the connection to the database.
 #[derive(Drop)]
 pub struct MakeFault<S: Alter> {
-    /// The database's error.
+    /// The error of the database, which made no tables.
     pub error: Error,
-    /// The connection to the database. No transaction is open on it.
+    /// The connection to the database. No transaction is open on the connection.
     pub conn: Connection<S>,
 }
 
 impl<S: Alter> Tables<S> {
-    /// Makes the tables in a database without tables, and returns the keeper over them. It has no volumes and
-    /// no attachments, and its next number is 1. The tables are committed, so that a stop leaves them. The
-    /// keeper is not down and has refused no call.
+    /// Makes the tables in a database without tables, and returns the keeper over them. The keeper has no
+    /// volumes and no attachments, and its next number is 1. The keeper is not down and has refused no call.
+    /// The tables are committed, so a stop leaves them.
     ///
-    /// Nothing is promised for a database that has other tables.
+    /// The contract promises nothing for a database that has other tables.
     ///
     /// # Errors
     ///
-    /// The database's error, for example if a table with such a name exists or memory is refused. Nothing is
-    /// made then, and the connection is returned. A stop leaves what it could leave before, or the new
-    /// tables.
+    /// Returns the connection and the database's error, for example if a table with one of the names exists
+    /// or memory is refused. No tables are made. A stop leaves a database that it could also have left before
+    /// the call, or the new tables.
     ///
     /// # Not promised
     ///
-    /// The result for a database that has other tables, and that the call succeeds if memory is available;
+    /// The result for a database that has other tables, and success if memory is available, are not promised;
     /// rows of `test_tables` show both.
     pub fn make(alloc: Global, mut conn: Connection<S>) -> Result<Tables<S>, MakeFault<S>>
         requires idle { conn.in_transaction ≡ false }
@@ -66,8 +66,9 @@ impl<S: Alter> Tables<S> {
         }
     }
 
-    /// A keeper over tables that represent a State, with the totals of the State's pools. It is not down and
-    /// has refused no call. The rows must have been judged first, as by `csi_adoption::adopt`.
+    /// Makes a keeper over tables that represent a State, with the totals of the State's pools. The keeper is
+    /// not down and has refused no call. The rows must have been checked first, for example by
+    /// `csi_adoption::adopt`.
     pub fn over(conn: IdleConnection<S>, totals: Totals) -> Tables<S>
         requires stands { conn_doubt S.Store conn ≡ 0 → (s : State) × store_holds S.Store (conn, totals) s }
         ensures value { store_of S.Store result ≡ (conn, totals) }
@@ -76,7 +77,8 @@ impl<S: Alter> Tables<S> {
         Tables::new(conn, totals)
     }
 
-    /// The connection to the database, on which no transaction is open. The rows are unchanged.
+    /// Returns the connection to the database. No transaction is open on the connection, and the rows are
+    /// unchanged.
     pub fn into_connection(self) -> Connection<S>
         ensures value { result ≡ connection_of S.Store self }
         ensures idle { result.in_transaction ≡ false }

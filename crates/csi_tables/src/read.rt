@@ -1,6 +1,7 @@
-//! Each read over a connection, in the values of the State.
+//! Makes each read over a connection, and returns values of the State.
 //!
-//! Where a row is none that was written, as only a disk that is not clean gives it, the read is refused.
+//! If a row has values that this program does not write, the read is refused. Only a disk that returns other
+//! bytes than were written gives such a row.
 
 ghost use Rattle.std.specs.Prelude.{◌≡◌, ◌<◌, ◌^◌, IfOk, is_some, option_map};
 ghost use Rattle.std.specs.FinMap.{get};
@@ -20,7 +21,7 @@ use csi_types::{Items, Text};
 use sqlite::Alter;
 use std::alloc::Global;
 
-/// The number that the next volume gets.
+/// Returns the number that the next volume gets.
 pub(crate) fn next_number<S: Alter>(conn: &mut IdleConnection<S>) -> Result<u64, TablesError>
     ensures reads { ConnReads S.Store conn.old conn.new (λ s n. n ≡ s.next) result }
     ensures exact { IfOk result (λ n. ReportsNext S.Store conn.old conn.new n) }
@@ -29,7 +30,7 @@ pub(crate) fn next_number<S: Alter>(conn: &mut IdleConnection<S>) -> Result<u64,
     number_in(&row, 0)
 }
 
-/// The volume with this number; `None` if no volume has it.
+/// Returns the volume with this number, or `None` if no volume has the number.
 pub(crate) fn by_number<S: Alter>(
     alloc: Global,
     conn: &mut IdleConnection<S>,
@@ -57,8 +58,8 @@ pub(crate) fn has_volume<S: Alter>(
     Ok(found.is_some())
 }
 
-/// The pool of the volume with this number, and the size of the volume in bytes; `None` if no volume has the
-/// number.
+/// Returns the pool of the volume with this number, and the size of the volume in bytes, or `None` if no
+/// volume has the number.
 pub(crate) fn share<S: Alter>(
     conn: &mut IdleConnection<S>,
     number: u64,
@@ -71,7 +72,7 @@ pub(crate) fn share<S: Alter>(
     share_of(found)
 }
 
-/// The volume with this name; `None` if no volume has it.
+/// Returns the volume with this name, or `None` if no volume has the name.
 pub(crate) fn by_name<S: Alter>(
     alloc: Global,
     conn: &mut IdleConnection<S>,
@@ -84,7 +85,7 @@ pub(crate) fn by_name<S: Alter>(
     volume_of(alloc, found)
 }
 
-/// The attachments of the volume with this number, in byte order of their nodes.
+/// Returns the attachments of the volume with this number, in byte order of their nodes.
 pub(crate) fn attachments<S: Alter>(
     alloc: Global,
     conn: &mut IdleConnection<S>,
@@ -98,7 +99,7 @@ pub(crate) fn attachments<S: Alter>(
     attachments_from(alloc, &rows)
 }
 
-/// The numbers of the volumes that are attached at this node, in rising order.
+/// Returns the numbers of the volumes that are attached to this node, in rising order.
 pub(crate) fn attached_at<S: Alter>(
     alloc: Global,
     conn: &mut IdleConnection<S>,
@@ -111,7 +112,7 @@ pub(crate) fn attached_at<S: Alter>(
     numbers_from(alloc, &rows)
 }
 
-/// The sizes in bytes of the volumes in this pool, in rising order of the volumes' numbers.
+/// Returns the sizes in bytes of the volumes in this pool, in rising order of the volumes' numbers.
 pub(crate) fn sizes_in<S: Alter>(
     alloc: Global,
     conn: &mut IdleConnection<S>,
@@ -124,7 +125,7 @@ pub(crate) fn sizes_in<S: Alter>(
     numbers_from(alloc, &rows)
 }
 
-/// The first `count` volumes whose number is greater than `after`, in rising order of their numbers.
+/// Returns the first `count` volumes whose number is greater than `after`, in rising order of their numbers.
 pub(crate) fn page<S: Alter>(
     alloc: Global,
     conn: &mut IdleConnection<S>,
@@ -139,8 +140,9 @@ pub(crate) fn page<S: Alter>(
     volumes_from(alloc, &rows)
 }
 
-/// The volumes of a page, each with its nodes in byte order of their ids. The tables need not have been
-/// judged. The whole page is one read.
+/// Returns the first `count` volumes whose number is greater than `after`, in rising order of their numbers.
+/// Each volume comes with the ids of its nodes in byte order. The whole page is one read. The rows need not
+/// have been checked before.
 ///
 /// # Errors
 ///

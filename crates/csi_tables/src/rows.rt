@@ -1,4 +1,4 @@
-//! Volumes, attachments and numbers of the rows that show them.
+//! Decodes volumes, attachments and numbers from the rows of a SELECT.
 
 ghost use Rattle.std.specs.Prelude.{◌≡◌, ◌≢◌, ℕ, List, [], ◌∷◌, Option, Some, IfOk, IfSome, IsErrOf, IsUtf8, map, option_map};
 ghost use Rattle.std.specs.List.{AllByRecursion};
@@ -24,7 +24,8 @@ use csi_types::{Items, Map, Text};
 use sqlite::Row;
 use std::alloc::{AllocError, Global};
 
-/// The text in the cell at this column.
+/// Copies the text in the column `at`, counted from 0. Fails with `Refused` if the value is not a text in
+/// UTF-8.
 pub(crate) fn text_in(row: &Row, at: usize) -> Result<Text, TablesError>
     ensures ok { IfOk result (λ text. column row.now at ≡ Words text) }
     ensures refused { IsErrOf result Refused → (text : List ℕ) → IsUtf8 text
@@ -33,7 +34,8 @@ pub(crate) fn text_in(row: &Row, at: usize) -> Result<Text, TablesError>
     Ok(Text::from_string(row.get(at)?))
 }
 
-/// The number in the cell at this column.
+/// Returns the number in the column `at`, counted from 0. Fails with `Refused` if the value is not an integer
+/// or is negative.
 pub(crate) fn number_in(row: &Row, at: usize) -> Result<u64, TablesError>
     ensures ok { IfOk result (λ n. column row.now at ≡ number_value n) }
     ensures refused { IsErrOf result Refused → (n : ℕ) → column row.now at ≢ number_value n }
@@ -70,7 +72,7 @@ fn params_in(alloc: Global, row: &Row, at: usize) -> Result<(Map, Map), TablesEr
     }
 }
 
-/// Decodes the volume in a row.
+/// Decodes the volume in a row of the columns number, name, bytes, pool, caps and params.
 pub(crate) fn volume_from(alloc: Global, row: &Row) -> Result<Volume, TablesError>
     ensures ok { IfOk result (λ v. (e : ℕ × Stored) → IsStored e → row.now ≡ volume_entry e → v ≡ e.1) }
     ensures refused { IsErrOf result Refused → (e : ℕ × Stored) → IsReadable e → row.now ≢ volume_entry e }
@@ -93,7 +95,7 @@ pub(crate) fn volume_from(alloc: Global, row: &Row) -> Result<Volume, TablesErro
     })
 }
 
-/// Decodes the volume in a row that was found; `None` if no row was found.
+/// Decodes the volume in a row. Returns `None` if no row is given.
 pub(crate) fn volume_of(alloc: Global, found: Option<Row>) -> Result<Option<Volume>, TablesError>
     ensures ok { IfOk result (λ v. (o : Option (ℕ × Stored)) → IfSome o IsStored
         → found ≡ option_map volume_entry o → v ≡ option_map (λ e. e.1) o) }
@@ -107,7 +109,7 @@ pub(crate) fn volume_of(alloc: Global, found: Option<Row>) -> Result<Option<Volu
     }
 }
 
-/// The pool and the size in a row that was found; `None` if no row was found.
+/// Decodes only the pool and the size of the volume in a row. Returns `None` if no row is given.
 pub(crate) fn share_of(found: Option<Row>) -> Result<Option<(Text, u64)>, TablesError>
     ensures ok { IfOk result (λ v. (o : Option (ℕ × Stored)) → found ≡ option_map volume_entry o
         → v ≡ option_map (λ e. share e.1) o) }
@@ -136,7 +138,7 @@ fn cap_in(alloc: Global, row: &Row, at: usize) -> Result<CapKey, TablesError>
     }
 }
 
-/// Decodes the attachment in a row. A `readonly` that is neither 0 nor 1 is refused.
+/// Decodes the attachment in a row. Fails with `Refused` if `readonly` is neither 0 nor 1.
 pub(crate) fn attachment_from(alloc: Global, row: &Row) -> Result<Attachment, TablesError>
     ensures ok { IfOk result (λ a. (e : AttachmentKey × Placed) → IsPlaced e → row.now ≡ node_entry e
         → a ≡ e.1) }
@@ -154,7 +156,7 @@ pub(crate) fn attachment_from(alloc: Global, row: &Row) -> Result<Attachment, Ta
     })
 }
 
-/// Decodes the volumes in rows.
+/// Decodes the volumes in rows, in order.
 pub(crate) fn volumes_from(alloc: Global, rows: &[Row]) -> Result<Items<Volume>, TablesError>
     ensures ok { IfOk result (λ vs. (es : List (ℕ × Stored)) → AllByRecursion IsStored es
         → rows.now ≡ map volume_entry es → vs ≡ map (λ e. e.1) es) }
@@ -169,7 +171,7 @@ pub(crate) fn volumes_from(alloc: Global, rows: &[Row]) -> Result<Items<Volume>,
     Ok(volumes)
 }
 
-/// Decodes the attachments in the rows of one volume.
+/// Decodes the attachments in the rows of one volume, in order.
 pub(crate) fn attachments_from(
     alloc: Global,
     rows: &[Row],
@@ -187,7 +189,7 @@ pub(crate) fn attachments_from(
     Ok(attachments)
 }
 
-/// The numbers of volumes.
+/// Returns the number of each volume, in order.
 pub(crate) fn numbers_of(alloc: Global, volumes: &[Volume]) -> Result<Vec<u64>, AllocError>
     ensures { IfOk result (λ numbers. numbers.items ≡ map (λ v. v.number) volumes.now) }
 {
@@ -198,7 +200,7 @@ pub(crate) fn numbers_of(alloc: Global, volumes: &[Volume]) -> Result<Vec<u64>, 
     Ok(numbers)
 }
 
-/// The numbers in the first column.
+/// Decodes the numbers in the first column of rows, in order.
 pub(crate) fn numbers_from(alloc: Global, rows: &[Row]) -> Result<Items<u64>, TablesError>
     ensures ok { IfOk result (λ xs. (ns : List ℕ) → rows.now ≡ map (λ n. number_value n ∷ []) ns → xs ≡ ns) }
     ensures refused { IsErrOf result Refused → (ns : List ℕ) → rows.now ≢ map (λ n. number_value n ∷ []) ns }

@@ -1,4 +1,4 @@
-//! The keeper over the tables.
+//! A keeper of volumes over the tables of a database.
 
 ghost use Rattle.std.specs.Prelude.{◌≡◌, ◌≤◌, ◌^◌, [], None, false, IfOk, IsTrue, OnErr, is_some};
 ghost use Rattle.std.specs.FinMap.{get};
@@ -18,35 +18,38 @@ use sqlite::{Alter, Error};
 use std::alloc::Global;
 use std::cell::Cell;
 
-/// A keeper over the tables of a database.
+/// A keeper over the tables of a database. The rows of the tables represent its State.
 ///
-/// The rows of the tables represent its State. Each change is one transaction, so that a stop leaves the
-/// whole change or nothing of it: after `Ok` a stop leaves the State; after a refusal it leaves what it could
-/// leave before, or the State with the change. After a change was refused, also for memory, each further call
-/// is answered `Down`; a refused read has no effect on later calls. `Refused` has a cause, such as a fault of
-/// the disk, and never means that memory was refused. No call changes the connection's limit on steps. A read
-/// of a number of 2^63 or more, which no row has, takes no memory.
+/// - Each change is made in one transaction. Before the change, removing a volume and changing parameters
+///   read the row of the volume in a further transaction. A stop leaves the whole change or nothing of it.
+///   After `Ok` a stop leaves the State with the change. After a refusal a stop leaves a State that it could
+///   also have left before the call, or the State with the change.
+/// - After a change fails, also for lack of memory, each further call fails with `Down`. A failed read has no
+///   effect on later calls.
+/// - `Refused` has a cause, such as a fault of the disk, and never means that memory was refused.
+/// - The totals of a pool are read from memory, without a transaction.
+/// - No call changes the connection's limit on steps. A read of a number of 2^63 or above, which no row has,
+///   takes no memory.
 ///
-/// All of this is promised as long as the database returns what was written to it, that is, while the store's
-/// `HasCleanDisk` holds at the end of the call. A call is one transaction, a removal two. The totals of a
-/// pool are answered from memory, without a transaction.
+/// These promises hold while the database returns what was written to it, that is, while the store's
+/// `HasCleanDisk` holds at the end of a call.
 ///
 /// # Not promised
 ///
-/// What the rows contain after a fault of the disk has shut the connection: any State that rows can represent
-/// and that has the totals of the pools is possible. Reads of the rows are not answered then; the totals of
-/// the pools still are, and what a stop leaves is as before.
+/// If a fault of the disk has shut the connection, the contract does not say which State the rows represent,
+/// except that the totals of its pools are unchanged. Reads of rows then fail. Reads of totals still succeed,
+/// and a stop leaves a State that it could also have left before.
 #[derive(Drop)]
 pub struct Tables<S: Alter> {
     pub(crate) conn: IdleConnection<S>,
     totals: Totals,
     health: Health,
-    // The database's error for the first refused call.
+    // The database's error of the first call that it refused.
     cause: Cell<Option<Error>>,
 }
 
 impl<S: Alter> Tables<S> {
-    // A keeper over a connection whose tables represent a State, with the totals of the State's pools.
+    // Makes a keeper over a connection whose tables represent a State, with the totals of the State's pools.
     pub(crate) fn new(conn: IdleConnection<S>, totals: Totals) -> Tables<S>
         ensures over { (result.conn ≡ conn) × (result.totals ≡ totals) }
         ensures fresh { (result.health.is_down ≡ false) × (result.health.refusals ≡ 0) }
@@ -59,7 +62,7 @@ impl<S: Alter> Tables<S> {
         }
     }
 
-    // Stores the database's error of an answer, unless an earlier one is stored.
+    // Stores the database's error if the call failed for it, unless an earlier error is stored.
     fn note<T>(&self, answer: &Result<T, TablesError>) {
         if let Err(error) = answer {
             if self.cause.get().is_none() {
@@ -68,14 +71,15 @@ impl<S: Alter> Tables<S> {
         }
     }
 
-    /// The database's error for the first call that it refused, such as a full disk. `None` if the database
-    /// refused no call: also if memory was refused or a row had values that this program does not write.
+    /// Returns the database's error for the first call that the database refused, such as a full disk.
+    /// Returns `None` if the database refused no call. Lack of memory, and a row with values that this
+    /// program does not write, are not refusals of the database.
     pub fn cause(&self) -> Option<Error> {
         self.cause.get()
     }
 
-    /// Returns true if every further call is answered `Down`, which is so after a change was refused, also
-    /// for memory.
+    /// Returns true if the keeper is down. If it is down, each further call fails with `Down`. A failed
+    /// change brings the keeper down, also if the change failed for lack of memory.
     pub fn is_down(&self) -> bool
         ensures { result ≡ self.now.health.is_down }
     {
@@ -201,7 +205,7 @@ impl<S: Alter> Keeper for Tables<S> {
         self.health.finish_call(store_answer(answer))
     }
 
-    // Reads and counts the numbers, as the tables have no index of nodes and no count.
+    // Reads the numbers of the node's volumes and counts them, as the tables have no index of nodes.
     fn count_at(&mut self, alloc: Global, node: &Text) -> Result<u64, StoreFault>
         ensures reads { Reads (tables_model S.Store self.old) (tables_model S.Store self.new) result
             (λ s n. n ≡ count_at s node.now) }

@@ -8,40 +8,44 @@ ghost use Rattle.csi_keeper.specs.State.{State, IsBounded};
 use csi_keeper::{Change, Keeper, StoreFault};
 use std::alloc::Global;
 
-/// A store that keeps the changes of a State and need not be readable, such as a database or a process at
-/// the other end of a socket.
+/// A store that keeps the changes of a State, such as a database or a process at the other end of a socket.
+/// It need not be readable.
 ///
-/// The promises about the State hold while `doubt`, which never falls, is 0.
+/// The promises about the State hold while the store's `doubt` is 0, that is, while it is certain that the
+/// store has each change that it made. The doubt never falls.
 pub trait ChangeStore {
-    // The State, the survivors and the counts of the store, as used by contracts. The count of refused
-    // calls is not used.
+    // The model of the store, which contracts use: its State and the States that a stop may leave. The count
+    // of refused calls is not used.
     ghost model: { Self → Model State };
 
-    /// Makes a change, which the State must allow; the variants of `Change` state their conditions.
+    /// Makes a change. The variants of `Change` state when the State allows it. In any case, an added volume
+    /// must have a number below 2^62, at most 2^62 bytes, and capabilities in order without duplicates. New
+    /// mutable parameters must have at most 4,096 bytes.
     ///
-    /// After `Ok` the change is made, and a stop leaves the State with the change. After `NoMemory` or
-    /// `Refused` the State is unchanged; a stop leaves what it could have left before the call, or the
-    /// State with the change. After `Down` nothing is changed.
+    /// - After `Ok` the change is made, and a stop leaves the State with the change.
+    /// - After `NoMemory` or `Refused` the State is unchanged. But a stop may leave the State with the
+    ///   change, as well as any State that a stop before the call could have left.
+    /// - After `Down` nothing is changed.
     fn commit(&mut self, alloc: Global, change: &Change) -> Result<(), StoreFault>
         requires { IsBounded change.now }
         ensures { Changes (model self.old) (model self.new) change.now result };
 }
 
-/// A keeper that is used as a change store.
+/// A change store that makes each change in a keeper, for keepers such as tables in a file.
 #[derive(Drop)]
 pub struct KeeperChanges<K> {
     keeper: K,
 }
 
 impl<K: Keeper> KeeperChanges<K> {
-    /// Makes a change store of a keeper. From then on the keeper is only changed, not read.
+    /// Makes a change store over a keeper. The change store only changes the keeper, and never reads from it.
     pub fn new(keeper: K) -> KeeperChanges<K>
         ensures { result.keeper ≡ keeper }
     {
         KeeperChanges { keeper }
     }
 
-    /// Returns the keeper, which has each change that was made.
+    /// Returns the keeper with all changes that were made.
     pub fn into_keeper(self) -> K
         ensures { result ≡ self.keeper }
     {

@@ -17,7 +17,7 @@ use std::alloc::Global;
 // The number of volumes that one read returns.
 const PAGE: u32 = 1000;
 
-// Adds the attachments of a volume to the memory, which has none of them yet.
+// Adds the attachments of a volume to the memory, which has no attachments of the volume yet.
 #[tactic(auto, using(crate::proofs::CopyLemmas::allows_more, crate::proofs::CopyLemmas::attached_more))]
 fn attach_each(
     alloc: Global,
@@ -35,24 +35,24 @@ fn attach_each(
     Ok(())
 }
 
-// Whether the memory can have this next number. A store that reads back what was written has no greater
-// next number.
+// Returns true if the memory can have this next number: it is within the bounds of numbers. Only a store that
+// does not read back what was written has a greater next number.
 fn is_numbered(next: u64) -> bool
     ensures { IsTrue result ↔ IsNumbered next }
 {
     next <= MAX_NUMBER
 }
 
-// Whether the memory can hold a volume: its number and its size are in bounds. A store that reads back what
-// was written has no other volumes.
+// Returns true if the memory can have this volume: its number and its size are within their bounds. Only a
+// store that does not read back what was written has another volume.
 fn is_held(volume: &Volume) -> bool
     ensures { IsTrue result ↔ IsHeld volume.now }
 {
     (volume.number < MAX_NUMBER) & (volume.bytes <= MAX_POOL_BYTES)
 }
 
-// Adds a volume with its attachments after the volumes in memory. A volume that the memory cannot hold is
-// an error; it is not left out.
+// Adds a volume with its attachments after the volumes in memory. Fails for a volume that the memory cannot
+// have, so that no volume is left out.
 fn restore(
     alloc: Global,
     memory: &mut MemKeeper,
@@ -74,7 +74,8 @@ fn restore(
     attach_each(alloc, memory, number, attachments)
 }
 
-// Whether a volume of a page is published to a node. Returns true too if the page has no nodes for it.
+// Returns true if a volume of a page is published to a node, or if the page has no list of nodes for the
+// volume.
 fn is_published(nodes: &[Items<Text>], index: usize) -> bool
     ensures { result ≡ false → (index < length nodes.now) × (get_or nodes.now index [] ≡ []) }
 {
@@ -84,8 +85,8 @@ fn is_published(nodes: &[Items<Text>], index: usize) -> bool
     }
 }
 
-// Reads the attachments of a volume. For a volume that is not published the keeper is not called, since the
-// volume has no attachments.
+// Reads the attachments of a volume. The keeper is not called for a volume that is not published, since it
+// has no attachments.
 fn attachments_of<K: Keeper>(
     alloc: Global,
     keeper: &mut K,
@@ -105,8 +106,8 @@ fn attachments_of<K: Keeper>(
     keeper.attachments(alloc, number)
 }
 
-// Adds the volumes of a page with their attachments to the memory. `after` is the number of the volume
-// before them. The volumes are moved. Returns the number of the last volume.
+// Adds the volumes of a page with their attachments to the memory. `after` is the number of the volume before
+// the page. The volumes are moved. Returns the number of the last volume on the page.
 fn restore_page<K: Keeper>(
     alloc: Global,
     keeper: &mut K,
@@ -162,14 +163,14 @@ fn restore_all<K: Keeper>(
 /// Copies the contents of a keeper into memory. It only reads from the keeper: once for each 1,000 volumes,
 /// and once for each volume that is published.
 ///
-/// For each State that the keeper may have and that has the invariant, the copy has the same State, while
-/// the keeper's doubt is 0.
+/// If the keeper may have a State that meets the invariant, and the keeper's doubt is 0, the copy has this
+/// State.
 ///
 /// # Errors
 ///
-/// The fault of a read, or `NoMemory` if memory is refused. `Refused` also if a number or a size is out of
-/// bounds; only a store that does not read back what was written returns such a value. So for a State that
-/// has the invariant each `Refused` is the keeper's.
+/// Returns the fault of a read, or `NoMemory` if memory is refused. If a number or a size is out of bounds,
+/// returns `Refused`. Only a store that returns other values than were written has such a number or size. So
+/// if the State meets the invariant, each `Refused` comes from a read of the keeper.
 pub(crate) fn copy_of<K: Keeper>(alloc: Global, keeper: &mut K) -> Result<MemKeeper, StoreFault>
     ensures keeper_unchanged { IsQuiet (K.model keeper.old) (K.model keeper.new) }
     ensures copy { IfOk result (λ memory. IsCopy (K.model keeper.old) (K.model keeper.new) memory) }

@@ -1,13 +1,13 @@
 //! A keeper that reads from a keeper in memory, and passes each change to a change store first.
 //!
 //! A store that is slow to read, or cannot be read, can still keep changes: [`ChangeStore`] needs only a
-//! commit. [`Through`] reads from a keeper in memory, and makes a change in memory after the change store
-//! has made it. So a read costs as much as in memory, and a change as much as a commit of the change store.
-//! Any keeper can be a change store ([`KeeperChanges`]), and [`Through::over`] copies the contents of a
-//! keeper into memory.
+//! commit. [`Through`] reads from a keeper in memory, and makes a change in memory after the change store has
+//! made it. So a read costs as much as a read in memory, and a change as much as a commit of the change
+//! store. Any keeper can be a change store ([`KeeperChanges`]), and [`Through::over`] copies the contents of
+//! a keeper into memory.
 //!
-//! `specs/Through.antt` defines which States such a keeper may have, and what a read of it does not change.
-//! `specs/Copying.antt` defines what is copied so far.
+//! `specs/Through.antt` defines which States such a keeper may have, and what a read leaves unchanged.
+//! `specs/Copying.antt` defines which part of a keeper has been copied.
 //!
 //! ```rust
 //! let mut keeper = Through::over(alloc, tables)?;
@@ -17,10 +17,10 @@
 //!
 //! # Not promised
 //!
-//! Any call of a keeper may be refused. So no contract promises that each change is made in memory, or that
-//! after a change for which the memory has no room reads are refused and not taken from the change store.
-//! Tests of `test_bytes` show both. That memory was refused if `over` or `copied` return `NoMemory` is
-//! shown by `tests/test_csid_*.py`.
+//! Any call of a keeper may be refused. So no contract promises that each change is made in memory. If the
+//! memory has no room for a change, no contract promises that later reads are refused and not answered by the
+//! change store. Tests of `test_bytes` show both. If `over` or `copied` returns `NoMemory`,
+//! `tests/test_csid_*.py` shows that memory was refused.
 #![tactic(auto)]
 
 mod change_store;

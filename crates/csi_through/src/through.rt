@@ -1,4 +1,4 @@
-//! A keeper that uses a keeper in memory and a change store.
+//! A keeper with two parts: a keeper in memory, which answers reads, and a change store, which makes changes.
 
 ghost use Rattle.std.specs.FinMap.{get};
 ghost use Rattle.std.specs.Option.{option_map};
@@ -35,7 +35,7 @@ fn start_call(health: &mut Health, is_current: bool) -> Result<(), StoreFault>
     Ok(())
 }
 
-// Starts a change, as any call. If the change is refused, each further call returns `Down`.
+// Starts a change. If the change is refused here, the keeper goes down, and each further call returns `Down`.
 fn start_change(health: &mut Health, is_current: bool) -> Result<(), StoreFault>
     ensures down { (result ≡ Err Down) ↔ IsTrue health.old.is_down }
     ensures fault { result ≢ Err NoMemory }
@@ -53,22 +53,22 @@ fn start_change(health: &mut Health, is_current: bool) -> Result<(), StoreFault>
 
 /// A keeper that reads from a keeper in memory, and passes each change to a change store first.
 ///
-/// The State is that of the change store, and a stop leaves what the change store leaves. After a failed
-/// change, also if memory was refused, each further call returns `Down`.
+/// The State is the State of the change store, and a stop leaves what the change store leaves. After a failed
+/// change, also for lack of memory, each further call returns `Down`.
 ///
-/// If the change store made a change but the memory has no room for the change, the call still returns
-/// `Ok`. The memory is then out of date, so each further read returns `Refused` until the keeper is opened
-/// again. A further change is refused without being tried, and then the keeper is down.
+/// If the change store made a change but the memory has no room for it, the call still returns `Ok`. The
+/// memory is then out of date, so each further read returns `Refused` until the keeper is opened again. The
+/// next change is refused without being tried, and brings the keeper down.
 pub struct Through<M, D> {
     memory: M,
     change_store: D,
     health: Health,
-    // Whether the memory has each change that the change store has.
+    // True if the memory has each change that the change store has.
     is_current: bool,
 }
 
-// Written out, so that code which drops a keeper has one call for that, and its proof no branch for each
-// part.
+// Written by hand and not derived: the proof of code that drops a keeper then has one call for the drop, and
+// no branch for each part.
 impl<M: Drop, D: Drop> Drop for Through<M, D> {
     fn drop(self) {
         let Through {
@@ -81,8 +81,8 @@ impl<M: Drop, D: Drop> Drop for Through<M, D> {
 }
 
 impl<M: Keeper, D: ChangeStore> Through<M, D> {
-    /// Makes a keeper of a memory and a change store that have the same State. If their States differ,
-    /// nothing is promised.
+    /// Makes a keeper over a memory and a change store that have the same State. If their States differ, the
+    /// contract promises nothing.
     pub fn new(memory: M, change_store: D) -> Through<M, D>
         ensures over { (result.memory ≡ memory) × (result.change_store ≡ change_store) }
         ensures fresh { (result.health.refusals ≡ 0) × (result.is_current ≡ true)
@@ -96,15 +96,16 @@ impl<M: Keeper, D: ChangeStore> Through<M, D> {
         }
     }
 
-    /// Whether the keeper is down: every further call returns `Down`. Only a failed change brings the
-    /// keeper down.
+    /// Returns true if the keeper is down. If it is down, each further call returns `Down`. Only a failed
+    /// change brings the keeper down.
     pub fn is_down(&self) -> bool
         ensures { result ≡ self.now.health.is_down }
     {
         self.health.is_down
     }
 
-    /// Whether the memory has each change that the change store has. If not, each further call fails.
+    /// Returns true if the memory has each change that the change store has. If a change is missing, each
+    /// further call fails.
     pub fn is_current(&self) -> bool
         ensures { result ≡ self.now.is_current }
     {
@@ -112,25 +113,25 @@ impl<M: Keeper, D: ChangeStore> Through<M, D> {
     }
 }
 
-/// The error of [`Through::over`]: why the copy failed, and the keeper.
+/// The error of [`Through::over`]: the reason why the copy failed, and the keeper.
 #[derive(Drop)]
 pub struct NotCopied<K> {
-    /// Why the copy failed: memory was refused, or a read of the keeper failed.
+    /// The reason why the copy failed: memory was refused, or a read of the keeper failed.
     pub fault: StoreFault,
     /// The keeper, whose State is unchanged.
     pub keeper: K,
 }
 
 impl<K: Keeper> Through<MemKeeper, KeeperChanges<K>> {
-    /// Makes a keeper of a copy of `keeper` in memory, and of `keeper` as the change store. It takes one
-    /// read for each 1,000 volumes, and one for each volume that is published.
+    /// Makes a keeper over a copy of `keeper` in memory, with `keeper` as the change store. Reads from
+    /// `keeper` once for each 1,000 volumes, and once for each volume that is published.
     ///
-    /// Each State with the invariant that `keeper` may have is a State of the new keeper, and a stop leaves
-    /// what it would leave of `keeper`. The memory has each change that the change store has.
+    /// If `keeper` may have a State that meets the invariant, the new keeper has this State. A stop leaves
+    /// the same States as a stop of `keeper`. The memory has each change that the change store has.
     ///
     /// # Errors
     ///
-    /// [`NotCopied`] if a read of `keeper` fails or memory is refused. It contains `keeper`, whose State is
+    /// If a read of `keeper` fails or memory is refused. The error contains `keeper`, whose State is
     /// unchanged.
     pub fn over(
         alloc: Global,
@@ -150,12 +151,12 @@ impl<K: Keeper> Through<MemKeeper, KeeperChanges<K>> {
 }
 
 impl<D: ChangeStore + Drop> Through<MemKeeper, D> {
-    /// Makes a keeper of a copy of `keeper` in memory, and of a change store that has the same State. It
-    /// takes one read for each 1,000 volumes, and one for each volume that is published.
+    /// Makes a keeper over a copy of `keeper` in memory, and a change store that has the same State. Reads
+    /// from `keeper` once for each 1,000 volumes, and once for each volume that is published.
     ///
     /// # Errors
     ///
-    /// The fault of a read of `keeper`, or `NoMemory` if memory is refused.
+    /// Returns the fault of a read of `keeper`, or `NoMemory` if memory is refused.
     pub fn copied<K: Keeper>(
         alloc: Global,
         keeper: &mut K,
@@ -175,7 +176,7 @@ impl<D: ChangeStore + Drop> Through<MemKeeper, D> {
 }
 
 impl<M: Drop, D> Through<M, D> {
-    /// Returns the change store, which has each change that was made. The memory is dropped.
+    /// Returns the change store, which has each change that was made, and drops the memory.
     pub fn into_change_store(self) -> D
         ensures { result ≡ self.change_store }
     {

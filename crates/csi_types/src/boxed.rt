@@ -1,4 +1,4 @@
-//! A value in memory of its own, which contracts see as the value.
+//! A value in allocated memory, which contracts see as the value itself.
 
 ghost use Rattle.std.specs.Prelude.{◌≡◌, IfOk};
 
@@ -6,7 +6,7 @@ use std::alloc::{AllocError, Global};
 use std::fmt;
 use std::marker::Model;
 
-/// A value in memory of its own: where the box is stored, it takes the room of a pointer.
+/// A value in allocated memory. In a struct or an enum, the box takes only the bytes of a pointer.
 #[derive(Drop)]
 pub struct Boxed<T> {
     kept: Box<T>,
@@ -21,7 +21,7 @@ impl<T> Model for Boxed<T> {
 }
 
 impl<T> Boxed<T> {
-    /// Returns a reference to the value.
+    /// Returns a reference to the value in the box.
     pub fn get(&self) -> &T
         ensures { result.now ≡ self.now }
     {
@@ -30,7 +30,7 @@ impl<T> Boxed<T> {
 }
 
 impl<T> Boxed<T> {
-    /// Returns the value and frees its memory.
+    /// Returns the value and frees the memory of the box.
     pub fn into_value(self) -> T
         ensures { result ≡ self }
     {
@@ -39,8 +39,10 @@ impl<T> Boxed<T> {
 }
 
 impl<T: Drop> Boxed<T> {
-    /// Allocates memory for a value. If memory is refused, the value is dropped. The call is inlined: the
-    /// caller knows which variant of an enum the value is, so no more bytes than needed are moved.
+    /// Moves a value into allocated memory. If memory is refused, the call fails and the value is dropped.
+    ///
+    /// The function is inlined. So if the value is an enum and the caller knows its variant, only the bytes
+    /// of this variant are moved.
     #[inline(always)]
     pub fn new(alloc: Global, value: T) -> Result<Boxed<T>, AllocError>
         ensures { IfOk result (λ boxed. boxed ≡ value) }
@@ -52,7 +54,7 @@ impl<T: Drop> Boxed<T> {
     }
 }
 
-// As the value itself.
+// Writes the value as its own `Debug` does.
 impl<T: fmt::Debug> fmt::Debug for Boxed<T> {
     fn fmt<W: fmt::Write>(&self, f: &mut fmt::Formatter<W>) -> fmt::Result {
         self.get().fmt(f)

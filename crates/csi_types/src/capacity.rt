@@ -1,13 +1,13 @@
 //! The range of sizes that a request asks for.
 
-/// `CapacityRange` (CSI specification, 'CreateVolume'), in bytes.
+/// The range of sizes that a request allows, in bytes: `CapacityRange` (CSI specification, 'CreateVolume').
 ///
-/// Fields: `required_bytes` 1, `limit_bytes` 2. A number that is 0 sets no bound. The argument checks refuse
-/// a number below 0.
+/// Fields: `required_bytes` 1, `limit_bytes` 2. The number 0 sets no bound. The argument checks refuse a
+/// negative number.
 #[derive(Clone, Copy, Debug)]
 pub struct CapacityRange {
-    /// The least number of bytes that the volume may have; 0 for no bound.
+    /// The least size of the volume in bytes, or 0 for no bound.
     pub required: i64,
-    /// The greatest number of bytes that the volume may have; 0 for no bound.
+    /// The greatest size of the volume in bytes, or 0 for no bound.
     pub limit: i64,
 }

@@ -1,4 +1,4 @@
-//! Status codes.
+//! The status codes that replies have.
 
 ghost use Rattle.std.specs.Prelude.{◌≡◌, ◌↔◌};
 ghost use Rattle.csi_types.specs.Codes.{number_of, name_of};
@@ -7,30 +7,33 @@ ghost use Rattle.csi_types.specs.declared.code.Code.{Code};
 /// A status code of gRPC, with the meaning that the CSI specification, 'Error Scheme', gives it.
 #[derive(Clone, Copy, Debug, PartialEq, Eq)]
 pub enum Code {
-    /// The call succeeded.
+    /// The call succeeded. Only a reply with this code has the body of a response.
     Ok = 0,
-    /// A field of the request is missing, malformed or not supported.
+    /// The frame or the message of the call is malformed, or a field of the request is missing, too large,
+    /// not valid or not supported.
     InvalidArgument = 3,
     /// The volume or the node does not exist.
     NotFound = 5,
-    /// A volume or an attachment exists already, and is not compatible with the request.
+    /// The volume or the attachment exists already, and is not compatible with the request.
     AlreadyExists = 6,
-    /// No pool has room, or a limit is reached.
+    /// No pool has room for the volume, the node is full, the reply is too large, or another limit is
+    /// reached.
     ResourceExhausted = 8,
-    /// The volume is in use, or is published to another node.
+    /// The volume is published to a node. So it cannot be deleted, or cannot be published to another node.
     FailedPrecondition = 9,
-    /// The starting token is not valid.
+    /// The starting token of ListVolumes is not valid.
     Aborted = 10,
-    /// No size is within the requested capacity range and the sizes of this plugin.
+    /// No size is within both the requested capacity range and the sizes that this plugin allows.
     OutOfRange = 11,
     /// No method has the path of the call.
     Unimplemented = 12,
-    /// The plugin failed: memory was refused, or the store failed.
+    /// The plugin failed: memory was refused, the store failed, or the store is down after an earlier
+    /// failure.
     Internal = 13,
 }
 
 impl Code {
-    /// The code with this number, or `None` if this plugin uses no such code.
+    /// Returns the code with this number, or `None` if this plugin uses no code with the number.
     pub fn of(number: u8) -> Option<Code>
         ensures { (code : Code) → (result ≡ Some code) ↔ (number ≡ number_of code) }
     {
@@ -49,14 +52,14 @@ impl Code {
         })
     }
 
-    /// The number of the code in gRPC, which a reply carries.
+    /// Returns the number of the code in gRPC, which replies contain.
     pub fn number(self) -> u8
         ensures { result ≡ number_of self }
     {
         self as u8
     }
 
-    /// The name of the code in gRPC, such as `INVALID_ARGUMENT`.
+    /// Returns the name of the code in gRPC, such as `INVALID_ARGUMENT`.
     pub fn name(self) -> &'static str
         ensures { result.now ≡ name_of self }
     {

@@ -1,4 +1,4 @@
-//! Copies of values.
+//! Copies texts, maps and capabilities.
 
 ghost use Rattle.std.specs.Prelude.{◌≡◌, IfOk};
 
@@ -16,7 +16,7 @@ pub fn copy_text(alloc: Global, text: &str) -> Result<Text, AllocError>
     Text::from_str(alloc, text)
 }
 
-/// Copies a map, its keys and its values. Fails if memory is refused.
+/// Copies a map with its keys and values. Fails if memory is refused.
 pub fn copy_map(alloc: Global, map: &Map) -> Result<Map, AllocError>
     ensures { IfOk result (λ copy. copy ≡ map.now) }
 {
@@ -31,7 +31,7 @@ pub fn copy_map(alloc: Global, map: &Map) -> Result<Map, AllocError>
     Ok(copy)
 }
 
-/// Copies a capability, its mount and the flags of the mount included. Fails if memory is refused.
+/// Copies a capability with its mount and the flags of the mount. Fails if memory is refused.
 pub fn copy_capability(alloc: Global, capability: &Capability) -> Result<Capability, AllocError>
     ensures { IfOk result (λ copy. copy ≡ capability.now) }
 {

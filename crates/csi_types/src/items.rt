@@ -8,7 +8,7 @@ use std::alloc::{AllocError, AllocFailed, Global};
 use std::marker::Model;
 use std::slice::Iter;
 
-/// Values in order, as a repeated field has them (Protocol Buffers language guide, 'Specifying
+/// A list of values, such as the values of a repeated field (Protocol Buffers language guide, 'Specifying
 /// Field Labels').
 #[derive(Debug, Drop)]
 pub struct Items<T> {
@@ -27,7 +27,7 @@ impl<T> Model for Items<T> {
 }
 
 impl<T> Items<T> {
-    /// An empty list. It takes no memory.
+    /// Makes an empty list. Takes no memory.
     pub fn new(alloc: Global) -> Self
         ensures { result ≡ [] }
     {
@@ -36,7 +36,7 @@ impl<T> Items<T> {
         }
     }
 
-    /// An empty list with room for `room` values. Fails if memory is refused.
+    /// Makes an empty list with room for `room` values. Fails if memory is refused.
     pub fn with_room(alloc: Global, room: usize) -> Result<Self, AllocError>
         ensures { IfOk result (λ items. items ≡ []) }
     {
@@ -45,14 +45,14 @@ impl<T> Items<T> {
         })
     }
 
-    /// Makes a list of a vector without allocating.
+    /// Makes a list of the values in a vector, without allocating.
     pub fn from_vec(vec: Vec<T>) -> Self
         ensures { result ≡ vec.items }
     {
         Self { vec }
     }
 
-    /// Returns the vector of the list.
+    /// Returns the vector that contains the values.
     pub fn into_vec(self) -> Vec<T>
         ensures { result.items ≡ self }
     {
@@ -60,28 +60,28 @@ impl<T> Items<T> {
         vec
     }
 
-    /// The values, as a slice.
+    /// Returns the values as a slice.
     pub fn as_slice(&self) -> &[T]
         ensures { result.now ≡ self.now }
     {
         self.vec.as_slice()
     }
 
-    /// The number of values.
+    /// Returns the number of values in the list.
     pub fn len(&self) -> usize
         ensures { result ≡ length self.now }
     {
         self.vec.len()
     }
 
-    /// Whether the list is empty.
+    /// Returns true if the list is empty.
     pub fn is_empty(&self) -> bool
         ensures { result ≡ (length self.now == 0) }
     {
         self.vec.is_empty()
     }
 
-    /// The value at an index counted from 0, or `None` past the end.
+    /// Returns the value at an index, counted from 0, or `None` if the index is past the end.
     pub fn get(&self, index: usize) -> Option<&T>
         ensures { option_copied result ≡ slice_get self.now index }
     {
@@ -95,8 +95,8 @@ impl<T> Items<T> {
         self.as_slice().iter()
     }
 
-    /// Appends a value. If memory is refused, the list is unchanged and the error returns the value. An empty
-    /// list reserves room for one value only, since most lists have one.
+    /// Appends a value. If memory is refused, the list is unchanged and the error contains the value. An
+    /// empty list reserves room for one value only, since most lists have one value.
     pub fn push(&mut self, item: T) -> Result<(), AllocFailed<T>>
         ensures ok { OnOk result (self.new ≡ self.old ++ item ∷ []) }
         ensures err { OnErr result (self.new ≡ self.old) }

@@ -1,4 +1,5 @@
-//! Laws of the definitions that the contracts cite. Each law is the contract of a function that does nothing.
+//! Laws about maps, pairs of list elements, and topologies. A law is a function that does nothing: its caller
+//! gets what the contract of the law states.
 
 ghost use Rattle.std.specs.Prelude.{◌≡◌, ◌↔◌, ℕ, Bool, List, false, reverse, take, true};
 ghost use Rattle.std.specs.FinMap.{entries, from_entries, get};
@@ -8,21 +9,25 @@ ghost use Rattle.csi_types.specs.Maps.{TextMap};
 ghost use Rattle.csi_types.specs.Overlays.{has_each, laid_over};
 ghost use Rattle.csi_types.specs.Topology.{has_alike_keys, is_within, same_topology, some_two};
 
-/// Inserting the entries of a map into an empty map, from the first to the last, gives the map.
+/// If the entries of a map are inserted into an empty map, from the first to the last, the result equals the
+/// map.
 #[inline(always)]
 pub fn map_entries()
     ensures { (m : TextMap) → from_entries (reverse (entries m)) ≡ m }
 {}
 
-/// Two elements of a list meet a test exactly if some element meets it with an element before it.
+/// `some_two test xs` is true if and only if the test passes for some element of the list and an element
+/// before it. The earlier element is the first argument of the test. So a loop that tests each element with
+/// all earlier elements computes `some_two`.
 #[inline(always)]
 pub fn pairs<T>()
     ensures { (test : T → T → Bool) (xs : List T)
         → list_any (λ p. list_any (λ x. test x p.1) (take p.0 xs)) (enumerate_from 0 xs) ≡ some_two test xs }
 {}
 
-/// Two equal topologies can replace each other in `is_within`, on either side, if neither has two keys that
-/// are alike.
+/// Two keys are alike if they differ at most in the case of ASCII letters. Let two topologies be equal, and
+/// let neither have two keys that are alike. Then `is_within` gives the same result for both, as the inner
+/// topology and as the outer topology.
 #[inline(always)]
 pub fn equal_topologies()
     ensures inner { (m n o : TextMap) → has_alike_keys m ≡ false → has_alike_keys n ≡ false
@@ -31,9 +36,9 @@ pub fn equal_topologies()
         → same_topology m n ≡ true → is_within m o ≡ is_within n o }
 {}
 
-/// After one map is laid over another, each given key has its given value, and each other key has its own.
-/// Laying the same map over the result again changes nothing; nor does laying a map over one that has all its
-/// entries.
+/// The map `given` is laid over the map `m`. In the result each key of `given` has the value of `given`, and
+/// each other key has the value of `m`. If `m` already has every entry of `given`, the result is `m`. So
+/// laying `given` over the result again changes nothing.
 #[inline(always)]
 pub fn overlays()
     ensures values { (m given : TextMap) (key : List ℕ)
@@ -43,8 +48,8 @@ pub fn overlays()
     ensures again { (m given : TextMap) → laid_over (laid_over m given) given ≡ laid_over m given }
 {}
 
-/// A map has each entry of another exactly if it has the same value under each key of the other. So a map has
-/// each of its own entries.
+/// The map `m` has each entry of the map `given` if and only if `m` has the same value under each key of
+/// `given`. So each map has all of its own entries.
 #[inline(always)]
 pub fn inclusions()
     ensures values { (m given : TextMap) → (has_each m given ≡ true)

@@ -1,16 +1,16 @@
 //! The values of the Container Storage Interface (CSI 1.x, Identity and Controller services).
 //!
-//! Plain structs and enums, one module for each subject, over four small types: [`Text`], [`Items`], [`Map`]
-//! and [`Boxed`]. Contracts see a `Text` as its bytes, an `Items` as a list, a `Map` as a finite map in byte
-//! order of its keys and a `Boxed` as the value in it. So the declared type of a message is itself the record
-//! that the definitions use, and proofs need no second set of types.
+//! The values are plain structs and enums, in one module for each subject, over four small types: [`Text`],
+//! [`Items`], [`Map`] and [`Boxed`]. Contracts see a `Text` as its bytes, an `Items` as a list, a `Map` as a
+//! finite map in byte order of its keys and a `Boxed` as the value in it. So definitions use the declared
+//! type of a message directly, and proofs need no second set of types.
 //!
 //! `specs/` also has facts about values that the layers above need: the table of argument checks (`Checks`),
-//! keys with ASCII letters in lower case, which capabilities are supported, and the code and text of each
-//! refusal. `topology.rt` compares topologies for all layers; `topology/segments.rt` sorts the segments of a
-//! topology on the stack. A `Map` has its entries in a list while they come in rising order of their keys,
-//! and then in a tree (`map/entering.rt`), so that no order of keys makes it slow; `map/entries.rt` iterates
-//! over both.
+//! keys with ASCII letters in lower case, the supported capabilities, and the code and text of each refusal.
+//! `topology.rt` compares topologies for all layers, and `topology/segments.rt` sorts the segments of a
+//! topology on the stack. A `Map` keeps its entries in a list while the keys come in rising order, and in a
+//! tree after that (`map/entering.rt`). So a map is fast for any order of keys. `map/entries.rt` iterates
+//! over list and tree.
 //!
 //! ```rust
 //! let mut parameters = Map::new(alloc);
@@ -20,8 +20,8 @@
 //!
 //! # Not promised
 //!
-//! The `Debug` output of a value, which the rows of `test_bytes` show, and the amount of memory that a value
-//! takes.
+//! The `Debug` output of a value, which rows of `test_bytes` show, and the memory that a value takes are not
+//! promised.
 #![tactic(auto)]
 
 mod boxed;

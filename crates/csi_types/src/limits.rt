@@ -1,43 +1,46 @@
-//! Limits of this plugin.
+//! The limits of requests, configurations and volumes.
 //!
-//! 128 bytes for a text and 4 KiB for a map are the general limits of the CSI specification, 'Size
-//! Limits'. The others are this plugin's own.
+//! The CSI specification sets the numbers of access modes, and the limits of 128 bytes for a text and 4 KiB
+//! for a map ('Size Limits'), 256 bytes for a node id (`NodeGetInfoResponse.node_id`) and 4 KiB for the flags
+//! of a mount (`VolumeCapability.MountVolume.mount_flags`). The other limits are this plugin's own.
 
-/// The greatest access mode, `SINGLE_NODE_MULTI_WRITER`; the least is 1 (CSI specification, the
-/// enum `VolumeCapability.AccessMode.Mode`).
+/// The greatest number of an access mode, `SINGLE_NODE_MULTI_WRITER` (CSI specification, the enum
+/// `VolumeCapability.AccessMode.Mode`). The least number is 1.
 pub const MAX_ACCESS_MODE: u8 = 7;
 
-/// The most bytes of a text: a name, a volume id, a token, a file system, a mount group.
+/// The greatest length in bytes of most texts: a volume name, a volume id, a token, a file system type, a
+/// mount group, the plugin's version, and a key or a value of a segment.
 pub const MAX_TEXT_BYTES: usize = 128;
 
-/// The most bytes of a node id.
+/// The greatest length of a node id in bytes.
 pub const MAX_NODE_ID_BYTES: usize = 256;
 
-/// The most bytes of all flags of one mount together.
+/// The greatest length in bytes of all flags of one mount together.
 pub const MAX_MOUNT_FLAGS_BYTES: usize = 4096;
 
-/// The most bytes of all keys and values of one map together.
+/// The greatest length in bytes of all keys and values of one map together.
 pub const MAX_MAP_BYTES: usize = 4096;
 
-/// The most pools of a configuration.
+/// The greatest number of pools of a configuration.
 pub const MAX_POOLS: usize = 16;
 
-/// The most segments of a pool.
+/// The greatest number of segments of a pool.
 pub const MAX_SEGMENTS: usize = 8;
 
-/// The most nodes of a configuration.
+/// The greatest number of nodes of a configuration.
 pub const MAX_NODES: usize = 64;
 
-/// The most volumes at once, in all pools together.
+/// The greatest number of volumes that exist at once, in all pools together.
 pub const MAX_VOLUMES: u64 = 100_000;
 
-/// The most entries of a page of a listing.
+/// The greatest number of entries on a page of a listing.
 pub const MAX_PAGE_ENTRIES: u32 = 100;
 
-/// The most bytes of all pools together.
+/// The greatest size of all pools together, in bytes (4 EiB).
 pub const MAX_POOL_BYTES: u64 = 1 << 62;
 
-/// The number at which no further volume is made. Each volume has a lower number.
+/// The limit of volume numbers: each volume has a number below this limit. When the next number reaches the
+/// limit, no further volume is created.
 pub const MAX_NUMBER: u64 = 1 << 62;
 
 const _: () = prove!(MAX_ACCESS_MODE == 7);

@@ -21,14 +21,15 @@ use std::marker::Model;
 /// A `map<string, string>` (Protocol Buffers language guide, 'Maps'). Its entries are in byte order of their
 /// keys.
 ///
-/// Entries that are inserted in rising order of their keys are in a list, others in a tree. A map of one
-/// entry allocates room for that entry only.
+/// A map has a list and a tree. Entries that are inserted in rising order of their keys are in the list, and
+/// other entries are in the tree. A map with one entry allocates room for this entry only.
 ///
-/// Most maps have one entry, and most others are filled in order, as the codec writes them. The first key
-/// that comes out of order moves the entries with greater keys to the tree, so an entry moves at most once.
+/// Most maps have one entry, and most longer maps are filled in rising order of their keys. When a key comes
+/// out of order for the first time, the entries with greater keys move to the tree. So an entry moves at most
+/// once.
 pub struct Map {
     listed: Vec<(Text, Text)>,
-    // All keys in the tree are above those in the list.
+    // The entries that are not in the list. Each key in the tree is above all keys in the list.
     tree: BTreeMap<Text, Text>,
 }
 
@@ -60,7 +61,7 @@ impl Model for Map {
 }
 
 impl Map {
-    /// An empty map. It takes no memory.
+    /// Makes an empty map. Takes no memory.
     pub fn new(alloc: Global) -> Self
         ensures { result ≡ map.empty }
     {
@@ -70,21 +71,21 @@ impl Map {
         }
     }
 
-    /// The number of entries.
+    /// Returns the number of entries in the map.
     pub fn len(&self) -> usize
         ensures { result ≡ map.len self.now }
     {
         self.listed.len() + self.tree.len()
     }
 
-    /// Whether the map has no entry.
+    /// Returns true if the map has no entry.
     pub fn is_empty(&self) -> bool
         ensures { result ≡ (map.len self.now == 0) }
     {
         self.len() == 0
     }
 
-    /// The value under `key`, or `None` if the map does not have the key.
+    /// Returns the value under `key`, or `None` if the map does not have the key.
     pub fn get(&self, key: &Text) -> Option<&Text>
         ensures { option_copied result ≡ map.get self.now key.now }
     {
@@ -99,8 +100,8 @@ impl Map {
         }
     }
 
-    /// Sets the value under `key`, replacing any earlier one. If memory is refused, the call fails and the
-    /// map is unchanged.
+    /// Sets the value under `key`. An earlier value under this key is replaced. If memory is refused, the
+    /// call fails and the map is unchanged.
     pub fn insert(&mut self, key: Text, value: Text) -> Result<(), AllocError>
         ensures ok { OnOk result (self.new ≡ map.insert self.old key value) }
         ensures err { OnErr result (self.new ≡ self.old) }
@@ -109,7 +110,7 @@ impl Map {
         Ok(())
     }
 
-    // The entries as one list; `None` if some are in the tree.
+    // Returns the entries as one list, or `None` if some entries are in the tree.
     #[inline(always)]
     pub(crate) fn listed(&self) -> Option<&[(Text, Text)]>
         ensures { IfSome result (λ listed. listed.now ≡ map.entries self.now) }

@@ -15,7 +15,8 @@ fn entries_bytes(map: &Map) -> usize
     bytes
 }
 
-/// The number of bytes of all keys and values of the map together, or 2^64 - 1 if there are more.
+/// Returns the sum of the lengths in bytes of all keys and values of the map, or 2^64 - 1 if the sum is
+/// greater.
 #[inline]
 pub fn map_bytes(map: &Map) -> usize
     ensures { result ≡ min (map_bytes map.now) (2 ^ 64 - 1) }

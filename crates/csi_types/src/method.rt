@@ -1,4 +1,4 @@
-//! The methods of the Identity and the Controller service.
+//! The methods of the Identity service and the Controller service.
 
 ghost use Rattle.std.specs.Prelude.{◌≡◌, ◌++◌, ◌↔◌, IfOk};
 ghost use Rattle.csi_types.specs.Methods.{method_at, method_named, path_of};
@@ -13,15 +13,15 @@ pub enum Method {
     GetPluginInfo,
     /// `csi.v1.Identity.GetPluginCapabilities`: returns which optional services the plugin has.
     GetPluginCapabilities,
-    /// `csi.v1.Identity.Probe`: returns whether the plugin is ready.
+    /// `csi.v1.Identity.Probe`: returns if the plugin is ready.
     Probe,
-    /// `csi.v1.Controller.CreateVolume`: creates a volume, or returns the one that has its name.
+    /// `csi.v1.Controller.CreateVolume`: creates a volume, or returns the existing volume with the name.
     CreateVolume,
     /// `csi.v1.Controller.DeleteVolume`: deletes a volume.
     DeleteVolume,
     /// `csi.v1.Controller.ControllerPublishVolume`: publishes a volume to a node.
     ControllerPublishVolume,
-    /// `csi.v1.Controller.ControllerUnpublishVolume`: unpublishes a volume from one node or from all.
+    /// `csi.v1.Controller.ControllerUnpublishVolume`: unpublishes a volume from one node or from all nodes.
     ControllerUnpublishVolume,
     /// `csi.v1.Controller.ValidateVolumeCapabilities`: checks whether a volume has the given capabilities.
     ValidateVolumeCapabilities,
@@ -36,7 +36,7 @@ pub enum Method {
 }
 
 impl Method {
-    /// The path of the method's calls: `/`, the service, `/` and the name.
+    /// Returns the path of the method's calls, such as `/csi.v1.Identity/Probe`.
     pub fn path(self) -> &'static str
         ensures { result.now ≡ path_of self }
     {
@@ -57,7 +57,7 @@ impl Method {
     }
 }
 
-/// The method whose calls have this path, or `None` if there is no such method.
+/// Returns the method whose calls have this path, or `None` if there is no such method.
 pub fn method_of(path: &[u8]) -> Option<Method>
     ensures at { result ≡ method_at path.now }
     ensures by_path { (method : Method) → (result ≡ Some method) ↔ (path.now ≡ path_of method) }
@@ -66,7 +66,8 @@ pub fn method_of(path: &[u8]) -> Option<Method>
     (path == method.path().as_bytes()).then_some(method)
 }
 
-// The method with this name in the service whose path begins with `service`.
+// Returns the method with this name in the service whose path begins with `service`, or `None` if the service
+// has no such method.
 fn method_under(alloc: Global, service: &str, name: &str) -> Result<Option<Method>, AllocError>
     ensures { IfOk result (λ method. method ≡ method_at (service.now ++ name.now)) }
 {
@@ -74,8 +75,8 @@ fn method_under(alloc: Global, service: &str, name: &str) -> Result<Option<Metho
     Ok(method_of(path.as_bytes()))
 }
 
-/// The method with this name, such as `CreateVolume`. Looks in the Controller service first, then in the
-/// Identity service; `None` if neither has the method.
+/// Returns the method with this name, such as `CreateVolume`, or `None` if neither service has the method.
+/// The Controller service is searched first, then the Identity service.
 ///
 /// # Errors
 ///
@@ -89,7 +90,8 @@ pub fn method_named(alloc: Global, name: &str) -> Result<Option<Method>, AllocEr
     }
 }
 
-// The only method whose path can be `path`, found by the length of `path` and one byte.
+// Returns the only method that can have this path. The length of the path and one byte of it are enough to
+// find the method.
 fn likely_method(path: &[u8]) -> Option<Method>
     ensures { (method : Method) → path.now ≡ path_of method → result ≡ Some method }
 {

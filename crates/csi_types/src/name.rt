@@ -1,4 +1,4 @@
-//! The names of volumes.
+//! Tests if a volume can have a name.
 
 ghost use Rattle.std.specs.Prelude.{◌≡◌};
 ghost use Rattle.std.specs.List.{list_all};
@@ -7,9 +7,13 @@ ghost use Rattle.csi_types.specs.Names.{refused_name, holds_banned, is_banned, i
 use crate::limits::MAX_TEXT_BYTES;
 use crate::reason::Reason;
 
-/// Why a volume cannot have this name; `None` if it can (CSI specification, 'CreateVolume', the field
-/// `name`). The first that applies: `NameMissing` if the name is empty, `NameTooLong` if it has more than 128
-/// bytes, `NameBanned` if it contains U+0000 to U+0008, U+000B, U+000C, U+000E to U+001F or U+007F to U+009F.
+/// Returns why no volume can have this name, or `None` if a volume can have it (CSI specification,
+/// 'CreateVolume', the field `name`). The result is the first of these that applies:
+///
+/// - `NameMissing`, if the name is empty
+/// - `NameTooLong`, if it has more than 128 bytes
+/// - `NameBanned`, if it contains one of U+0000 to U+0008, U+000B, U+000C, U+000E to U+001F and U+007F to
+///   U+009F
 pub fn name_reason(name: &str) -> Option<Reason>
     ensures { result ≡ refused_name name.now }
 {
@@ -30,7 +34,8 @@ fn holds_banned(text: &str) -> bool
     !is_plain(text.as_bytes()) && text.chars().any(is_banned)
 }
 
-/// Whether all bytes are printable ASCII, which is not banned. Almost all names have only such bytes.
+/// Returns true if all bytes are printable ASCII. No such byte is banned, and almost all names have only such
+/// bytes.
 fn is_plain(bytes: &[u8]) -> bool
     ensures { result ≡ list_all is_plain bytes.now }
 {

@@ -1,4 +1,4 @@
-//! Maps with other maps laid over them, and whether a map has all entries of another.
+//! Lays a map over another map, and tests that a map has all entries of another map.
 
 ghost use Rattle.std.specs.Prelude.{◌≡◌, IfOk};
 ghost use Rattle.std.specs.FinMap.{get};
@@ -9,8 +9,8 @@ use crate::map::Map;
 use crate::text::Text;
 use std::alloc::{AllocError, Global};
 
-/// Copies `map` and sets each key of `given` to its value there; all other keys keep their values. Fails if
-/// memory is refused.
+/// Returns a copy of `map` in which each key of `given` has its value in `given`. All other keys keep their
+/// values. Fails if memory is refused.
 pub fn laid_over(alloc: Global, map: &Map, given: &Map) -> Result<Map, AllocError>
     ensures { IfOk result (λ laid. laid ≡ laid_over map.now given.now) }
 {
@@ -21,7 +21,7 @@ pub fn laid_over(alloc: Global, map: &Map, given: &Map) -> Result<Map, AllocErro
     Ok(laid)
 }
 
-/// Whether `map` has each entry of `given`: the same key with the same value.
+/// Returns true if `map` has each entry of `given`, with the same key and the same value.
 pub fn has_each(map: &Map, given: &Map) -> bool
     ensures { result ≡ has_each map.now given.now }
 {

@@ -1,4 +1,4 @@
-//! Why a request is refused.
+//! The reasons why a request is refused.
 
 ghost use Rattle.std.specs.Prelude.{◌≡◌};
 ghost use Rattle.csi_types.specs.Reasons.{code_of, text_of};
@@ -7,9 +7,9 @@ use crate::code::Code;
 use std::error::Error;
 use std::fmt;
 
-/// Why a request is refused. `Display` prints the text of the reply.
+/// The reason why a request is refused. Its `Display` is the text of the reply.
 ///
-/// A message that cannot be decoded is not among these reasons: the text of that reply names a place in the
+/// A message that cannot be decoded has no such reason: the text of its reply contains an offset in the
 /// message.
 #[derive(Clone, Copy, Debug, PartialEq, Eq)]
 pub enum Reason {
@@ -25,17 +25,18 @@ pub enum Reason {
     AccessTypeMissing,
     /// The access mode of a volume capability is absent or unknown.
     AccessModeUnknown,
-    /// A requested capability is one that no volume can have.
+    /// A requested capability is not supported: no volume can have it.
     CapabilityNotSupported,
     /// `required_bytes` or `limit_bytes` is below 0.
     CapacityNegative,
     /// The keys and values of a map have more than 4,096 bytes.
     MapTooLarge,
-    /// An id, a token, a file system, a mount group or the flags of a mount are above their limit.
+    /// An id, a token, a file system type or a mount group is longer than its limit, or all flags of a mount
+    /// together are longer than their limit.
     TextTooLong,
-    /// `volume_content_source` is present.
+    /// `volume_content_source` is present, but this plugin cannot copy volumes or snapshots.
     SourceNotSupported,
-    /// Two keys of one topology are equal but for the case of ASCII letters.
+    /// Two keys of one topology differ only in the case of ASCII letters.
     TopologyKeysAlike,
     /// A preferred topology is not among the requisite topologies.
     PreferredNotRequisite,
@@ -49,17 +50,17 @@ pub enum Reason {
     MutableMissing,
     /// No method has the path of the call.
     UnknownMethod,
-    /// No volume has the id.
+    /// No volume has the id in the request.
     VolumeNotFound,
-    /// No node has the id.
+    /// No node of the configuration has the id in the request.
     NodeNotFound,
     /// A volume with this name exists, and differs from what the request asks for.
     VolumeNotCompatible,
     /// No pool that serves the topology has room for the volume.
     NoRoom,
-    /// As many volumes exist as this plugin allows.
+    /// The plugin has 100,000 volumes, which is the greatest number.
     TooManyVolumes,
-    /// Volume numbers are used up, so no further volume can be made.
+    /// The volume numbers are used up, so no further volume can be created.
     NumbersUsedUp,
     /// No size is within both the requested capacity range and the sizes of this plugin.
     OutOfRange,
@@ -69,7 +70,7 @@ pub enum Reason {
     PublishedElsewhere,
     /// The volume is published to this node with another capability or another `readonly` flag.
     PublishedOtherwise,
-    /// As many volumes are published to the node as it can have.
+    /// The node already has the greatest number of published volumes.
     NodeFull,
     /// The volume was not created with this capability.
     CapabilityNotOfVolume,
@@ -81,14 +82,14 @@ pub enum Reason {
     ReplyTooLarge,
     /// Memory was refused while the call was executed.
     OutOfMemory,
-    /// The store refused the change, so the call changed nothing.
+    /// The store refused a read or a change of the call, so the call changed nothing.
     StoreRefused,
-    /// The store failed before, and takes no call until it is opened again.
+    /// The store failed during an earlier call, and takes no call until it is opened again.
     StoreDown,
 }
 
 impl Reason {
-    /// The status code of the reply to a request that is refused for this reason.
+    /// Returns the status code of the reply to a request that is refused for this reason.
     pub fn code(self) -> Code
         ensures { result ≡ code_of self }
     {
@@ -127,7 +128,7 @@ impl Reason {
         }
     }
 
-    /// The text of the reply to a request that is refused for this reason.
+    /// Returns the text of the reply to a request that is refused for this reason.
     pub fn text(self) -> &'static str
         ensures { result.now ≡ text_of self }
     {
@@ -172,7 +173,7 @@ impl Reason {
     }
 }
 
-// By hand, so that each text is written once.
+// Written by hand and not derived, so that `text` has the only copy of each text.
 impl fmt::Display for Reason {
     fn fmt<W: fmt::Write>(&self, f: &mut fmt::Formatter<W>) -> fmt::Result {
         f.write_str(self.text())

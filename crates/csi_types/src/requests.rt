@@ -1,6 +1,6 @@
-//! Requests.
+//! The requests of CSI.
 //!
-//! `Debug` shows no secrets: requests with secrets implement `Debug` by hand and leave them out.
+//! `Debug` shows no secrets: it is written by hand for requests with secrets, and leaves the secrets out.
 
 use crate::boxed::Boxed;
 use crate::capability::Capability;
@@ -11,24 +11,24 @@ use crate::text::Text;
 use crate::topology::Requirement;
 use std::fmt;
 
-/// `CreateVolumeRequest` (CSI specification, 'CreateVolume').
+/// Asks to create a volume: `CreateVolumeRequest` (CSI specification, 'CreateVolume').
 #[derive(Drop)]
 pub struct CreateVolume {
-    /// `name`, field 1.
+    /// `name`, field 1: the name that the client chose for the volume.
     pub name: Text,
-    /// `capacity_range`, field 2.
+    /// `capacity_range`, field 2: the requested range of sizes, or `None` if any size will do.
     pub range: Option<CapacityRange>,
-    /// `volume_capabilities`, field 3.
+    /// `volume_capabilities`, field 3: the ways in which the volume must be usable.
     pub capabilities: Items<Capability>,
-    /// `parameters`, field 4.
+    /// `parameters`, field 4: the parameters of the volume's storage class.
     pub parameters: Map,
-    /// `secrets`, field 5.
+    /// `secrets`, field 5. This plugin checks their size and does not use them.
     pub secrets: Map,
-    /// Whether `volume_content_source`, field 6, is present. Its content is not kept.
+    /// True if `volume_content_source`, field 6, is present. Its content is not kept.
     pub source: bool,
-    /// `accessibility_requirements`, field 7.
+    /// `accessibility_requirements`, field 7: the topologies from which the volume must be accessible.
     pub topology: Option<Requirement>,
-    /// `mutable_parameters`, field 8.
+    /// `mutable_parameters`, field 8: the parameters that can be changed later.
     pub mutable: Map,
 }
 
@@ -46,12 +46,12 @@ impl fmt::Debug for CreateVolume {
     }
 }
 
-/// `DeleteVolumeRequest` (CSI specification, 'DeleteVolume').
+/// Asks to delete a volume: `DeleteVolumeRequest` (CSI specification, 'DeleteVolume').
 #[derive(Drop)]
 pub struct DeleteVolume {
-    /// `volume_id`, field 1.
+    /// `volume_id`, field 1: the id of the volume to delete.
     pub volume_id: Text,
-    /// `secrets`, field 2.
+    /// `secrets`, field 2. This plugin checks their size and does not use them.
     pub secrets: Map,
 }
 
@@ -63,20 +63,21 @@ impl fmt::Debug for DeleteVolume {
     }
 }
 
-/// `ControllerPublishVolumeRequest` (CSI specification, 'ControllerPublishVolume').
+/// Asks to publish a volume to a node: `ControllerPublishVolumeRequest` (CSI specification,
+/// 'ControllerPublishVolume').
 #[derive(Drop)]
 pub struct Publish {
-    /// `volume_id`, field 1.
+    /// `volume_id`, field 1: the id of the volume to publish.
     pub volume_id: Text,
-    /// `node_id`, field 2.
+    /// `node_id`, field 2: the id of the node that gets the volume.
     pub node_id: Text,
-    /// `volume_capability`, field 3.
+    /// `volume_capability`, field 3: how the node will use the volume, or `None` if the field is absent.
     pub capability: Option<Capability>,
-    /// `readonly`, field 4.
+    /// `readonly`, field 4: true if the node must not write to the volume.
     pub readonly: bool,
-    /// `secrets`, field 5.
+    /// `secrets`, field 5. This plugin checks their size and does not use them.
     pub secrets: Map,
-    /// `volume_context`, field 6.
+    /// `volume_context`, field 6: the context that CreateVolume returned.
     pub context: Map,
 }
 
@@ -92,14 +93,15 @@ impl fmt::Debug for Publish {
     }
 }
 
-/// `ControllerUnpublishVolumeRequest` (CSI specification, 'ControllerUnpublishVolume').
+/// Asks to unpublish a volume from one node or from all nodes: `ControllerUnpublishVolumeRequest` (CSI
+/// specification, 'ControllerUnpublishVolume').
 #[derive(Drop)]
 pub struct Unpublish {
-    /// `volume_id`, field 1.
+    /// `volume_id`, field 1: the id of the volume to unpublish.
     pub volume_id: Text,
     /// `node_id`, field 2. If it is empty, the volume is unpublished from all nodes.
     pub node_id: Text,
-    /// `secrets`, field 3.
+    /// `secrets`, field 3. This plugin checks their size and does not use them.
     pub secrets: Map,
 }
 
@@ -112,18 +114,19 @@ impl fmt::Debug for Unpublish {
     }
 }
 
-/// `ValidateVolumeCapabilitiesRequest` (CSI specification, 'ValidateVolumeCapabilities').
+/// Asks if a volume has capabilities: `ValidateVolumeCapabilitiesRequest` (CSI specification,
+/// 'ValidateVolumeCapabilities').
 #[derive(Drop)]
 pub struct Validate {
-    /// `volume_id`, field 1.
+    /// `volume_id`, field 1: the id of the volume that the question is about.
     pub volume_id: Text,
-    /// `volume_context`, field 2.
+    /// `volume_context`, field 2: the context that CreateVolume returned.
     pub context: Map,
-    /// `volume_capabilities`, field 3.
+    /// `volume_capabilities`, field 3: the capabilities that the volume may have.
     pub capabilities: Items<Capability>,
-    /// `parameters`, field 4.
+    /// `parameters`, field 4: the parameters that the volume may have.
     pub parameters: Map,
-    /// `secrets`, field 5.
+    /// `secrets`, field 5. This plugin checks their size and does not use them.
     pub secrets: Map,
 }
 
@@ -138,32 +141,34 @@ impl fmt::Debug for Validate {
     }
 }
 
-/// `ListVolumesRequest` (CSI specification, 'ListVolumes').
+/// Asks for a page of the volumes: `ListVolumesRequest` (CSI specification, 'ListVolumes').
 #[derive(Debug, Drop)]
 pub struct ListVolumes {
-    /// `max_entries`, field 1: the most entries that the reply may have; 0 for as many as fit a page.
+    /// `max_entries`, field 1: the greatest number of entries in the reply. 0 means the greatest number that
+    /// a page may have.
     pub max_entries: i32,
-    /// `starting_token`, field 2; empty for the first page.
+    /// `starting_token`, field 2. It is empty for the first page.
     pub token: Text,
 }
 
-/// `GetCapacityRequest` (CSI specification, 'GetCapacity').
+/// Asks for the bytes that new volumes can take: `GetCapacityRequest` (CSI specification, 'GetCapacity').
 #[derive(Debug, Drop)]
 pub struct GetCapacity {
-    /// `volume_capabilities`, field 1.
+    /// `volume_capabilities`, field 1: the capabilities that new volumes must have.
     pub capabilities: Items<Capability>,
-    /// `parameters`, field 2.
+    /// `parameters`, field 2: the parameters of new volumes, which this plugin does not use.
     pub parameters: Map,
-    /// `accessible_topology`, field 3: its segments; `None` if it is absent.
+    /// `accessible_topology`, field 3: the segments of the topology, or `None` if the field is absent.
     pub topology: Option<Map>,
 }
 
-/// `ControllerModifyVolumeRequest` (CSI specification, 'ControllerModifyVolume').
+/// Asks to change the mutable parameters of a volume: `ControllerModifyVolumeRequest` (CSI specification,
+/// 'ControllerModifyVolume').
 #[derive(Drop)]
 pub struct Modify {
-    /// `volume_id`, field 1.
+    /// `volume_id`, field 1: the id of the volume to change.
     pub volume_id: Text,
-    /// `secrets`, field 2.
+    /// `secrets`, field 2. This plugin checks their size and does not use them.
     pub secrets: Map,
     /// `mutable_parameters`, field 3: the keys to set and their new values.
     pub mutable: Map,
@@ -178,15 +183,15 @@ impl fmt::Debug for Modify {
     }
 }
 
-/// The request of a call; the variant gives the method. A message with fields is boxed, so that a `Request`
-/// takes little room.
+/// The request of a call. The variant tells the method. Messages with fields are boxed, so that a `Request`
+/// takes few bytes itself.
 #[derive(Debug)]
 pub enum Request {
     /// Asks for the name and version of the plugin: `GetPluginInfoRequest`, without fields.
     PluginInfo,
     /// Asks which optional services the plugin has: `GetPluginCapabilitiesRequest`, without fields.
     PluginCapabilities,
-    /// Asks whether the plugin is ready: `ProbeRequest`, without fields.
+    /// Asks if the plugin is ready: `ProbeRequest`, without fields.
     Probe,
     /// Asks which optional methods the Controller service has: `ControllerGetCapabilitiesRequest`, without
     /// fields.
@@ -197,9 +202,9 @@ pub enum Request {
     Delete(Boxed<DeleteVolume>),
     /// Asks to publish a volume to a node: `ControllerPublishVolumeRequest`.
     Publish(Boxed<Publish>),
-    /// Asks to unpublish a volume from one node or from all: `ControllerUnpublishVolumeRequest`.
+    /// Asks to unpublish a volume from one node or from all nodes: `ControllerUnpublishVolumeRequest`.
     Unpublish(Boxed<Unpublish>),
-    /// Asks whether a volume has capabilities: `ValidateVolumeCapabilitiesRequest`.
+    /// Asks if a volume has capabilities: `ValidateVolumeCapabilitiesRequest`.
     Validate(Boxed<Validate>),
     /// Asks for a page of the volumes: `ListVolumesRequest`.
     List(Boxed<ListVolumes>),

@@ -1,59 +1,62 @@
-//! Responses.
+//! The responses of CSI.
 
 use crate::items::Items;
 use crate::map::Map;
 use crate::text::Text;
 use crate::volume::{Confirmed, Entry, VolumeInfo};
 
-/// The response of a call, by its method (CSI specification, 'RPC Interface').
+/// The response of a call (CSI specification, 'RPC Interface'). The variant tells the method.
 #[derive(Debug, Drop)]
 pub enum Response {
     /// `GetPluginInfoResponse`: the name and version of the plugin.
     PluginInfo {
-        /// `name`, field 1.
+        /// `name`, field 1: the name of the plugin.
         name: Text,
-        /// `vendor_version`, field 2.
+        /// `vendor_version`, field 2: the version of the plugin.
         version: Text,
     },
-    /// `GetPluginCapabilitiesResponse`: for each of `capabilities`, field 1, the value of `service.type`,
-    /// field 1 of field 1; `None` if `service` is absent.
+    /// `GetPluginCapabilitiesResponse`: a number for each of `capabilities`, field 1. The number is `type`,
+    /// field 1 of the message `service`, which is field 1 of the capability. It is `None` if `service` is
+    /// absent.
     PluginCapabilities(Items<Option<i32>>),
-    /// `ProbeResponse`: `ready`, field 1, as the `value`, field 1, of its wrapper message; `None` if it is
+    /// `ProbeResponse`: `ready`, field 1, a `google.protobuf.BoolValue`. `None` means that the field is
     /// absent.
     Probe(Option<bool>),
-    /// `ControllerGetCapabilitiesResponse`: for each of `capabilities`, field 1, the value of `rpc.type`,
-    /// field 1 of field 1; `None` if `rpc` is absent.
+    /// `ControllerGetCapabilitiesResponse`: a number for each of `capabilities`, field 1. The number is
+    /// `type`, field 1 of the message `rpc`, which is field 1 of the capability. It is `None` if `rpc` is
+    /// absent.
     ControllerCapabilities(Items<Option<i32>>),
-    /// `CreateVolumeResponse`: `volume`, field 1.
+    /// `CreateVolumeResponse`: `volume`, field 1, the volume that was created or existed already.
     Create(Option<VolumeInfo>),
-    /// `DeleteVolumeResponse`, without fields.
+    /// `DeleteVolumeResponse`, without fields: the volume does not exist any more.
     Delete,
-    /// `ControllerPublishVolumeResponse`: `publish_context`, field 1.
+    /// `ControllerPublishVolumeResponse`: `publish_context`, field 1, properties for the node plugin.
     Publish(Map),
-    /// `ControllerUnpublishVolumeResponse`, without fields.
+    /// `ControllerUnpublishVolumeResponse`, without fields: the volume is not published any more.
     Unpublish,
-    /// `ValidateVolumeCapabilitiesResponse`: whether the volume has the capabilities.
+    /// `ValidateVolumeCapabilitiesResponse`: tells if the volume has the capabilities.
     Validate {
-        /// `confirmed`, field 1; `None` if a capability or a parameter is not supported.
+        /// `confirmed`, field 1, or `None` if a capability or a parameter is not supported.
         confirmed: Option<Confirmed>,
-        /// `message`, field 2.
+        /// `message`, field 2: the reason why the capabilities are not confirmed, or an empty text if they
+        /// are confirmed.
         message: Text,
     },
-    /// `ListVolumesResponse`: a page of the volumes.
+    /// `ListVolumesResponse`: a page of the volumes, and the token of the next page.
     List {
-        /// `entries`, field 1.
+        /// `entries`, field 1: the volumes of the page.
         entries: Items<Entry>,
-        /// `next_token`, field 2; empty on the last page.
+        /// `next_token`, field 2. It is empty on the last page.
         token: Text,
     },
-    /// `GetCapacityResponse`; both numbers are bytes.
+    /// `GetCapacityResponse`: the room for new volumes, in bytes.
     Capacity {
         /// `available_capacity`, field 1: the bytes that new volumes can take.
         available: i64,
-        /// `maximum_volume_size`, field 2: the `value`, field 1, of its wrapper message; `None` if it is
+        /// `maximum_volume_size`, field 2, a `google.protobuf.Int64Value`. `None` means that the field is
         /// absent.
         maximum: Option<i64>,
     },
-    /// `ControllerModifyVolumeResponse`, without fields.
+    /// `ControllerModifyVolumeResponse`, without fields: the volume has the parameters.
     Modify,
 }

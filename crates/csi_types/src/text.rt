@@ -1,4 +1,4 @@
-//! Texts, which contracts see as their bytes.
+//! Texts in UTF-8, which contracts see as their bytes.
 
 ghost use Rattle.std.specs.Prelude.{◌≡◌, ◌==◌, ◌++◌, ℕ, List, [], IfOk, IsUtf8, OnErr, OnOk, length};
 ghost use Rattle.std.specs.String.{string_bytes};
@@ -10,29 +10,31 @@ use std::convert::AsStr;
 use std::fmt;
 use std::marker::Model;
 
-// The most bytes of a text that takes no memory of its own. Most ids, keys and pool names are not longer, and
-// with more room a text would take more than 32 bytes.
+// The greatest length in bytes of a text that is stored in the value itself. Most ids, keys and pool names
+// are not longer. A greater limit would make the value larger than 32 bytes.
 const SHORT_BYTES: usize = 16;
 
-// Where a text is.
+// The place where the bytes of a text are stored.
 #[derive(Drop)]
 enum TextStorage {
-    // Where the bytes of a text are.
+    // In the value itself. The allocator is for a longer text that replaces this text.
     Short(ArrayString<SHORT_BYTES>, Global),
-    // In the value itself, along with the allocator for a text that becomes longer.
+    // In allocated memory.
     Long(String),
 }
 
 /// A text in UTF-8 (Protocol Buffers language guide, 'Scalar Value Types').
 ///
-/// Texts are ordered by their bytes. A text of at most 16 bytes is stored in the 32 bytes of the value; a
-/// longer one is allocated.
+/// Texts are ordered by their bytes. A `Text` takes 32 bytes. [`Text::new`], [`Text::from_str`],
+/// [`Text::copy`] and [`Text::joined`] store a text of at most 16 bytes in these 32 bytes, and allocate only
+/// for a longer text. [`Text::from_string`] keeps the memory of its string, however short the string is, and
+/// [`Text::set`] keeps memory that the text already has.
 pub struct Text {
     kept: TextStorage,
 }
 
-// Written by hand so that code which drops a text calls this one function, and its proof has no branch for
-// each place where the bytes may be.
+// Written by hand and not derived: the proof of code that drops a text then has one call for the drop, and no
+// branch for each place of the bytes.
 impl Drop for Text {
     #[inline(always)]
     fn drop(self) {
@@ -50,7 +52,7 @@ impl Model for Text {
 }
 
 impl Text {
-    /// The empty text. It takes no memory.
+    /// Makes an empty text. Takes no memory.
     pub fn new(alloc: Global) -> Self
         ensures { result ≡ [] }
     {
@@ -59,7 +61,7 @@ impl Text {
         }
     }
 
-    /// Copies a text. Allocates only for more than 16 bytes; fails if memory is refused.
+    /// Copies a text. Allocates only if it has more than 16 bytes. Fails if memory is refused.
     pub fn from_str(alloc: Global, text: &str) -> Result<Self, AllocError>
         ensures { IfOk result (λ copy. copy ≡ text.now) }
     {
@@ -70,8 +72,8 @@ impl Text {
         Ok(Text { kept })
     }
 
-    /// Copies this text; fails if memory is refused. A text stored in the value itself is copied as it is, in
-    /// fewer steps than [`Text::from_str`] takes.
+    /// Copies this text. Allocates only if it has more than 16 bytes. Fails if memory is refused. Copying a
+    /// text that is stored in the value itself takes fewer steps than [`Text::from_str`].
     #[inline(always)]
     pub fn copy(&self, alloc: Global) -> Result<Self, AllocError>
         ensures { IfOk result (λ copy. copy ≡ self.now) }
@@ -84,8 +86,8 @@ impl Text {
         }
     }
 
-    /// Returns `first` with `second` appended. Allocates only for more than 16 bytes; fails if memory is
-    /// refused.
+    /// Returns `first` followed by `second`. Allocates only if the result has more than 16 bytes. Fails if
+    /// memory is refused.
     pub fn joined(alloc: Global, first: &str, second: &str) -> Result<Self, AllocError>
         ensures { IfOk result (λ both. both ≡ first.now ++ second.now) }
     {
@@ -100,7 +102,8 @@ impl Text {
         Ok(Self::from_string(string))
     }
 
-    /// Makes a text that keeps the string as it is, without allocating.
+    /// Makes a text that keeps the memory of a string, also if the string has at most 16 bytes. Does not
+    /// allocate.
     pub fn from_string(string: String) -> Self
         ensures { result ≡ string_bytes string }
     {
@@ -109,11 +112,11 @@ impl Text {
         }
     }
 
-    /// Sets this text to a copy of `text`, in the memory it already has if that is enough. If memory is
-    /// refused, the call fails and the text is empty.
+    /// Sets this text to a copy of `text`. Allocates only if the text does not have enough memory already. If
+    /// memory is refused, the call fails and the text is empty.
     ///
-    /// A message may repeat one field 350,000 times; reusing the memory saves an allocation for each. Text
-    /// that outlives the request is copied, and the copy has no unused room.
+    /// A message may repeat one field 350,000 times, so reusing the memory saves many allocations. A text
+    /// that outlives its request is copied, and the copy has no unused memory.
     pub fn set(&mut self, text: &str) -> Result<(), AllocError>
         ensures ok { OnOk result (self.new ≡ text.now) }
         ensures err { OnErr result (self.new ≡ []) }
@@ -133,7 +136,7 @@ impl Text {
         }
     }
 
-    /// The text as a `&str`.
+    /// Returns the text as a `&str`.
     pub fn as_str(&self) -> &str
         ensures bytes { result.now ≡ self.now }
         ensures utf8 { IsUtf8 self.now }
@@ -144,7 +147,7 @@ impl Text {
         }
     }
 
-    /// The bytes of the text in UTF-8.
+    /// Returns the bytes of the text in UTF-8.
     pub fn as_bytes(&self) -> &[u8]
         ensures bytes { result.now ≡ self.now }
         ensures utf8 { IsUtf8 self.now }
@@ -152,14 +155,14 @@ impl Text {
         self.as_str().as_bytes()
     }
 
-    /// The length of the text in bytes.
+    /// Returns the length of the text in bytes.
     pub fn len(&self) -> usize
         ensures { result ≡ length self.now }
     {
         self.as_str().len()
     }
 
-    /// Whether the text is empty.
+    /// Returns true if the text is empty.
     pub fn is_empty(&self) -> bool
         ensures { result ≡ (length self.now == 0) }
     {
@@ -167,7 +170,7 @@ impl Text {
     }
 }
 
-// As the text, in quotes.
+// Writes the text in quotes, as the `Debug` of `str` does.
 impl fmt::Debug for Text {
     fn fmt<W: fmt::Write>(&self, f: &mut fmt::Formatter<W>) -> fmt::Result {
         fmt::Debug::fmt(self.as_str(), f)

@@ -1,8 +1,9 @@
-//! The topologies that a new volume may have, and comparing topologies.
+//! The topologies that a request asks for, and functions that compare topologies.
 //!
 //! Keys are compared without regard to the case of ASCII letters, values by their bytes. No function here
-//! allocates. The time is little more than linear for topologies of at most 4,096 bytes whose keys differ;
-//! for others the result is right too, but all pairs of their segments may be compared.
+//! allocates. If a topology has at most 4,096 bytes and no two keys that are alike, the time is little more
+//! than linear in the number of its segments. Otherwise the result is right too, but all pairs of segments
+//! may be compared.
 
 mod segments;
 
@@ -21,22 +22,23 @@ use crate::map::Map;
 use crate::text::Text;
 use segments::{MOST_SEGMENTS, Segment, sort_segments};
 
-// Up to this number of segments, all pairs of segments are compared.
+// The greatest number of segments for which all pairs of segments are compared. More segments are sorted
+// first.
 const FEW_SEGMENTS: usize = 32;
 
 /// `TopologyRequirement` (CSI specification, 'CreateVolume').
 ///
-/// Each term is the map `segments`, field 1, of a `Topology`.
+/// Each topology of the two lists is the map `segments`, field 1 of the message `Topology`.
 #[derive(Debug, Drop)]
 pub struct Requirement {
-    /// `requisite`, field 1: the volume must be reachable from at least one of these topologies.
+    /// `requisite`, field 1: the volume must be accessible from at least one of these topologies.
     pub requisite: Items<Map>,
-    /// `preferred`, field 2: the volume is made in the first of these topologies that a pool with room
-    /// serves.
+    /// `preferred`, field 2, in the order of preference: the volume is created in the first of these
+    /// topologies that a pool with room serves.
     pub preferred: Items<Map>,
 }
 
-/// Whether two keys of the topology differ at most in the case of ASCII letters.
+/// Returns true if two keys of the topology differ at most in the case of ASCII letters.
 pub fn has_alike_keys(topology: &Map) -> bool
     ensures { result ≡ has_alike_keys topology.now }
 {
@@ -47,16 +49,17 @@ pub fn has_alike_keys(topology: &Map) -> bool
     }
 }
 
-// Compares each key with each before it.
+// Returns true if two keys of the topology differ at most in ASCII case. Compares each key with each key
+// before it.
 fn has_alike_pair(topology: &Map) -> bool
     ensures { result ≡ has_alike_keys topology.now }
 {
-    // The number of keys fits a `usize`, which the proof needs.
+    // Calling `len` tells the proof that the number of keys fits a `usize`.
     let _count = topology.len();
     topology.iter().enumerate().any(|(index, (key, _))| is_key_alike_before(topology, index, key))
 }
 
-// Whether one of the first `count` keys of the topology differs from `key` at most in ASCII case.
+// Returns true if one of the first `count` keys of the topology differs from `key` at most in ASCII case.
 fn is_key_alike_before(topology: &Map, count: usize, key: &Text) -> bool
     ensures { result ≡ list_any (λ e. alike e.0 key.now) (take count (entries topology.now)) }
 {
@@ -66,7 +69,8 @@ fn is_key_alike_before(topology: &Map, count: usize, key: &Text) -> bool
         .any(|(earlier, _)| are_alike(earlier, key))
 }
 
-// Compares each key with the next one in order. The sorted segments are a large local variable.
+// Does the same as `has_alike_pair`, by sorting the keys and comparing neighbours. The sorted segments are a
+// large local variable, so the call is not inlined.
 #[inline(never)]
 fn has_alike_neighbours(topology: &Map) -> bool
     ensures { result ≡ has_alike_keys topology.now }
@@ -82,7 +86,7 @@ fn has_alike_neighbours(topology: &Map) -> bool
     has_tied_neighbours(segments)
 }
 
-// Whether two of the sorted segments have keys that are alike. If so, two neighbours have.
+// Returns true if two of the sorted segments have keys that are alike. It is enough to compare neighbours.
 fn has_tied_neighbours(segments: &[Segment<'_>]) -> bool
     requires { IsSorted (on folded_key (slice_cmp nat_cmp)) segments.now }
     ensures { result ≡ some_two (λ e f. alike e.0 f.0) (map entry_of segments.now) }
@@ -90,12 +94,12 @@ fn has_tied_neighbours(segments: &[Segment<'_>]) -> bool
     !segments.is_sorted_by(|one, other| one < other)
 }
 
-/// Whether `outer` has each segment of `inner`: an equal value under a key that differs at most in the case
-/// of ASCII letters.
+/// Returns true if `outer` has each segment of `inner`: an equal value, under a key that differs at most in
+/// the case of ASCII letters.
 pub fn is_within(inner: &Map, outer: &Map) -> bool
     ensures { result ≡ is_within inner.now outer.now }
 {
-    // A pool has few segments; looking for them one by one is faster than sorting those of `outer`.
+    // A pool has few segments. Looking for them one by one is faster than sorting the segments of `outer`.
     if inner.len() <= MAX_SEGMENTS || outer.len() <= FEW_SEGMENTS {
         is_within_few(inner, outer)
     } else {
@@ -103,7 +107,8 @@ pub fn is_within(inner: &Map, outer: &Map) -> bool
     }
 }
 
-// Compares each segment with each. Nearly all maps are a list, and going over a list takes fewer steps.
+// Does the same as `is_within`, by comparing each segment of `inner` with each segment of `outer`. Nearly all
+// maps are lists, which take few steps to go through.
 fn is_within_few(inner: &Map, outer: &Map) -> bool
     ensures { result ≡ is_within inner.now outer.now }
 {
@@ -117,7 +122,8 @@ fn is_within_few(inner: &Map, outer: &Map) -> bool
     }
 }
 
-// Looks for each segment of `inner` among the sorted segments of `outer`, which are a large local variable.
+// Does the same as `is_within`, by looking for each segment of `inner` among the sorted segments of `outer`.
+// The sorted segments are a large local variable, so the call is not inlined.
 #[inline(never)]
 fn is_within_many(inner: &Map, outer: &Map) -> bool
     ensures { result ≡ is_within inner.now outer.now }
@@ -136,8 +142,9 @@ fn is_within_many(inner: &Map, outer: &Map) -> bool
         .all(|(key, value)| is_found(outer, segments, key, value))
 }
 
-// Whether the topology has this segment; `segments` are its segments, sorted. If bisection finds the key with
-// another value, another key that is alike may still have this one.
+// Returns true if the topology has this segment. `segments` are the sorted segments of the topology. If
+// bisection finds the key with another value, all segments are compared, since another key that is alike may
+// have this value.
 fn is_found(topology: &Map, segments: &[Segment<'_>], key: &Text, value: &Text) -> bool
     requires { IsPermutation (entries topology.now) (map entry_of segments.now) }
     ensures { result ≡ list_any (λ f. alike key.now f.0 && same_text value.now f.1) (entries topology.now) }
@@ -145,7 +152,8 @@ fn is_found(topology: &Map, segments: &[Segment<'_>], key: &Text, value: &Text) 
     is_among(segments, key, value) || has_segment(topology, key, value)
 }
 
-// Whether bisection finds the segment. It may miss one if several keys are alike.
+// Returns true if bisection finds a segment with this key and value. If several keys are alike, bisection may
+// miss such a segment.
 fn is_among(segments: &[Segment<'_>], key: &Text, value: &Text) -> bool
     ensures { result ≡ true → list_any (λ f. alike key.now f.0 && same_text value.now f.1)
         (map entry_of segments.now) ≡ true }
@@ -169,8 +177,8 @@ fn has_segment(topology: &Map, key: &Text, value: &Text) -> bool
     }
 }
 
-/// Whether two topologies have the same segments, up to the case of ASCII letters in keys. No two keys of
-/// `one` may be alike in this way, and no two of `other`.
+/// Returns true if two topologies have the same segments. The case of ASCII letters in keys is ignored.
+/// Neither `one` nor `other` may have two keys that differ only in this case.
 pub fn same_topology(one: &Map, other: &Map) -> bool
     requires keys_differ { has_alike_keys one.now ≡ false }
     requires other { has_alike_keys other.now ≡ false }

@@ -1,4 +1,4 @@
-//! Compares what a server writes with the output of a vector.
+//! Compares the bytes that a server writes with the output of a vector.
 
 ghost use Rattle.std.specs.Prelude.{◌≡◌, ◌≢◌, IfOk, IsTrue, List, ℕ, bytes_eq, false, not};
 ghost use Rattle.csi_types.specs.declared.reason.Reason.TheVariants as reason;
@@ -16,10 +16,10 @@ use envelope::laws::reply_read_back;
 use envelope::{Reply, TakenReply, take_reply};
 use std::alloc::{AllocError, Global};
 
-// The number of the first volume of the server.
+// The number that the first volume of the server gets.
 const FIRST_NUMBER: u64 = 1;
 
-// Whether the server answered the whole input, or all calls before a malformed frame.
+// Returns true if the server answered the whole input, or all calls before a malformed frame.
 fn is_whole(end: RunEnd) -> bool
     ensures true_only_if { IsTrue result → IsWhole end }
     ensures all { IsWhole end → IsTrue result }
@@ -27,7 +27,7 @@ fn is_whole(end: RunEnd) -> bool
     matches!(end, RunEnd::Done | RunEnd::Malformed(_))
 }
 
-// Returns the output of a new server for this input.
+// Returns the bytes that a new server writes for this input.
 fn written(alloc: Global, config: &Config, input: &[u8]) -> Result<Vec<u8>, AllocError>
     ensures { IfOk result (λ bytes. IsWritten config.now false input.now bytes.items) }
 {
@@ -43,7 +43,7 @@ fn written(alloc: Global, config: &Config, input: &[u8]) -> Result<Vec<u8>, Allo
     }
 }
 
-// Whether a reply refuses its call because memory was refused.
+// Returns true if a reply refuses its call because memory was refused.
 fn is_refusal(reply: &Reply<'_>) -> bool
     ensures { result ≡ false → reply_bytes_of reply.now ≢ refused reason.OutOfMemory }
 {
@@ -51,7 +51,7 @@ fn is_refusal(reply: &Reply<'_>) -> bool
     reply.status == reason.code().number() && reply.text == reason.text().as_bytes()
 }
 
-// Whether one of the replies refuses its call because memory was refused.
+// Returns true if one of the replies refuses its call because memory was refused.
 fn has_refusal(replies: &[u8]) -> bool
     ensures { result ≡ false → IsUnrefused replies.now }
 {
@@ -69,13 +69,13 @@ fn has_refusal(replies: &[u8]) -> bool
     }
 }
 
-/// Whether a vector passes: a new server in memory, with this configuration and without volumes, writes
-/// exactly the output of the vector for its input.
+/// Returns true if a vector passes: a new server in memory, with this configuration and without volumes,
+/// writes exactly the output of the vector for its input.
 ///
 /// # Errors
 ///
-/// If memory is refused. That includes memory refused to a call of the vector, if the output differs from
-/// the vector's.
+/// If memory is refused. It is also an error if the server refuses a call of the vector for lack of memory,
+/// and the output differs.
 pub fn passes(alloc: Global, config: &Config, vector: &Vector<'_>) -> Result<bool, AllocError>
     ensures { IfOk result (λ ok. (bytes : List ℕ) × IsWritten config.now (not ok) vector.now.input.items bytes
         × (ok ≡ bytes_eq bytes vector.now.output.items)) }

@@ -16,19 +16,19 @@ use std::alloc::{AllocError, Global};
 use std::io::{self, BufRead, BufReader, ErrorKind, Read, Write};
 use std::str;
 
-/// How a run of vectors ended.
+/// The way in which a run of vectors ended.
 #[derive(Clone, Copy, Debug, PartialEq, Eq)]
 pub enum VectorsEnd {
     /// All lines were run. The value is true if a vector failed.
     Done(bool),
-    /// The line with this number, counted from 1, is not a vector. The lines before it were run.
+    /// The line with this number, counted from 1, is not a vector. All lines before it were run.
     BadLine(u64),
     /// The limit of 2^64 - 1 lines was reached.
     LinesSpent,
-    /// A read of the vectors failed for a reason other than memory.
+    /// A read of the vectors failed for a reason other than lack of memory.
     ReadFailed,
-    /// A write or a flush failed, or a write was interrupted. The results of the lines before were written,
-    /// and a part of the result of the last line.
+    /// A write or a flush failed, or a write was interrupted. The results of all lines before the last line
+    /// were written. Of the result of the last line, a part was written.
     WriteFailed,
     /// Memory for a line, a vector or a server was refused.
     NoMemory,
@@ -61,7 +61,7 @@ impl From<LineFault> for RunHalt {
     }
 }
 
-// Whether a line without its end is skipped: it is empty or a comment.
+// Returns true if a line, without its line end, is skipped: an empty line or a comment.
 fn is_skipped(text: &[u8]) -> bool
     ensures skipped { IsTrue result → IsSkipped text.now }
     ensures run { IsSkipped text.now → IsTrue result }
@@ -69,7 +69,7 @@ fn is_skipped(text: &[u8]) -> bool
     text.is_empty() || text.starts_with(b"#")
 }
 
-// Returns the bytes as a text, if they are UTF-8.
+// Returns the bytes as a text. Fails with `BadLine` if they are not UTF-8.
 fn text_of(bytes: &[u8]) -> Result<&str, RunHalt>
     ensures ok { IfOk result (λ text. (text.now ≡ bytes.now) × IsUtf8 bytes.now) }
     ensures bad { IfErr result (λ halt. (halt ≡ BadLine) × ¬ IsUtf8 bytes.now) }
@@ -77,8 +77,8 @@ fn text_of(bytes: &[u8]) -> Result<&str, RunHalt>
     str::from_utf8(bytes).map_err(|_| RunHalt::BadLine)
 }
 
-// Makes the line with the result of a vector. It is made before any of it is written, so that no partial
-// line is written if memory is refused.
+// Makes the line with the result of a vector. The line is made before it is written, so that no partial line
+// is written if memory is refused.
 fn line_of(alloc: Global, name: &str, failed: bool) -> Result<Vec<u8>, AllocError>
     ensures { IfOk result (λ line. line.items ≡ reported failed name.now) }
 {
@@ -89,7 +89,8 @@ fn line_of(alloc: Global, name: &str, failed: bool) -> Result<Vec<u8>, AllocErro
     Ok(line)
 }
 
-// Runs the vector of a line without its end, and writes its result. Returns true if the vector failed.
+// Runs the vector of a line, given without its line end, and writes the result. Returns true if the vector
+// failed.
 fn run_text<W: Write>(
     alloc: Global,
     config: &Config,
@@ -115,7 +116,7 @@ fn run_text<W: Write>(
     }
 }
 
-// Returns a line without its end.
+// Returns a line without its line end.
 fn without_end(line: &[u8]) -> &[u8]
     ensures { IsTextOf line.now result.now }
 {
@@ -125,7 +126,7 @@ fn without_end(line: &[u8]) -> &[u8]
     }
 }
 
-// Runs a line that has its end.
+// Runs the vector of a line, given with its line end, unless the line is skipped.
 fn run_line<W: Write>(
     alloc: Global,
     config: &Config,
@@ -143,7 +144,7 @@ fn run_line<W: Write>(
     run_text(alloc, config, without_end(line), writer)
 }
 
-// Returns the end of a run after a read failed with this error.
+// Returns the end of the run after a read has failed with this error.
 fn unread(error: &io::Error) -> VectorsEnd
     ensures memory { error_kind error.now ≡ OutOfMemory → result ≡ ends.NoMemory }
     ensures failed { error_kind error.now ≢ OutOfMemory → result ≡ ends.ReadFailed }
@@ -154,7 +155,7 @@ fn unread(error: &io::Error) -> VectorsEnd
     }
 }
 
-// Reads the next line with its end into `line`, which is cleared first. Returns false at the end of the
+// Reads the next line with its line end into `line`, which is cleared first. Returns false at the end of the
 // input.
 fn next_line<B: BufRead>(reader: &mut B, line: &mut Vec<u8>) -> Result<bool, VectorsEnd>
     ensures line { OnOk result (Takes (B.remaining reader.old) (B.remaining reader.new) line.new.items) }
@@ -169,7 +170,7 @@ fn next_line<B: BufRead>(reader: &mut B, line: &mut Vec<u8>) -> Result<bool, Vec
     }
 }
 
-// Returns the end of a run that halts at the line with this number.
+// Returns the end of a run that stops at the line with this number.
 fn ended(halt: RunHalt, number: u64) -> VectorsEnd
     ensures { result ≡ end_of halt number }
 {
@@ -205,10 +206,10 @@ fn run_lines<B: BufRead, W: Write>(
     VectorsEnd::LinesSpent
 }
 
-/// Runs the vectors of a text, one for each line, under the sample configuration. For each it writes `ok
-/// NAME` or `FAIL NAME` and flushes the line at once. Lines have the form that [`Vector::parse`] takes.
-/// Empty lines, and lines that begin with `#`, are skipped. A line that is not a vector ends the run. At
-/// most 2^64 - 1 lines are run.
+/// Runs the vectors of a text, one vector on each line, under the sample configuration. For each vector it
+/// writes the line `ok NAME` or `FAIL NAME` and flushes it at once. Lines have the form that
+/// [`Vector::parse`] takes. Empty lines, and lines that begin with `#`, are skipped. A line that is not a
+/// vector ends the run. At most 2^64 - 1 lines are run.
 pub fn run_vectors<R: Read, W: Write>(alloc: Global, reader: &mut R, writer: &mut W) -> VectorsEnd
     ensures { Runs (R.remaining reader.old) (W.contents writer.old) (W.contents writer.new) result }
 {

@@ -1,4 +1,4 @@
-//! Parses a line as a vector.
+//! Parses a line of text as a test vector.
 
 ghost use Rattle.std.specs.Prelude.{◌≡◌, List, ℕ, IfOk, IsErrOf, IsTrue};
 ghost use Rattle.std.specs.Char.{is_ascii_hexdigit};
@@ -13,17 +13,18 @@ use std::alloc::{AllocError, Global};
 pub struct Vector<'a> {
     /// The name of the vector, which its result line shows.
     pub name: &'a str,
-    /// The frames of calls, which the server reads until their end.
+    /// The bytes that the server is given: frames of calls. The server answers the calls up to the end of
+    /// the input or the first malformed frame.
     pub input: Vec<u8>,
-    /// The frames of replies, which are all that the server must write.
+    /// The frames of replies. The server must write exactly these bytes.
     pub output: Vec<u8>,
 }
 
-/// Why a line cannot be parsed as a vector.
+/// The reason why a line cannot be parsed as a vector.
 #[derive(Clone, Copy, Debug, PartialEq, Eq)]
 pub enum LineFault {
-    /// The line is not a name, the input and the output, separated by single spaces, or the input or output
-    /// is not in hexadecimal digits.
+    /// The line is not a name, an input and an output, separated by single spaces, or the input or output is
+    /// not in hexadecimal digits.
     NotVector,
     /// Memory for the input or the output was refused.
     NoMemory,
@@ -43,7 +44,7 @@ fn are_digits(bytes: &[u8]) -> bool
     bytes.iter().all(|byte| byte.is_ascii_hexdigit())
 }
 
-// Whether the text is one or more pairs of hexadecimal digits in either case, or `-` for no bytes.
+// Returns true if the text is one or more pairs of hexadecimal digits in either case, or `-` for no bytes.
 fn is_spelling(digits: &str) -> bool
     ensures true_only_if { IsTrue result → IsSpelling digits.now }
     ensures none { IsSpelling digits.now → IsTrue result }
@@ -57,7 +58,7 @@ fn is_spelling(digits: &str) -> bool
     are_digits(digits.as_bytes())
 }
 
-// Decodes the bytes of such digits. It fails only if memory is refused.
+// Decodes hexadecimal digits that pass `is_spelling`. Fails only if memory is refused.
 #[tactic(auto, using(crate::proofs::Digits::spelled))]
 fn bytes_of(alloc: Global, digits: &str) -> Result<Vec<u8>, AllocError>
     ensures { IfOk result (λ bytes. IsSpelling digits.now → Spells digits.now bytes.items) }

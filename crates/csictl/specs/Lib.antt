@@ -1,3 +1,4 @@
+pub mod Configuration
 pub mod Faults
 pub mod Http2
 pub mod Statuses

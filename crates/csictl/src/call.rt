@@ -1,4 +1,4 @@
-//! `csictl call`.
+//! Runs `csictl call`: makes any call and shows its reply.
 
 use crate::failure::{Ended, Failure};
 use crate::frame::called;
@@ -11,11 +11,11 @@ use clap::ArgMatches;
 use csi_types::Method;
 use envelope::Reply;
 
-/// Shows a reply: as lines, or as one line of JSON.
+/// Shows a reply as lines, or as one line of JSON if `is_json` is true.
 ///
 /// # Errors
 ///
-/// If its body is not a response of the method, it cannot be written, or memory is refused.
+/// If the body is not a response of the method, writing fails, or memory is refused.
 pub(crate) fn show(
     rt: &HostRuntime,
     method: Method,
@@ -28,7 +28,7 @@ pub(crate) fn show(
     show_lines(rt, method, reply)
 }
 
-// Adds the page in a reply, or shows the refusal. Without `--json` the page is shown at once.
+// Adds the page in a reply to the listing, or shows a refusal. Without `--json`, shows the page at once.
 fn add_page(
     rt: &HostRuntime,
     listing: &mut Listing,
@@ -45,7 +45,7 @@ fn add_page(
     Ok(None)
 }
 
-// Asks for one page after the other, over one connection, and shows them.
+// Asks for the pages of a listing one after the other, over one connection, and shows them.
 fn walk(
     rt: &HostRuntime,
     arguments: &ArgMatches<'_>,
@@ -67,13 +67,16 @@ fn walk(
     Err(Failure::NoEnd)
 }
 
-/// Makes the call that the arguments describe, tries it again while it has no reply, and shows the reply.
-/// With `--all` it asks for all pages of a listing.
+/// Makes the call that the arguments describe, and shows the reply. Tries the call again while it has no
+/// reply and tries are left. With `--all`, asks for all pages of a listing.
 ///
 /// # Errors
 ///
-/// If the arguments ask for no call, it is not answered, its reply is malformed, writing fails, or memory
-/// is refused.
+/// - the arguments describe no call, or the socket is not found
+/// - a call is not answered
+/// - a reply is malformed, or is not a response of the method
+/// - with `--all`: the pages have no end
+/// - writing fails, or memory is refused
 pub(crate) fn run(rt: &HostRuntime, arguments: &ArgMatches<'_>) -> Result<Ended, Failure> {
     let (method, frame) = called(rt.alloc(), arguments)?;
     let patience = Patience::of(arguments)?;

@@ -1,4 +1,4 @@
-//! `csictl create`, `csictl publish`, `csictl unpublish` and `csictl delete`.
+//! Runs `csictl create`, `csictl publish`, `csictl unpublish` and `csictl delete`.
 
 use crate::failure::{Ended, Failure};
 use crate::line::SocketLine;
@@ -15,7 +15,7 @@ use csi_codec::decode_response;
 use csi_types::{Method, Response, VolumeInfo};
 use std::alloc::{AllocError, Global};
 
-// Returns true for the methods that remove something. They answer OK also if there is nothing to remove.
+// Returns true for the methods that remove something. Their reply is OK even if there is nothing to remove.
 fn is_removal(method: Method) -> bool {
     matches!(
         method,
@@ -23,9 +23,9 @@ fn is_removal(method: Method) -> bool {
     )
 }
 
-// Makes the call that the arguments describe, and returns its reply. Before a removal the volume is looked
-// up, once and over the same connection: a try of the call without a reply may have removed it. If the lookup
-// is refused, the refusal is the reply.
+// Makes the call that the arguments describe, and returns its reply. Before a removal, looks the volume up
+// once, over the same connection. It does so only before the first try, since a try without a reply may have
+// removed the volume. If the lookup is refused, returns the refusal.
 fn asked(
     rt: &HostRuntime,
     method: Method,
@@ -72,7 +72,7 @@ fn deleted(alloc: Global, arguments: &ArgMatches<'_>) -> Result<String, AllocErr
     format!(in alloc; "deleted {id}\n")
 }
 
-// The line of what was done.
+// Returns the line that says what was done.
 fn line_of(
     alloc: Global,
     arguments: &ArgMatches<'_>,
@@ -87,8 +87,8 @@ fn line_of(
     }
 }
 
-// The line for the body of a reply. The response is borrowed, so that its owner does nothing else that may
-// fail.
+// Returns the line for the body of a reply. The response is borrowed, so its owner makes only one call that
+// can fail.
 fn line_of_body(
     alloc: Global,
     method: Method,
@@ -101,14 +101,17 @@ fn line_of_body(
     }
 }
 
-/// Makes the call of a change, tries it again while it has no reply, and shows a line that says what was
-/// done, or the refusal; with `--json` the reply as a line of JSON. A removal is called only if there is
-/// something to remove.
+/// Makes the call of a change, and shows a line that says what was done, or the refusal. With `--json`, shows
+/// the reply as a line of JSON. Tries the call again while it has no reply and tries are left. For a removal,
+/// first checks that there is something to remove.
 ///
 /// # Errors
 ///
-/// If the arguments ask for no call, there is nothing to remove, a call is not answered, its reply is
-/// malformed, writing fails, or memory is refused.
+/// - the arguments describe no call, or the socket is not found
+/// - there is nothing to remove
+/// - a call is not answered
+/// - a reply is malformed, or is not a response of the method
+/// - writing fails, or memory is refused
 pub(crate) fn run(
     rt: &HostRuntime,
     method: Method,

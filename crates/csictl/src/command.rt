@@ -1,4 +1,4 @@
-//! The command line.
+//! The commands and options of `csictl`, and how its arguments are parsed.
 
 use clap::ArgMatches;
 use command_line::{ArgumentsFault, CommandLine, CommandOption, OPTION, Subcommand, Takes};
@@ -96,7 +96,7 @@ static CALLED: [CommandOption; 15] = [
     },
 ];
 
-/// The options that are fields of a message, which come between `--method` and `--message`.
+/// Returns the options that are fields of a message. They come between `--method` and `--message`.
 pub(crate) fn fields() -> &'static [CommandOption] {
     &CALLED[1..CALLED.len() - 1]
 }
@@ -108,18 +108,18 @@ const METHOD: CommandOption = CommandOption {
     ..OPTION
 };
 
-/// The option with the greatest number of tries of a call.
+/// The name of the option for the greatest number of tries of a call.
 pub(crate) const TRIES: &str = "tries";
 
-/// The greatest number of tries that the option takes.
+/// The greatest number of tries that the option `--tries` takes.
 pub(crate) const MOST_TRIES: u32 = 10;
 
-/// The option with the longest time of one try, in seconds.
+/// The name of the option for the time limit of one try, in seconds.
 pub(crate) const TIMEOUT: &str = "timeout";
 
 static SHOW: [CommandOption; 1] = [METHOD];
 
-// The option for the server's socket.
+// The option for the path of the server's socket.
 const SOCKET: CommandOption = CommandOption {
     name: "socket",
     takes: Takes::Text("PATH"),
@@ -202,7 +202,13 @@ const JSON: CommandOption = CommandOption {
     ..OPTION
 };
 
-static VOLUMES: [CommandOption; 3] = [
+static VOLUMES: [CommandOption; 4] = [
+    CommandOption {
+        name: "id",
+        takes: Takes::Text("ID"),
+        help: "The volume alone with this id, as vol-1",
+        ..OPTION
+    },
     CommandOption {
         name: "node",
         takes: Takes::Text("ID"),
@@ -311,7 +317,7 @@ static UNPUBLISH: [CommandOption; 3] = [
     JSON,
 ];
 
-// The commands over frames.
+// Returns the commands that work on frames.
 fn frame_commands() -> [Subcommand; 4] {
     [
         Subcommand {
@@ -341,12 +347,12 @@ fn frame_commands() -> [Subcommand; 4] {
     ]
 }
 
-// The commands that show volumes.
+// Returns the commands that show volumes.
 fn listing_commands() -> [Subcommand; 5] {
     [
         Subcommand {
             name: "status",
-            about: "Shows the server's name and version, whether it is ready, and how many volumes it has",
+            about: "Shows the server's name and version, whether it is ready, how many volumes it has, and what its pools and nodes have room for",
             options: &STATUS,
             shared: &REACHED,
         },
@@ -358,13 +364,13 @@ fn listing_commands() -> [Subcommand; 5] {
         },
         Subcommand {
             name: "nodes",
-            about: "Lists the nodes that volumes are published to",
+            about: "Lists the nodes and how many volumes are published to each",
             options: &GROUPS,
             shared: &REACHED,
         },
         Subcommand {
             name: "pools",
-            about: "Lists the pools that volumes are in",
+            about: "Lists the pools and how many bytes the volumes of each have",
             options: &GROUPS,
             shared: &REACHED,
         },
@@ -377,7 +383,7 @@ fn listing_commands() -> [Subcommand; 5] {
     ]
 }
 
-// The commands that change volumes.
+// Returns the commands that change volumes.
 fn change_commands() -> [Subcommand; 4] {
     [
         Subcommand {
@@ -415,11 +421,12 @@ fn commands(alloc: Global) -> Result<Vec<Subcommand>, AllocError> {
     Ok(commands)
 }
 
-/// The parsed arguments; `None` after the help or the version was printed.
+/// Parses the arguments of `csictl`. Returns `None` if they ask for help or the version, which is then
+/// printed.
 ///
 /// # Errors
 ///
-/// If the arguments are not understood, printing fails, or memory is refused.
+/// If the arguments are not a valid command line, printing fails, or memory is refused.
 pub(crate) fn read_arguments<'a>(
     rt: &HostRuntime,
     arguments: &'a [String],

@@ -1,4 +1,5 @@
-//! A connection to a server that gives up when its time is over, and reports once where a reply takes long.
+//! A connection to a server. It gives up when the time of a try is over, and reports once if a reply takes
+//! long.
 
 use crate::http2::begins_http2;
 use command_line::say;
@@ -9,19 +10,19 @@ use std::net::Shutdown;
 use std::thread;
 use std::time::{Duration, Instant};
 
-// The most waits for one read or write.
+// The greatest number of waits for one read or write.
 const MAX_WAITS: u64 = 1 << 32;
 
-// The milliseconds between two tries to connect to a server that has no room for one more connection.
+// The number of milliseconds between two tries to connect, if the server has no room for another connection.
 const ASK_AGAIN: u64 = 10;
 
-// The seconds without a reply after which a line reports that the try waits.
+// The number of seconds without a reply after which a line reports that the try waits.
 const LONG_SECONDS: u64 = 3;
 
 // The token of the connection, which is the only source of events.
 const ONLY: Token = Token(0);
 
-// The time from now until a moment; `None` if there is no moment.
+// Returns the time from now until a moment, or `None` if there is no moment.
 fn until(moment: Option<Instant>, now: Instant) -> Option<Duration> {
     moment.map(|moment| moment.saturating_duration_since(now))
 }
@@ -34,7 +35,7 @@ fn is_there(left: Option<Duration>) -> bool {
     }
 }
 
-// The lesser of two times, either of which may be missing.
+// Returns the shorter of two times. `None` means a time without an end.
 fn sooner(first: Option<Duration>, second: Option<Duration>) -> Option<Duration> {
     match (first, second) {
         (Some(first), Some(second)) => Some(first.min(second)),
@@ -43,15 +44,15 @@ fn sooner(first: Option<Duration>, second: Option<Duration>) -> Option<Duration>
     }
 }
 
-/// The clock of a try: when it times out, and when it reports that it waits.
+/// The clock of a try. It knows when the try times out, and when to report that the try waits.
 #[derive(Drop)]
 struct Waiting<'a> {
     rt: &'a HostRuntime,
-    // When the try times out; `None` if it has no time limit.
+    // The time at which the try times out, or `None` if it has no time limit.
     end: Option<Instant>,
-    // When the try reports that it waits; `None` once it has reported.
+    // The time at which to report that the try waits, or `None` after the report.
     report: Option<Instant>,
-    // The line of that report.
+    // The line that reports the wait.
     line: String,
 }
 
@@ -81,8 +82,8 @@ impl<'a> Waiting<'a> {
         Ok(())
     }
 
-    // How long the next wait may take: until the try times out or reports that it waits; `None` if neither is
-    // to come. Fails with `TimedOut` once the try has timed out.
+    // Returns how long the next wait may take: until the try times out or is to report that it waits, or
+    // `None` if neither will happen. Fails with `TimedOut` after the try has timed out.
     fn left(&mut self) -> io::Result<Option<Duration>> {
         let now = Instant::now(self.rt)?;
         let end = until(self.end, now);
@@ -106,9 +107,9 @@ pub(crate) struct Connection<'a> {
     stream: UnixStream,
     poll: Poll,
     events: Events,
-    // Whether any byte was read.
+    // True if any byte was read.
     has_begun: bool,
-    /// True if the first bytes read are those of an HTTP/2 server.
+    /// True if the first bytes that were read are the bytes of an HTTP/2 server.
     pub(crate) is_http2: bool,
     /// True if a read or a write of the last call timed out.
     pub(crate) is_late: bool,
@@ -129,7 +130,7 @@ fn connect(waiting: &mut Waiting<'_>, path: &str) -> io::Result<UnixStream> {
     Err(io::Error::from(ErrorKind::TimedOut))
 }
 
-// Registers a connection with a new poll.
+// Makes a poll, and registers a connection with it.
 fn watch(rt: &HostRuntime, stream: &mut UnixStream) -> io::Result<Poll> {
     let poll = Poll::new(rt)?;
     let interests = Interest::READABLE | Interest::WRITABLE;
@@ -138,8 +139,8 @@ fn watch(rt: &HostRuntime, stream: &mut UnixStream) -> io::Result<Poll> {
 }
 
 impl<'a> Connection<'a> {
-    /// Connects to the server of the socket at `path`, for a first call that fails with `TimedOut` after
-    /// `timeout`.
+    /// Connects to the server of the socket at `path`. The first call on the connection fails with `TimedOut`
+    /// after `timeout`.
     ///
     /// # Errors
     ///
@@ -163,7 +164,7 @@ impl<'a> Connection<'a> {
         })
     }
 
-    /// Begins a further call on the connection, which fails with `TimedOut` after `timeout`.
+    /// Begins another call on the connection. The call fails with `TimedOut` after `timeout`.
     ///
     /// # Errors
     ///
@@ -173,7 +174,7 @@ impl<'a> Connection<'a> {
         self.waiting.begin(timeout)
     }
 
-    /// Shuts down the writing side, so that the server reads the end of the calls.
+    /// Ends the sending side of the connection, so that the server reads the end of the calls.
     pub(crate) fn end_writing(&self) -> io::Result<()> {
         self.stream.shutdown(Shutdown::Write)
     }
@@ -190,7 +191,7 @@ impl<'a> Connection<'a> {
         self.poll.poll(&mut self.events, left)
     }
 
-    // Looks whether the `count` bytes of the first read are those of an HTTP/2 server.
+    // Notes if the first `count` bytes that were read are the bytes of an HTTP/2 server.
     fn look_at(&mut self, bytes: &[u8], count: usize) {
         if !self.has_begun {
             self.has_begun = true;
@@ -199,7 +200,7 @@ impl<'a> Connection<'a> {
     }
 }
 
-// Returns true if the read or write with this error is to be made again.
+// Returns true if the read or write that failed with this error can be tried again.
 fn is_to_wait(error: &io::Error) -> bool {
     matches!(error.kind(), ErrorKind::WouldBlock | ErrorKind::Interrupted)
 }

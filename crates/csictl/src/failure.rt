@@ -1,4 +1,4 @@
-//! Why the program ends otherwise than well, and the status that it ends with.
+//! The ends of the program, and the exit status of each.
 
 ghost use Rattle.std.specs.Prelude.{◌≡◌, false, IsTrue};
 ghost use Rattle.csictl.specs.Statuses.{ended_status, failure_status};
@@ -12,17 +12,17 @@ use std::fmt::Display;
 use std::io::{self, ErrorKind};
 use thiserror::Error;
 
-/// How the program ends if nothing fails.
+/// The end of the program if nothing fails.
 #[derive(Clone, Copy)]
 pub(crate) enum Ended {
     /// All calls were answered OK, or all vectors passed.
     Done,
-    /// A reply was a refusal, or a vector failed.
+    /// A reply refused its call, or a vector failed.
     Refused,
 }
 
 impl Ended {
-    /// [`Ended::Refused`] if `is_refused`, otherwise [`Ended::Done`].
+    /// Returns [`Ended::Refused`] if `is_refused` is true, otherwise [`Ended::Done`].
     pub(crate) fn with(is_refused: bool) -> Ended
         ensures refused { IsTrue is_refused → result ≡ Ended.Refused }
         ensures done { is_refused ≡ false → result ≡ Ended.Done }
@@ -34,7 +34,7 @@ impl Ended {
         }
     }
 
-    /// The exit status of this end (docs/CLI.md, "Exit status").
+    /// Returns the exit status of this end (docs/CLI.md, "Exit statuses of `csictl`").
     pub(crate) fn status(self) -> u8
         ensures { result ≡ ended_status self }
     {
@@ -45,16 +45,17 @@ impl Ended {
     }
 }
 
-/// Why the program fails. Its `Display` is the line on standard error.
+/// The reason why the program fails. Its `Display` is the line on standard error.
 #[derive(Debug, Drop, Error)]
 pub(crate) enum Failure {
-    /// The arguments are not understood.
+    /// The command line is not valid, help or the version could not be written, or memory for the arguments
+    /// was refused.
     #[error("{0}")]
     Arguments(#[from] ArgumentsFault),
     /// No method has this name.
     #[error("{0}: no such method")]
     NoMethod(String),
-    /// The method has no field for an option.
+    /// The request of the method has no field for an option that is given.
     #[error("{method:?} has no field for --{option}")]
     NoField {
         method: Method,
@@ -72,10 +73,10 @@ pub(crate) enum Failure {
     /// The value of this option is not a number in decimal digits.
     #[error("--{0}: not decimal digits alone")]
     NotDecimal(&'static str),
-    /// No socket was given, and none exists at the paths that the units use.
+    /// No socket is given, and no socket exists at the paths that the units use.
     #[error("no socket: give --socket PATH, or CSID_SOCKET in the environment; neither /run/csid-front/control.sock nor /run/csid/csid.sock exists")]
     NoSocket,
-    /// This variable of the environment is not UTF-8.
+    /// The environment variable with this name is not UTF-8.
     #[error("{0}: no text")]
     NotText(&'static str),
     /// The value of this option is not a size.
@@ -84,10 +85,10 @@ pub(crate) enum Failure {
     /// The value of this option is not an access mode.
     #[error("--{0}: no access mode: write single-node-writer, single-node-reader-only, multi-node-reader-only, multi-node-single-writer, multi-node-multi-writer, single-node-single-writer or single-node-multi-writer, the name that Kubernetes has for it, as ReadWriteOnce or RWO, or a number")]
     NotMode(&'static str),
-    /// A pair has no `=`.
+    /// A pair of a key and a value has no `=`.
     #[error("a pair without '=': write KEY=VALUE,KEY=VALUE")]
     NotPair,
-    /// The message has more than 1,048,576 bytes, the most that a frame holds.
+    /// The message has more than 1,048,576 bytes, which is the limit of a frame.
     #[error("the message has more than 1048576 bytes")]
     TooLong,
     /// A line of a file of vectors is not a vector.
@@ -96,23 +97,30 @@ pub(crate) enum Failure {
         path: String,
         line: u64,
     },
-    /// A reply is malformed.
+    /// The server sent a malformed reply.
     #[error("{0}")]
     Malformed(ReplyFault),
-    /// The server of the socket at this path speaks HTTP/2.
+    /// The server at the socket with this path speaks HTTP/2.
     #[error("{0}: a gRPC socket (HTTP/2): give the socket of csid, or the one that the front has by --control")]
     OtherSocket(String),
     /// The body of a reply is not a response of its method.
     #[error("the body is no response of the method")]
     BadBody,
-    /// A page of a listing has the token that it was asked with, or there are more pages than volumes can
-    /// fill.
+    /// The listing has no last page. The token of the next page is the token of the page itself, or there are
+    /// more pages than volumes can fill.
     #[error("the pages have no end")]
     NoEnd,
+    /// The configuration has no pool with this name.
+    #[error("{0}: no pool of the configuration has this name")]
+    NoPool(String),
+    /// The configuration has no node with this id.
+    #[error("{0}: no node of the configuration has this id")]
+    NoNode(String),
     /// No volume has this id.
     #[error("{0}: no volume has this id")]
     NoVolume(String),
-    /// No volume has this id, and the text does not have the form of an id: it may be the name of a volume.
+    /// No volume has this id, and the text does not have the form of an id. The text may be the name of a
+    /// volume.
     #[error("{0}: no volume has this id; ids look like vol-1, and csid --list-tables or csid-etcd --list shows the name of each")]
     NotAnId(String),
     /// The volume is not published to this node.
@@ -124,15 +132,19 @@ pub(crate) enum Failure {
     /// The volume is not published to any node.
     #[error("{0}: not published to any node")]
     NotPublished(String),
-    /// An operation on a file, standard output or the socket failed: its name, and the reason.
+    /// The system refused an operation on a file, standard output or the socket. The value has the name and
+    /// the reason.
     #[error("{0}")]
     System(Cause),
-    /// Standard input cannot be read.
+    /// Standard input could not be read.
     #[error("a read of standard input failed")]
     ReadFailed,
-    /// Standard output cannot be written.
+    /// Standard output could not be written.
     #[error("a write to standard output failed")]
     WriteFailed,
+    /// The reader of standard output has gone. The program ends without a line.
+    #[error("the reader of standard output has gone")]
+    ReaderGone,
     /// Memory is refused.
     #[error("out of memory")]
     NoMemory,
@@ -147,11 +159,19 @@ impl From<AllocError> for Failure {
 }
 
 impl Failure {
-    /// The failure of an operation of the system; [`Failure::NoMemory`] if memory is refused.
+    /// Returns the failure of an operation of the system, or [`Failure::NoMemory`] if memory is refused.
     pub(crate) fn system(alloc: Global, name: &str, error: &io::Error) -> Failure {
         match error.kind() {
             ErrorKind::OutOfMemory => Failure::NoMemory,
             _ => Failure::named(alloc, name, error),
+        }
+    }
+
+    /// The failure of a write to standard output; [`Failure::ReaderGone`] if its reader has closed it.
+    pub(crate) fn output(alloc: Global, error: &io::Error) -> Failure {
+        match error.kind() {
+            ErrorKind::BrokenPipe => Failure::ReaderGone,
+            _ => Failure::system(alloc, "standard output", error),
         }
     }
 
@@ -163,7 +183,7 @@ impl Failure {
         }
     }
 
-    /// The exit status of this failure (docs/CLI.md, "Exit status").
+    /// Returns the exit status of this failure (docs/CLI.md, "Exit statuses of `csictl`").
     pub(crate) fn status(&self) -> u8
         ensures { result ≡ failure_status self.now }
     {
@@ -182,7 +202,10 @@ impl Failure {
             | Failure::NotPair
             | Failure::TooLong
             | Failure::NotVector { .. } => 2,
-            Failure::NoVolume(_)
+            Failure::ReaderGone => 0,
+            Failure::NoPool(_)
+            | Failure::NoNode(_)
+            | Failure::NoVolume(_)
             | Failure::NotAnId(_)
             | Failure::NotAtNode { .. }
             | Failure::NotPublished(_) => 1,

@@ -1,4 +1,4 @@
-//! The fields of a message, as the arguments give them.
+//! Reads the fields of a message from the arguments.
 
 ghost use Rattle.std.specs.Prelude.{◌≡◌};
 ghost use Rattle.csictl.specs.Faults.{failure_of};
@@ -15,10 +15,11 @@ use csi_types::{
 };
 use std::alloc::{AllocError, AllocFailed, Global};
 
-/// Why an option is not a field. The type is small, which keeps functions small that read many fields.
+/// The reason why the value of an option is not a field. The type is small, so that functions that read many
+/// fields stay small.
 #[derive(Clone, Copy)]
 pub(crate) enum FieldFault {
-    /// A pair has no `=`.
+    /// A pair of a key and a value has no `=`.
     NotPair,
     /// Memory is refused.
     NoMemory,
@@ -51,7 +52,7 @@ impl From<FieldFault> for Failure {
     }
 }
 
-// The options that are fields of a method's request.
+// Returns the names of the options that are fields of a method's request.
 fn fields_of(method: Method) -> &'static [&'static str] {
     match method {
         Method::CreateVolume => &[
@@ -87,8 +88,8 @@ fn is_given(arguments: &ArgMatches<'_>, name: &str) -> bool {
     }
 }
 
-// Returns true if the option takes a number and its value is not decimal digits alone, as `clap` also takes a
-// sign.
+// Returns true if the option takes a number and its value is not decimal digits alone. The check is needed
+// since `clap` accepts a sign.
 fn is_odd(arguments: &ArgMatches<'_>, field: &CommandOption) -> bool {
     match arguments.get_str(field.name) {
         Some(text) => field.is_number() && !is_decimal(text),
@@ -96,11 +97,11 @@ fn is_odd(arguments: &ArgMatches<'_>, field: &CommandOption) -> bool {
     }
 }
 
-/// Checks that no option is given that is a field of a message.
+/// Checks that no option for a field of a message is given.
 ///
 /// # Errors
 ///
-/// [`Failure::WithMessage`] for the first that is given.
+/// [`Failure::WithMessage`] with the first such option that is given.
 pub(crate) fn give_none(arguments: &ArgMatches<'_>) -> Result<(), Failure> {
     for field in fields() {
         if is_given(arguments, field.name) {
@@ -110,7 +111,7 @@ pub(crate) fn give_none(arguments: &ArgMatches<'_>) -> Result<(), Failure> {
     Ok(())
 }
 
-// A list with the item, if there is one.
+// Makes a list of the item, or an empty list for `None`.
 fn list_of<T: Drop>(alloc: Global, item: Option<T>) -> Result<Items<T>, FieldFault> {
     let mut list = Vec::new(alloc);
     if let Some(item) = item {
@@ -119,7 +120,7 @@ fn list_of<T: Drop>(alloc: Global, item: Option<T>) -> Result<Items<T>, FieldFau
     Ok(Items::from_vec(list))
 }
 
-// The range of sizes, if a bound is given.
+// Returns the range of sizes, or `None` if neither bound is given.
 fn range_of(required: Option<i64>, limit: Option<i64>) -> Option<CapacityRange> {
     if required.is_none() && limit.is_none() {
         return None;
@@ -130,7 +131,7 @@ fn range_of(required: Option<i64>, limit: Option<i64>) -> Option<CapacityRange> 
     })
 }
 
-// The size in an option, in bytes.
+// Returns the size in an option, in bytes, or `None` if the option is not given.
 fn size(arguments: &ArgMatches<'_>, name: &'static str) -> Result<Option<i64>, Failure> {
     let Some(text) = arguments.get_str(name) else {
         return Ok(None);
@@ -141,7 +142,7 @@ fn size(arguments: &ArgMatches<'_>, name: &'static str) -> Result<Option<i64>, F
     }
 }
 
-// The access mode in `--mode`; without the option SINGLE_NODE_WRITER.
+// Returns the number of the access mode in `--mode`, or SINGLE_NODE_WRITER without the option.
 fn mode(arguments: &ArgMatches<'_>) -> Result<i32, Failure> {
     let Some(text) = arguments.get_str("mode") else {
         return Ok(SINGLE_NODE_WRITER);
@@ -159,16 +160,17 @@ pub(crate) struct Fields<'m, 'a> {
     arguments: &'m ArgMatches<'a>,
     range: Option<CapacityRange>,
     mode: Option<i32>,
-    // True if the command is one for people, whose options have other names.
+    // True if the command is one of the commands for people, whose options have other names.
     is_person: bool,
 }
 
 impl<'m, 'a> Fields<'m, 'a> {
-    /// The fields in the arguments of a command over frames.
+    /// Reads the fields in the arguments of a command that works on frames.
     ///
     /// # Errors
     ///
-    /// If the method's request has no field for an option.
+    /// If the method's request has no field for an option, or a number is not written in decimal digits
+    /// alone.
     pub(crate) fn new(
         alloc: Global,
         method: Method,
@@ -197,11 +199,12 @@ impl<'m, 'a> Fields<'m, 'a> {
         })
     }
 
-    /// The fields in the arguments of a command for people, where sizes have units and access modes names.
+    /// Reads the fields in the arguments of a command for people, in which sizes have units and access modes
+    /// have names.
     ///
     /// # Errors
     ///
-    /// If a size or an access mode is not understood.
+    /// If a value is not a size or not an access mode.
     pub(crate) fn of_person(
         alloc: Global,
         arguments: &'m ArgMatches<'a>,
@@ -218,27 +221,28 @@ impl<'m, 'a> Fields<'m, 'a> {
         })
     }
 
-    /// The text of an option; empty if the option is not given.
+    /// Returns the text of an option, or an empty text if the option is not given.
     pub(crate) fn text(&self, name: &str) -> Result<Text, FieldFault> {
         Ok(Text::from_str(self.alloc, self.arguments.get_str(name).unwrap_or(""))?)
     }
 
-    /// True if `--readonly` is given.
+    /// Returns true if `--readonly` is given.
     pub(crate) fn readonly(&self) -> bool {
         self.arguments.get_flag("readonly")
     }
 
-    /// The most entries of a page, in `--max`; 0 if it is not given, which leaves the number to the server.
+    /// Returns the greatest number of entries of a page, from `--max`. Without the option returns 0, which
+    /// leaves the number to the server.
     pub(crate) fn max(&self) -> i32 {
         self.arguments.get_one::<i32>("max").unwrap_or(0)
     }
 
-    /// The range of sizes, if a bound is given.
+    /// Returns the range of sizes, or `None` if neither bound is given.
     pub(crate) fn range(&self) -> Option<CapacityRange> {
         self.range
     }
 
-    // A mount with the file system in `--fs`; without the option a block device.
+    // Returns a mount with the file system in `--fs`, or a block device without the option.
     fn access(&self) -> Result<Access, FieldFault> {
         let Some(fs) = self.arguments.get_str("fs") else {
             return Ok(Access::Block);
@@ -251,7 +255,8 @@ impl<'m, 'a> Fields<'m, 'a> {
         Ok(Access::Mount(Boxed::new(self.alloc, mount)?))
     }
 
-    /// The capability with the mode in `--mode`; `None` if no mode is given.
+    /// Returns the capability that the options describe, with the mode in `--mode`. Returns `None` without
+    /// `--mode`.
     pub(crate) fn capability(&self) -> Result<Option<Capability>, FieldFault> {
         let Some(mode) = self.mode else {
             return Ok(None);
@@ -262,12 +267,13 @@ impl<'m, 'a> Fields<'m, 'a> {
         }))
     }
 
-    /// A list of that capability; empty if no mode is given.
+    /// Returns a list of the capability that the options describe, with the mode in `--mode`. The list is
+    /// empty without `--mode`.
     pub(crate) fn capabilities(&self) -> Result<Items<Capability>, FieldFault> {
         list_of(self.alloc, self.capability()?)
     }
 
-    // Adds a pair, cut at its first `=`.
+    // Adds a pair to a map. The first `=` of the pair ends its key.
     fn insert_pair(&self, map: &mut Map, pair: &str) -> Result<(), FieldFault> {
         let (key, value) = pair.split_once('=').ok_or(FieldFault::NotPair)?;
         let key = Text::from_str(self.alloc, key)?;
@@ -275,7 +281,7 @@ impl<'m, 'a> Fields<'m, 'a> {
         Ok(map.insert(key, value)?)
     }
 
-    // Adds pairs that are separated by commas. The last of two pairs with equal keys replaces the first.
+    // Adds pairs that are separated by commas to a map. If two pairs have the same key, the last one counts.
     fn insert_pairs(&self, map: &mut Map, text: &str) -> Result<(), FieldFault> {
         for pair in text.split(',') {
             self.insert_pair(map, pair)?;
@@ -283,8 +289,8 @@ impl<'m, 'a> Fields<'m, 'a> {
         Ok(())
     }
 
-    /// The pairs of an option, `None` if it is not given. Commas separate the pairs, and the first `=` of a
-    /// pair ends its key; the last of two pairs with equal keys counts.
+    /// Returns the pairs of an option, or `None` if the option is not given. Commas separate the pairs, and
+    /// the first `=` of a pair ends its key. If two pairs have the same key, the last one counts.
     pub(crate) fn pairs(&self, name: &str) -> Result<Option<Map>, FieldFault> {
         let Some(text) = self.arguments.get_str(name) else {
             return Ok(None);
@@ -294,7 +300,7 @@ impl<'m, 'a> Fields<'m, 'a> {
         Ok(Some(map))
     }
 
-    /// The pairs of an option; an empty map if it is not given.
+    /// Returns the pairs of an option, or an empty map if the option is not given.
     pub(crate) fn map(&self, name: &str) -> Result<Map, FieldFault> {
         let mut map = Map::new(self.alloc);
         if let Some(text) = self.arguments.get_str(name) {
@@ -303,8 +309,9 @@ impl<'m, 'a> Fields<'m, 'a> {
         Ok(map)
     }
 
-    /// The requirement with the requisite topology in `--topology` or `--pool-topology`; `None` without the
-    /// option.
+    /// Returns a requirement with one requisite topology and no preferred topology. The option
+    /// `--pool-topology` gives the topology in a command for people, and `--topology` in any other command.
+    /// Returns `None` if the option is not given.
     pub(crate) fn requirement(&self) -> Result<Option<Requirement>, FieldFault> {
         let option = if self.is_person {
             "pool-topology"
@@ -320,7 +327,7 @@ impl<'m, 'a> Fields<'m, 'a> {
         }))
     }
 
-    /// An empty map, for secrets and contexts, which csictl does not send.
+    /// Returns an empty map, for secrets and contexts, which `csictl` does not send.
     pub(crate) fn no_map(&self) -> Map {
         Map::new(self.alloc)
     }

@@ -1,4 +1,4 @@
-//! `csictl frame`.
+//! Runs `csictl frame`: writes the frame of a call to standard output.
 
 use crate::failure::{Ended, Failure};
 use crate::message;
@@ -7,7 +7,7 @@ use csi_types::Method;
 use frames_core::send;
 use std::alloc::Global;
 
-/// The method of the call that the arguments describe, and the frame of the call.
+/// Returns the method of the call that the arguments describe, and the frame of the call.
 ///
 /// # Errors
 ///
@@ -31,6 +31,6 @@ pub(crate) fn run(rt: &HostRuntime, arguments: &ArgMatches<'_>) -> Result<Ended,
     let (_, frame) = called(rt.alloc(), arguments)?;
     match send(&mut rt.stdout(), &frame) {
         Ok(()) => Ok(Ended::Done),
-        Err(error) => Err(Failure::system(rt.alloc(), "standard output", &error)),
+        Err(error) => Err(Failure::output(rt.alloc(), &error)),
     }
 }

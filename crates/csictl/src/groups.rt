@@ -1,244 +1,387 @@
-//! Volumes in groups: by node, or by pool.
+//! Groups volumes by node or by pool.
 
-use crate::json::topologies;
+use crate::configuration::{Configuration, Place};
+use crate::json::{put, topologies};
+use crate::pages::Taker;
 use crate::sizes::size_text;
-use crate::words::{pool_of, topology_word};
-use command_line::{Table, put_next, word};
-use csi_types::{Entry, VolumeInfo};
-use serde_json::{Value, json};
+use crate::words::{pool_of, topologies_word};
+use command_line::{Table, or_dash, put_next, word};
+use csi_types::{Entry, Items, Map as Segments, Text, VolumeInfo};
+use serde_json::{Map, Value};
 use std::alloc::{AllocError, Global};
+
+/// What the volumes are grouped by.
+#[derive(Clone, Copy, PartialEq, Eq)]
+pub(crate) enum GroupedBy {
+    Node,
+    Pool,
+}
 
 // The volumes that are published to one node, or are in one pool with one topology.
 #[derive(Drop)]
-struct Group<'e> {
+struct Group {
     // The id of the node or the name of the pool; empty if a volume does not say its pool.
-    name: &'e str,
-    // The topologies of the volumes as a word; empty for a node.
+    name: Text,
+    // The topologies of the volumes, as a word and as JSON; empty for a node.
     topology: String,
-    // The first volume, which has these topologies.
-    first: Option<&'e VolumeInfo>,
+    topology_value: Value,
+    // The bytes of the pool or the most volumes of the node; `None` if no configuration is known, or if the
+    // configuration does not have the pool or the node.
+    most: Option<i64>,
     volumes: u64,
     bytes: i64,
-    ids: Vec<&'e str>,
+    ids: Vec<Text>,
 }
 
-/// Groups of volumes, in the order of the first volume of each group.
+/// Groups of volumes: those of the configuration in its order, if it is known, and then others in the order
+/// of the first volume of each group.
 #[derive(Drop)]
-pub(crate) struct Groups<'e> {
-    groups: Vec<Group<'e>>,
+pub(crate) struct Groups {
+    by: GroupedBy,
+    // Whether a configuration is known.
+    is_configured: bool,
+    // Whether the ids of the volumes are kept.
+    are_ids_kept: bool,
+    groups: Vec<Group>,
 }
 
-impl<'e> Group<'e> {
+fn size_or_dash(alloc: Global, bytes: Option<i64>) -> Result<String, AllocError> {
+    match bytes {
+        Some(bytes) => size_text(alloc, bytes),
+        None => word(alloc, ""),
+    }
+}
+
+impl Group {
+    fn new(
+        alloc: Global,
+        name: &str,
+        topology: &Items<Segments>,
+        most: Option<i64>,
+    ) -> Result<Group, AllocError> {
+        Ok(Group {
+            name: Text::from_str(alloc, name)?,
+            topology: topologies_word(alloc, topology)?,
+            topology_value: topologies(alloc, topology)?,
+            most,
+            volumes: 0,
+            bytes: 0,
+            ids: Vec::new(alloc),
+        })
+    }
+
+    // Returns true if a volume with this pool or node and this topology is of the group. A pool of the
+    // configuration has one topology.
     fn is_of(&self, name: &str, topology: &str) -> bool {
-        self.name == name && self.topology.as_str() == topology
+        self.name.as_str() == name && (self.most.is_some() || self.topology.as_str() == topology)
     }
 
     // Counts a volume.
-    fn count(&mut self, volume: Option<&'e VolumeInfo>) -> Result<(), AllocError> {
+    fn count(
+        &mut self,
+        alloc: Global,
+        volume: Option<&VolumeInfo>,
+        is_id_kept: bool,
+    ) -> Result<(), AllocError> {
         let (id, bytes) = match volume {
             Some(volume) => (volume.id.as_str(), volume.bytes),
             None => ("", 0),
         };
         self.volumes = self.volumes.saturating_add(1);
         self.bytes = self.bytes.saturating_add(bytes);
-        Ok(self.ids.push(id)?)
+        if is_id_kept {
+            self.ids.push(Text::from_str(alloc, id)?)?;
+        }
+        Ok(())
     }
 
-    // The ids of the volumes, with commas between them.
+    fn clear(&mut self) {
+        self.volumes = 0;
+        self.bytes = 0;
+        self.ids.clear();
+    }
+
+    // The bytes that a pool of the configuration has free.
+    fn free(&self) -> Option<i64> {
+        match self.most {
+            Some(most) => Some(most.saturating_sub(self.bytes)),
+            None => None,
+        }
+    }
+
+    // The ids of the volumes, with commas between them; `-` if there are none.
     fn ids_word(&self, alloc: Global) -> Result<String, AllocError> {
         let mut out = String::new(alloc);
         for id in &self.ids {
-            let id = word(alloc, id)?;
+            let id = word(alloc, id.as_str())?;
             put_next(&mut out, ",", id.as_str())?;
         }
-        Ok(out)
+        or_dash(out)
     }
 
-    // The row of a node: its id, the number of its volumes, and their ids.
-    fn node_row(&self, alloc: Global) -> Result<Vec<String>, AllocError> {
+    // The most volumes of a node; `-` if it is not known.
+    fn most_word(&self, alloc: Global) -> Result<String, AllocError> {
+        match self.most {
+            Some(most) => format!(in alloc; "{most}"),
+            None => word(alloc, ""),
+        }
+    }
+
+    // The row of a node: its id, the number of its volumes, the most that it can have if a configuration is
+    // known, and the ids of the volumes if they are kept.
+    fn node_row(
+        &self,
+        alloc: Global,
+        is_configured: bool,
+        has_ids: bool,
+    ) -> Result<Vec<String>, AllocError> {
         let mut row = Vec::new(alloc);
-        row.push(word(alloc, self.name)?)?;
+        row.push(word(alloc, self.name.as_str())?)?;
         row.push(format!(in alloc; "{}", self.volumes)?)?;
-        row.push(self.ids_word(alloc)?)?;
+        if is_configured {
+            row.push(self.most_word(alloc)?)?;
+        }
+        if has_ids {
+            row.push(self.ids_word(alloc)?)?;
+        }
         Ok(row)
     }
 
-    // The row of a pool: its name, its topology, the number of its volumes, and the sum of their sizes.
-    fn pool_row(&self, alloc: Global) -> Result<Vec<String>, AllocError> {
+    // The row of a pool: its name, its topology, the number of its volumes, and the sum of their sizes; then
+    // its free bytes and its size, if a configuration is known.
+    fn pool_row(&self, alloc: Global, is_configured: bool) -> Result<Vec<String>, AllocError> {
         let mut row = Vec::new(alloc);
-        row.push(word(alloc, self.name)?)?;
+        row.push(word(alloc, self.name.as_str())?)?;
         row.push(self.topology.clone()?)?;
         row.push(format!(in alloc; "{}", self.volumes)?)?;
         row.push(size_text(alloc, self.bytes)?)?;
+        if is_configured {
+            row.push(size_or_dash(alloc, self.free())?)?;
+            row.push(size_or_dash(alloc, self.most)?)?;
+        }
         Ok(row)
     }
 
     fn ids_value(&self, alloc: Global) -> Result<Value, AllocError> {
         let mut array = Vec::new(alloc);
         for id in &self.ids {
-            array.push(Value::try_from_str(alloc, id)?)?;
+            array.push(Value::try_from_str(alloc, id.as_str())?)?;
         }
         Ok(Value::Array(array))
     }
 
-    fn node_value(&self, alloc: Global) -> Result<Value, AllocError> {
-        json!(in alloc; {
-            "id": self.name,
-            "volumes": self.volumes,
-            "bytes": self.bytes,
-            "volumeIds": self.ids_value(alloc)?,
-        })
+    // The members that nodes and pools share.
+    fn sums(&self, alloc: Global, name: &str) -> Result<Map<String, Value>, AllocError> {
+        let mut object = Map::new(alloc);
+        let text = Value::try_from_str(alloc, self.name.as_str())?;
+        put(alloc, &mut object, name, text)?;
+        put(alloc, &mut object, "volumes", Value::from(self.volumes))?;
+        put(alloc, &mut object, "bytes", Value::from(self.bytes))?;
+        Ok(object)
+    }
+
+    fn node_value(&self, alloc: Global, has_ids: bool) -> Result<Value, AllocError> {
+        let mut object = self.sums(alloc, "id")?;
+        if has_ids {
+            put(alloc, &mut object, "volumeIds", self.ids_value(alloc)?)?;
+        }
+        if let Some(most) = self.most {
+            put(alloc, &mut object, "maxVolumes", Value::from(most))?;
+        }
+        Ok(Value::Object(object))
     }
 
     fn pool_value(&self, alloc: Global) -> Result<Value, AllocError> {
-        let topology = match self.first {
-            Some(volume) => topologies(alloc, &volume.topology)?,
-            None => Value::Null,
-        };
-        json!(in alloc; {
-            "name": self.name,
-            "accessibleTopology": topology,
-            "volumes": self.volumes,
-            "bytes": self.bytes,
-        })
+        let mut object = self.sums(alloc, "name")?;
+        let topology = self.topology_value.clone()?;
+        put(alloc, &mut object, "accessibleTopology", topology)?;
+        if let Some(free) = self.free() {
+            put(alloc, &mut object, "freeBytes", Value::from(free))?;
+        }
+        if let Some(most) = self.most {
+            put(alloc, &mut object, "sizeBytes", Value::from(most))?;
+        }
+        Ok(Value::Object(object))
     }
 }
 
-impl<'e> Groups<'e> {
+impl Taker for Groups {
+    fn restart(&mut self) {
+        self.groups.retain(|group| group.most.is_some());
+        for group in self.groups.iter_mut() {
+            group.clear();
+        }
+    }
+
+    fn take_entry(&mut self, alloc: Global, entry: Entry) -> Result<(), AllocError> {
+        self.count(alloc, &entry)
+    }
+}
+
+impl Groups {
+    /// Groups without volumes: one for each pool or node of the configuration, if it is known.
+    ///
+    /// # Errors
+    ///
+    /// If memory is refused.
+    pub(crate) fn new(
+        alloc: Global,
+        by: GroupedBy,
+        are_ids_kept: bool,
+        configuration: Option<&Configuration>,
+    ) -> Result<Groups, AllocError> {
+        let mut groups = Groups {
+            by,
+            is_configured: configuration.is_some(),
+            are_ids_kept,
+            groups: Vec::new(alloc),
+        };
+        if let Some(configuration) = configuration {
+            groups.add_places(
+                alloc,
+                match by {
+                    GroupedBy::Node => configuration.nodes.as_slice(),
+                    GroupedBy::Pool => configuration.pools.as_slice(),
+                },
+            )?;
+        }
+        Ok(groups)
+    }
+
+    fn add_places(&mut self, alloc: Global, places: &[Place]) -> Result<(), AllocError> {
+        for place in places {
+            let name = place.name.as_str();
+            let group = Group::new(alloc, name, &place.topology, Some(place.most))?;
+            self.groups.push(group)?;
+        }
+        Ok(())
+    }
+
     // Counts a volume in its group, if there is one. Returns whether there is.
     fn is_counted(
         &mut self,
+        alloc: Global,
         name: &str,
         topology: &str,
-        volume: Option<&'e VolumeInfo>,
+        volume: Option<&VolumeInfo>,
     ) -> Result<bool, AllocError> {
+        let is_id_kept = self.are_ids_kept;
         for group in self.groups.iter_mut() {
             if group.is_of(name, topology) {
-                group.count(volume)?;
+                group.count(alloc, volume, is_id_kept)?;
                 return Ok(true);
             }
         }
         Ok(false)
     }
 
-    // Counts a volume in its group, which begins with the first volume of it.
+    // Counts a volume in its group. If the group does not exist, begins it with this volume.
     fn add(
         &mut self,
         alloc: Global,
-        name: &'e str,
-        topology: String,
-        volume: Option<&'e VolumeInfo>,
+        name: &str,
+        topology: &Items<Segments>,
+        volume: Option<&VolumeInfo>,
     ) -> Result<(), AllocError> {
-        if self.is_counted(name, topology.as_str(), volume)? {
+        let word = topologies_word(alloc, topology)?;
+        if self.is_counted(alloc, name, word.as_str(), volume)? {
             return Ok(());
         }
-        let mut group = Group {
-            name,
-            topology,
-            first: volume,
-            volumes: 0,
-            bytes: 0,
-            ids: Vec::new(alloc),
-        };
-        group.count(volume)?;
+        let mut group = Group::new(alloc, name, topology, None)?;
+        group.count(alloc, volume, self.are_ids_kept)?;
         Ok(self.groups.push(group)?)
     }
 
     // Counts a volume in the group of each of its nodes.
-    fn add_by_node(&mut self, alloc: Global, entry: &'e Entry) -> Result<(), AllocError> {
+    fn add_by_node(&mut self, alloc: Global, entry: &Entry) -> Result<(), AllocError> {
         let Some(nodes) = &entry.nodes else {
             return Ok(());
         };
+        let topology = Items::new(alloc);
         for node in nodes {
-            let volume = entry.volume.as_ref();
-            self.add(alloc, node.as_str(), String::new(alloc), volume)?;
+            self.add(alloc, node.as_str(), &topology, entry.volume.as_ref())?;
         }
         Ok(())
     }
 
-    /// A group for each node that volumes are published to.
+    /// Counts a volume: in the group of each of its nodes, or in the group of its pool. Volumes whose context
+    /// names no pool are grouped by their topology alone.
     ///
     /// # Errors
     ///
     /// If memory is refused.
-    pub(crate) fn of_nodes(alloc: Global, entries: &'e [Entry]) -> Result<Groups<'e>, AllocError> {
-        let mut groups = Groups {
-            groups: Vec::new(alloc),
-        };
-        for entry in entries {
-            groups.add_by_node(alloc, entry)?;
+    pub(crate) fn count(&mut self, alloc: Global, entry: &Entry) -> Result<(), AllocError> {
+        if self.by == GroupedBy::Node {
+            return self.add_by_node(alloc, entry);
         }
-        Ok(groups)
+        match &entry.volume {
+            Some(volume) => self.add(alloc, pool_of(volume), &volume.topology, Some(volume)),
+            None => Ok(()),
+        }
     }
 
-    /// A group for each pool and topology that volumes have. Volumes whose context names no pool are grouped
-    /// by their topology alone.
-    ///
-    /// # Errors
-    ///
-    /// If memory is refused.
-    pub(crate) fn of_pools(alloc: Global, entries: &'e [Entry]) -> Result<Groups<'e>, AllocError> {
-        let mut groups = Groups {
-            groups: Vec::new(alloc),
-        };
-        for entry in entries {
-            if let Some(volume) = &entry.volume {
-                let topology = topology_word(alloc, Some(volume))?;
-                groups.add(alloc, pool_of(volume), topology, Some(volume))?;
+    // The headings of the columns.
+    fn headings(&self) -> &'static [&'static str] {
+        match (self.by, self.is_configured, self.are_ids_kept) {
+            (GroupedBy::Node, false, true) => &["NODE", "VOLUMES", "IDS"],
+            (GroupedBy::Node, false, false) => &["NODE", "VOLUMES"],
+            (GroupedBy::Node, true, true) => &["NODE", "VOLUMES", "MAXIMUM", "IDS"],
+            (GroupedBy::Node, true, false) => &["NODE", "VOLUMES", "MAXIMUM"],
+            (GroupedBy::Pool, false, _) => &["POOL", "TOPOLOGY", "VOLUMES", "SIZE"],
+            (GroupedBy::Pool, true, _) => {
+                &["POOL", "TOPOLOGY", "VOLUMES", "USED", "FREE", "SIZE"]
             }
         }
-        Ok(groups)
     }
 
-    /// A table of the nodes with a heading, a line for each node.
+    fn row(&self, alloc: Global, group: &Group) -> Result<Vec<String>, AllocError> {
+        match self.by {
+            GroupedBy::Node => group.node_row(alloc, self.is_configured, self.are_ids_kept),
+            GroupedBy::Pool => group.pool_row(alloc, self.is_configured),
+        }
+    }
+
+    /// A table with a heading, and a line for each group.
     ///
     /// # Errors
     ///
     /// If memory is refused.
-    pub(crate) fn node_rows(&self, alloc: Global) -> Result<String, AllocError> {
-        let mut table = Table::with_headings(alloc, &["NODE", "VOLUMES", "IDS"])?;
+    pub(crate) fn text(&self, alloc: Global) -> Result<String, AllocError> {
+        let mut table = Table::with_headings(alloc, self.headings())?;
         for group in &self.groups {
-            table.add(group.node_row(alloc)?)?;
+            table.add(self.row(alloc, group)?)?;
         }
         table.text(alloc)
     }
 
-    /// A table of the pools with a heading, a line for each pool.
+    /// The groups as an array of JSON.
     ///
     /// # Errors
     ///
     /// If memory is refused.
-    pub(crate) fn pool_rows(&self, alloc: Global) -> Result<String, AllocError> {
-        let mut table = Table::with_headings(alloc, &["POOL", "TOPOLOGY", "VOLUMES", "SIZE"])?;
-        for group in &self.groups {
-            table.add(group.pool_row(alloc)?)?;
-        }
-        table.text(alloc)
-    }
-
-    /// The nodes as an object of JSON.
-    ///
-    /// # Errors
-    ///
-    /// If memory is refused.
-    pub(crate) fn nodes_value(&self, alloc: Global) -> Result<Value, AllocError> {
+    pub(crate) fn array(&self, alloc: Global) -> Result<Value, AllocError> {
         let mut array = Vec::new(alloc);
         for group in &self.groups {
-            array.push(group.node_value(alloc)?)?;
+            array.push(match self.by {
+                GroupedBy::Node => group.node_value(alloc, self.are_ids_kept)?,
+                GroupedBy::Pool => group.pool_value(alloc)?,
+            })?;
         }
-        json!(in alloc; {"nodes": array})
+        Ok(Value::Array(array))
     }
 
-    /// The pools as an object of JSON.
+    /// An object of JSON with the groups, under `nodes` or `pools`.
     ///
     /// # Errors
     ///
     /// If memory is refused.
-    pub(crate) fn pools_value(&self, alloc: Global) -> Result<Value, AllocError> {
-        let mut array = Vec::new(alloc);
-        for group in &self.groups {
-            array.push(group.pool_value(alloc)?)?;
-        }
-        json!(in alloc; {"pools": array})
+    pub(crate) fn object(&self, alloc: Global) -> Result<Value, AllocError> {
+        let key = match self.by {
+            GroupedBy::Node => "nodes",
+            GroupedBy::Pool => "pools",
+        };
+        let mut object = Map::new(alloc);
+        put(alloc, &mut object, key, self.array(alloc)?)?;
+        Ok(Value::Object(object))
     }
 }

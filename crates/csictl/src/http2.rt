@@ -1,10 +1,11 @@
-//! How a server of HTTP/2 begins.
+//! Recognises a server of HTTP/2 by its first bytes.
 
 ghost use Rattle.std.specs.Prelude.{◌≡◌};
 ghost use Rattle.csictl.specs.Http2.{begins_http2};
 
-/// Whether the first `count` of these bytes begin as a server of HTTP/2 does: with the head of a frame
-/// SETTINGS of fewer than 256 bytes, `00 00 xx 04` (RFC 9113, 3.4, 4.1 and 6.5).
+/// Returns true if the first `count` of these bytes begin with `00 00 xx 04`: the head of a SETTINGS frame
+/// with a payload of fewer than 256 bytes. An HTTP/2 server sends such a frame first (RFC 9113, 3.4, 4.1 and
+/// 6.5). Returns false if `count` is below 4.
 pub(crate) fn begins_http2(bytes: &[u8], count: usize) -> bool
     ensures { result ≡ begins_http2 bytes.now count }
 {

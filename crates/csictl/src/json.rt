@@ -1,4 +1,5 @@
-//! Replies as JSON: the mapping of proto3, with each field of a message also where it has nothing.
+//! Writes replies as JSON, in the mapping of proto3. Each field of a message is written, also if it has its
+//! default value.
 
 use command_line::MODE_NAMES;
 use csi_types::{
@@ -10,7 +11,7 @@ use std::alloc::{AllocError, Global};
 
 type Json = Result<Value, AllocError>;
 
-// The names of enumerations, by their numbers (CSI specification, 'GetPluginCapabilities',
+// The names of the numbers of an enumeration (CSI specification, 'GetPluginCapabilities',
 // 'ControllerGetCapabilities').
 const SERVICES: [&str; 4] = [
     "UNKNOWN",
@@ -37,7 +38,7 @@ const CALLS: [&str; 15] = [
     "MODIFY_VOLUME",
 ];
 
-// A number of an enumeration by its name, if it has one.
+// Returns the name of a number of an enumeration, or the number itself if it has no name.
 fn named(alloc: Global, names: &[&str], number: i32) -> Json {
     match usize::try_from(number).ok().and_then(|at| names.get(at)) {
         Some(name) => Value::try_from_str(alloc, name),
@@ -45,9 +46,24 @@ fn named(alloc: Global, names: &[&str], number: i32) -> Json {
     }
 }
 
-// An `int64` is a text in JSON.
+// Writes an `int64`, which is a text in JSON.
 fn int64(alloc: Global, number: i64) -> Json {
     Ok(Value::from(format!(in alloc; "{number}")?))
+}
+
+/// Adds a member to an object.
+///
+/// # Errors
+///
+/// If memory is refused.
+pub(crate) fn put(
+    alloc: Global,
+    object: &mut Map<String, Value>,
+    key: &str,
+    value: Value,
+) -> Result<(), AllocError> {
+    object.insert(String::from_str(alloc, key)?, value)?;
+    Ok(())
 }
 
 fn texts(alloc: Global, texts: &Items<Text>) -> Json {
@@ -67,7 +83,7 @@ fn object(alloc: Global, map: &TextMap) -> Json {
     Ok(Value::Object(object))
 }
 
-/// Topologies as an array of their segments.
+/// Writes topologies as an array of their segments.
 pub(crate) fn topologies(alloc: Global, topologies: &Items<TextMap>) -> Json {
     let mut array = Vec::new(alloc);
     for segments in topologies {
@@ -95,7 +111,7 @@ fn status(alloc: Global, nodes: Option<&Items<Text>>) -> Json {
     }
 }
 
-/// An entry of a listing.
+/// Writes an entry of a listing: a volume, and the nodes that it is published to.
 pub(crate) fn entry(alloc: Global, entry: &Entry) -> Json {
     json!(in alloc; {
         "volume": volume(alloc, entry.volume.as_ref())?,
@@ -103,7 +119,8 @@ pub(crate) fn entry(alloc: Global, entry: &Entry) -> Json {
     })
 }
 
-/// A listing of these entries, with the token of the next page; the token is empty after the last page.
+/// Writes a listing of these entries, with the token of the next page. The token is empty after the last
+/// page.
 pub(crate) fn listing(alloc: Global, entries: Vec<Value>, token: &str) -> Json {
     json!(in alloc; {"entries": entries, "nextToken": token})
 }
@@ -151,7 +168,8 @@ fn validated(alloc: Global, found: Option<&Confirmed>, message: &Text) -> Json {
     json!(in alloc; {"confirmed": found, "message": message.as_str()})
 }
 
-// Capabilities, each a message of one field of this name, which has a type.
+// Writes capabilities. Each is a message with one field of this name, whose `type` is a number of an
+// enumeration.
 fn capabilities(alloc: Global, field: &str, names: &[&str], types: &Items<Option<i32>>) -> Json {
     let mut array = Vec::new(alloc);
     for number in types {
@@ -180,7 +198,7 @@ fn ready(alloc: Global, ready: Option<bool>) -> Json {
     json!(in alloc; {"ready": ready})
 }
 
-/// A response as a JSON object with the names of the CSI specification.
+/// Writes a response as a JSON object with the names of the CSI specification.
 pub(crate) fn response(alloc: Global, response: &Response) -> Json {
     match response {
         Response::PluginInfo { name, version } => {
@@ -205,7 +223,7 @@ pub(crate) fn response(alloc: Global, response: &Response) -> Json {
     }
 }
 
-/// A refusal, as `google.rpc.Status`. Its text is of ASCII alone.
+/// Writes a refusal as `google.rpc.Status`. Its text has only ASCII characters.
 pub(crate) fn refusal(alloc: Global, reply: &Reply<'_>) -> Json {
     let message = str::from_utf8(reply.text).unwrap_or("");
     json!(in alloc; {"code": reply.status, "message": message})

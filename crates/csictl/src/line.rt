@@ -1,4 +1,5 @@
-//! The way to a server on a socket: a connection for each try of a call, or one for several calls.
+//! Sends calls to the server of a socket, over a new connection for each try or over one connection for
+//! several calls.
 
 ghost use Rattle.std.specs.Prelude.{◌≡◌, ⊤};
 
@@ -14,7 +15,7 @@ use std::thread;
 use std::time::{Clock, Duration};
 use thiserror::Error;
 
-/// Why a try was not answered.
+/// The reason why a try was not answered.
 #[derive(Debug, Drop, Error)]
 pub(crate) enum Unanswered {
     #[error("closed without a reply")]
@@ -29,14 +30,14 @@ pub(crate) enum Unanswered {
     Failed(io::Error),
 }
 
-/// The socket of a server, and the connection to it that is kept between calls.
+/// The socket of a server, and the connection to it that is kept from call to call.
 #[derive(Drop)]
 struct Wire<'a> {
     rt: &'a HostRuntime,
     path: &'a str,
-    // The longest time of one try; `None` for ever.
+    // The time limit of one try, or `None` for no limit.
     timeout: Option<Duration>,
-    // True if a connection on which the server has answered is kept for the next call.
+    // True if a connection is kept for the next call after the server has answered on it.
     is_kept: bool,
     kept: Option<Connection<'a>>,
     // True if the last connection was to an HTTP/2 server.
@@ -44,7 +45,7 @@ struct Wire<'a> {
 }
 
 impl<'a> Wire<'a> {
-    // Takes the connection that was kept, or makes a new one.
+    // Returns the connection that was kept, or makes a new one.
     fn connection(&mut self) -> io::Result<Connection<'a>> {
         match self.kept.take() {
             Some(mut connection) => {
@@ -67,7 +68,7 @@ impl<'a> Wire<'a> {
         }
     }
 
-    // Sends a call on a kept or new connection and receives its reply.
+    // Sends a call on the kept connection or a new one, and receives its reply.
     fn converse(&mut self, frame: &[u8]) -> io::Result<Received> {
         let mut connection = self.connection()?;
         let received = self.ask(&mut connection, frame)?;
@@ -81,20 +82,19 @@ impl<'a> Wire<'a> {
     }
 }
 
-/// A client of the server of a Unix socket, which sends a call again until it has a reply or the tries are
-/// used up.
+/// A client of the server at a Unix socket. It sends a call again until it has a reply or no tries are left.
 #[derive(Drop)]
 pub(crate) struct SocketLine<'a> {
     wire: Wire<'a>,
     patience: Patience,
     exchanges: Exchanges,
-    // Why the last try was not answered.
+    // The reason why the last try was not answered.
     unanswered: Option<Unanswered>,
 }
 
 impl<'a> SocketLine<'a> {
-    /// A client of the server of the socket at `path`. If `is_kept`, calls share one connection; otherwise
-    /// each call has its own.
+    /// Makes a client of the server at the socket with this path. If `is_kept` is true, calls share one
+    /// connection, otherwise each call has its own.
     pub(crate) fn new(
         rt: &'a HostRuntime,
         path: &'a str,
@@ -117,7 +117,7 @@ impl<'a> SocketLine<'a> {
         }
     }
 
-    // Why the last try was not answered.
+    // Returns the failure for the last try, which was not answered.
     fn failure(&self) -> Failure {
         let alloc = self.wire.rt.alloc();
         match &self.unanswered {
@@ -126,7 +126,7 @@ impl<'a> SocketLine<'a> {
         }
     }
 
-    // The failure for a malformed reply; [`Failure::OtherSocket`] if the server speaks HTTP/2.
+    // Returns the failure for a malformed reply, or [`Failure::OtherSocket`] if the server speaks HTTP/2.
     fn malformed(&self, fault: ReplyFault) -> Failure {
         if !self.wire.is_http2 {
             return Failure::Malformed(fault);
@@ -145,7 +145,7 @@ impl<'a> SocketLine<'a> {
         self.unanswered = None;
     }
 
-    /// Sends a call, again while it has no reply and tries are left, and returns its reply.
+    /// Sends a call and returns its reply. Sends it again while it has no reply and tries are left.
     ///
     /// # Errors
     ///
@@ -161,7 +161,7 @@ impl<'a> SocketLine<'a> {
         }
     }
 
-    // Reports why the last try was not answered, and waits for the next one.
+    // Reports why the last try was not answered, and waits before the next try.
     fn report_and_wait(&self, why: &Unanswered) {
         let rt = self.wire.rt;
         let tried = u32::try_from(self.exchanges.made).unwrap_or(u32::MAX);
@@ -178,7 +178,7 @@ impl<'a> SocketLine<'a> {
     }
 }
 
-// The reply of an exchange, or why it has none.
+// Returns the outcome of an exchange, and the reason if it was not answered.
 fn outcome(exchanged: io::Result<Received>) -> (Received, Option<Unanswered>) {
     let error = match exchanged {
         Ok(Received::Nothing) => return (Received::Nothing, Some(Unanswered::Closed)),
@@ -204,7 +204,7 @@ impl Line for SocketLine<'_> {
 
     ghost unanswered = { λ line. line.exchanges.unanswered };
 
-    // (no contract says what a socket carries)
+    // No contract says what a socket carries.
     ghost exchanged = { λ old new frame received. ⊤ };
 
     fn exchange(&mut self, frame: &[u8]) -> Received {

@@ -1,21 +1,23 @@
-//! `csictl volumes`, `csictl nodes`, `csictl pools` and `csictl volume`.
+//! Runs `csictl volumes`, `csictl nodes`, `csictl pools` and `csictl volume`.
 
 use crate::call::show;
+use crate::configuration::Configuration;
 use crate::failure::{Ended, Failure};
-use crate::groups::Groups;
+use crate::groups::{GroupedBy, Groups};
 use crate::line::SocketLine;
-use crate::lookup::{entry_of, is_at, is_in, no_volume};
+use crate::lookup::{entry_of, has_id, is_at, is_in, no_volume};
 use crate::pages::{Walked, walk};
 use crate::patience::Patience;
-use crate::reply::{entries_line, entry_line, line, write};
+use crate::reply::{self, entries_line, entry_line, write};
 use crate::socket;
 use crate::words::{context_word, id_word, nodes_word, pool_word, size_word, topology_word};
 use clap::ArgMatches;
 use command_line::Table;
+use csi_client::ReceivedReply;
 use csi_types::{Entry, Method};
 use std::alloc::{AllocError, Global};
 
-/// The kinds of listings.
+/// What a listing shows: volumes, nodes, pools or one volume.
 #[derive(Clone, Copy)]
 pub(crate) enum What {
     Volumes,
@@ -24,8 +26,12 @@ pub(crate) enum What {
     Volume,
 }
 
-// Keeps the entries of the volumes at the node in `--node` and in the pool in `--pool`, if these are given.
+// Keeps the entries of the volume in `--id`, at the node in `--node` and in the pool in `--pool`, if these
+// are given.
 fn select(arguments: &ArgMatches<'_>, entries: &mut Vec<Entry>) {
+    if let Some(id) = arguments.get_str("id") {
+        entries.retain(|entry| has_id(entry, id));
+    }
     if let Some(node) = arguments.get_str("node") {
         entries.retain(|entry| is_at(entry, node));
     }
@@ -53,7 +59,7 @@ fn volumes_text(alloc: Global, entries: &[Entry]) -> Result<String, AllocError> 
     table.text(alloc)
 }
 
-// All fields of an entry, a line for each.
+// Writes all fields of an entry, each on a line.
 fn entry_text(alloc: Global, entry: &Entry) -> Result<String, AllocError> {
     let volume = entry.volume.as_ref();
     let mut table = Table::new(alloc);
@@ -79,76 +85,128 @@ fn volume_text(
     }
 }
 
-fn nodes_text(alloc: Global, entries: &[Entry], is_json: bool) -> Result<String, AllocError> {
-    let groups = Groups::of_nodes(alloc, entries)?;
-    if is_json {
-        return line(alloc, &groups.nodes_value(alloc)?);
-    }
-    groups.node_rows(alloc)
-}
-
-fn pools_text(alloc: Global, entries: &[Entry], is_json: bool) -> Result<String, AllocError> {
-    let groups = Groups::of_pools(alloc, entries)?;
-    if is_json {
-        return line(alloc, &groups.pools_value(alloc)?);
-    }
-    groups.pool_rows(alloc)
-}
-
-// The text that a listing prints for the entries.
-fn text_of(
+// The volumes that the options select, with a line for each, or as one line of JSON.
+fn volumes_shown(
     alloc: Global,
+    arguments: &ArgMatches<'_>,
+    entries: Vec<Entry>,
+) -> Result<String, AllocError> {
+    let mut entries = entries;
+    select(arguments, &mut entries);
+    if arguments.get_flag("json") {
+        entries_line(alloc, entries.as_slice())
+    } else {
+        volumes_text(alloc, entries.as_slice())
+    }
+}
+
+// Checks that the pool in `--pool` and the node in `--node` are of the configuration, if these are given and
+// the server answers its configuration.
+fn check_filter(
+    alloc: Global,
+    arguments: &ArgMatches<'_>,
+    line: &mut SocketLine<'_>,
+) -> Result<(), Failure> {
+    let pool = arguments.get_str("pool");
+    let node = arguments.get_str("node");
+    if pool.is_none() && node.is_none() {
+        return Ok(());
+    }
+    match Configuration::ask(alloc, line)? {
+        Some(configuration) => configuration.check(alloc, pool, node),
+        None => Ok(()),
+    }
+}
+
+// Shows why a listing was refused.
+fn refused(
+    rt: &HostRuntime,
+    arguments: &ArgMatches<'_>,
+    reply: &ReceivedReply,
+) -> Result<Ended, Failure> {
+    let is_json = arguments.get_flag("json");
+    show(rt, Method::ListVolumes, &reply.as_reply(), is_json)
+}
+
+// Shows volumes, or the volume that is asked for.
+fn list_volumes(
+    rt: &HostRuntime,
     what: What,
     arguments: &ArgMatches<'_>,
-    entries: &[Entry],
-) -> Result<String, Failure> {
-    let is_json = arguments.get_flag("json");
-    match what {
-        What::Volumes if is_json => Ok(entries_line(alloc, entries)?),
-        What::Volumes => Ok(volumes_text(alloc, entries)?),
-        What::Nodes => Ok(nodes_text(alloc, entries, is_json)?),
-        What::Pools => Ok(pools_text(alloc, entries, is_json)?),
+    line: &mut SocketLine<'_>,
+) -> Result<Ended, Failure> {
+    let mut entries: Vec<Entry> = Vec::new(rt.alloc());
+    if let Walked::Refused(reply) | Walked::Outdated(reply) = walk(
+        rt.alloc(),
+        line,
+        &mut entries,
+    )? {
+        return refused(rt, arguments, &reply);
+    }
+    let text = match what {
         What::Volume => {
             let id = arguments.get_str("volume").unwrap_or("");
-            volume_text(alloc, entries, id, is_json)
+            volume_text(
+                rt.alloc(),
+                entries.as_slice(),
+                id,
+                arguments.get_flag("json"),
+            )?
         }
+        _ => volumes_shown(rt.alloc(), arguments, entries)?,
+    };
+    write(rt, text.as_bytes())?;
+    Ok(Ended::Done)
+}
+
+// Shows the nodes or the pools, also empty ones where the server answers its configuration.
+fn list_groups(
+    rt: &HostRuntime,
+    by: GroupedBy,
+    arguments: &ArgMatches<'_>,
+    line: &mut SocketLine<'_>,
+) -> Result<Ended, Failure> {
+    let alloc = rt.alloc();
+    let configuration = Configuration::ask(alloc, line)?;
+    let mut groups = Groups::new(alloc, by, true, configuration.as_ref())?;
+    if let Walked::Refused(reply) | Walked::Outdated(reply) = walk(alloc, line, &mut groups)? {
+        return refused(rt, arguments, &reply);
     }
+    let text = if arguments.get_flag("json") {
+        reply::line(alloc, &groups.object(alloc)?)?
+    } else {
+        groups.text(alloc)?
+    };
+    write(rt, text.as_bytes())?;
+    Ok(Ended::Done)
 }
 
-// All pages, or the refusal of one.
-fn walked(rt: &HostRuntime, arguments: &ArgMatches<'_>) -> Result<Walked, Failure> {
-    let patience = Patience::of(arguments)?;
-    let path = socket::find(rt, arguments)?;
-    let mut line = SocketLine::new(rt, path.as_str(), patience, true);
-    walk(rt.alloc(), &mut line)
-}
-
-/// Asks for all pages of ListVolumes over one connection, and prints a listing of their entries.
+/// Reads all pages of ListVolumes over one connection, and prints what `what` names: the volumes, the nodes,
+/// the pools or one volume. If the server refuses a page, prints the refusal.
 ///
 /// # Errors
 ///
-/// If a call is not answered, a reply is malformed, no volume has the id that is asked for, writing fails,
-/// or memory is refused.
+/// - the socket is not found, or an argument is malformed
+/// - a call is not answered
+/// - a reply is malformed or not a page, or the pages have no end
+/// - for [`What::Volume`]: no volume has the id in the arguments
+/// - for [`What::Volumes`]: the configuration does not have the pool or the node in the arguments
+/// - writing fails, or memory is refused
 pub(crate) fn run(
     rt: &HostRuntime,
     what: What,
     arguments: &ArgMatches<'_>,
 ) -> Result<Ended, Failure> {
-    match walked(rt, arguments)? {
-        Walked::All(entries) => {
-            let mut entries = entries;
-            select(arguments, &mut entries);
-            let text = text_of(rt.alloc(), what, arguments, entries.as_slice())?;
-            write(rt, text.as_bytes())?;
-            Ok(Ended::Done)
-        }
-        Walked::Refused(reply) | Walked::Outdated(reply) => {
-            show(
-                rt,
-                Method::ListVolumes,
-                &reply.as_reply(),
-                arguments.get_flag("json"),
-            )
+    let patience = Patience::of(arguments)?;
+    let path = socket::find(rt, arguments)?;
+    let mut line = SocketLine::new(rt, path.as_str(), patience, true);
+    match what {
+        What::Nodes => list_groups(rt, GroupedBy::Node, arguments, &mut line),
+        What::Pools => list_groups(rt, GroupedBy::Pool, arguments, &mut line),
+        What::Volume => list_volumes(rt, what, arguments, &mut line),
+        What::Volumes => {
+            check_filter(rt.alloc(), arguments, &mut line)?;
+            list_volumes(rt, what, arguments, &mut line)
         }
     }
 }

@@ -1,61 +1,55 @@
-//! A volume is looked up before `csictl unpublish` and `csictl delete` change it, since the server answers OK
-//! also where it finds nothing to change (docs/MACHINE.md, "DeleteVolume", "ControllerUnpublishVolume").
+//! Looks a volume up before `csictl unpublish` and `csictl delete` change it. The reply of the server is OK
+//! even if there is nothing to change (docs/MACHINE.md, "DeleteVolume", "ControllerUnpublishVolume").
 
 use crate::failure::Failure;
 use crate::line::SocketLine;
 use crate::pages::{Walked, first_entry};
 use crate::words::pool_of;
 use clap::ArgMatches;
-use command_line::is_decimal;
 use csi_client::ReceivedReply;
+use csi_rules::number_of_id;
 use csi_types::{Entry, Method, Text};
 use std::alloc::{AllocError, Global};
 
-// The first part of a volume's id, before its number in decimal (docs/MACHINE.md, "CreateVolume").
-const ID_PREFIX: &str = "vol-";
-
-// The number in the id of a volume; `None` where the text is not an id.
-fn number_of(id: &str) -> Option<u64> {
-    let digits = id.strip_prefix(ID_PREFIX)?;
-    if !is_decimal(digits) {
-        return None;
-    }
-    digits.parse::<u64>().ok()
-}
-
-// The token of the page that begins with this volume: the number before the volume's own. For a text that is
-// not an id it is the empty token, whose page begins with the first volume.
+// Returns the token of the page that begins with this volume, which is the number before the volume's own.
+// For a text that is not an id, returns the empty token, whose page begins with the first volume.
 fn token_before(alloc: Global, id: &str) -> Result<Text, AllocError> {
-    let before = number_of(id).unwrap_or(0).saturating_sub(1);
+    let before = number_of_id(id).unwrap_or(0).saturating_sub(1);
     if before == 0 {
         return Ok(Text::new(alloc));
     }
     Ok(Text::from_string(format!(in alloc; "{before}")?))
 }
 
-/// The failure that no volume has this id. If the text does not have the form of an id, the line also says
-/// what ids look like, as the text may be a name.
+/// Returns the failure that no volume has this id. If the text does not have the form of an id, it may be a
+/// name, so the line also shows the form of ids.
 pub(crate) fn no_volume(alloc: Global, id: &str) -> Failure {
     let Ok(text) = String::from_str(alloc, id) else {
         return Failure::NoMemory;
     };
-    if number_of(id).is_some() {
+    if number_of_id(id).is_some() {
         Failure::NoVolume(text)
     } else {
         Failure::NotAnId(text)
     }
 }
 
-/// The entry of the volume with this id.
+/// Returns the entry of the volume with this id, or `None` if there is no such entry.
 pub(crate) fn entry_of<'e>(entries: &'e [Entry], id: &str) -> Option<&'e Entry> {
     for entry in entries {
-        if let Some(volume) = &entry.volume {
-            if volume.id.as_str() == id {
-                return Some(entry);
-            }
+        if has_id(entry, id) {
+            return Some(entry);
         }
     }
     None
+}
+
+/// Returns true if the volume has this id.
+pub(crate) fn has_id(entry: &Entry, id: &str) -> bool {
+    match &entry.volume {
+        Some(volume) => volume.id.as_str() == id,
+        None => false,
+    }
 }
 
 /// Returns true if the volume's context names this pool.
@@ -87,7 +81,7 @@ fn is_published(entry: &Entry) -> bool {
     }
 }
 
-// Checks that a volume is published to the node; to any node if `node` is `None`.
+// Checks that a volume is published to the node, or to any node if `node` is `None`.
 fn check_published(
     alloc: Global,
     entry: &Entry,
@@ -104,7 +98,7 @@ fn check_published(
     }
 }
 
-// Checks that the volume, and the attachment if one is to be removed, is in the entries.
+// Checks that the entries contain the volume and, if an attachment is to be removed, the attachment.
 fn check(
     alloc: Global,
     method: Method,
@@ -121,14 +115,14 @@ fn check(
     Ok(())
 }
 
-/// Checks that there is something to remove: for DeleteVolume the volume; for ControllerUnpublishVolume also
-/// its attachment to the node, or without a node any attachment. It asks for one page of one entry. Where the
-/// server refuses the page, the refusal is returned.
+/// Checks that there is something to remove. DeleteVolume needs the volume. ControllerUnpublishVolume also
+/// needs its attachment to the node, or any attachment if no node is given. The check asks for a page of one
+/// entry. If the server refuses the page, returns the refusal.
 ///
 /// # Errors
 ///
-/// If there is nothing to remove, the call is not answered, the reply is malformed or not a page, or
-/// memory is refused.
+/// If there is nothing to remove, the call is not answered, the reply is malformed or not a page, or memory
+/// is refused.
 pub(crate) fn look_up(
     alloc: Global,
     method: Method,
@@ -137,13 +131,14 @@ pub(crate) fn look_up(
 ) -> Result<Option<ReceivedReply>, Failure> {
     let id = arguments.get_str("volume").unwrap_or("");
     let token = token_before(alloc, id)?;
-    match first_entry(alloc, token, line)? {
-        Walked::All(entries) => {
+    let mut entries: Vec<Entry> = Vec::new(alloc);
+    match first_entry(alloc, token, line, &mut entries)? {
+        Walked::All => {
             check(alloc, method, arguments, entries.as_slice())?;
             Ok(None)
         }
-        // A token is refused only if no volume was given its number yet (docs/MACHINE.md, "A walk over
-        // pages").
+        // The server refuses the token only if no volume has been given this number yet (docs/MACHINE.md, "A
+        // walk over pages").
         Walked::Outdated(_) => Err(no_volume(alloc, id)),
         Walked::Refused(reply) => Ok(Some(reply)),
     }

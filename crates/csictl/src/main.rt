@@ -1,9 +1,10 @@
-//! The client of csid: it makes calls, sends them, and shows replies.
+//! The client of `csid`: it makes calls, sends them, and shows replies.
 #![tactic(auto)]
 
 mod call;
 mod changes;
 mod command;
+mod configuration;
 mod connection;
 mod failure;
 mod fields;
@@ -16,6 +17,7 @@ mod listings;
 mod lookup;
 mod message;
 mod modes;
+mod output;
 mod pages;
 mod patience;
 mod reply;
@@ -27,6 +29,7 @@ mod status;
 mod vectors;
 mod words;
 
+use crate::failure::Failure;
 use command_line::{occupy_closed, say};
 use std::process::ExitCode;
 
@@ -34,6 +37,7 @@ fn main(rt: HostRuntime) -> ExitCode {
     let _standard = occupy_closed(&rt);
     match run::run(&rt) {
         Ok(ended) => ExitCode::from(ended.status()),
+        Err(Failure::ReaderGone) => ExitCode::SUCCESS,
         Err(failure) => {
             say(&rt, "csictl", &failure);
             ExitCode::from(failure.status())

@@ -1,4 +1,4 @@
-//! The frame of the call that the arguments ask for.
+//! Makes the frame of the call that the arguments describe.
 
 use crate::failure::Failure;
 use crate::fields::{FieldFault, Fields, give_none};
@@ -14,7 +14,8 @@ use envelope::MAX_MESSAGE_BYTES;
 use hex::FromHexError;
 use std::alloc::{AllocError, Global};
 
-/// More pages than volumes can fill: a listing with more pages does not end.
+/// The greatest number of pages that are read. No server has enough volumes for more pages, so a listing with
+/// more pages has no end.
 pub(crate) const MOST_PAGES: u32 = 1_000_000;
 
 fn create(fields: &Fields<'_, '_>) -> Result<CreateVolume, FieldFault> {
@@ -89,12 +90,12 @@ fn validate(fields: &Fields<'_, '_>) -> Result<Validate, FieldFault> {
     })
 }
 
-// A request with the fields of the arguments, without its type written out here.
+// Boxes a request. The type of the request follows from the caller.
 fn boxed<M: Drop>(alloc: Global, message: Result<M, FieldFault>) -> Result<Boxed<M>, FieldFault> {
     Ok(Boxed::new(alloc, message?)?)
 }
 
-// The request of the method with these fields.
+// Makes the request of the method with these fields.
 fn request(alloc: Global, method: Method, fields: &Fields<'_, '_>) -> Result<Request, FieldFault> {
     Ok(match method {
         Method::GetPluginInfo => Request::PluginInfo,
@@ -120,7 +121,7 @@ fn encoded(alloc: Global, request: &Request) -> Result<Vec<u8>, AllocError> {
     Ok(bytes)
 }
 
-// The encoded request of the method with these fields.
+// Encodes the request of the method with these fields.
 fn message_of(
     alloc: Global,
     method: Method,
@@ -130,7 +131,7 @@ fn message_of(
     Ok(encoded(alloc, &request)?)
 }
 
-// The encoded request with the fields in the arguments.
+// Encodes the request whose fields are in the arguments.
 fn message_of_fields(
     alloc: Global,
     method: Method,
@@ -140,7 +141,7 @@ fn message_of_fields(
     Ok(message_of(alloc, method, &fields)?)
 }
 
-// The message given in hexadecimal digits.
+// Decodes the message that is given in hexadecimal digits.
 fn message_as_it_is(alloc: Global, digits: &str) -> Result<Vec<u8>, Failure> {
     match hex::decode(alloc, digits) {
         Ok(bytes) => Ok(bytes),
@@ -149,7 +150,7 @@ fn message_as_it_is(alloc: Global, digits: &str) -> Result<Vec<u8>, Failure> {
     }
 }
 
-// The message of the call, given by `--message` or by options.
+// Returns the message of the call, from `--message` or from the options for its fields.
 fn message(alloc: Global, method: Method, arguments: &ArgMatches<'_>) -> Result<Vec<u8>, Failure> {
     match arguments.get_str("message") {
         Some(digits) => {
@@ -160,11 +161,11 @@ fn message(alloc: Global, method: Method, arguments: &ArgMatches<'_>) -> Result<
     }
 }
 
-/// The method with this name.
+/// Returns the method with this name, such as `CreateVolume`.
 ///
 /// # Errors
 ///
-/// [`Failure::NoMethod`] if no method has the name; also if memory is refused.
+/// [`Failure::NoMethod`] if no method has the name, or [`Failure::NoMemory`] if memory is refused.
 pub(crate) fn method(alloc: Global, name: &str) -> Result<Method, Failure> {
     match method_named(alloc, name)? {
         Some(method) => Ok(method),
@@ -172,7 +173,7 @@ pub(crate) fn method(alloc: Global, name: &str) -> Result<Method, Failure> {
     }
 }
 
-// The frame of a call with this method and message.
+// Makes the frame of a call with this method and message.
 fn framed(alloc: Global, method: Method, message: &[u8]) -> Result<Vec<u8>, Failure> {
     if message.len() > MAX_MESSAGE_BYTES {
         return Err(Failure::TooLong);
@@ -182,7 +183,7 @@ fn framed(alloc: Global, method: Method, message: &[u8]) -> Result<Vec<u8>, Fail
     Ok(frame)
 }
 
-/// The frame of a call of the method, with the message given by the arguments.
+/// Makes the frame of a call of the method, with the message that the arguments describe.
 ///
 /// # Errors
 ///
@@ -196,7 +197,7 @@ pub(crate) fn frame(
     framed(alloc, method, &message)
 }
 
-/// The frame of a call of the method, with the fields in the arguments of a command for people.
+/// Makes the frame of a call of the method, with the fields in the arguments of a command for people.
 ///
 /// # Errors
 ///
@@ -211,7 +212,7 @@ pub(crate) fn frame_of_person(
     framed(alloc, method, &message)
 }
 
-/// The frame of the call of a method with an empty message, as of a method whose request has no fields.
+/// Makes the frame of a call with an empty message, for a method whose request has no fields.
 ///
 /// # Errors
 ///
@@ -224,7 +225,7 @@ pub(crate) fn call_without_fields(alloc: Global, method: Method) -> Result<Vec<u
 ///
 /// # Errors
 ///
-/// [`Failure::NotPaged`] or [`Failure::WithMessage`] otherwise.
+/// Returns [`Failure::NotPaged`] or [`Failure::WithMessage`] otherwise.
 pub(crate) fn check_paged(method: Method, arguments: &ArgMatches<'_>) -> Result<(), Failure> {
     if method != Method::ListVolumes {
         return Err(Failure::NotPaged);
@@ -235,7 +236,7 @@ pub(crate) fn check_paged(method: Method, arguments: &ArgMatches<'_>) -> Result<
     Ok(())
 }
 
-/// An empty listing that begins at the token in `--token`.
+/// Makes an empty listing that begins at the token in `--token`.
 ///
 /// # Errors
 ///
@@ -253,8 +254,8 @@ fn page_request(alloc: Global, max_entries: i32, token: &Text) -> Result<Request
     Ok(Request::List(Boxed::new(alloc, request)?))
 }
 
-/// The frame of the call for a page that begins at a token and has at most `max_entries` entries; with 0 as
-/// many as the server puts on a page.
+/// Makes the frame of the call for the page after a token, with at most `max_entries` entries. If
+/// `max_entries` is 0, the server chooses the number.
 ///
 /// # Errors
 ///

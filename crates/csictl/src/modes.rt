@@ -1,4 +1,4 @@
-//! Access modes by their names.
+//! Parses access modes by their names.
 
 use command_line::is_decimal;
 
@@ -9,8 +9,8 @@ struct Name {
     mode: i32,
 }
 
-// The names of the CSI specification ('CreateVolume'), as listings show them and with hyphens; and the names
-// that Kubernetes gives the modes that its sidecars ask for, long and short.
+// The names of the CSI specification ('CreateVolume'), as listings show them and with hyphens, and the long
+// and short names of Kubernetes for the modes that its sidecars ask for.
 const NAMES: [Name; 22] = [
     Name {
         text: "single-node-writer",
@@ -102,8 +102,9 @@ const NAMES: [Name; 22] = [
     },
 ];
 
-/// The number of the access mode with this name, in either case, or with this number; `None` if the text is
-/// neither.
+/// Returns the number of the access mode with this name, ignoring the case of ASCII letters. If the text is a
+/// decimal number that fits an `i32`, returns this number, even if no mode has it. Returns `None` for any
+/// other text.
 pub(crate) fn mode_of(text: &str) -> Option<i32> {
     for name in &NAMES {
         if text.eq_ignore_ascii_case(name.text) {

@@ -1,4 +1,4 @@
-//! Entries of a listing, for the commands for people: all entries, or the first one after a token.
+//! Reads the entries of a listing for the commands for people: all entries, or the first entry after a token.
 
 use crate::failure::Failure;
 use crate::line::SocketLine;
@@ -6,34 +6,50 @@ use crate::message::{MOST_PAGES, page};
 use csi_client::ReceivedReply;
 use csi_codec::decode_response;
 use csi_types::{Entry, Items, Method, Response, Text};
-use std::alloc::Global;
+use std::alloc::{AllocError, Global};
 
-// The most times that a listing is begun, as one whose token is refused as too old is begun again.
+// The greatest number of times that a listing is begun. It is begun again if the server refuses a token as
+// too old.
 const MOST_WALKS: u32 = 5;
 
-// The status ABORTED: ListVolumes answers it if the token is no longer valid.
+// The status ABORTED, with which ListVolumes refuses a token that is no longer valid.
 const ABORTED: u8 = 10;
 
-// `max_entries` that leaves the number of entries to the server.
+// The value of `max_entries` that leaves the number of entries to the server.
 const FULL_PAGE: i32 = 0;
+
+/// A taker of the entries of a listing, one after the other.
+pub(crate) trait Taker {
+    /// Forgets the entries so far, as a listing that begins again gives all of its entries again.
+    fn restart(&mut self);
+
+    /// Takes the next entry.
+    ///
+    /// # Errors
+    ///
+    /// If memory is refused.
+    fn take_entry(&mut self, alloc: Global, entry: Entry) -> Result<(), AllocError>;
+}
+
+impl Taker for Vec<Entry> {
+    fn restart(&mut self) {
+        self.clear();
+    }
+
+    fn take_entry(&mut self, _alloc: Global, entry: Entry) -> Result<(), AllocError> {
+        Ok(self.push(entry)?)
+    }
+}
 
 /// The outcome of a listing, page by page.
 #[derive(Drop)]
 pub(crate) enum Walked {
-    /// The entries of all pages.
-    All(Vec<Entry>),
+    /// The entries of all pages were taken.
+    All,
     /// A page is refused.
     Refused(ReceivedReply),
-    /// A page was refused because its token is not valid, or no longer valid.
+    /// The server refused a page because its token is not valid, or no longer valid.
     Outdated(ReceivedReply),
-}
-
-// The entries of the pages so far.
-#[derive(Drop)]
-struct Pages {
-    entries: Vec<Entry>,
-    // The token of the next page; empty after the last page.
-    token: Text,
 }
 
 // The entries and the next token of a page. Nothing fails here, since a response is moved.
@@ -44,57 +60,45 @@ fn parts(response: Response) -> Option<(Items<Entry>, Text)> {
     }
 }
 
-impl Pages {
-    // No entries; the first page begins at this token.
-    fn new(alloc: Global, token: Text) -> Pages {
-        Pages {
-            entries: Vec::new(alloc),
-            token,
-        }
+// Hands the entries of a page to a taker.
+fn take_all<T: Taker>(alloc: Global, entries: Items<Entry>, taker: &mut T) -> Result<(), Failure> {
+    for entry in entries.into_vec() {
+        taker.take_entry(alloc, entry)?;
     }
-
-    // Appends the entries of a page.
-    fn push(&mut self, entries: Items<Entry>) -> Result<(), Failure> {
-        for entry in entries.into_vec() {
-            if self.entries.push(entry).is_err() {
-                return Err(Failure::NoMemory);
-            }
-        }
-        Ok(())
-    }
-
-    // Appends the entries in the body of a page. Fails if the body is not a page, or if the token of the next
-    // page is the token of this one.
-    fn add(&mut self, alloc: Global, body: &[u8]) -> Result<(), Failure> {
-        let response = decode_response(alloc, Method::ListVolumes, body)?;
-        let Some((entries, token)) = parts(response) else {
-            return Err(Failure::BadBody);
-        };
-        if token == self.token && !token.is_empty() {
-            return Err(Failure::NoEnd);
-        }
-        self.token = token;
-        self.push(entries)
-    }
-
-    // Asks for the next page and takes its entries. Where the page is refused, the reply is returned.
-    fn ask(
-        &mut self,
-        alloc: Global,
-        max_entries: i32,
-        line: &mut SocketLine<'_>,
-    ) -> Result<Option<ReceivedReply>, Failure> {
-        let frame = page(alloc, max_entries, &self.token)?;
-        let reply = line.call(&frame)?;
-        if reply.status != 0 {
-            return Ok(Some(reply));
-        }
-        self.add(alloc, reply.body.as_slice())?;
-        Ok(None)
-    }
+    Ok(())
 }
 
-// The outcome for a refusal of the page that begins at this token.
+// Takes the entries in the body of the page that begins at a token, and returns the token of the next page,
+// which is empty after the last page. Fails if the body is not a page, or if the two tokens are the same.
+fn take_page<T: Taker>(
+    alloc: Global,
+    body: &[u8],
+    token: &Text,
+    taker: &mut T,
+) -> Result<Text, Failure> {
+    let response = decode_response(alloc, Method::ListVolumes, body)?;
+    let Some((entries, next)) = parts(response) else {
+        return Err(Failure::BadBody);
+    };
+    if next == *token && !next.is_empty() {
+        return Err(Failure::NoEnd);
+    }
+    take_all(alloc, entries, taker)?;
+    Ok(next)
+}
+
+// Asks for the page that begins at a token.
+fn ask(
+    alloc: Global,
+    max_entries: i32,
+    token: &Text,
+    line: &mut SocketLine<'_>,
+) -> Result<ReceivedReply, Failure> {
+    let frame = page(alloc, max_entries, token)?;
+    line.call(&frame)
+}
+
+// Returns the outcome if the server refuses the page that begins at this token.
 fn refused(reply: ReceivedReply, token: &Text) -> Walked {
     if reply.status == ABORTED && !token.is_empty() {
         Walked::Outdated(reply)
@@ -104,47 +108,62 @@ fn refused(reply: ReceivedReply, token: &Text) -> Walked {
 }
 
 // Asks for one page after the other.
-fn walk_once(alloc: Global, line: &mut SocketLine<'_>) -> Result<Walked, Failure> {
-    let mut pages = Pages::new(alloc, Text::new(alloc));
+fn walk_once<T: Taker>(
+    alloc: Global,
+    line: &mut SocketLine<'_>,
+    taker: &mut T,
+) -> Result<Walked, Failure> {
+    taker.restart();
+    let mut token = Text::new(alloc);
     for _ in 0..MOST_PAGES {
-        if let Some(reply) = pages.ask(alloc, FULL_PAGE, line)? {
-            return Ok(refused(reply, &pages.token));
+        let reply = ask(alloc, FULL_PAGE, &token, line)?;
+        if reply.status != 0 {
+            return Ok(refused(reply, &token));
         }
-        if pages.token.is_empty() {
-            return Ok(Walked::All(pages.entries));
+        token = take_page(alloc, reply.body.as_slice(), &token, taker)?;
+        if token.is_empty() {
+            return Ok(Walked::All);
         }
     }
     Err(Failure::NoEnd)
 }
 
-/// Asks for all pages of ListVolumes, and begins again with the first page if a token is no longer valid.
+/// Asks for all pages of ListVolumes, and begins again with the first page if a token is no longer valid. The
+/// taker has all entries if the outcome is [`Walked::All`].
 ///
 /// # Errors
 ///
 /// If a call has no reply, a reply is malformed or not a page, the pages have no end, or memory is refused.
-pub(crate) fn walk(alloc: Global, line: &mut SocketLine<'_>) -> Result<Walked, Failure> {
+pub(crate) fn walk<T: Taker>(
+    alloc: Global,
+    line: &mut SocketLine<'_>,
+    taker: &mut T,
+) -> Result<Walked, Failure> {
     for _ in 1..MOST_WALKS {
-        match walk_once(alloc, line)? {
+        match walk_once(alloc, line, taker)? {
             Walked::Outdated(_) => {}
             walked => return Ok(walked),
         }
     }
-    walk_once(alloc, line)
+    walk_once(alloc, line, taker)
 }
 
-/// Asks for a page of at most one entry after a token. [`Walked::All`] is empty if no volume follows.
+/// Asks for a page of at most one entry, which begins after a token, and gives the entry to the taker. If no
+/// volume follows, the taker gets no entry.
 ///
 /// # Errors
 ///
 /// If the call has no reply, the reply is malformed or not a page, or memory is refused.
-pub(crate) fn first_entry(
+pub(crate) fn first_entry<T: Taker>(
     alloc: Global,
     token: Text,
     line: &mut SocketLine<'_>,
+    taker: &mut T,
 ) -> Result<Walked, Failure> {
-    let mut pages = Pages::new(alloc, token);
-    match pages.ask(alloc, 1, line)? {
-        Some(reply) => Ok(refused(reply, &pages.token)),
-        None => Ok(Walked::All(pages.entries)),
+    let reply = ask(alloc, 1, &token, line)?;
+    if reply.status != 0 {
+        return Ok(refused(reply, &token));
     }
+    take_page(alloc, reply.body.as_slice(), &token, taker)?;
+    Ok(Walked::All)
 }

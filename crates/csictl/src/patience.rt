@@ -1,4 +1,4 @@
-//! How often a call is sent, and how long each try may take.
+//! The number of tries of a call, and the time limit of each try.
 
 ghost use Rattle.std.specs.Prelude.{◌≤◌};
 
@@ -8,7 +8,7 @@ use clap::ArgMatches;
 use command_line::is_decimal;
 use std::time::Duration;
 
-/// The most tries of a call, and the time limit of each try.
+/// The greatest number of tries of a call, and the time limit of each try.
 #[derive(Clone, Copy)]
 pub(crate) struct Patience {
     pub(crate) tries: u32,
@@ -17,7 +17,7 @@ pub(crate) struct Patience {
     ghost most: { tries ≤ 10 },
 }
 
-// The number in an option; `None` if the option is not given.
+// Returns the number in an option, or `None` if the option is not given.
 fn number(arguments: &ArgMatches<'_>, name: &'static str) -> Result<Option<u32>, Failure> {
     match arguments.get_str(name) {
         Some(text) if !is_decimal(text) => Err(Failure::NotDecimal(name)),
@@ -26,7 +26,8 @@ fn number(arguments: &ArgMatches<'_>, name: &'static str) -> Result<Option<u32>,
 }
 
 impl Patience {
-    /// The tries and the time limit in the arguments; by default one try without a time limit.
+    /// Reads the number of tries and the time limit from the arguments. By default there is one try without a
+    /// time limit.
     ///
     /// # Errors
     ///

@@ -1,4 +1,4 @@
-//! Replies, as they are shown.
+//! Shows replies, as lines or as JSON.
 
 ghost use Rattle.std.specs.Prelude.{◌≡◌};
 ghost use Rattle.csictl.specs.Faults.{of_decoder};
@@ -29,15 +29,15 @@ impl From<DecodeFault> for Failure {
 ///
 /// # Errors
 ///
-/// If it cannot be written.
+/// If standard output cannot be written.
 pub(crate) fn write(rt: &HostRuntime, shown: &[u8]) -> Result<(), Failure> {
     match rt.stdout().write_all(shown) {
         Ok(()) => Ok(()),
-        Err(error) => Err(Failure::system(rt.alloc(), "standard output", &error)),
+        Err(error) => Err(Failure::output(rt.alloc(), &error)),
     }
 }
 
-/// The value as one line of JSON.
+/// Writes the value as one line of JSON.
 ///
 /// # Errors
 ///
@@ -52,8 +52,8 @@ pub(crate) fn line(alloc: Global, value: &Value) -> Result<String, AllocError> {
 ///
 /// # Errors
 ///
-/// If its body is not a response of the method, after its first line is shown; if it cannot be written, or
-/// memory is refused.
+/// If the body is not a response of the method, writing fails, or memory is refused. The first line is shown
+/// before the body is decoded.
 pub(crate) fn show_lines(
     rt: &HostRuntime,
     method: Method,
@@ -70,8 +70,8 @@ pub(crate) fn show_lines(
     Ok(Ended::with(reply.status != 0))
 }
 
-// The response in a body as a line of JSON. It is borrowed, so that its owner does nothing else that may
-// fail.
+// Writes the response in a body as a line of JSON. The response is borrowed, so its owner makes only one call
+// that can fail.
 fn body_line(alloc: Global, method: Method, body: &[u8]) -> Result<String, Failure> {
     match decode_response(alloc, method, body) {
         Ok(response) => response_line(alloc, &response),
@@ -93,7 +93,7 @@ fn refusal_line(alloc: Global, reply: &Reply<'_>) -> Result<String, Failure> {
 ///
 /// # Errors
 ///
-/// If its body is not a response of the method, it cannot be written, or memory is refused.
+/// If the body is not a response of the method, writing fails, or memory is refused.
 pub(crate) fn show_json(
     rt: &HostRuntime,
     method: Method,
@@ -109,7 +109,7 @@ pub(crate) fn show_json(
     Ok(Ended::with(is_refused))
 }
 
-/// A line of JSON with all entries of a listing.
+/// Writes all entries of a listing as a line of JSON.
 ///
 /// # Errors
 ///
@@ -123,7 +123,7 @@ pub(crate) fn entries_line(alloc: Global, entries: &[Entry]) -> Result<String, A
     line(alloc, &value)
 }
 
-/// A line of JSON with one entry of a listing.
+/// Writes one entry of a listing as a line of JSON.
 ///
 /// # Errors
 ///
@@ -133,16 +133,16 @@ pub(crate) fn entry_line(alloc: Global, entry: &Entry) -> Result<String, AllocEr
     line(alloc, &value)
 }
 
-/// A listing as JSON, to which pages are added.
+/// A listing in JSON, to which pages are added.
 #[derive(Drop)]
 pub(crate) struct Listing {
     entries: Vec<Value>,
-    /// The token of the next page; empty after the last page.
+    /// The token of the next page. It is empty after the last page.
     pub(crate) token: Text,
 }
 
 impl Listing {
-    /// An empty listing that begins at a token.
+    /// Makes an empty listing that begins at a token.
     pub(crate) fn new(alloc: Global, token: Text) -> Listing {
         Listing {
             entries: Vec::new(alloc),
@@ -157,11 +157,11 @@ impl Listing {
         Ok(())
     }
 
-    /// Adds the body of a page: the token of the next page, and the entries if `are_kept`.
+    /// Adds the body of a page: the token of the next page and, if `are_kept` is true, the entries.
     ///
     /// # Errors
     ///
-    /// If the body is not a page, the token of the next page is the token of this one, or memory is refused.
+    /// If the body is not a page, the token of the next page is the token of this page, or memory is refused.
     pub(crate) fn add_body(
         &mut self,
         alloc: Global,
@@ -182,11 +182,11 @@ impl Listing {
         Ok(())
     }
 
-    /// Shows all entries as one line of JSON, if `is_json`.
+    /// Ends the listing. If `is_json` is true, shows all entries as one line of JSON.
     ///
     /// # Errors
     ///
-    /// If it cannot be written, or memory is refused.
+    /// If writing fails, or memory is refused.
     pub(crate) fn end(self, rt: &HostRuntime, is_json: bool) -> Result<Ended, Failure> {
         if !is_json {
             return Ok(Ended::Done);

@@ -1,4 +1,4 @@
-//! What the program does.
+//! Runs the command that the arguments name.
 
 use crate::command::read_arguments;
 use crate::failure::{Ended, Failure};
@@ -9,7 +9,7 @@ use command_line::arguments;
 use csi_types::Method;
 use std::io::IsTerminal;
 
-// Runs the command that the arguments name; without a command, `show`.
+// Runs the command that the arguments name, or `show` without a command.
 fn obey(rt: &HostRuntime, arguments: &ArgMatches<'_>) -> Result<Ended, Failure> {
     match arguments.subcommand() {
         Some(("frame", arguments)) => frame::run(rt, arguments),
@@ -40,7 +40,7 @@ fn obey_person(rt: &HostRuntime, name: &str, arguments: &ArgMatches<'_>) -> Resu
 ///
 /// # Errors
 ///
-/// Why the program fails. The caller reports it.
+/// Returns why the program fails. The caller reports it.
 pub(crate) fn run(rt: &HostRuntime) -> Result<Ended, Failure> {
     let mut arguments = arguments(rt)?;
     if arguments.len() == 1 && rt.stdin().is_terminal() {

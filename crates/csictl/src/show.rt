@@ -1,26 +1,29 @@
-//! `csictl show`.
+//! Runs `csictl show`: shows the replies that come on standard input.
 
 use crate::failure::{Ended, Failure};
 use crate::message;
+use crate::output::Output;
 use clap::ArgMatches;
 use csi_client::{ShowEnd, show_all};
 use csi_types::Method;
 
-// How the program ends after it showed replies.
-fn outcome(end: ShowEnd) -> Result<Ended, Failure> {
+// How the program ends after it showed replies on this output.
+fn outcome(end: ShowEnd, output: &Output<'_>) -> Result<Ended, Failure> {
     match end {
         ShowEnd::Done(is_refused) => Ok(Ended::with(is_refused)),
         ShowEnd::Malformed(fault) => Err(Failure::Malformed(fault)),
         ShowEnd::BadBody => Err(Failure::BadBody),
         ShowEnd::ReadFailed => Err(Failure::ReadFailed),
-        ShowEnd::WriteFailed => Err(Failure::WriteFailed),
+        ShowEnd::WriteFailed => Err(output.failure()),
         ShowEnd::NoMemory => Err(Failure::NoMemory),
     }
 }
 
-// Shows the replies of standard input.
+// Shows the replies on standard input.
 fn show(rt: &HostRuntime, method: Option<Method>) -> Result<Ended, Failure> {
-    outcome(show_all(rt.alloc(), method, &mut rt.stdin(), &mut rt.stdout()))
+    let mut output = Output::new(rt);
+    let end = show_all(rt.alloc(), method, &mut rt.stdin(), &mut output);
+    outcome(end, &output)
 }
 
 /// Shows the replies on standard input, as replies of the method in `--method` if it is given.

@@ -1,18 +1,18 @@
-//! Sizes, as people write and read them.
+//! Writes sizes for people, and parses the sizes that people write.
 
 ghost use Rattle.std.specs.Prelude.{◌≡◌, ◌*◌, IfSome, pos};
 
 use command_line::is_decimal;
 use std::alloc::{AllocError, Global};
 
-// A unit: its name, and its bytes.
+// A unit of size: its name, and its size in bytes.
 #[derive(Clone, Copy)]
 struct Unit {
     name: &'static str,
     bytes: u64,
 }
 
-// The units of a size, as kubectl has them. No unit ends with an earlier one.
+// The units of a size, with the names that kubectl uses. No unit in the list ends with an earlier unit.
 const UNITS: [Unit; 13] = [
     Unit {
         name: "Ki",
@@ -68,7 +68,7 @@ const UNITS: [Unit; 13] = [
     },
 ];
 
-// A number of units in bytes; `None` if an `int64` does not hold it.
+// Returns a number of units in bytes, or `None` if the result does not fit an `int64`.
 fn product(number: u64, unit: u64) -> Option<i64>
     ensures exact { IfSome result (λ bytes. bytes ≡ pos (number * unit)) }
 {
@@ -83,7 +83,7 @@ fn number_of(digits: &str) -> Option<u64> {
     digits.parse::<u64>().ok()
 }
 
-// The tenths of a unit in a number with at most one digit after a point.
+// Parses a number with at most one digit after a point, and returns its tenths.
 fn tenths_of(number: &str) -> Option<u64> {
     let Some((whole, tenth)) = number.split_once('.') else {
         return number_of(number)?.checked_mul(10);
@@ -96,7 +96,7 @@ fn tenths_of(number: &str) -> Option<u64> {
         .checked_add(number_of(tenth)?)
 }
 
-// A number of units in bytes; `None` if it is not a whole number of bytes.
+// Returns a number of units in bytes, or `None` if the result is not a whole number of bytes.
 fn units_of(number: &str, unit: u64) -> Option<i64> {
     let number = number.strip_suffix(' ').unwrap_or(number);
     if let Some(units) = number_of(number) {
@@ -109,7 +109,7 @@ fn units_of(number: &str, unit: u64) -> Option<i64> {
     i64::try_from(tenths / 10).ok()
 }
 
-// The bytes of a size whose binary unit has no `B` after it.
+// Returns the bytes of a size whose unit is written without a `B` at its end.
 fn bytes_of_plain(text: &str) -> Option<i64> {
     for unit in &UNITS {
         if let Some(number) = text.strip_suffix(unit.name) {
@@ -119,9 +119,9 @@ fn bytes_of_plain(text: &str) -> Option<i64> {
     units_of(text.strip_suffix('B').unwrap_or(text), 1)
 }
 
-/// The bytes of a size: a number and at most one unit, as `1Gi`, `500M`, `1048576` or, as listings show it,
-/// `1.5 GiB`; `None` if the text is not a size, the size is not a whole number of bytes, or an `int64` does
-/// not hold it.
+/// Returns the bytes of a size: a number and at most one unit, such as `1Gi`, `500M`, `1048576` or, as
+/// listings show it, `1.5 GiB`. Returns `None` if the text is not a size, the size is not a whole number of
+/// bytes, or it does not fit an `int64`.
 pub(crate) fn bytes_of(text: &str) -> Option<i64> {
     match text.strip_suffix('B') {
         Some(rest) if rest.ends_with('i') => bytes_of_plain(rest),
@@ -129,7 +129,8 @@ pub(crate) fn bytes_of(text: &str) -> Option<i64> {
     }
 }
 
-/// A size as [`command_line::size_text`] shows it; a size below 0 in bytes.
+/// Writes a size in the greatest binary unit that shows it exactly with at most one decimal, such as `1.5
+/// GiB`. Writes a negative size in bytes.
 pub(crate) fn size_text(alloc: Global, bytes: i64) -> Result<String, AllocError> {
     match u64::try_from(bytes) {
         Ok(count) => command_line::size_text(alloc, count),

@@ -1,17 +1,18 @@
-//! The socket of the server, also where the arguments do not name it.
+//! Finds the socket of the server, also if the arguments do not name it.
 
 use crate::failure::Failure;
 use clap::ArgMatches;
 use std::env::{self, VarError};
 use std::fs;
 
-// The variable of the environment that names the socket.
+// The environment variable that names the socket.
 const VARIABLE: &str = "CSID_SOCKET";
 
-// The paths of the control socket of the front and of the socket of csid in the units of deploy/.
+// The paths of two sockets in the units of deploy/: the control socket of the front, and the socket of
+// `csid`.
 const PLACES: [&str; 2] = ["/run/csid-front/control.sock", "/run/csid/csid.sock"];
 
-// The path in the environment variable; empty without it.
+// Returns the path in the environment variable, or an empty text if the variable is not set.
 fn from_environment(rt: &HostRuntime) -> Result<String, Failure> {
     match env::var(rt, VARIABLE) {
         Ok(path) => Ok(path),
@@ -21,8 +22,8 @@ fn from_environment(rt: &HostRuntime) -> Result<String, Failure> {
     }
 }
 
-// The first path that exists. A path that this user may not look into is taken too, so that connecting
-// reports why it fails.
+// Returns the first path of `PLACES` that exists, or `None`. A path in a folder that the user may not read is
+// returned too, so that connecting reports the reason.
 fn existing(rt: &HostRuntime) -> Option<&'static str> {
     for path in PLACES {
         if !matches!(fs::exists(rt, path), Ok(false)) {
@@ -32,12 +33,16 @@ fn existing(rt: &HostRuntime) -> Option<&'static str> {
     None
 }
 
-/// The path of the server's socket: the option `--socket`, else the environment variable CSID_SOCKET, else
-/// the first that exists of the control socket of the front and the socket of csid in the units of deploy/.
+/// Returns the path of the server's socket, which is the first of these:
+///
+/// - the path in the option `--socket`, if the option is given
+/// - the path in the environment variable CSID_SOCKET, if it is set and not empty
+/// - the control socket of the front, at the path in the units of deploy/, if it exists
+/// - the socket of `csid`, at the path in the units of deploy/, if it exists
 ///
 /// # Errors
 ///
-/// If there is none of these, or memory is refused.
+/// If there is no such socket, the variable is not UTF-8, or memory is refused.
 pub(crate) fn find(rt: &HostRuntime, arguments: &ArgMatches<'_>) -> Result<String, Failure> {
     if let Some(path) = arguments.get_str("socket") {
         return Ok(String::from_str(rt.alloc(), path)?);

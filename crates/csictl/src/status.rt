@@ -1,10 +1,14 @@
-//! `csictl status`: what the server is, whether it is ready, and how many volumes it has.
+//! `csictl status`: what the server is, whether it is ready, how many volumes it has, and what its pools and
+//! nodes have room for.
 
 use crate::call::show;
+use crate::configuration::Configuration;
 use crate::failure::{Ended, Failure};
+use crate::groups::{GroupedBy, Groups};
+use crate::json::put;
 use crate::line::SocketLine;
 use crate::message::call_without_fields;
-use crate::pages::{Walked, walk};
+use crate::pages::{Taker, Walked, walk};
 use crate::patience::Patience;
 use crate::reply::{line, write};
 use crate::sizes::size_text;
@@ -14,31 +18,90 @@ use command_line::{Table, word};
 use csi_client::ReceivedReply;
 use csi_codec::decode_response;
 use csi_types::{Entry, Method, Response, Text};
-use serde_json::json;
+use serde_json::{Map, Value};
 use std::alloc::{AllocError, Global};
 
-// The calls that say what the server is and whether it is ready.
+// The calls that return the name of the server and whether it is ready.
 const SERVER_CALLS: [Method; 2] = [Method::GetPluginInfo, Method::Probe];
 
 // The status of a server.
 #[derive(Drop)]
 struct Status {
-    // The name of the plugin and its version, as GetPluginInfo answers them.
+    // The name of the plugin, as GetPluginInfo returns it. Its version follows.
     name: Text,
     version: Text,
     is_ready: bool,
     volumes: u64,
     // The sum of the sizes of the volumes.
     bytes: i64,
-    // The number of pairs of a volume and a node that it is published to.
+    // The number of attachments: pairs of a volume and a node that the volume is published to.
     attachments: u64,
+    // What the pools and the nodes of the configuration have, if it is known.
+    places: Option<Places>,
 }
 
-// The status, or the call that was refused and its reply.
+// The pools and the nodes of a configuration, with their volumes.
+#[derive(Drop)]
+struct Places {
+    pools: Groups,
+    nodes: Groups,
+}
+
+// The status of the server, or the call that was refused and its reply.
 #[derive(Drop)]
 enum Outcome {
     Status(Status),
     Refused(Method, ReceivedReply),
+}
+
+impl Places {
+    fn new(alloc: Global, configuration: &Configuration) -> Result<Places, AllocError> {
+        let pools = Groups::new(alloc, GroupedBy::Pool, false, Some(configuration))?;
+        let nodes = Groups::new(alloc, GroupedBy::Node, false, Some(configuration))?;
+        Ok(Places { pools, nodes })
+    }
+
+    fn restart(&mut self) {
+        self.pools.restart();
+        self.nodes.restart();
+    }
+
+    fn count(&mut self, alloc: Global, entry: &Entry) -> Result<(), AllocError> {
+        self.pools.count(alloc, entry)?;
+        self.nodes.count(alloc, entry)
+    }
+
+    // A table of the pools and one of the nodes, each after an empty line.
+    fn text(&self, alloc: Global) -> Result<String, AllocError> {
+        let pools = self.pools.text(alloc)?;
+        let nodes = self.nodes.text(alloc)?;
+        format!(in alloc; "\n{pools}\n{nodes}")
+    }
+}
+
+impl Taker for Status {
+    fn restart(&mut self) {
+        self.volumes = 0;
+        self.bytes = 0;
+        self.attachments = 0;
+        if let Some(places) = &mut self.places {
+            places.restart();
+        }
+    }
+
+    fn take_entry(&mut self, alloc: Global, entry: Entry) -> Result<(), AllocError> {
+        self.volumes = self.volumes.saturating_add(1);
+        if let Some(volume) = &entry.volume {
+            self.bytes = self.bytes.saturating_add(volume.bytes);
+        }
+        if let Some(nodes) = &entry.nodes {
+            self.attachments = self.attachments.saturating_add(nodes.len() as u64);
+        }
+        match &mut self.places {
+            Some(places) => places.count(alloc, &entry),
+            None => Ok(()),
+        }
+    }
 }
 
 impl Status {
@@ -50,11 +113,12 @@ impl Status {
             volumes: 0,
             bytes: 0,
             attachments: 0,
+            places: None,
         }
     }
 
-    // Takes the response to one of the calls. A Probe that does not say `ready` means that the server is
-    // ready (CSI specification, 'Probe').
+    // Notes the response to one of the calls. If the response to Probe does not have the field `ready`, the
+    // server is ready (CSI specification, 'Probe').
     fn take(&mut self, response: Response) -> Result<(), Failure> {
         match response {
             Response::PluginInfo { name, version } => {
@@ -70,17 +134,8 @@ impl Status {
         }
     }
 
-    fn count(&mut self, entry: &Entry) {
-        self.volumes = self.volumes.saturating_add(1);
-        if let Some(volume) = &entry.volume {
-            self.bytes = self.bytes.saturating_add(volume.bytes);
-        }
-        if let Some(nodes) = &entry.nodes {
-            self.attachments = self.attachments.saturating_add(nodes.len() as u64);
-        }
-    }
-
-    fn text(&self, alloc: Global) -> Result<String, AllocError> {
+    // The lines of the server and of the sums of its volumes.
+    fn sums_text(&self, alloc: Global) -> Result<String, AllocError> {
         let name = word(alloc, self.name.as_str())?;
         let version = word(alloc, self.version.as_str())?;
         let mut table = Table::new(alloc);
@@ -96,20 +151,40 @@ impl Status {
         table.text(alloc)
     }
 
+    fn text(&self, alloc: Global) -> Result<String, AllocError> {
+        let mut text = self.sums_text(alloc)?;
+        if let Some(places) = &self.places {
+            text.push_str(places.text(alloc)?.as_str())?;
+        }
+        Ok(text)
+    }
+
+    // The members of an object of JSON that say what the server is and the sums of its volumes.
+    fn sums(&self, alloc: Global) -> Result<Map<String, Value>, AllocError> {
+        let mut object = Map::new(alloc);
+        let name = Value::try_from_str(alloc, self.name.as_str())?;
+        put(alloc, &mut object, "name", name)?;
+        let version = Value::try_from_str(alloc, self.version.as_str())?;
+        put(alloc, &mut object, "vendorVersion", version)?;
+        put(alloc, &mut object, "ready", Value::from(self.is_ready))?;
+        put(alloc, &mut object, "volumes", Value::from(self.volumes))?;
+        put(alloc, &mut object, "bytes", Value::from(self.bytes))?;
+        let attachments = Value::from(self.attachments);
+        put(alloc, &mut object, "attachments", attachments)?;
+        Ok(object)
+    }
+
     fn json_line(&self, alloc: Global) -> Result<String, AllocError> {
-        let value = json!(in alloc; {
-            "name": self.name.as_str(),
-            "vendorVersion": self.version.as_str(),
-            "ready": self.is_ready,
-            "volumes": self.volumes,
-            "bytes": self.bytes,
-            "attachments": self.attachments,
-        })?;
-        line(alloc, &value)
+        let mut object = self.sums(alloc)?;
+        if let Some(places) = &self.places {
+            put(alloc, &mut object, "pools", places.pools.array(alloc)?)?;
+            put(alloc, &mut object, "nodes", places.nodes.array(alloc)?)?;
+        }
+        line(alloc, &Value::Object(object))
     }
 }
 
-// Makes the calls about the server itself. Returns the first refusal, if one is refused.
+// Makes the calls about the server itself. Returns the first refusal, or `None` if all calls are answered OK.
 fn ask_server(
     alloc: Global,
     status: &mut Status,
@@ -126,31 +201,30 @@ fn ask_server(
     Ok(None)
 }
 
-// Makes all calls over one connection.
+// Makes all calls of `csictl status` over one connection.
 fn ask(alloc: Global, line: &mut SocketLine<'_>) -> Result<Outcome, Failure> {
     let mut status = Status::new(alloc);
     if let Some((method, reply)) = ask_server(alloc, &mut status, line)? {
         return Ok(Outcome::Refused(method, reply));
     }
-    match walk(alloc, line)? {
-        Walked::All(entries) => {
-            for entry in &entries {
-                status.count(entry);
-            }
-            Ok(Outcome::Status(status))
-        }
+    if let Some(configuration) = Configuration::ask(alloc, line)? {
+        status.places = Some(Places::new(alloc, &configuration)?);
+    }
+    match walk(alloc, line, &mut status)? {
+        Walked::All => Ok(Outcome::Status(status)),
         Walked::Refused(reply) | Walked::Outdated(reply) => {
             Ok(Outcome::Refused(Method::ListVolumes, reply))
         }
     }
 }
 
-/// Asks a server for its name, version, readiness and volumes over one connection, and shows them; or the
-/// first refusal.
+/// Asks a server for its name, version, readiness, configuration and volumes over one connection, and shows
+/// them; or the first refusal.
 ///
 /// # Errors
 ///
-/// If a call is not answered, a reply is malformed, writing fails, or memory is refused.
+/// If the socket is not found, a call is not answered, a reply is malformed, writing fails, or memory is
+/// refused.
 pub(crate) fn run(rt: &HostRuntime, arguments: &ArgMatches<'_>) -> Result<Ended, Failure> {
     let patience = Patience::of(arguments)?;
     let path = socket::find(rt, arguments)?;

@@ -1,14 +1,14 @@
-//! What an entry of a listing says, as words of a line: `-` where it says nothing.
+//! Writes the parts of a listing's entry as words of a line. An absent part is `-`.
 
 use crate::sizes::size_text;
 use command_line::{or_dash, put_next, put_word, word};
 use csi_types::{Items, Map, Text, VolumeInfo};
 use std::alloc::{AllocError, Global};
 
-// The key in a volume's context whose value is the name of its pool, which csid sets.
+// The key in a volume's context under which `csid` puts the name of the pool.
 const POOL: &str = "pool";
 
-/// The pairs of a map as one word, with commas between them; `-` if the map is empty.
+/// Writes the pairs of a map as one word, with commas between them, or `-` if the map is empty.
 ///
 /// # Errors
 ///
@@ -24,8 +24,15 @@ pub(crate) fn pairs_word(alloc: Global, pairs: &Map) -> Result<String, AllocErro
     or_dash(out)
 }
 
-// The topologies of a volume, with semicolons between them.
-fn topologies_word(alloc: Global, topologies: &Items<Map>) -> Result<String, AllocError> {
+/// Topologies as one word, with semicolons between them; `-` if there are none.
+///
+/// # Errors
+///
+/// If memory is refused.
+pub(crate) fn topologies_word(
+    alloc: Global,
+    topologies: &Items<Map>,
+) -> Result<String, AllocError> {
     let mut out = String::new(alloc);
     for segments in topologies {
         let word = pairs_word(alloc, segments)?;
@@ -34,8 +41,8 @@ fn topologies_word(alloc: Global, topologies: &Items<Map>) -> Result<String, All
     or_dash(out)
 }
 
-/// The ids of the nodes that a volume is published to as one word, with commas between them; `-` if there are
-/// none.
+/// Writes the ids of the nodes that a volume is published to as one word, with commas between them, or `-` if
+/// there are none.
 ///
 /// # Errors
 ///
@@ -52,7 +59,7 @@ pub(crate) fn nodes_word(alloc: Global, nodes: Option<&Items<Text>>) -> Result<S
     or_dash(out)
 }
 
-/// The id of a volume as a word; `-` without a volume.
+/// Writes the id of a volume as a word, or `-` without a volume.
 ///
 /// # Errors
 ///
@@ -64,7 +71,7 @@ pub(crate) fn id_word(alloc: Global, volume: Option<&VolumeInfo>) -> Result<Stri
     }
 }
 
-/// The size of a volume in the greatest unit that shows it; `-` without a volume.
+/// Writes the size of a volume in the greatest unit that shows it exactly, or `-` without a volume.
 ///
 /// # Errors
 ///
@@ -76,7 +83,7 @@ pub(crate) fn size_word(alloc: Global, volume: Option<&VolumeInfo>) -> Result<St
     }
 }
 
-/// The topologies of a volume as one word, with semicolons between them; `-` if there are none.
+/// Writes the topologies of a volume as one word, with semicolons between them, or `-` if there are none.
 ///
 /// # Errors
 ///
@@ -91,7 +98,7 @@ pub(crate) fn topology_word(
     }
 }
 
-// The value under a key, or the empty text.
+// Returns the value under a key, or an empty text if the map does not have the key.
 fn value_of<'m>(pairs: &'m Map, wanted: &str) -> &'m str {
     for (key, value) in pairs {
         if key.as_str() == wanted {
@@ -101,12 +108,13 @@ fn value_of<'m>(pairs: &'m Map, wanted: &str) -> &'m str {
     ""
 }
 
-/// The name of a volume's pool in its context; empty if the context does not name it.
+/// Returns the name of a volume's pool from its context, or an empty text if the context does not name it.
 pub(crate) fn pool_of(volume: &VolumeInfo) -> &str {
     value_of(&volume.context, POOL)
 }
 
-/// The pool that the volume's context names, as a word; `-` if it names none or there is no volume.
+/// Writes the name of a volume's pool as a word, or `-` if the context does not name it or there is no
+/// volume.
 ///
 /// # Errors
 ///
@@ -118,7 +126,7 @@ pub(crate) fn pool_word(alloc: Global, volume: Option<&VolumeInfo>) -> Result<St
     }
 }
 
-/// The context of a volume as one word, with commas between its pairs; `-` if there is none.
+/// Writes the context of a volume as one word, with commas between its pairs, or `-` if the context is empty.
 ///
 /// # Errors
 ///

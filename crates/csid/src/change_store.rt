@@ -1,4 +1,5 @@
-//! Calls over the volumes of a change store, which is another program, and is reached by its socket.
+//! Serves calls over the volumes of a change store. A change store is another program, which listens at a
+//! socket.
 
 ghost use Rattle.std.specs.Prelude.{◌≡◌, false, IfErr, IfOk, IsTrue, OnOk};
 ghost use Rattle.csi_change_store.specs.Items.{seen_notes};
@@ -32,12 +33,12 @@ use std::cell::Cell;
 use std::rc::Rc;
 use std::{io, str};
 
-/// A peer that gives each exchange a deadline and records that an exchange was made. It passes frames and
-/// replies on unchanged.
+/// A peer that gives each exchange a deadline and records that an exchange was made. Frames and replies pass
+/// through unchanged.
 pub(crate) struct TrackedPeer<P> {
     peer: P,
     deadline: Rc<Deadline>,
-    // Set by each exchange, and cleared after a reply is written.
+    // Set by each exchange, and cleared when a reply is written.
     is_asked: Rc<Cell<bool>>,
 }
 
@@ -63,22 +64,22 @@ impl<P: Peer> Peer for TrackedPeer<P> {
     }
 }
 
-/// The connection to a change store.
+/// The connection to a change store: its socket, with a deadline for each exchange.
 pub(crate) type ChangeStorePeer = TrackedPeer<Channel<TimedStream, TimedStream>>;
 
-/// The keeper over a change store: a copy of its volumes in memory, and the change store, which makes each
-/// change first.
+/// A keeper over a change store. It has a copy of the store's volumes in memory, and the change store makes
+/// each change first.
 pub(crate) type Remote = Through<MemKeeper, RemoteChangeStore<ChangeStorePeer>>;
 
-/// An open change store: its volumes were read into memory.
+/// An open change store, whose volumes were read into memory.
 pub(crate) struct OpenChangeStore {
-    /// The keeper that calls are answered over.
+    /// The keeper over which calls are answered.
     pub(crate) keeper: Remote,
-    /// The connection to the change store, to ask whether it leads.
+    /// The connection to the change store, on which it is asked if it leads.
     pub(crate) stream: TimedStream,
     /// True if a frame was sent to the change store since the last reply.
     pub(crate) is_asked: Rc<Cell<bool>>,
-    /// True if a reply was held back because the change store did not lead. The volumes are then read again.
+    /// True if a reply was held back because the change store did not lead. Then the volumes are read again.
     pub(crate) is_cut: bool,
 }
 
@@ -94,8 +95,12 @@ impl Drop for OpenChangeStore {
 }
 
 impl OpenChangeStore {
-    /// Returns true if calls may be answered from the copy: it has each change, no change was refused, no
-    /// reply was held back, and the change store answers that it leads.
+    /// Returns true if calls may be answered from the copy in memory. These conditions must hold:
+    ///
+    /// - the copy has each change
+    /// - no change was refused
+    /// - no reply was held back
+    /// - the change store answers that it leads
     pub(crate) fn is_usable(&self, alloc: Global) -> bool
         ensures { IsTrue result → IsUsable self.now }
     {
@@ -121,14 +126,14 @@ fn is_leading<P: Peer>(alloc: Global, change_store: &mut P) -> bool
     is_agreed(change_store.exchange(alloc, frame.as_slice()))
 }
 
-/// Returns true if the change store at the other end of a connection answers that it leads. The copy in
-/// memory then still equals its volumes.
+/// Asks the change store at the other end of a connection if it leads, and returns true if the answer is yes.
+/// The copy in memory then still equals the volumes of the change store.
 pub(crate) fn leads(alloc: Global, stream: &TimedStream) -> bool {
     stream.deadline().begin_exchange();
     is_leading(alloc, &mut Channel::new(stream, stream))
 }
 
-/// Asks a change store before each reply whether it leads.
+/// Asks a change store, before each reply, if the change store leads.
 #[derive(Clone, Copy, Drop)]
 pub(crate) struct ChangeStoreLeadership<'a> {
     pub(crate) stream: &'a TimedStream,
@@ -138,15 +143,15 @@ pub(crate) struct ChangeStoreLeadership<'a> {
 }
 
 impl Leadership for ChangeStoreLeadership<'_> {
-    // A change store makes a change only while it leads, so an answer to a change since the last reply shows
-    // that it leads. Without such an answer it is asked: another change store may have led since, and made
-    // changes that the copy lacks.
+    // A change store makes a change only while it leads, so its answer to a change since the last reply shows
+    // that it leads. Without such an answer, the change store is asked: another change store may have led
+    // since, and made changes that the copy lacks.
     fn holds(&mut self) -> bool {
         self.is_asked.replace(false) || leads(self.alloc, self.stream)
     }
 }
 
-// The failure of the program for an error of the connection to a change store.
+// Returns the program's failure for an error of the connection to a change store.
 fn change_store_failure(alloc: Global, path: &str, error: &io::Error) -> Failure
     ensures { IsOrNoMemory 4 result }
 {
@@ -156,7 +161,7 @@ fn change_store_failure(alloc: Global, path: &str, error: &io::Error) -> Failure
     }
 }
 
-// The failure of the program for rows that do not go into the database in memory.
+// Returns the program's failure for rows that the database in memory does not take.
 fn rows_failure(alloc: Global, path: &str, fault: &RowsFault) -> Failure
     ensures { IsOrNoMemory 4 result }
 {
@@ -169,7 +174,7 @@ fn rows_failure(alloc: Global, path: &str, fault: &RowsFault) -> Failure
     }
 }
 
-// The failure of the program for a reply that refuses a request.
+// Returns the program's failure for a reply that refuses a request.
 fn refusal_failure(alloc: Global, path: &str, reply: &ReceivedReply) -> Failure
     ensures { IsOrNoMemory 4 result }
 {
@@ -179,7 +184,7 @@ fn refusal_failure(alloc: Global, path: &str, reply: &ReceivedReply) -> Failure
     }
 }
 
-// The failure of the program for anything other than a reply with status OK.
+// Returns the program's failure if no reply with status OK was received.
 fn received_failure(alloc: Global, path: &str, received: &Received) -> Failure
     ensures { IsOrNoMemory 4 result }
 {
@@ -192,7 +197,7 @@ fn received_failure(alloc: Global, path: &str, received: &Received) -> Failure
     }
 }
 
-// The failure of the program for rows that were not read.
+// Returns the program's failure for rows that could not be read.
 fn pages_failure(alloc: Global, path: &str, fault: &ReadFault) -> Failure
     ensures { IsOrNoMemory 4 result }
 {
@@ -216,7 +221,7 @@ fn agreed(alloc: Global, path: &str, received: Received) -> Result<(), Failure>
     }
 }
 
-// Asks a change store without rows to add the row of meta that new tables have.
+// Asks a change store without rows to add the row of the table `meta` that new tables have.
 fn make_meta<P: Peer>(alloc: Global, path: &str, change_store: &mut P) -> Result<(), Failure>
     ensures made { OnOk result (MakesMeta P.exchanged change_store.old change_store.new) }
     ensures failure { IfErr result (λ failure. IsOrNoMemory 4 failure) }
@@ -227,8 +232,8 @@ fn make_meta<P: Peer>(alloc: Global, path: &str, change_store: &mut P) -> Result
     }
 }
 
-// Fails unless the row of meta has the format of change stores. A change store without any row gets a row of
-// meta; rows without a row of meta are refused.
+// Fails unless the row of the table `meta` has the format of change stores. A change store without any row
+// gets a row of `meta`. Rows without a row of `meta` are refused.
 fn check_or_make_meta<P: Peer>(
     alloc: Global,
     path: &str,
@@ -251,7 +256,7 @@ fn check_or_make_meta<P: Peer>(
     }
 }
 
-// Why tables of this format are refused.
+// Returns the fault for tables of this format.
 fn format_fault(format: Option<u64>) -> AdoptFault {
     match format {
         Some(format) if format != 0 => AdoptFault::Newer {
@@ -261,7 +266,7 @@ fn format_fault(format: Option<u64>) -> AdoptFault {
     }
 }
 
-// Makes tables on a connection to a new database, fills them with the rows of a change store, and judges them
+// Makes tables on a connection to a new database, fills them with the rows of a change store, and checks them
 // like tables in a file.
 fn read_tables<P: Peer, S: Alter + Drop>(
     rt: &HostRuntime,
@@ -285,8 +290,8 @@ fn read_tables<P: Peer, S: Alter + Drop>(
     keeper_over(rt, path, conn, config)
 }
 
-// Reads all rows of a change store into a new database, judges them, copies the volumes into memory, and
-// reports how many there are. The database is dropped after that.
+// Reads all rows of a change store into a new database, checks them, copies the volumes into memory, and
+// reports their number. The database is dropped afterwards.
 fn read_change_store<P: Peer + Drop, S: Alter + Drop>(
     console: &Console<'_>,
     config: &Config,
@@ -313,8 +318,8 @@ fn read_change_store<P: Peer + Drop, S: Alter + Drop>(
     }
 }
 
-// As `read_change_store`, with the new database in files in memory: a new row costs O(log n) steps there, and
-// O(n) in the kit's store of rows.
+// Does the same as `read_change_store`, with the new database in files in memory. A new row takes O(log n)
+// steps in such files, and O(n) steps in the store of rows of the `sqlite` crate.
 fn read_over_memory<P: Peer + Drop>(
     console: &Console<'_>,
     config: &Config,
@@ -329,7 +334,8 @@ fn read_over_memory<P: Peer + Drop>(
     read_change_store(console, config, path, change_store, conn)
 }
 
-// Connects to a change store. Returns the connection and a peer over it that records its exchanges.
+// Connects to a change store. Returns the connection, and a peer over the connection that records its
+// exchanges.
 fn reach(
     rt: &HostRuntime,
     path: &str,
@@ -345,7 +351,7 @@ fn reach(
     Ok((stream, peer))
 }
 
-/// Connects to a change store, reads and judges its rows, and reports how many volumes it has.
+/// Connects to a change store, reads and checks its rows, and reports the number of its volumes.
 ///
 /// # Errors
 ///

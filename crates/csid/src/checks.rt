@@ -1,5 +1,5 @@
-//! `csid --check-tables`, `csid --list-tables` and `csid --copy-tables`. The path and the file are looked at
-//! first, so that a file without tables is refused in the same words as by `csid serve --existing`.
+//! Runs `csid --check-tables`, `csid --list-tables` and `csid --copy-tables`. The path and the file are
+//! checked first, so that a file without tables is refused with the same words as by `csid serve --existing`.
 
 ghost use Rattle.std.specs.Prelude.{IfErr};
 ghost use Rattle.csid_settings.specs.Statuses.{IsOrNoMemory};
@@ -8,7 +8,7 @@ use crate::tables::{check_existing, check_path};
 use csid_console::Console;
 use csid_settings::{Chosen, Failure, configuration};
 
-// Checks that a file that is to be read has tables, as far as its path and its first bytes show that.
+// Checks that a file has tables, as far as its path and its first bytes show.
 fn check_readable(rt: &HostRuntime, path: &str) -> Result<(), Failure>
     ensures { IfErr result (λ failure. IsOrNoMemory 4 failure) }
 {
@@ -16,7 +16,7 @@ fn check_readable(rt: &HostRuntime, path: &str) -> Result<(), Failure>
     check_existing(rt, path)
 }
 
-/// Judges the tables in a file by the configuration in another one, or by the sample configuration.
+/// Checks the tables in a file under a configuration, which is in another file or the sample configuration.
 ///
 /// # Errors
 ///
@@ -31,7 +31,7 @@ pub(crate) fn check_tables(
     csid_listings::check_tables(console, path, &config)
 }
 
-/// Lists the volumes of the tables in a file.
+/// Writes a list of the volumes in a file of tables.
 ///
 /// # Errors
 ///
@@ -46,8 +46,8 @@ pub(crate) fn list_tables(
     csid_listings::list_tables(console, path, chosen, is_json)
 }
 
-/// Copies the tables in a file into a new file, judged by the configuration in another one, or by the sample
-/// configuration.
+/// Copies the tables in a file into a new file, and checks the copy under a configuration, which is in
+/// another file or the sample configuration.
 ///
 /// # Errors
 ///

@@ -1,5 +1,7 @@
-//! Checks of a file of tables and its WAL before they are opened: whether the file has tables, and whether
-//! new tables may be made in it.
+//! Checks a file of tables and its WAL before they are opened: if the file has tables, and if new tables may
+//! be made in it.
+
+ghost use Rattle.std.specs.Prelude.{◌≡◌, ◌≤◌, ◌*◌, ◌⊎◌};
 
 use crate::room::memory_limit;
 use csi_files::WAL_WITH_FRAME_BYTES;
@@ -7,8 +9,8 @@ use std::fs::{self, File};
 use std::io::{self, ErrorKind, Read};
 use thiserror::Error;
 
-// The bytes of the header of an SQLite file and of the first fields of its first page, and the offsets of the
-// page's kind and of its number of cells.
+// The number of bytes that are read of a file: the header of an SQLite file, and the first fields of its
+// first page. The next two constants are the offsets of the page's kind and of its number of cells.
 const HEADER_BYTES: usize = 105;
 
 const KIND_AT: usize = 100;
@@ -17,35 +19,35 @@ const CELLS_AT: usize = 103;
 
 const LEAF: u8 = 13;
 
-// The most bytes of memory that one byte of a row in the file takes.
+// The greatest number of bytes of memory that an opening takes for one byte of a row in the file.
 const OPENING_FACTOR: u64 = 6;
 
-// The fewest pages that an opening may keep in memory.
+// The least number of pages that an opening may keep in memory.
 const LEAST_CACHE_PAGES: u64 = 2000;
 
-// An opening keeps at most half of the pages of a file, and the pages take at most a 32nd of a limit on the
-// process's memory. The index of names, whose pages it reads in no order, has a third of the pages.
-// `OPENING_FACTOR` counts the pages that are kept.
+// An opening keeps at most half of the pages of a file. If the process has a limit of memory, the pages take
+// at most a 32nd of the limit. The index of names has a third of the pages of the file, and an opening reads
+// it in no order of pages. `OPENING_FACTOR` counts the memory of the pages that are kept.
 const CACHE_SHARE: u64 = 2;
 
 const LIMIT_SHARE: u64 = 32;
 
-/// Why `csid` refuses the file at the path given for its tables.
+/// The reason why `csid` refuses a file of tables.
 #[derive(Clone, Copy, Debug, Error)]
 pub(crate) enum FileFault {
-    /// SQLite takes the path for something other than a file: it is `:memory:` or begins with `file:`.
+    /// SQLite does not take the path as the name of a file: it is `:memory:` or begins with `file:`.
     #[error("csid needs the path of a file, and this is none for SQLite")]
     NoPath,
-    /// The file is a named pipe, a socket or a device: opening one may block for ever.
+    /// The file is a named pipe, a socket or a device. Opening such a file may block for ever.
     #[error("it is no regular file")]
     NotRegular,
-    /// The file does not exist.
+    /// The file does not exist, although the task needs an existing file.
     #[error("there is no such file, and none is made")]
     Missing,
-    /// The file has no tables.
+    /// The file has no tables, although the task needs tables.
     #[error("it has no tables, and none are made")]
     Blank,
-    /// The file is empty or missing, and its WAL has changes: the file lost its content.
+    /// The file is empty or missing, but its WAL has changes: the file has lost its content.
     #[error("it is empty or missing, but its WAL, '-wal', has changes: put back the copy of the file that this WAL belongs to, or move the WAL away to begin with no volumes")]
     Emptied,
 }
@@ -56,8 +58,8 @@ fn is_blank(head: &[u8; HEADER_BYTES]) -> bool {
     head[KIND_AT] == LEAF && head[CELLS_AT] == 0 && head[CELLS_AT + 1] == 0
 }
 
-// The path of a file's WAL, which is next to the file that the links at `path` lead to, or would be if the
-// file existed.
+// Returns the path of a file's WAL. Links at `path` are followed, and the WAL is in the same folder as the
+// file that they lead to, even if this file does not exist.
 fn wal_path(rt: &HostRuntime, path: &str) -> io::Result<String> {
     match fs::canonicalize(rt, path) {
         Ok(real) => Ok(format!(in rt.alloc(); "{}-wal", real.as_str())?),
@@ -79,8 +81,8 @@ fn is_special(rt: &HostRuntime, path: &str) -> bool {
     fs::metadata(rt, path).is_ok_and(|found| !found.is_file() && !found.is_dir())
 }
 
-/// The fault if the file or its WAL exists and is not a regular file; `None` for a folder, which the opening
-/// refuses at once.
+/// Returns the fault if the file or its WAL exists and is neither a regular file nor a folder, otherwise
+/// `None`. The opening itself refuses a folder at once.
 pub(crate) fn fault_of_kind(rt: &HostRuntime, path: &str) -> Option<FileFault> {
     let is_special_wal = wal_path(rt, path).is_ok_and(|wal| is_special(rt, wal.as_str()));
     if is_special_wal || is_special(rt, path) {
@@ -98,15 +100,15 @@ fn is_empty(rt: &HostRuntime, path: &str) -> io::Result<bool> {
     }
 }
 
-// The size of a file's pages in bytes, and the number of its free pages, as its header has them.
+// The size of a file's pages in bytes, and the number of its free pages. Both are in the header of the file.
 #[derive(Clone, Copy)]
 struct Pages {
     bytes: u64,
     free: u64,
 }
 
-// The size of a page is at offset 16 of the header, where 1 is 65,536, and the number of free pages at offset
-// 36.
+// Reads the header of a file. The size of a page is at offset 16, where 1 means 65,536, and the number of
+// free pages is at offset 36.
 fn pages_of(rt: &HostRuntime, path: &str) -> io::Result<Pages> {
     let mut head = [0; HEADER_BYTES];
     File::open(rt, path)?.read_exact(&mut head)?;
@@ -121,8 +123,8 @@ fn pages_of(rt: &HostRuntime, path: &str) -> io::Result<Pages> {
     })
 }
 
-// The bytes of a file and its WAL, without the free pages of the file. A free page that is used again is
-// counted with the WAL.
+// Returns the number of bytes of a file and its WAL, without the free pages of the file. A free page that is
+// used again counts with the WAL.
 fn bytes_of(rt: &HostRuntime, path: &str, pages: Pages) -> io::Result<u64> {
     let wal = wal_path(rt, path)?;
     let wal_bytes = fs::metadata(rt, wal.as_str()).map_or(0, |found| found.len());
@@ -131,31 +133,46 @@ fn bytes_of(rt: &HostRuntime, path: &str, pages: Pages) -> io::Result<u64> {
     Ok(of_file.saturating_sub(free).saturating_add(wal_bytes))
 }
 
-/// Limits of the memory that an opening of a file may take.
+/// Limits of the memory that an opening of a file takes.
 #[derive(Clone, Copy)]
 pub(crate) struct OpeningLimits {
-    /// The most bytes of memory that the opening takes. The shortest rows, about 45 bytes long in the file,
-    /// take less than six times their length; a long row takes less than twice its length.
+    /// The greatest number of bytes of memory that the opening takes. The shortest rows have about 45 bytes
+    /// in the file, and take less than six times their length. A long row takes less than twice its length.
     pub(crate) bytes: usize,
-    /// The most pages of the file that the opening keeps in memory.
+    /// The greatest number of pages of the file that the opening keeps in memory.
     pub(crate) cache_pages: usize,
 }
 
-// The most pages of a file with `count` pages that an opening keeps in memory.
-fn cache_pages(rt: &HostRuntime, count: u64, page_bytes: u64) -> u64 {
-    let share = count / CACHE_SHARE;
-    if share <= LEAST_CACHE_PAGES {
+// Returns how many pages of a file with `count` pages an opening keeps in memory: half of the pages and at
+// most `most` pages, but never fewer than 2,000.
+fn cached_pages(count: u64, most: u64) -> u64
+    ensures least { 2000 ≤ result }
+    ensures share { (result ≡ 2000) ⊎ ((result * 2 ≤ count) × (result ≤ most)) }
+{
+    (count / CACHE_SHARE).min(most).max(LEAST_CACHE_PAGES)
+}
+
+// Returns how many pages of a file with `count` pages an opening keeps in memory. The limit of the process's
+// memory is read only if the file is large.
+fn cache_pages(rt: &HostRuntime, count: u64, page_bytes: u64) -> u64
+    ensures least { 2000 ≤ result }
+    ensures share { (result ≡ 2000) ⊎ (result * 2 ≤ count) }
+{
+    if count / CACHE_SHARE <= LEAST_CACHE_PAGES {
         return LEAST_CACHE_PAGES;
     }
     let most = match memory_limit(rt) {
         Some(limit) => (limit / LIMIT_SHARE).checked_div(page_bytes).unwrap_or(0),
-        None => share,
+        None => u64::MAX,
     };
-    share.min(most).max(LEAST_CACHE_PAGES)
+    cached_pages(count, most)
 }
 
-/// The limits of an opening, by the size of the file and of its WAL.
-pub(crate) fn opening_limits(rt: &HostRuntime, path: &str) -> OpeningLimits {
+/// Returns the limits of memory for opening the file of tables. They depend on the size of the file and of
+/// its WAL.
+pub(crate) fn opening_limits(rt: &HostRuntime, path: &str) -> OpeningLimits
+    ensures least { 2000 ≤ result.cache_pages }
+{
     let none = Pages { bytes: 0, free: 0 };
     let pages = pages_of(rt, path).unwrap_or(none);
     let bytes = bytes_of(rt, path, pages).unwrap_or(0);
@@ -166,8 +183,8 @@ pub(crate) fn opening_limits(rt: &HostRuntime, path: &str) -> OpeningLimits {
     }
 }
 
-/// The fault of an empty or missing file whose WAL has changes. An opening would begin the WAL again, and the
-/// changes in it would be lost.
+/// Returns the fault if the file is empty or missing and its WAL has changes, otherwise `None`. An opening of
+/// such a file would start a new WAL, and the changes would be lost.
 pub(crate) fn fault_of_wal(rt: &HostRuntime, path: &str) -> Option<FileFault> {
     match (is_empty(rt, path), has_frames(rt, path)) {
         (Ok(true), Ok(true)) => Some(FileFault::Emptied),
@@ -189,8 +206,8 @@ fn has_nothing(rt: &HostRuntime, path: &str) -> io::Result<bool> {
     }
 }
 
-/// The fault if the file does not exist or has no tables, as far as its header shows. `None` if the file
-/// cannot be read: the opening then reports why.
+/// Returns the fault if the file does not exist or has no tables, as far as its header shows. Returns `None`
+/// if the file cannot be read, since the opening reports the reason.
 pub(crate) fn fault_of_existing(rt: &HostRuntime, path: &str) -> Option<FileFault> {
     if let Some(fault) = fault_of_wal(rt, path) {
         return Some(fault);

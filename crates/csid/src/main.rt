@@ -1,12 +1,16 @@
-//! The server: calls on standard input, replies on standard output, or both on a socket.
+//! The server: reads calls from standard input and writes replies to standard output, or serves a socket.
 //!
 //! # Not promised
 //!
-//! What the sockets, the signals and the command line do. That `ChangeStoreLeadership` asks the change store
-//! whether it leads is read off `change_store.rt`, and `open_change_store` has no clause of what comes
-//! through its connection: `tests/test_csid_*.py` show both. How much memory there is (`room.rt`), and that a
-//! change store that answers late is given up (`timed.rt`), is shown there too. That a connection is served
-//! from its first byte over the tables that were named (`TablesRun::serve_file`) is read off `socket.rt`.
+//! The contracts do not say what the sockets, the signals and the command line do. Code or tests show:
+//!
+//! - `ChangeStoreLeadership` asks the change store if the change store leads (the code in `change_store.rt`,
+//!   and `tests/test_csid_*.py`)
+//! - what `open_change_store` receives from the change store (the same tests)
+//! - how `csid` measures memory, and that it gives up a change store that answers late (the same tests; the
+//!   code is in `room.rt` and `timed.rt`)
+//! - a connection is served from its first byte, over the tables that the command line names (the code in
+//!   `socket.rt`, which calls `TablesRun::serve_file`)
 #![tactic(auto)]
 
 mod change_store;

@@ -1,30 +1,32 @@
-//! How much memory the process may use: less than what ends it, and than what its address space may have.
+//! Tells how much memory the process may still use: below the limit at which it is killed, and below the
+//! limit of its address space.
 
 use std::cell::Cell;
 use std::fs;
 
-// Where control groups are mounted: groups of version 2, and of version 1 the groups that limit memory.
+// The folders at which control groups are mounted: groups of version 2, and the groups of version 1 that
+// limit memory.
 const GROUPS: &str = "/sys/fs/cgroup";
 
 const MEMORY_GROUPS: &str = "/sys/fs/cgroup/memory";
 
-// The bytes of a page of memory in `/proc/self/statm`.
+// The size in bytes of a page of memory in `/proc/self/statm`.
 const PAGE_BYTES: u64 = 4096;
 
-// The bytes of a control group's limit that are left for calls, in addition to an eighth of the limit.
+// The part of a control group's limit that is left for calls, in bytes. An eighth of the limit is left too.
 const CALL_BYTES: u64 = 8 << 20;
 
-// The bytes of the address space that are left for calls. A call that needs more is refused; it does not end
-// the process.
+// The part of the address space that is left for calls, in bytes. A call that needs more memory is refused,
+// and the process goes on.
 const CALL_SPACE_BYTES: u64 = 4 << 20;
 
-// A limited resource: the use of this process, and the limit.
+// A limit of memory, and how much of it the process uses.
 struct Limit {
     // The limit in bytes.
     most: u64,
-    // The bytes in use at the start.
+    // The bytes that the process used at the start.
     base: u64,
-    // The bytes in use at the last look.
+    // The bytes that the process used at the last look.
     last: Cell<u64>,
 }
 
@@ -47,8 +49,8 @@ impl Limit {
         }
     }
 
-    // Returns true if the process may grow again as much as since the last look, and if an opening of tables
-    // may take these bytes after the memory in use now is released.
+    // Returns true if there is room for two things. The process may grow once more as much as since the last
+    // look. And after its memory is released, an opening of tables may take `opening` bytes.
     fn has_room(&self, used: u64, opening: u64) -> bool {
         let grown = used.saturating_sub(self.last.replace(used));
         let is_spent = used.saturating_add(grown) > self.most;
@@ -56,20 +58,21 @@ impl Limit {
     }
 }
 
-// The bytes of memory that the process uses.
+// The memory that the process uses, in bytes.
 #[derive(Clone, Copy)]
 struct Usage {
     address_space: u64,
     resident: u64,
 }
 
-// The bytes of the number of pages in a word; `None` if the word is missing or not a number.
+// Returns the size in bytes of as many pages as the word says, or `None` if the word is missing or not a
+// number.
 fn pages(word: Option<&str>) -> Option<u64> {
     let pages: u64 = word?.parse().ok()?;
     Some(pages.saturating_mul(PAGE_BYTES))
 }
 
-// The memory that the process uses; `None` if the system does not report it.
+// Returns the memory that the process uses, or `None` if the system does not tell it.
 fn used(rt: &HostRuntime) -> Option<Usage> {
     let text = fs::read_to_string(rt, "/proc/self/statm").ok()?;
     let mut words = text.as_str().split(' ');
@@ -80,14 +83,14 @@ fn used(rt: &HostRuntime) -> Option<Usage> {
     })
 }
 
-// The number in a file of a control group; `None` without such a file or without a limit.
+// Returns the limit in a file of a control group, or `None` if there is no such file or no limit.
 fn limit_in(rt: &HostRuntime, root: &str, group: &str, file: &str) -> Option<u64> {
     let path = format!(in rt.alloc(); "{root}{group}/{file}").ok()?;
     let text = fs::read_to_string(rt, path.as_str()).ok()?;
     text.as_str().trim().parse().ok()
 }
 
-// The lower of two limits, either of which may be missing.
+// Returns the lower of two limits. `None` means no limit.
 fn lower(one: Option<u64>, other: Option<u64>) -> Option<u64> {
     match (one, other) {
         (Some(one), Some(other)) if other < one => Some(other),
@@ -96,7 +99,7 @@ fn lower(one: Option<u64>, other: Option<u64>) -> Option<u64> {
     }
 }
 
-// The lowest of the limits of a group and of the groups above it, up to the root.
+// Returns the lowest limit of a group and of the groups above it, up to the root.
 fn lowest_limit(rt: &HostRuntime, root: &str, group: &str, file: &str) -> Option<u64> {
     let mut lowest = limit_in(rt, root, "", file);
     let mut rest = group;
@@ -113,8 +116,8 @@ fn lowest_limit(rt: &HostRuntime, root: &str, group: &str, file: &str) -> Option
     lowest
 }
 
-// The limit of the group in a line `NUMBER:CONTROLLERS:GROUP`; `None` if the line's controllers do not limit
-// memory.
+// Returns the limit of the group in a line `NUMBER:CONTROLLERS:GROUP`, or `None` if the controllers in the
+// line do not limit memory.
 fn limit_of_line(rt: &HostRuntime, line: &str) -> Option<u64> {
     let (number, rest) = line.split_once(':')?;
     let (controllers, group) = rest.split_once(':')?;
@@ -127,7 +130,7 @@ fn limit_of_line(rt: &HostRuntime, line: &str) -> Option<u64> {
     None
 }
 
-// The limit of memory of the control groups of the process.
+// Returns the lowest memory limit of the control groups of the process, or `None` if they have no limit.
 fn group_limit(rt: &HostRuntime) -> Option<u64> {
     let lines = fs::read_to_string(rt, "/proc/self/cgroup").ok()?;
     let mut lowest = None;
@@ -137,49 +140,37 @@ fn group_limit(rt: &HostRuntime) -> Option<u64> {
     lowest
 }
 
-// The limit of the address space of the process, as of `ulimit -v`.
-fn address_space_limit(rt: &HostRuntime) -> Option<u64> {
+// The rows of `/proc/self/limits` that limit memory: `ulimit -v` and `ulimit -d`.
+const ADDRESS_SPACE: &str = "Max address space";
+
+const DATA: &str = "Max data size";
+
+// Returns the limit in a row of `/proc/self/limits`, in bytes. Returns `None` if the process has no such
+// limit.
+fn process_limit(rt: &HostRuntime, row: &str) -> Option<u64> {
     let lines = fs::read_to_string(rt, "/proc/self/limits").ok()?;
     for line in lines.as_str().lines() {
-        if let Some(rest) = line.strip_prefix("Max address space") {
+        if let Some(rest) = line.strip_prefix(row) {
             return rest.split_whitespace().next()?.parse().ok();
         }
     }
     None
 }
 
-// The number at the beginning of a text, after white space.
-fn number_in(text: &str) -> Option<u64> {
-    text.split_whitespace().next()?.parse().ok()
-}
-
-// The limit in a line of `/proc/self/limits`, if it limits the address space or the data of the process.
-fn limit_of_process(line: &str) -> Option<u64> {
-    if let Some(rest) = line.strip_prefix("Max address space") {
-        return number_in(rest);
-    }
-    number_in(line.strip_prefix("Max data size")?)
-}
-
-/// The lowest limit on the memory of the process, in bytes: of its control groups, its address space and its
-/// data (`ulimit -d`). `None` if the system reports no limit.
+/// Returns the lowest limit of the process's memory in bytes: the limits of its control groups, its address
+/// space and its data (`ulimit -d`). Returns `None` if the system reports no limit.
 pub(crate) fn memory_limit(rt: &HostRuntime) -> Option<u64> {
-    let mut lowest = group_limit(rt);
-    let Ok(lines) = fs::read_to_string(rt, "/proc/self/limits") else {
-        return lowest;
-    };
-    for line in lines.as_str().lines() {
-        lowest = lower(lowest, limit_of_process(line));
-    }
-    lowest
+    let process = lower(process_limit(rt, ADDRESS_SPACE), process_limit(rt, DATA));
+    lower(group_limit(rt), process)
 }
 
-// The bytes of a control group's limit that the volumes may take: all but the bytes left for calls.
+// Returns the part of a control group's limit that the volumes may take, in bytes: the limit without the part
+// that is left for calls.
 fn group_room(limit: u64) -> u64 {
     limit.saturating_sub(limit / 8).saturating_sub(CALL_BYTES)
 }
 
-/// The memory that the process uses, and the limits at which it is killed or an allocation fails.
+/// Measures the memory that the process uses against the limits at which it is killed or an allocation fails.
 pub(crate) struct MemoryGauge {
     rt: HostRuntime,
     address_space: Option<Limit>,
@@ -197,8 +188,8 @@ impl Drop for MemoryGauge {
 }
 
 impl MemoryGauge {
-    /// The current limits: of the control groups of the process, and of its address space. A limit that the
-    /// system does not report counts as no limit.
+    /// Reads the current limits of the control groups of the process and of its address space. A limit that
+    /// the system does not report is not applied.
     pub(crate) fn new(rt: &HostRuntime) -> MemoryGauge {
         let Some(used) = used(rt) else {
             return MemoryGauge {
@@ -207,7 +198,9 @@ impl MemoryGauge {
                 resident: None,
             };
         };
-        let space = address_space_limit(rt).map(|most| most.saturating_sub(CALL_SPACE_BYTES));
+        let space = process_limit(rt, ADDRESS_SPACE).map(|most| most.saturating_sub(
+            CALL_SPACE_BYTES,
+        ));
         let resident = group_limit(rt).map(group_room);
         MemoryGauge {
             rt: *rt,
@@ -216,7 +209,7 @@ impl MemoryGauge {
         }
     }
 
-    /// Returns true if there is memory for calls, and for a next opening of tables that takes `opening`
+    /// Returns true if there is memory for calls, and for the next opening of tables, which takes `opening`
     /// bytes.
     pub(crate) fn has_room(&self, opening: usize) -> bool {
         if self.address_space.is_none() && self.resident.is_none() {
@@ -231,7 +224,7 @@ impl MemoryGauge {
     }
 }
 
-// Returns true if there is room below a limit, or no limit.
+// Returns true if there is room below the limit, or there is no limit.
 fn has_room_in(limit: &Option<Limit>, used: u64, opening: u64) -> bool {
     match limit {
         Some(limit) => limit.has_room(used, opening),

@@ -1,4 +1,4 @@
-//! What the program does.
+//! Runs the task of the command line.
 
 ghost use Rattle.std.specs.Prelude.{IfErr};
 ghost use Rattle.csid_settings.specs.Statuses.{IsOrNoMemory};
@@ -26,20 +26,20 @@ use std::mem::forget;
 /// The number that the first volume gets.
 pub(crate) const FIRST_NUMBER: u64 = 1;
 
-// Answers the calls of standard input, and keeps the volumes in memory.
+// Answers the calls on standard input over volumes in memory.
 fn pipe_over_memory(rt: &HostRuntime, config: &Config) -> Result<(), Failure> {
     let mut keeper = MemKeeper::new(rt.alloc(), FIRST_NUMBER)?;
     let mut reader = rt.stdin();
     let mut writer = rt.stdout();
     let end = serve(rt.alloc(), config, &mut keeper, &mut reader, &mut writer);
-    // The program ends here and its memory is released at once. To release 100,000 volumes one by one would
-    // take a twentieth of a second.
+    // The program ends here, and the system releases its memory at once. Releasing 100,000 volumes one by one
+    // would take a twentieth of a second.
     forget(keeper);
     outcome(Endpoint::Pipe, end)
 }
 
-// The outcome of the calls of standard input. If the file was not closed, the end of the calls and this
-// failure are reported, and the status is that of the failure.
+// Returns the outcome of the calls on standard input. If the file was not closed, reports the end of the
+// calls and this failure, which decides the exit status.
 fn pipe_outcome(
     console: &Console<'_>,
     ended: Result<RunReport, TablesFailure>,
@@ -56,7 +56,7 @@ fn pipe_outcome(
     Err(cause)
 }
 
-// Answers the calls of standard input, and keeps the volumes in a file.
+// Answers the calls on standard input over volumes in a file.
 fn pipe_over_tables(
     console: &Console<'_>,
     config: &Config,
@@ -78,7 +78,7 @@ fn pipe_over_tables(
     )
 }
 
-// Answers the calls of standard input, and keeps the volumes in a file if one is given.
+// Answers the calls on standard input over volumes in a file, or in memory if no file is given.
 fn answer_pipe(console: &Console<'_>, pipe: &Piped<'_>) -> Result<(), Failure> {
     let config = configuration(console, pipe.config, false)?;
     match pipe.tables {
@@ -87,7 +87,7 @@ fn answer_pipe(console: &Console<'_>, pipe: &Piped<'_>) -> Result<(), Failure> {
     }
 }
 
-// The failure for an option whose value is not a number in decimal digits.
+// Returns the failure for an option whose value is not a number in decimal digits.
 fn refused_number(alloc: Global, option: &str, number: &str) -> Failure
     ensures { IsOrNoMemory 2 result }
 {
@@ -97,15 +97,15 @@ fn refused_number(alloc: Global, option: &str, number: &str) -> Failure
     Failure::Arguments(ArgumentsFault::refused(line))
 }
 
-// The failure for two options that exclude each other, or a server without an option that says where its
-// volumes are kept.
+// Returns the failure for two options that exclude each other, or for a server without an option for its
+// volumes.
 fn refused_options(alloc: Global, why: &str) -> Failure
     ensures { IsOrNoMemory 2 result }
 {
     Failure::Arguments(ArgumentsFault::refused(format!(in alloc; "{why}")))
 }
 
-// The task that the arguments describe.
+// Returns the task that the arguments describe.
 fn task<'a>(alloc: Global, arguments: &ArgMatches<'a>) -> Result<Task<'a>, Failure> {
     if let Some((option, number)) = odd_number(arguments) {
         return Err(refused_number(alloc, option, number));
@@ -116,11 +116,11 @@ fn task<'a>(alloc: Global, arguments: &ArgMatches<'a>) -> Result<Task<'a>, Failu
     }
 }
 
-/// Runs the program.
+/// Runs the program: does the task that its arguments describe.
 ///
 /// # Errors
 ///
-/// Why the program ends with a status other than 0. The caller reports it.
+/// Returns why the program ends with a status other than 0. The caller reports it.
 pub(crate) fn run(console: &Console<'_>) -> Result<(), Failure> {
     let arguments = arguments(console.rt)?;
     let Some(matches) = read_arguments(console.rt, arguments.as_slice())? else {

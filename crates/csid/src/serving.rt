@@ -1,5 +1,5 @@
-//! Calls over the tables in a file. `csi_files` opens, adopts, serves and closes the tables; this module
-//! gives each of its failures a text and an exit status.
+//! Serves calls over the tables in a file. `csi_files` opens, adopts, serves and closes the tables. This
+//! module gives each failure of a run a text and an exit status.
 
 ghost use Rattle.std.specs.Prelude.{◌≡◌, None, Some};
 ghost use Rattle.std.specs.Fmt.{option_append};
@@ -19,18 +19,18 @@ use sqlite_disk::Disk;
 use std::alloc::Global;
 use std::io::{Read, Write};
 
-/// Why a run over tables failed.
+/// The failure of a run over tables. If the calls were served, the failure has their report.
 #[derive(Drop)]
 pub(crate) struct TablesFailure {
-    /// Why the tables cannot be opened, or why their file was not closed.
+    /// The reason why the tables cannot be opened or their file was not closed.
     pub(crate) cause: Failure,
-    /// The report of the calls, if they were served and the file was not closed after them. The committed
-    /// changes are then in the WAL next to the file.
+    /// The report of the calls, if they were served but the file was not closed. The committed changes are
+    /// then in the WAL, which is next to the file.
     pub(crate) report: Option<RunReport>,
 }
 
 impl TablesFailure {
-    // A failure before the first call was read.
+    // Makes the failure of a run in which no call was read.
     fn unserved(cause: Failure) -> TablesFailure
         ensures { (result.cause ≡ cause) × (result.report ≡ None) }
     {
@@ -41,7 +41,7 @@ impl TablesFailure {
     }
 }
 
-// The failure of the program for a database that was refused.
+// Returns the program's failure for a database that was refused.
 fn refusal_failure(alloc: Global, path: &str, refusal: &Refusal) -> Failure
     ensures { IsOrNoMemory 4 result }
 {
@@ -52,7 +52,8 @@ fn refusal_failure(alloc: Global, path: &str, refusal: &Refusal) -> Failure
     }
 }
 
-// The report of a run over the files at a path, or its failure with a text and a status.
+// Converts the result of a run over the files at a path: to its report, or to a failure with a text and a
+// status.
 fn outcome_of<D: Disk + Drop>(
     alloc: Global,
     path: &str,
@@ -79,27 +80,28 @@ fn outcome_of<D: Disk + Drop>(
     }
 }
 
-/// A run of calls over the tables in a file, before it begins.
+/// A run of calls over the tables in a file, which has not begun.
 #[derive(Clone, Copy)]
 pub(crate) struct TablesRun<'a, O> {
-    /// The operating system.
+    /// The operating system, which opens the files.
     pub(crate) rt: HostRuntime,
-    /// The configuration of the calls.
+    /// The configuration under which calls are answered.
     pub(crate) config: &'a Config,
     /// The file of tables, and its options.
     pub(crate) file: TablesFile<'a>,
-    /// Reports how the calls are served.
+    /// The observer, which reports how the calls are served.
     pub(crate) observer: &'a O,
 }
 
 impl<O: Observer> TablesRun<'_, O> {
     /// Serves the calls in `sent`, and then the calls from the reader. A missing file is made, unless the
-    /// file must exist. `start` is the content of the file and its WAL; the contract holds for any content.
+    /// options require an existing file. `start` is the content of the file and its WAL. The contract holds
+    /// for any content.
     ///
     /// # Errors
     ///
-    /// If the tables cannot be opened or memory is refused, and then no call was served; or if the file
-    /// cannot be closed, and then the failure has the report of the calls.
+    /// - the tables cannot be opened, or memory is refused. No call was served.
+    /// - the file cannot be closed after the calls. The failure contains the report of the calls.
     pub(crate) fn serve_file<S: Start, R: Read, W: Write>(
         &self,
         start: S,
@@ -141,10 +143,10 @@ impl<O: Observer> TablesRun<'_, O> {
     }
 }
 
-/// An observer that reports nothing. It does not change the replies.
+/// An observer that reports nothing. The replies are the same as with any other observer.
 #[derive(Clone, Copy)]
 pub(crate) struct SilentObserver<'a> {
-    /// The limits of this process's memory.
+    /// The gauge of this process's memory, which answers `has_room`.
     pub(crate) gauge: &'a MemoryGauge,
 }
 

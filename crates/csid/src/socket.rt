@@ -1,4 +1,4 @@
-//! `csid serve`: calls of connections to a Unix socket.
+//! Runs `csid serve`, which answers the calls of connections to a Unix socket.
 
 ghost use Rattle.std.specs.Prelude.{IfErr, IfOk};
 ghost use Rattle.csid.specs.Leading.{IsUsable};
@@ -30,12 +30,12 @@ use std::os::unix::fs::{PermissionsExt, chown};
 use std::os::unix::net::UnixListener;
 use std::time::Instant;
 
-// The modes of the socket's file: only the owner may connect, or the owner and a group.
+// The mode of the socket's file if only the owner may connect, and the mode if a group may connect too.
 const OWNER: u32 = 0o600;
 
 const OWNER_AND_GROUP: u32 = 0o660;
 
-// The failure of the program for an error of the socket at this path.
+// Returns the program's failure for an error of the socket at this path.
 fn of_socket(alloc: Global, path: &str, error: &io::Error) -> Failure
     ensures { IsOrNoMemory 7 result }
 {
@@ -46,7 +46,7 @@ fn of_socket(alloc: Global, path: &str, error: &io::Error) -> Failure
     }
 }
 
-// Sets the mode and the group of the socket's file, independent of the umask. The group gets its rights last.
+// Sets the mode and the group of the socket's file, whatever the umask is. The group gets its rights last.
 fn restrict(rt: &HostRuntime, path: &str, group: Option<u32>) -> io::Result<()> {
     fs::set_permissions(rt, path, Permissions::from_mode(OWNER))?;
     if group.is_none() {
@@ -56,7 +56,7 @@ fn restrict(rt: &HostRuntime, path: &str, group: Option<u32>) -> io::Result<()> 
     fs::set_permissions(rt, path, Permissions::from_mode(OWNER_AND_GROUP))
 }
 
-// Binds a socket for its owner and a group. If its mode cannot be set, the file is removed again.
+// Binds a socket for its owner and a group. If the mode cannot be set, removes the file again.
 fn bind(rt: &HostRuntime, path: &str, group: Option<u32>) -> io::Result<UnixListener> {
     let listener = UnixListener::bind(rt, path)?;
     match restrict(rt, path, group) {
@@ -68,12 +68,12 @@ fn bind(rt: &HostRuntime, path: &str, group: Option<u32>) -> io::Result<UnixList
     }
 }
 
-// Binds a socket at the path. The owner and this group may connect.
+// Binds a socket at the path, to which the owner and this group may connect.
 fn listen(rt: &HostRuntime, path: &str, group: Option<&str>) -> Result<UnixListener, Failure>
     ensures { IfErr result (λ failure. IsOrNoMemory 7 failure) }
 {
     if path.is_empty() {
-        // For an empty path the system would choose an address itself.
+        // For an empty path, the system would choose an address.
         return Err(Failure::NoSocketPath);
     }
     let group = match group {
@@ -86,14 +86,14 @@ fn listen(rt: &HostRuntime, path: &str, group: Option<&str>) -> Result<UnixListe
     }
 }
 
-// Reports how the calls of a connection ended, unless they ended well.
+// Reports how the calls of a connection ended, unless they ended without a failure.
 fn report_outcome(console: &Console<'_>, ending: Ending, now: Instant, end: RunEnd) {
     if let Err(failure) = outcome(Endpoint::Connection, end) {
         console.report_end(ending, now, &failure);
     }
 }
 
-// Reports how a connection ended: `ending` is why its turn ended, if it was ended, and `is_cut` is true if a
+// Reports how a connection ended. `ending` is the reason if its turn was ended, and `is_cut` is true if a
 // reply was held back.
 fn report_end(console: &Console<'_>, ending: Option<Ending>, is_cut: bool, end: RunEnd) {
     let Ok(now) = Instant::now(console.rt) else {
@@ -109,7 +109,7 @@ fn report_end(console: &Console<'_>, ending: Option<Ending>, is_cut: bool, end: 
     }
 }
 
-/// The parts of a server that each connection is served with.
+/// The parts of a server with which each connection is served.
 #[derive(Clone, Copy)]
 struct Service<'a> {
     console: &'a Console<'a>,
@@ -118,7 +118,7 @@ struct Service<'a> {
     gauge: &'a MemoryGauge,
 }
 
-// Begins the turn of a connection. If that fails, the error is reported.
+// Begins the turn of a connection. If that fails, reports the error and returns `None`.
 fn turn_of<'a>(
     console: &'a Console<'a>,
     waiting: &'a mut Waiting,
@@ -133,8 +133,8 @@ fn turn_of<'a>(
     }
 }
 
-// Answers the calls of one connection over a keeper. Returns true if it ended because the change store lost
-// its lead.
+// Answers the calls of one connection over a keeper. Returns true if the connection ended because the change
+// store no longer leads.
 fn serve_one<K: Keeper, L: Leadership + Drop>(
     service: &Service<'_>,
     waiting: &mut Waiting,
@@ -158,7 +158,7 @@ fn serve_one<K: Keeper, L: Leadership + Drop>(
     writer.is_cut()
 }
 
-// Refuses the bytes of a connection whose first frame is malformed, without opening the tables.
+// Refuses a connection whose first frame is malformed, without opening the tables.
 fn refuse_peer(service: &Service<'_>, waiting: &mut Waiting, peer: &Pending) {
     match MemKeeper::new(service.console.rt.alloc(), FIRST_NUMBER) {
         Ok(mut keeper) => {
@@ -168,18 +168,18 @@ fn refuse_peer(service: &Service<'_>, waiting: &mut Waiting, peer: &Pending) {
     }
 }
 
-// Reported if the keeper of a connection is down.
+// The line if the keeper of a connection went down.
 const IS_DOWN: &str =
     "a change was refused, by the database or for memory; from then on the connection was answered that the store is down";
 
-// Reported if the copy in memory lacks a change that the file has.
+// The line if the copy in memory lacks a change that the file has.
 const IS_BEHIND: &str =
     "there was no memory for a change that was made; from then on the connection was answered that the store refused its calls";
 
-// Reported if reads of a connection were refused.
+// The line if reads of a connection were refused.
 const NO_READ: &str = "the database refused a read";
 
-// Reported if memory is too small for a copy of the volumes.
+// The line if there is no memory for a copy of the volumes.
 const NO_COPY: &str =
     "there was no memory for a copy of the volumes: each read of the connection goes to the file";
 
@@ -214,7 +214,7 @@ impl Observer for Announcer<'_> {
     }
 }
 
-// Reports refusals of the store, since the replies do not say their cause.
+// Reports that the store refused calls. The replies to the calls do not tell the cause.
 fn report_calls(console: &Console<'_>, path: &str, report: &RunReport) {
     if report.is_down {
         console.say_of(path, &IS_DOWN);
@@ -224,7 +224,7 @@ fn report_calls(console: &Console<'_>, path: &str, report: &RunReport) {
     }
 }
 
-// Reports how the calls of a connection over tables ended, and why the tables failed.
+// Reports how the calls of a connection over tables ended, and the failure of the tables if there is one.
 fn report_run(
     console: &Console<'_>,
     path: &str,
@@ -244,11 +244,11 @@ fn report_run(
     }
 }
 
-/// The change store of a server.
+/// The change store of a server, as far as the server knows it.
 struct KnownChangeStore {
-    /// The open change store, or `None`.
+    /// The open change store, or `None` if it could not be opened.
     open: Option<OpenChangeStore>,
-    /// The last error that was reported for it; empty once it opens.
+    /// The last error that was reported for the change store. It is empty after the change store was opened.
     reported: String,
 }
 
@@ -261,7 +261,7 @@ impl Drop for KnownChangeStore {
     }
 }
 
-// Reports why the change store cannot be opened, unless that was the last report: while another program
+// Reports why the change store cannot be opened, unless the last report says the same. While another program
 // leads, each connection fails in the same way.
 fn report_unavailable(console: &Console<'_>, reported: &mut String, failure: &Failure) {
     let Ok(text) = format!(in console.rt.alloc(); "{failure}") else {
@@ -274,7 +274,7 @@ fn report_unavailable(console: &Console<'_>, reported: &mut String, failure: &Fa
     }
 }
 
-// Returns the open change store if calls may be answered over it; otherwise opens it again.
+// Returns the open change store if calls may be answered over it. Otherwise opens it again.
 fn existing_change_store(
     console: &Console<'_>,
     config: &Config,
@@ -301,7 +301,8 @@ fn serve_open(
 ) -> OpenChangeStore
     requires { IsUsable store }
 {
-    // Before a reply the change store must have answered a frame of this connection, not of an earlier one.
+    // A reply requires that the change store has answered a frame of this connection, and not of an earlier
+    // one.
     store.is_asked.set(false);
     let leading = ChangeStoreLeadership {
         stream: &store.stream,
@@ -320,8 +321,8 @@ fn serve_open(
     store
 }
 
-// Answers the calls of one connection over the change store. If it cannot be opened, the connection is closed
-// without a reply, and the next connection tries again.
+// Answers the calls of one connection over the change store. If the change store cannot be opened, closes the
+// connection without a reply; the next connection tries again.
 fn serve_over_change_store(
     service: &Service<'_>,
     waiting: &mut Waiting,
@@ -339,7 +340,7 @@ fn serve_over_change_store(
     }
 }
 
-// Reports a connection whose peer had gone before its turn, if the peer had sent anything.
+// Reports that a peer had closed its connection before its turn, if it had sent any bytes.
 fn report_gone(console: &Console<'_>, peer: &Pending) {
     if peer.first.sent.is_empty() {
         return;
@@ -349,8 +350,8 @@ fn report_gone(console: &Console<'_>, peer: &Pending) {
     }
 }
 
-// Opens the tables of a server and serves the calls of a connection over them: the calls in `sent`, and then
-// the calls from the reader. Reports errors that no reply shows.
+// Opens the tables of a server and serves the calls of a connection: first the calls in `sent`, then the
+// calls from the reader. Reports errors that no reply shows.
 fn serve_tables<R: Read, W: Write>(
     service: &Service<'_>,
     sent: &[u8],
@@ -382,8 +383,8 @@ fn serve_tables<R: Read, W: Write>(
     report_run(console, file.path, ending.get(), ended);
 }
 
-// Answers the calls of one connection. The tables are not opened for a peer that has gone: it may have given
-// up its call while another connection was served.
+// Answers the calls of one connection. If the peer has closed the connection, the tables are not opened: the
+// peer may have given up its call while another connection was served.
 fn serve_peer<'a>(
     service: &'a Service<'a>,
     waiting: &'a mut Waiting,
@@ -413,8 +414,8 @@ fn serve_peer<'a>(
     );
 }
 
-// Opens the change store at the start, if the volumes are in one. If that fails, the error is reported, and
-// the first connection tries again.
+// Opens the change store at the start of the server, if the volumes are in one. If that fails, reports the
+// error, and the first connection tries again.
 fn first_change_store(service: &Service<'_>) -> KnownChangeStore {
     let console = service.console;
     let mut change_store = KnownChangeStore {
@@ -430,8 +431,8 @@ fn first_change_store(service: &Service<'_>) -> KnownChangeStore {
     change_store
 }
 
-// Binds the socket of a server, and surveys its tables. The socket is bound first, so that the file of a
-// server that is running is not opened.
+// Binds the socket of a server, and surveys its tables. The socket is bound first, so that the file of
+// another server that is running is not opened.
 fn listen_over<'a>(
     console: &'a Console<'a>,
     config: &'a Config,
@@ -447,7 +448,7 @@ fn listen_over<'a>(
     Ok(listener)
 }
 
-// The queue of connections at a socket.
+// Makes the queue of connections at a socket.
 fn waiting_at(
     rt: &HostRuntime,
     serving: &Serving<'_>,
@@ -461,7 +462,7 @@ fn waiting_at(
     }
 }
 
-// The next connection to serve, or `None` after the last.
+// Returns the next connection to serve, or `None` after the last connection.
 fn next_peer(service: &Service<'_>, waiting: &mut Waiting) -> Result<Option<Pending>, Failure>
     ensures { IfErr result (λ failure. IsOrNoMemory 7 failure) }
 {
@@ -471,13 +472,13 @@ fn next_peer(service: &Service<'_>, waiting: &mut Waiting) -> Result<Option<Pend
     }
 }
 
-/// Answers the calls of connections to a socket, one connection after the other, until `serving.connections`
-/// were served.
+/// Answers the calls of connections to a socket, one connection after the other. Returns after
+/// `serving.connections` connections were served.
 ///
 /// # Errors
 ///
-/// If the path of the tables is refused, the socket cannot be bound or accepts no connection, or memory is
-/// refused.
+/// If the file of tables or the group is refused, the socket cannot be bound or accepts no connection, or
+/// memory is refused.
 pub(crate) fn serve_socket<'a>(
     console: &'a Console<'a>,
     config: &'a Config,

@@ -1,4 +1,4 @@
-//! The survey at the start of a server: it opens and judges the tables in a file, and reports their counts.
+//! The survey at the start of a server: it opens and checks the tables in a file, and reports their counts.
 
 ghost use Rattle.std.specs.Prelude.{[], Some};
 ghost use Rattle.csid.specs.Serving.{IsSurveyed};
@@ -36,14 +36,14 @@ impl Observer for Surveyor<'_> {
 
     fn refused(&self, _cause: &Error) {}
 
-    // There is always room, as no call is served.
+    // No call is served, so there is always room.
     fn has_room(&self, _opening: usize) -> bool {
         true
     }
 }
 
-// A run without calls over the tables in a file; `start` is the content of the file and its WAL. The file is
-// closed before a failure or the counts are reported.
+// Makes a run without calls over the tables in a file. `start` is the content of the file and its WAL. The
+// file is closed before a failure or the counts are reported.
 fn run_without_calls<'a, S: Start>(
     console: &'a Console<'a>,
     config: &'a Config,
@@ -76,8 +76,9 @@ fn run_without_calls<'a, S: Start>(
     ended
 }
 
-/// Opens and judges the tables in a file by a run without calls. Reports their counts, or why they cannot be
-/// opened or their file cannot be closed.
+/// Opens and checks the tables in a file by a run without calls. If the file has no tables, they are made
+/// unless `file.is_existing` is true. Reports the numbers of volumes and attachments, or the reason why the
+/// tables cannot be opened. If the file cannot be closed, also reports the reason for that.
 pub(crate) fn survey<'a>(console: &'a Console<'a>, config: &'a Config, file: &TablesFile<'a>) {
     let _ = run_without_calls(console, config, file, Unknown);
 }

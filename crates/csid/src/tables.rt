@@ -1,4 +1,4 @@
-//! The tables in a file.
+//! Checks a file of tables before it is opened.
 
 ghost use Rattle.std.specs.Prelude.{IfErr};
 ghost use Rattle.csid_settings.specs.Statuses.{IsOrNoMemory};
@@ -8,10 +8,10 @@ use crate::making::make_private;
 use csid_settings::{Failure, TablesFile};
 use std::alloc::Global;
 
-/// Reported when new tables were made.
+/// The line if new tables were made.
 pub(crate) const NEW_TABLES: &str = "no tables were there, and new ones were made";
 
-// Fails if a file has a fault.
+// Fails if the file has a fault, and returns `Ok` if `fault` is `None`.
 fn existing_failure(alloc: Global, path: &str, fault: Option<FileFault>) -> Result<(), Failure>
     ensures { IfErr result (λ failure. IsOrNoMemory 4 failure) }
 {
@@ -21,16 +21,16 @@ fn existing_failure(alloc: Global, path: &str, fault: Option<FileFault>) -> Resu
     }
 }
 
-// Returns true if SQLite does not take a path for a file.
+// Returns true if SQLite does not take the path as the name of a file.
 fn names_no_file(path: &str) -> bool {
     path == ":memory:" || path.starts_with("file:")
 }
 
-/// Checks whether a path may name a file of tables.
+/// Checks that a path can name a file of tables.
 ///
 /// # Errors
 ///
-/// If the path is empty, SQLite does not take it for a file, or memory is refused.
+/// If the path is empty, SQLite does not take it as the name of a file, or memory is refused.
 pub(crate) fn check_path(rt: &HostRuntime, path: &str) -> Result<(), Failure>
     ensures { IfErr result (λ failure. IsOrNoMemory 4 failure) }
 {
@@ -62,16 +62,16 @@ pub(crate) fn check_existing(rt: &HostRuntime, path: &str) -> Result<(), Failure
     existing_failure(rt.alloc(), path, fault_of_existing(rt, path))
 }
 
-// Checks that a file is not an empty or missing one whose WAL has changes, in which no new tables may be
-// made. Changes nothing.
+// Fails if a file is empty or missing and its WAL has changes, since no new tables may be made in it. Changes
+// nothing.
 fn check_wal(rt: &HostRuntime, path: &str) -> Result<(), Failure>
     ensures { IfErr result (λ failure. IsOrNoMemory 4 failure) }
 {
     existing_failure(rt.alloc(), path, fault_of_wal(rt, path))
 }
 
-/// Checks the path and the kind of a file, and that it has tables or may get new ones, as far as its header
-/// and its WAL show. Changes nothing.
+/// Checks the path and the kind of a file. Also checks that the file has tables or may get new tables, as far
+/// as its header and its WAL show. Changes nothing.
 ///
 /// # Errors
 ///
@@ -88,11 +88,12 @@ pub(crate) fn check_file(rt: &HostRuntime, file: &TablesFile<'_>) -> Result<(), 
     }
 }
 
-/// Checks a file before it is opened, and makes a missing file with mode 0600 if it may be made.
+/// Checks the path, the kind, the header and the WAL of a file before it is opened. If the file is missing
+/// and may be made, makes it with mode 0600.
 ///
 /// # Errors
 ///
-/// As for [`check_file`].
+/// If the file may not be opened, or memory is refused.
 pub(crate) fn prepare(rt: &HostRuntime, file: &TablesFile<'_>) -> Result<(), Failure>
     ensures { IfErr result (λ failure. IsOrNoMemory 4 failure) }
 {

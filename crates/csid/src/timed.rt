@@ -1,4 +1,4 @@
-//! A connection to a change store on which an exchange ends in time, however slowly its bytes come.
+//! A connection to a change store that bounds the time of an exchange, however slowly the bytes come.
 
 use std::cell::Cell;
 use std::io::{self, ErrorKind, Read, Write};
@@ -6,18 +6,19 @@ use std::os::unix::net::UnixStream;
 use std::rc::Rc;
 use std::time::{Duration, Instant};
 
-// The seconds for a frame and its whole reply. After them it is unknown whether a change was made.
+// The number of seconds for a frame and its complete reply. After this time it is unknown if a change was
+// made.
 const EXCHANGE_SECONDS: u64 = 30;
 
-// The seconds that all rows may take at an opening.
+// The number of seconds in which an opening must have read all rows.
 const ROWS_SECONDS: u64 = 300;
 
-/// The deadlines of a change store: of the current exchange, and of an opening.
+/// The deadlines of a connection to a change store: for the current exchange, and for the opening.
 pub(crate) struct Deadline {
     rt: HostRuntime,
     // The deadline of the current exchange.
     exchange: Cell<Option<Instant>>,
-    // The deadline of the opening; `None` after all rows were read.
+    // The deadline of the opening, or `None` after all rows were read.
     rows: Cell<Option<Instant>>,
 }
 
@@ -31,14 +32,15 @@ impl Drop for Deadline {
     }
 }
 
-// The time this many seconds from now.
+// Returns the time this number of seconds from now.
 fn after(rt: &HostRuntime, seconds: u64) -> io::Result<Instant> {
     let now = Instant::now(rt)?;
     Ok(now.checked_add(Duration::from_secs(seconds)).unwrap_or(now))
 }
 
 impl Deadline {
-    /// The deadline of an opening that begins now: 300 seconds for all rows.
+    /// Begins an opening of a change store. Its deadline is 300 seconds from now: all rows must be read by
+    /// then.
     ///
     /// # Errors
     ///
@@ -56,12 +58,12 @@ impl Deadline {
         self.exchange.set(after(&self.rt, EXCHANGE_SECONDS).ok());
     }
 
-    /// Ends the deadline of the opening, after all rows were read. The deadline of each exchange remains.
+    /// Ends the deadline of the opening, after all rows were read. Each exchange still has its deadline.
     pub(crate) fn end_rows(&self) {
         self.rows.set(None);
     }
 
-    // How long a read or a write may wait before the next deadline, at least a microsecond.
+    // Returns how long a read or a write may wait until the next deadline, at least a microsecond.
     fn left(&self) -> io::Result<Duration> {
         let now = Instant::now(&self.rt)?;
         let Some(exchange) = self.exchange.get() else {
@@ -79,7 +81,7 @@ impl Deadline {
     }
 }
 
-/// A connection whose reads and writes fail once the deadline has passed.
+/// A connection whose reads and writes fail after its deadline has passed.
 pub(crate) struct TimedStream {
     stream: UnixStream,
     deadline: Rc<Deadline>,
@@ -95,7 +97,7 @@ impl Drop for TimedStream {
 }
 
 impl TimedStream {
-    /// Connects to a socket. Reads and writes of the connection fail after the deadline.
+    /// Connects to a socket. After the deadline has passed, reads and writes of the connection fail.
     ///
     /// # Errors
     ///
@@ -111,11 +113,11 @@ impl TimedStream {
         })
     }
 
-    /// A second handle of the same connection, under the same deadline.
+    /// Returns a second handle of the same connection, with the same deadline.
     ///
     /// # Errors
     ///
-    /// If the system or memory refuses it.
+    /// If the system refuses the handle, or memory is refused.
     pub(crate) fn try_clone(&self) -> io::Result<TimedStream> {
         Ok(TimedStream {
             stream: self.stream.try_clone()?,
@@ -123,7 +125,7 @@ impl TimedStream {
         })
     }
 
-    /// The deadline of the connection.
+    /// Returns the deadline of the connection.
     pub(crate) fn deadline(&self) -> &Deadline {
         &self.deadline
     }

@@ -1,4 +1,4 @@
-//! The time that the peer of a connection takes to send a call and to take its reply.
+//! Measures the time that the peer of a connection takes to send a call and to take the reply.
 
 ghost use Rattle.std.specs.Prelude.{◌≡◌, ◌-◌, ◌*◌, None, false, true};
 ghost use Rattle.std.specs.Duration.{as_nanos};
@@ -11,19 +11,20 @@ use crate::limits::{CALL_SECONDS, SHORTEST_MILLIS, WANTED_SECONDS, left_of};
 use csid_console::Ending;
 use std::time::{Duration, Instant};
 
-/// When a period began that counts from the first wait for it.
+/// The start of a period whose time counts only from the first wait in it.
 #[derive(Clone, Copy)]
 pub(crate) enum Since {
     /// The period has not begun.
     Never,
-    /// The period has begun, and was not waited for yet.
+    /// The period has begun, and no wait has come since.
     Now,
-    /// The period was first waited for at this time.
+    /// The first wait in the period came at this time.
     Then(Instant),
 }
 
 impl Since {
-    // When the period began: `now` at the first wait; `None` if it has not begun.
+    // Returns the start of the period, or `None` if the period has not begun. The first wait sets the start
+    // to `now`.
     fn start(&mut self, now: Instant) -> Option<Instant>
         ensures { SharesTime now self.old self.new result }
     {
@@ -38,24 +39,25 @@ impl Since {
     }
 }
 
-/// The time of the current call or reply. A call's time begins with its first byte, a reply's with its first
-/// write that waits. Both end with the reply; further bytes do not begin them again.
+/// The time of the current call or reply. The time of a call begins with the first byte of the call. The time
+/// of a reply begins with the first write of the reply that waits. Both times end when the reply is written.
 #[derive(Clone, Copy)]
 pub(crate) struct CallClock {
-    // When the peer last sent or took bytes.
+    // The time when the peer last sent or took bytes.
     active: Since,
-    // When the call or the reply began.
+    // The time when the call or the reply began.
     begun: Since,
-    // The time of the whole call or reply.
+    // The time that is allowed for the whole call or reply.
     allowed: Duration,
-    // When this call or reply first delayed another connection that was ready.
+    // The time when this call or reply first delayed another connection that was ready.
     delayed: Option<Instant>,
     // True while a reply is written, false while a call is read.
     is_reply: bool,
 }
 
 impl CallClock {
-    /// The clock of a first call, for which the peer has taken `spent` so far.
+    /// Makes the clock of the first call of a connection. The peer has already taken the time `spent` for
+    /// this call.
     pub(crate) fn new(spent: Duration) -> CallClock
         ensures first { (result.begun ≡ Since.Now) × (result.active ≡ Since.Now) × (result.delayed ≡ None)
             × (result.is_reply ≡ false) }
@@ -77,7 +79,7 @@ impl CallClock {
         matches!(self.begun, Since::Never)
     }
 
-    /// Notes that bytes of a call came, or the end of the stream.
+    /// Notes that bytes of a call, or the end of the stream, have come.
     pub(crate) fn note_bytes(&mut self)
         ensures { NotesBytes self.old self.new }
     {
@@ -87,14 +89,15 @@ impl CallClock {
         }
     }
 
-    /// Notes that the peer took bytes of a reply.
+    /// Notes that the peer took bytes of a reply. So the peer is active at this time.
     pub(crate) fn note_taken(&mut self)
         ensures { self.new ≡ record self.old { active = Since.Now } }
     {
         self.active = Since::Now;
     }
 
-    /// Notes that a write of a reply waits. Returns true the first time, which begins the reply's time.
+    /// Notes that a write of a reply waits. Returns true for the first such write, which begins the time of
+    /// the reply.
     pub(crate) fn begin_reply(&mut self) -> bool
         ensures { BeginsReply self.old self.new result }
     {
@@ -106,7 +109,8 @@ impl CallClock {
         true
     }
 
-    /// Notes that a reply was written whole. The next call has not begun.
+    /// Notes that a reply was written completely. The clock is then between two calls, until bytes of the
+    /// next call come.
     pub(crate) fn end_reply(&mut self)
         ensures { IsBetweenCalls self.new }
     {
@@ -126,11 +130,11 @@ impl CallClock {
         self.delayed = None;
     }
 
-    /// The time left for the current call or reply; `None` between two calls.
+    /// Returns the time left for the current call or reply, or `None` between two calls.
     ///
     /// # Errors
     ///
-    /// [`Ending::Slow`] if its time is over.
+    /// [`Ending::Slow`] if the time of the call or reply is over.
     pub(crate) fn left_of_call(&mut self, now: Instant) -> Result<Option<Duration>, Ending>
         ensures { IsTimed now self.old self.new result }
     {
@@ -143,12 +147,13 @@ impl CallClock {
         }
     }
 
-    /// The time, of `idle`, that the peer may still do nothing; `None` for ever. Of that time, `blocked`
-    /// passed in a read or a write that blocked.
+    /// Returns the time for which the peer may still send and take nothing. `None` means any time. `idle` is
+    /// the whole time allowed, and `blocked` is the part of it that has passed in a read or a write that
+    /// blocked.
     ///
     /// # Errors
     ///
-    /// [`Ending::Idle`] if that time is over.
+    /// [`Ending::Idle`] if the time allowed is over.
     pub(crate) fn left_of_idle(
         &mut self,
         idle: Option<Duration>,
@@ -167,12 +172,13 @@ impl CallClock {
         }
     }
 
-    /// The time that the peer may still delay a call or a reply while another connection has been ready
-    /// since `since`.
+    /// Returns the time for which the peer may still delay a call or a reply, although another connection is
+    /// ready. The first other connection became ready at the time `since`.
     ///
     /// # Errors
     ///
-    /// [`Ending::Idle`] between two calls, when it may not, and [`Ending::Preempted`] if that time is over.
+    /// [`Ending::Idle`] if no call has begun, since the peer may not delay other connections between two
+    /// calls. [`Ending::Preempted`] if the time is over.
     pub(crate) fn left_for_others(
         &mut self,
         since: Instant,
@@ -194,7 +200,7 @@ impl CallClock {
     }
 }
 
-// The longer of two times; `None` is a time that is over.
+// Returns the longer of two times. `None` means a time that is over.
 fn longer(one: Option<Duration>, other: Option<Duration>) -> Option<Duration>
     ensures { IsLonger one other result }
 {

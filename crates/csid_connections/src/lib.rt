@@ -1,22 +1,23 @@
-//! The connections of the server: which of them wait, which is served next, and how long the peer of each is
-//! waited for.
+//! The connections of the server: which connections wait, which one is served next, and how long the server
+//! waits for each peer.
 //!
 //! # Not promised
 //!
-//! What a socket gives, takes or refuses, and when a wait of the system ends. That [`Turn`] keeps one clock
-//! for both of its ends: no clause knows what is in a cell. Whether a connection failed that has sent no
-//! call.
+//! The contracts do not say what a socket gives, takes or refuses, or when a wait of the system ends. They do
+//! not say that [`Turn`] has one clock for both of its ends, since no clause knows the content of a cell.
+//! They do not say whether a connection that has sent no call has failed.
 //!
 //! # How it works
 //!
-//! [`Waiting`] takes connections from the socket and reads what each sends first, so that a connection that
-//! sends nothing keeps no other one waiting. [`Turn`] is the connection that is served: a read or a write of
-//! it waits no longer than its peer may take, and looks at the connections that wait in between. Its ends,
-//! [`TurnReader`] and [`TurnWriter`], give and take the bytes of the stream in order, also after a wait.
-//! [`GuardedWriter`] writes a reply only where it holds.
+//! [`Waiting`] accepts connections from the socket and reads the first bytes of each, so a connection that
+//! sends nothing delays no other connection. [`Turn`] is the connection that is served. A read or a write
+//! waits only for the time that the peer may take, and polls the waiting connections during this time. The
+//! two ends of a turn, [`TurnReader`] and [`TurnWriter`], read and write the bytes of the stream in order,
+//! also after a wait. [`GuardedWriter`] writes a reply only if it holds: no other program can have changed
+//! the volumes.
 //!
-//! `specs/Waiting.antt` says by which rules a connection stops waiting (`Ends`, `ComesIn`), and
-//! `specs/Calling.antt` how the time of a call counts.
+//! `specs/Waiting.antt` has the rules by which a connection stops waiting (`Ends`, `ComesIn`), and
+//! `specs/Calling.antt` the rules for the time of a call.
 //!
 //! ```rust
 //! let mut waiting = Waiting::new(&rt, listener, 1_000_000, None)?;

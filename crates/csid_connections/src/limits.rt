@@ -1,26 +1,29 @@
-//! How long a peer is waited for.
+//! How long the server waits for a peer.
 
 ghost use Rattle.csid_connections.specs.Timing.{IsLeast, LeftOf};
 ghost use Rattle.std.specs.Duration.{as_nanos};
 
 use std::time::{Duration, Instant};
 
-/// The seconds after its first byte in which a call must be complete, not counting the time that `csid` takes
-/// itself. A reply must be taken in as many seconds.
+/// The number of seconds in which a peer must send a complete call, counted from the first byte of the call.
+/// The time that `csid` itself takes does not count. The peer must also take a reply within this number of
+/// seconds.
 pub(crate) const CALL_SECONDS: u64 = 10;
 
-/// The seconds for which the peer being served may delay connections that are ready. They count from the time
-/// when the first of these became ready.
+/// The number of seconds for which the peer that is served may delay other connections. The seconds are
+/// counted from the time when the first of the other connections became ready.
 pub(crate) const WANTED_SECONDS: u64 = 1;
 
-/// The milliseconds for which the peer being served may delay a call or a reply even if others have waited
-/// longer than [`WANTED_SECONDS`].
+/// The number of milliseconds for which the peer that is served may delay each call or reply in any case,
+/// even if other connections have waited longer than [`WANTED_SECONDS`].
 pub(crate) const SHORTEST_MILLIS: u64 = 100;
 
-/// The seconds after which a connection being served is closed between two calls if another one is ready.
+/// The greatest number of seconds of a turn while another connection is ready. After these seconds the
+/// connection is closed as soon as it is between two calls.
 pub(crate) const TURN_SECONDS: u64 = 60;
 
-/// The part that is left at `now` of a time that began at `begun`; `None` if it is over.
+/// Returns the part of the time `longest` that is left at `now`, counted from `begun`. Returns `None` if the
+/// time is over.
 pub(crate) fn left_of(longest: Duration, begun: Instant, now: Instant) -> Option<Duration>
     ensures { LeftOf (as_nanos longest) begun now result }
 {
@@ -28,7 +31,7 @@ pub(crate) fn left_of(longest: Duration, begun: Instant, now: Instant) -> Option
     if left.is_zero() { None } else { Some(left) }
 }
 
-/// The shorter of two times; `None` is a time without an end.
+/// Returns the shorter of two times. `None` means a time without an end.
 pub(crate) fn least(one: Option<Duration>, other: Option<Duration>) -> Option<Duration>
     ensures { IsLeast one other result }
 {

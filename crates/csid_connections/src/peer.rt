@@ -1,4 +1,4 @@
-//! The peer of a connection: whether it is there, and what is written to it.
+//! Tests if the peer of a connection is still there, and guards the replies to it.
 
 ghost use Rattle.std.specs.Prelude.{◌≡◌, Bool, true, false, ⊤, IsErr};
 ghost use Rattle.std.specs.Io.{WritesAtMost};
@@ -8,20 +8,22 @@ ghost use Rattle.csid_connections.specs.Replying.{after_reply, begun, is_cut, is
 use std::io::{self, ErrorKind, Write};
 use std::os::unix::net::UnixStream;
 
-/// Returns true if the peer has closed the connection: a write of no bytes then fails. A peer that has closed
-/// only its sending half still waits for replies, and has not gone.
+/// Returns true if the peer has closed the connection. To find out, writes no bytes, which fails only if the
+/// peer has closed. A peer that has closed only its sending half still waits for replies, and the result is
+/// false.
 pub fn has_gone(stream: &UnixStream) -> bool {
     let mut writer = stream;
     writer.write(&[]).is_err()
 }
 
-/// Answers whether a reply made from the volumes in memory holds. It holds while no other program can have
-/// changed the volumes.
+/// Tells if a reply that was made from the volumes in memory holds. A reply holds if no other program can
+/// have changed the volumes.
 pub trait Leadership {
-    // A question whether replies hold, and its answer.
+    // The effect of one question whether replies hold, and its answer.
     ghost asked: { Self → Self → Bool → Type 0 } = { λ _ _ _. ⊤ };
 
-    /// Returns true if replies still hold. It is called before the first byte of each reply.
+    /// Returns true if replies still hold. [`GuardedWriter`] calls this function before the first byte of
+    /// each reply.
     fn holds(&mut self) -> bool
         ensures { asked self.old self.new result };
 }
@@ -40,19 +42,19 @@ impl Leadership for Always {
     }
 }
 
-/// The state of the reply that is being written.
+/// The state of the reply that a [`GuardedWriter`] writes: not begun, begun, or refused.
 #[derive(Clone, Copy)]
 pub enum Reply {
-    /// No byte of the next reply was written. Whether the reply holds is asked first.
+    /// No byte of the next reply was written yet. Before the first byte, the writer asks if the reply holds.
     Between,
     /// The reply holds, and is being written.
     Open,
-    /// A reply did not hold. No further byte is written.
+    /// A reply did not hold. No more bytes are written.
     Cut,
 }
 
-/// A writer of replies that asks before the first byte of each reply whether the reply holds, and writes
-/// nothing after a reply that did not hold.
+/// Writes replies. Before the first byte of each reply, the writer asks its [`Leadership`] if the reply
+/// holds. After a reply that does not hold, it writes nothing.
 #[derive(Drop)]
 pub struct GuardedWriter<L, W> {
     lead: L,
@@ -61,7 +63,8 @@ pub struct GuardedWriter<L, W> {
 }
 
 impl<L: Leadership, W: Write> GuardedWriter<L, W> {
-    /// A writer that has written no reply. It asks `lead` whether a reply holds, and writes it to `writer`.
+    /// Makes a writer that has written no reply. Before each reply, the writer asks `lead` if the reply still
+    /// holds ([`Leadership`]). Only the bytes of a reply that holds are written to `writer`.
     pub fn new(lead: L, writer: W) -> GuardedWriter<L, W>
         ensures { (result.lead ≡ lead) × (result.writer ≡ writer) × (result.reply ≡ Reply.Between) }
     {
@@ -72,14 +75,14 @@ impl<L: Leadership, W: Write> GuardedWriter<L, W> {
         }
     }
 
-    /// Returns true if a reply did not hold, so that nothing more is written.
+    /// Returns true if a reply did not hold. The writer then writes no more bytes.
     pub fn is_cut(&self) -> bool
         ensures { result ≡ is_cut self.now.reply }
     {
         matches!(self.reply, Reply::Cut)
     }
 
-    // Returns true if bytes of a reply may be written. At the first byte of a reply it asks whether the reply
+    // Returns true if bytes of a reply may be written. Before the first byte of a reply, asks if the reply
     // holds.
     fn may_write(&mut self) -> bool
         ensures writer { self.new.writer ≡ self.old.writer }

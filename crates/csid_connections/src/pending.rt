@@ -1,4 +1,4 @@
-//! A connection that has not sent a whole call yet.
+//! A connection in the queue, which has not sent a complete call yet.
 
 ghost use Rattle.std.specs.Prelude.{◌≡◌, None, true, false, []};
 ghost use Rattle.csid_connections.specs.Waiting.{IsNew};
@@ -13,50 +13,51 @@ use std::io::{self, ErrorKind, Read};
 use std::os::unix::net::UnixStream;
 use std::time::{Duration, Instant};
 
-/// The bytes of a first frame with which a connection is served even if the frame is not complete. They bound
-/// the memory of the queue.
+/// A connection that has sent this number of bytes of its first frame is ready, even if the frame is not
+/// complete. This bounds the memory of the queue.
 const ENOUGH: usize = 4096;
 
-/// The kinds of first bytes of a connection.
+/// The kind of the bytes that a connection has sent first: a call, no call, or the beginning of a frame.
 #[derive(Clone, Copy)]
 pub enum Start {
-    /// With a call: a complete frame, or its first 4,096 bytes.
+    /// The beginning of a call: a complete frame, or the first 4,096 bytes of a frame.
     Call,
-    /// With no call: the first frame is malformed, or the connection ended before it.
+    /// The bytes are no call: the first frame is malformed, or the connection ended before the frame was
+    /// complete.
     NoCall,
-    /// With an incomplete frame.
+    /// The beginning of a frame, which is not complete yet.
     Open,
 }
 
-/// The result of a read from a connection that does not block.
+/// The result of a read from a connection in the queue, which does not block.
 #[derive(Clone, Copy)]
 pub enum PeerInput {
     /// The connection has sent no bytes.
     Nothing,
-    /// Bytes, or the end of the stream.
+    /// The connection has sent bytes, or has ended its stream.
     Something,
-    /// An error, or no memory for the bytes.
+    /// The read failed, or memory for the bytes was refused.
     Lost,
 }
 
-/// The bytes that a connection has sent so far.
+/// The bytes that a connection in the queue has sent.
 #[derive(Drop)]
 pub struct FirstBytes {
-    /// The bytes, in order.
+    /// The bytes, in the order in which they came.
     pub sent: Vec<u8>,
-    /// The kind of the bytes; `None` before the first read.
+    /// The kind of the bytes, or `None` before the first read.
     pub start: Option<Start>,
-    // When the last byte came; before the first byte, when the connection came.
+    // The time when the last byte came, or the connection if no byte has come.
     since: Instant,
-    // When the first byte came.
+    // The time when the first byte came.
     begun: Option<Instant>,
 }
 
-/// A connection in the queue.
+/// A connection in the queue, with the bytes that it has sent.
 pub struct Pending {
-    /// The stream. While it is in the queue, its reads and writes do not block.
+    /// The stream. Its reads and writes do not block while the connection is in the queue.
     pub stream: UnixStream,
-    /// The bytes that it has sent so far.
+    /// The bytes that the connection has sent.
     pub first: FirstBytes,
 }
 
@@ -69,7 +70,8 @@ impl Drop for Pending {
     }
 }
 
-// The kind of the bytes that a connection has sent so far, or in all if it has ended.
+// Returns the kind of the bytes that a connection has sent. `has_ended` is true if the connection has ended
+// after these bytes.
 fn start_of(sent: &[u8], has_ended: bool) -> Start
     ensures { Begins sent.now has_ended result }
 {
@@ -82,13 +84,13 @@ fn start_of(sent: &[u8], has_ended: bool) -> Start
     }
 }
 
-// Returns true if a read found no bytes.
+// Returns true if a read failed because no bytes have come.
 fn is_nothing(error: &io::Error) -> bool {
     matches!(error.kind(), ErrorKind::WouldBlock | ErrorKind::Interrupted)
 }
 
 impl FirstBytes {
-    // No bytes, of a connection that came at `since`.
+    // Makes the state of a connection that came at the time `since` and has sent no bytes.
     fn new(alloc: Global, since: Instant) -> FirstBytes
         ensures { (result.sent.items ≡ []) × (result.start ≡ None) × (result.since ≡ since)
             × (result.begun ≡ None) }
@@ -101,19 +103,24 @@ impl FirstBytes {
         }
     }
 
-    /// Returns true if a first frame is complete or known to be malformed.
+    /// Returns true if the connection is ready to be served:
+    ///
+    /// - its first frame is complete
+    /// - or 4,096 bytes of the first frame have come
+    /// - or the bytes are known to be no call
     pub fn is_known(&self) -> bool
         ensures { result ≡ is_known self.now.start }
     {
         matches!(self.start, Some(Start::Call | Start::NoCall))
     }
 
-    /// The time that the connection may go on without a complete call; `None` for ever. Its peer may send
-    /// nothing for `idle`, and has ten seconds from the first byte of its first call.
+    /// Returns the time for which the connection may still wait without a complete call. `None` means any
+    /// time. The peer may send nothing for the time `idle`. Once it has sent the first byte of its first
+    /// call, it has ten seconds for this call.
     ///
     /// # Errors
     ///
-    /// [`Ending::Idle`] or [`Ending::Slow`] if one of the two times is over.
+    /// [`Ending::Idle`] or [`Ending::Slow`] if the first or the second of these times is over.
     pub fn patience(&self, idle: Option<Duration>, now: Instant) -> Result<Option<Duration>, Ending>
         ensures { WaitsFor idle now self.now result }
     {
@@ -128,7 +135,7 @@ impl FirstBytes {
         Ok(longest)
     }
 
-    /// The time that the peer has taken for its first call so far: from its first byte to its last.
+    /// Returns the time that the peer has taken for its first call, from its first byte to its last.
     pub fn spent(&self) -> Duration
         ensures { as_nanos result ≡ spent_nanos self.now }
     {
@@ -138,14 +145,15 @@ impl FirstBytes {
         }
     }
 
-    /// When the last byte came, with which the connection became ready.
+    /// Returns the time when the last byte came. In a connection that is ready, this byte made the connection
+    /// ready.
     pub fn since(&self) -> Instant
         ensures { result ≡ self.now.since }
     {
         self.since
     }
 
-    // Adds the bytes of a read. They are empty at the end of the stream.
+    // Adds the bytes of a read. No bytes mean the end of the stream.
     fn accept(&mut self, piece: &[u8], now: Instant) -> PeerInput
         ensures { Accepts piece.now now self.old self.new result }
     {
@@ -158,7 +166,7 @@ impl FirstBytes {
         PeerInput::Something
     }
 
-    // Reads once, and adds the bytes.
+    // Reads once from the reader, and adds the bytes.
     fn receive<R: Read>(&mut self, reader: &mut R, now: Instant) -> PeerInput
         ensures { Finds (R.remaining reader.old) (R.remaining reader.new) now self.old self.new result }
     {
@@ -175,7 +183,7 @@ impl FirstBytes {
 }
 
 impl Pending {
-    /// A connection that came at `since` and has sent nothing yet.
+    /// Makes the entry of a connection that came at the time `since` and has sent no bytes.
     pub fn new(alloc: Global, stream: UnixStream, since: Instant) -> Pending
         ensures new { IsNew since result }
         ensures stream { result.stream ≡ stream }
@@ -186,7 +194,8 @@ impl Pending {
         }
     }
 
-    /// Reads once. A connection that is ready is not read from: the rest belongs to its turn.
+    /// Reads once from the connection. If the connection is ready, reads nothing, since the later bytes are
+    /// read when the connection is served.
     pub fn receive(&mut self, now: Instant) -> PeerInput
         ensures known { is_known self.old.first.start ≡ true
             → (result ≡ PeerInput.Nothing) × (self.new.first ≡ self.old.first) }

@@ -1,6 +1,8 @@
-//! The turn of a connection: its calls are read and its replies written. While it blocks, the queue is
-//! polled. Once another connection is ready, the one being served is closed as soon as it has no call left to
-//! answer, and may delay a call or a reply only for a short time.
+//! The turn of a connection: its calls are read and its replies written. While the connection blocks, the
+//! queue is polled.
+//!
+//! If another connection is ready, the connection that is served is closed as soon as all its calls are
+//! answered. Until then it may delay a call or a reply only for a short time.
 
 ghost use Rattle.std.specs.Prelude.{◌≡◌, Bool, true, false, Some, ⊤, OnOk};
 ghost use Rattle.std.specs.Io.{ReadsAtMost, WritesAtMost};
@@ -22,17 +24,17 @@ use std::time::{Duration, Instant};
 
 /// A connection that is read and written without blocking for long.
 trait Stream {
-    // A look at the stream for a way returned this.
+    // The effect of asking if the stream is ready to be read or written, and the answer.
     ghost found: { Self → Way → Bool → Type 0 } = { λ _ _ _. ⊤ };
 
-    /// Returns true if a read or a write would end at once, also with an error.
+    /// Returns true if a read or a write would end at once, even with an error.
     fn is_ready(&self, way: Way) -> bool
         ensures { found self.now way result };
 
-    /// Makes each later read and write end at once.
+    /// Makes each later read and write of the stream end at once.
     fn stop_blocking(&self) -> io::Result<()>;
 
-    /// Makes a wait of the queue also end when this stream can be written.
+    /// Registers the stream, so that a wait of the queue also ends when the stream can be written.
     fn watch_both(&self, waiting: &Waiting) -> io::Result<()>;
 }
 
@@ -50,12 +52,12 @@ impl Stream for UnixStream {
     }
 }
 
-// Returns true if the call moved no bytes and may be made again.
+// Returns true if the read or write moved no bytes and can be tried again.
 fn may_wait(error: &io::Error) -> bool {
     matches!(error.kind(), ErrorKind::WouldBlock | ErrorKind::Interrupted)
 }
 
-// `now` and this many seconds; `now` where the clock has no such time.
+// Returns the time this number of seconds after `now`, or `now` if the clock has no such time.
 fn later(now: Instant, seconds: u64) -> Instant {
     now.checked_add(Duration::from_secs(seconds)).unwrap_or(now)
 }
@@ -66,22 +68,22 @@ struct Steps<'a, S> {
     console: &'a Console<'a>,
     stream: &'a S,
     waiting: &'a mut Waiting,
-    // The time of the current call or reply.
+    // The clock of the current call or reply.
     clock: CallClock,
-    // When the turn ends if another connection is ready then.
+    // The time when the turn ends if another connection is ready.
     until: Instant,
-    // When the queue is polled again even if no read blocks: a peer that sends a byte now and then would
-    // otherwise keep the queue from being polled.
+    // The time when the queue is polled again, even if no read blocks. Otherwise a peer that sends a byte
+    // from time to time would keep the queue from being polled.
     poll_at: Instant,
-    // Whether a read or a write may block, for a second at most.
+    // True if a read or a write may block, for a second at most.
     is_blocking: bool,
-    // Why the turn ended, or `None` while it goes on.
+    // The reason why the turn ended, or `None` while it goes on.
     ending: Option<Ending>,
 }
 
 impl<S: Stream> Steps<'_, S> {
-    // Polls the queue. Once another connection is ready, reads and writes no longer block. An error of the
-    // socket is reported between two connections.
+    // Polls the queue. As soon as another connection is ready, reads and writes no longer block. An error of
+    // the socket is ignored here; it is reported between two connections.
     fn look(&mut self, now: Instant) -> io::Result<()>
         ensures { (self.new.clock ≡ self.old.clock) × (self.new.stream ≡ self.old.stream) }
     {
@@ -93,7 +95,7 @@ impl<S: Stream> Steps<'_, S> {
         Ok(())
     }
 
-    // Ends the turn for this reason, and returns the error of the read or write that it ends.
+    // Ends the turn for this reason. Returns the error for the read or write in which the turn ends.
     fn end(&mut self, ending: Ending) -> io::Error
         ensures kept { (self.new.clock ≡ self.old.clock) × (self.new.stream ≡ self.old.stream) }
         ensures ending { self.new.ending ≡ Some ending }
@@ -102,8 +104,8 @@ impl<S: Stream> Steps<'_, S> {
         io::Error::from(ErrorKind::TimedOut)
     }
 
-    // The time that the peer may still delay a read or a write, or why the turn ends. If reads block, a
-    // second of the peer's silence has passed in the read itself.
+    // Returns how long the peer may still delay a read or a write, or the reason why the turn ends. If reads
+    // block, the peer has already been silent for a second in the read itself.
     fn patience(&mut self, now: Instant) -> Result<Option<Duration>, Ending>
         ensures call { GoesOnCall self.old.clock self.new.clock }
         ensures stream { self.new.stream ≡ self.old.stream }
@@ -117,7 +119,7 @@ impl<S: Stream> Steps<'_, S> {
         }
     }
 
-    // Polls the queue until the stream is ready, or until the peer's time is over.
+    // Polls the queue until the stream is ready, or fails if the time of the peer is over.
     fn wait(&mut self, way: Way) -> io::Result<()>
         ensures ready { OnOk result (S.found self.new.stream.now way true) }
         ensures call { GoesOnCall self.old.clock self.new.clock }
@@ -137,7 +139,7 @@ impl<S: Stream> Steps<'_, S> {
         Err(io::Error::from(ErrorKind::TimedOut))
     }
 
-    // Waits until the stream can be written. A reply has a time of its own.
+    // Waits until the stream can be written. The first wait begins the time of the reply.
     fn wait_to_write(&mut self) -> io::Result<()>
         ensures ready { OnOk result (S.found self.new.stream.now Way.Write true) }
         ensures reply { OnOk result (self.new.clock.is_reply ≡ true) }
@@ -194,7 +196,7 @@ impl<S: Stream> Steps<'_, S> {
         }
     }
 
-    // Reads the next bytes, and waits for them if need be.
+    // Reads the next bytes, and waits for them if necessary.
     fn read<R: Read>(&mut self, reader: &mut R, buf: &mut [u8]) -> io::Result<usize>
         ensures bound { ReadsAtMost result buf.new }
         ensures bytes { ReadConsumes (R.remaining reader.old) (R.remaining reader.new) result buf.new }
@@ -216,7 +218,7 @@ impl<S: Stream> Steps<'_, S> {
         Err(io::Error::from(ErrorKind::TimedOut))
     }
 
-    // Writes as many bytes as the stream takes, and waits for it if need be.
+    // Writes as many bytes as the stream takes, and waits until it takes bytes if necessary.
     fn write<W: Write>(&mut self, writer: &mut W, buf: &[u8]) -> io::Result<usize>
         ensures bound { WritesAtMost result buf.now }
         ensures bytes { WriteAppends (W.contents writer.old) (W.contents writer.new) result buf.now }
@@ -234,7 +236,7 @@ impl<S: Stream> Steps<'_, S> {
         Err(io::Error::from(ErrorKind::TimedOut))
     }
 
-    // Ends a reply that was written whole.
+    // Ends the time of a reply that was written completely.
     fn end_reply(&mut self)
         ensures { IsBetweenCalls self.new.clock }
     {
@@ -242,22 +244,22 @@ impl<S: Stream> Steps<'_, S> {
     }
 }
 
-/// The turn of a connection: bounds how long its reads and writes wait for the peer.
+/// The turn of a connection. It bounds how long reads and writes wait for the peer.
 #[derive(Drop)]
 pub struct Turn<'a> {
     stream: &'a UnixStream,
     steps: RefCell<Steps<'a, UnixStream>>,
-    /// Why the turn ended before the peer closed the connection; `None` otherwise.
+    /// The reason why the turn ended before the peer closed the connection, otherwise `None`.
     pub ending: Cell<Option<Ending>>,
 }
 
 impl<'a> Turn<'a> {
     /// Begins the turn of a connection that has sent bytes. While no other connection is ready, a read or a
-    /// write of its stream may block for up to a second, and the queue is polled after that.
+    /// write of the stream may block for up to a second, and then the queue is polled.
     ///
     /// # Errors
     ///
-    /// If the system refuses a setting of the stream or the time.
+    /// If the system refuses a setting of the stream, or does not tell the time.
     pub fn new(
         console: &'a Console<'a>,
         peer: &'a Pending,
@@ -304,7 +306,7 @@ impl<'a> Turn<'a> {
     }
 }
 
-/// Reads the calls of a connection. It returns the bytes of the stream in order, also after a wait.
+/// Reads the calls of a connection. Returns the bytes of the stream in order, also after a wait.
 #[derive(Drop)]
 pub struct TurnReader<'t, 'a, R> {
     turn: &'t Turn<'a>,
@@ -324,8 +326,8 @@ impl<R: Read> Read for TurnReader<'_, '_, R> {
     }
 }
 
-/// Writes the replies of a connection. It passes its bytes to the stream in order, also after a wait. A flush
-/// ends a reply.
+/// Writes the replies of a connection to its stream, in order. A write may wait until the stream takes more
+/// bytes, and then continues with the bytes that are left. A flush ends a reply.
 #[derive(Drop)]
 pub struct TurnWriter<'t, 'a, W> {
     turn: &'t Turn<'a>,

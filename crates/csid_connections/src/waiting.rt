@@ -1,5 +1,5 @@
-//! The queue of connections that wait to be served. Each look reads from all of them, so a connection that
-//! sends nothing delays no other one.
+//! The queue of connections that wait to be served. A look at the queue reads from all of its connections, so
+//! a connection that sends nothing delays no other connection.
 
 ghost use Rattle.std.specs.Prelude.{◌≡◌, ◌≤◌, ◌-◌, ◌+◌, ◌*◌, ℕ, None, false, true, IfOk, IfSome, [], length, slice_index_or};
 ghost use Rattle.std.specs.List.{list_any, position};
@@ -20,13 +20,14 @@ use std::os::fd::{AsRawFd, RawFd};
 use std::os::unix::net::{UnixListener, UnixStream};
 use std::time::{Duration, Instant};
 
-// The most connections that wait. A further one replaces the oldest that has sent no call.
+// The greatest number of connections in the queue. Another connection replaces the oldest connection that has
+// sent no call.
 const MOST: usize = 256;
 
-// The most connections that are accepted in one look.
+// The greatest number of connections that are accepted in one look.
 const AT_ONCE: usize = 64;
 
-// The token of every source: a look reads from all, so it does not matter which one is ready.
+// The token of every source. A look reads from all connections, so it does not matter which source is ready.
 const ANY: Token = Token(0);
 
 /// The queue of connections, and the socket that accepts them.
@@ -35,11 +36,11 @@ pub struct Waiting {
     poll: Poll,
     events: Events,
     pending: VecDeque<Pending>,
-    // The connections that are still accepted.
+    // The number of connections that will still be accepted.
     left: u32,
-    // The time that a connection may send nothing; `None` for ever.
+    // The time for which a connection may send nothing, or `None` for any time.
     idle: Option<Duration>,
-    // Whether a connection or bytes came at the last look.
+    // True if a connection or bytes came at the last look.
     is_stirring: bool,
 }
 
@@ -57,13 +58,13 @@ impl Drop for Waiting {
     }
 }
 
-// Makes a wait end when a source can be read.
+// Makes a wait end when bytes or connections come from this source.
 fn watch(poll: &Poll, source: RawFd) -> io::Result<()> {
     poll.registry()
         .register(&mut SourceFd(&source), ANY, Interest::READABLE)
 }
 
-// The line for a connection that was closed for this reason.
+// Displays the line about a connection that was closed for this reason.
 #[derive(Clone, Copy)]
 struct Ended(Ending);
 
@@ -88,14 +89,14 @@ impl Display for Ended {
     }
 }
 
-/// Reports that a connection was closed, and why.
+/// Writes a line about a connection that was closed, with the reason.
 pub fn report_ending(console: &Console<'_>, ending: Ending, now: Instant) {
     console.report_end(ending, now, &Ended(ending));
 }
 
 impl Waiting {
-    /// An empty queue of the connections to `listener`. It accepts `connections` in all, and closes a
-    /// connection after `idle` seconds without bytes.
+    /// Makes an empty queue of the connections to `listener`. The queue accepts `connections` connections in
+    /// all, and closes a connection after `idle` seconds without bytes.
     ///
     /// # Errors
     ///
@@ -122,21 +123,23 @@ impl Waiting {
         })
     }
 
-    /// The time that a peer may send nothing, or take nothing; `None` for ever.
+    /// Returns the time for which a peer may send or take nothing, or `None` for any time.
     pub fn idle(&self) -> Option<Duration>
         ensures { result ≡ self.now.idle }
     {
         self.idle
     }
 
-    /// Returns true if a connection in the queue has sent a complete first frame or is known to be malformed.
+    /// Returns true if a connection in the queue is ready. A connection is ready if its first frame is
+    /// complete, 4,096 bytes of the frame have come, or it is known that its bytes are no call.
     pub fn has_ready(&self) -> bool
         ensures { result ≡ list_any is_ready self.now.pending.items }
     {
         self.pending.iter().any(|one| one.first.is_known())
     }
 
-    /// When the first of the connections that are ready became so; `None` if no connection is ready.
+    /// Returns the time at which a connection of the queue became ready. If several are ready, returns the
+    /// earliest of these times. Returns `None` if no connection is ready.
     pub fn ready_since(&self) -> Option<Instant> {
         let mut earliest = None;
         for one in self.pending.iter() {
@@ -148,8 +151,8 @@ impl Waiting {
         earliest
     }
 
-    // The time that a connection in the queue may send nothing. After the last accepted connection it is
-    // limited, so that the program ends.
+    // Returns the time for which a connection in the queue may send nothing. After the last connection is
+    // accepted, this time is always limited, so that the program ends.
     fn silence(&self) -> Option<Duration>
         ensures { IsSilence self.now.idle self.now.left result }
     {
@@ -159,11 +162,12 @@ impl Waiting {
         least(self.idle, Some(Duration::from_secs(CALL_SECONDS)))
     }
 
-    /// Makes a wait also end when this connection, which was in the queue, can be written.
+    /// Registers a connection that was in the queue, so that a wait also ends when this connection can be
+    /// written.
     ///
     /// # Errors
     ///
-    /// If the system refuses.
+    /// If the system refuses to register the connection.
     pub fn watch_both(&self, stream: &UnixStream) -> io::Result<()> {
         let source = stream.as_raw_fd();
         let both = Interest::READABLE | Interest::WRITABLE;
@@ -172,7 +176,7 @@ impl Waiting {
             .reregister(&mut SourceFd(&source), ANY, both)
     }
 
-    // A connection that has just been accepted.
+    // Makes the entry of a connection that was accepted at the time `now`.
     fn begin(&self, alloc: Global, stream: UnixStream, now: Instant) -> io::Result<Pending>
         ensures { IfOk result (IsNew now) }
     {
@@ -181,7 +185,7 @@ impl Waiting {
         Ok(Pending::new(alloc, stream, now))
     }
 
-    // The place of the oldest connection that has sent no call.
+    // Returns the index of the oldest connection that has sent no call.
     fn oldest(&self) -> Option<usize>
         ensures { result ≡ position has_no_call self.now.pending.items }
     {
@@ -202,7 +206,7 @@ impl Waiting {
         }
     }
 
-    // Returns true if no further connection can wait, nor replace another one.
+    // Returns true if the queue is full and no connection in it can be replaced.
     fn is_full(&self) -> bool
         ensures { result ≡ is_full self.now.pending.items }
     {
@@ -229,8 +233,8 @@ impl Waiting {
         }
     }
 
-    // Closes up to half of the queue if the system refuses a further connection, as for want of descriptors.
-    // The error is returned if the queue is empty.
+    // If the system refuses a new connection, for example for lack of descriptors, closes up to half of the
+    // queue. Returns the error if the queue is empty.
     fn make_room(&mut self, console: &Console<'_>, error: io::Error, now: Instant) -> io::Result<()>
         ensures bounded { length self.new.pending.items ≤ length self.old.pending.items }
         ensures room { (n : ℕ) × (n * 2 ≤ length self.old.pending.items + 1)
@@ -249,7 +253,7 @@ impl Waiting {
         Ok(())
     }
 
-    // Accepts the connections that have come, some of them at a time.
+    // Accepts connections that have come, at most `AT_ONCE` of them.
     fn accept_some(&mut self, console: &Console<'_>, now: Instant) -> io::Result<()>
         ensures bounded { StayFew self.old.pending.items self.new.pending.items }
         ensures takes { TakesIn now self.old.pending.items self.new.pending.items
@@ -269,7 +273,7 @@ impl Waiting {
         Ok(())
     }
 
-    // Reads from a connection. Returns why it is closed, or `None` if it goes on waiting.
+    // Reads from a connection. Returns the reason why it is closed, or `None` if it stays in the queue.
     fn ending_of(&mut self, one: &mut Pending, now: Instant) -> Option<Ending>
         ensures others { (self.new.pending ≡ self.old.pending) × (self.new.left ≡ self.old.left)
             × (self.new.idle ≡ self.old.idle) }
@@ -288,7 +292,8 @@ impl Waiting {
         }
     }
 
-    // Reads from the first connection of the queue and makes it the last, or closes it and returns why.
+    // Reads from the first connection of the queue. Then makes it the last connection, or closes it and
+    // returns the reason.
     fn look_at_first(&mut self, now: Instant) -> Option<Ending>
         ensures turns { TurnsOver self.old.idle self.old.left now
             self.old.pending.items self.new.pending.items }
@@ -305,7 +310,7 @@ impl Waiting {
         }
     }
 
-    // Reads from each connection, in order.
+    // Reads from each connection of the queue, in order.
     fn receive_all(&mut self, console: &Console<'_>, now: Instant)
         ensures looks { LooksAt self.old.idle self.old.left now
             self.old.pending.items self.new.pending.items }
@@ -320,7 +325,7 @@ impl Waiting {
         }
     }
 
-    // The place of the oldest connection that is ready.
+    // Returns the index of the oldest connection that is ready.
     fn first_ready(&self) -> Option<usize>
         ensures place { result ≡ position is_ready self.now.pending.items }
         ensures ready { IfSome result (λ place. (d : Pending)
@@ -329,7 +334,7 @@ impl Waiting {
         self.pending.iter().position(|it| it.first.is_known())
     }
 
-    // Takes the oldest connection that is ready out of the queue.
+    // Removes the oldest connection that is ready from the queue and returns it.
     fn pop_ready(&mut self) -> Option<Pending>
         ensures taken { TakesOut (position is_ready self.old.pending.items)
             self.old.pending.items self.new.pending.items result }
@@ -342,7 +347,7 @@ impl Waiting {
         self.pending.remove(place)
     }
 
-    // The time until a connection of the queue must be closed; `None` for ever.
+    // Returns the time until a connection of the queue must be closed, or `None` for any time.
     fn patience(&self, now: Instant) -> Option<Duration> {
         let mut longest = None;
         for one in self.pending.iter() {
@@ -361,7 +366,7 @@ impl Waiting {
     ///
     /// # Errors
     ///
-    /// If the socket refuses a connection while the queue is empty.
+    /// If the system refuses a new connection while the queue is empty.
     pub fn look(&mut self, console: &Console<'_>, now: Instant) -> io::Result<()>
         ensures bounded { StayFew self.old.pending.items self.new.pending.items }
         ensures looks { Looks self.old.idle now self.old.pending.items self.new.pending.items
@@ -375,8 +380,8 @@ impl Waiting {
         accepted
     }
 
-    /// Waits until a connection or bytes come, until a connection of the queue has to be closed, or for
-    /// `longest`. It returns at once if the last look found something.
+    /// Waits for the first of these events: a connection or bytes come, a connection of the queue must be
+    /// closed, or the time `longest` is over. Returns at once if the last look found a connection or bytes.
     ///
     /// # Errors
     ///
@@ -397,12 +402,13 @@ impl Waiting {
         self.poll.poll(&mut self.events, least(longest, own))
     }
 
-    /// The oldest connection that has sent a complete first frame or is known to be malformed. `None` after
-    /// the last connection.
+    /// Waits until a connection of the queue is ready ([`Waiting::has_ready`]), and returns the oldest ready
+    /// connection. Returns `None` after the last connection.
     ///
     /// # Errors
     ///
-    /// If the socket refuses a connection while the queue is empty, or the system refuses to wait.
+    /// If the system refuses a new connection while the queue is empty, refuses to wait, or does not tell the
+    /// time.
     pub fn next(&mut self, console: &Console<'_>) -> io::Result<Option<Pending>>
         ensures ready { IfOk result (λ next. IfSome next (λ one. is_ready one ≡ true)) }
         ensures bounded { StayFew self.old.pending.items self.new.pending.items }

@@ -1,5 +1,5 @@
-//! Lines on standard error. No line is waited for: calls are answered also where nobody reads what is written
-//! there.
+//! Writes lines on standard error without waiting. So calls are answered even if no program reads standard
+//! error.
 
 ghost use Rattle.std.specs.Prelude.{◌≡◌, ◌≤◌, ◌<◌, ◌^◌, IfSome};
 ghost use Rattle.std.specs.Duration.{as_nanos};
@@ -13,15 +13,15 @@ use std::io::Write;
 use std::os::fd::AsRawFd;
 use std::time::{Duration, Instant};
 
-// A pipe that is ready for a write has room for this number of bytes (`PIPE_BUF` of pipe(7)).
+// The number of bytes that a pipe takes at once if it is ready for a write (`PIPE_BUF` of pipe(7)).
 const PART: usize = 4096;
 
-// The most lines about ended connections that are written in a second. Further connections are counted.
+// The greatest number of lines about ended connections in one second. Further connections are only counted.
 const FEW: u32 = 10;
 
 const SECOND_MILLIS: u64 = 1000;
 
-// The number of counted ways in which a connection ends.
+// The number of ways in which a connection ends, each of which is counted.
 const WAYS: usize = 7;
 
 /// The way in which a connection ended before all its calls were read and answered.
@@ -31,13 +31,13 @@ pub enum Ending {
     Idle,
     /// The peer began a call and did not complete it in time.
     Slow,
-    /// The peer had gone before the connection was served.
+    /// The peer had closed the connection before it was served.
     Gone,
-    /// The connection had sent no call, and too many connections waited.
+    /// The connection had sent no call, and too many connections were waiting.
     Crowded,
-    /// A frame was malformed.
+    /// The connection sent a malformed frame.
     Malformed,
-    /// The connection kept another one waiting.
+    /// The connection delayed another connection for too long.
     Preempted,
     /// The connection could not be read or written.
     Failed,
@@ -54,7 +54,7 @@ const ENDINGS: [Ending; WAYS] = [
 ];
 
 impl Ending {
-    // The words for a count of connections that ended in this way.
+    // Returns the words for a count of connections that ended in this way.
     fn words(self) -> &'static str {
         match self {
             Ending::Idle => "sent nothing in time",
@@ -67,7 +67,7 @@ impl Ending {
         }
     }
 
-    // The index of this way among the counts.
+    // Returns the index of this way in an array of counts.
     fn place(self) -> usize
         ensures { result < WAYS }
     {
@@ -83,7 +83,7 @@ impl Ending {
     }
 }
 
-// The counts of connections that ended without a line.
+// For each way of ending, the number of connections that ended without a line of their own.
 #[derive(Clone, Copy)]
 struct Tally {
     counts: [u64; WAYS],
@@ -114,21 +114,21 @@ impl Display for Tally {
     }
 }
 
-/// The writer of lines to standard error, which never waits.
+/// Writes lines to standard error, and never waits.
 #[derive(Drop)]
 pub struct Console<'a> {
-    /// The runtime of the program.
+    /// The runtime of the program, through which lines are written.
     pub rt: &'a HostRuntime,
-    // The number of lines dropped since the last written one.
+    // The number of lines that were dropped after the last line that was written.
     dropped: Cell<u64>,
-    // The beginning of the second in which lines about connections are counted.
+    // The start of the second in which lines about connections are counted.
     second: Cell<Option<Instant>>,
     shown: Cell<u32>,
     tally: Cell<Tally>,
 }
 
 impl<'a> Console<'a> {
-    /// A console that has written and dropped no line and counted no connection.
+    /// Makes a console that has written no line, dropped no line and counted no connection.
     pub fn new(rt: &'a HostRuntime) -> Console<'a>
         ensures { result.rt.now ≡ rt.now }
     {
@@ -141,7 +141,7 @@ impl<'a> Console<'a> {
         }
     }
 
-    // Writes bytes if standard error takes them without waiting. Returns true if all were written.
+    // Writes bytes if standard error takes them without waiting. Returns true if all bytes were written.
     fn write(&self, line: &[u8]) -> bool {
         let mut stderr = self.rt.stderr();
         for part in line.chunks(PART) {
@@ -160,7 +160,7 @@ impl<'a> Console<'a> {
         }
     }
 
-    // Writes how many lines were dropped, if any were. Returns true if a line may follow.
+    // Writes how many lines were dropped, if any. Returns true if another line may follow.
     fn catch_up(&self) -> bool {
         let dropped = self.dropped.get();
         if dropped == 0 {
@@ -178,21 +178,21 @@ impl<'a> Console<'a> {
         has_caught_up
     }
 
-    /// Writes a line, after the program's name. A line that cannot be written at once is dropped, and the
-    /// next line that can be written comes after the number of the dropped lines.
+    /// Writes a line, which begins with the program's name. A line that cannot be written at once is dropped.
+    /// The next line that can be written comes after a line with the number of dropped lines.
     pub fn say<T: Display>(&self, what: &T) {
         if !self.catch_up() || !self.put(what) {
             self.dropped.set(self.dropped.get().saturating_add(1));
         }
     }
 
-    /// Writes a line about a file, or about another thing that has a name: its path or name, and then `what`.
-    /// A line that cannot be written at once is dropped, as by [`Console::say`].
+    /// Writes a line about a file or another thing that has a name: its path or name, a colon, and then
+    /// `what`. A line that cannot be written at once is dropped and counted.
     pub fn say_of<T: Display>(&self, path: &str, what: &T) {
         self.say(&Named { name: path, what });
     }
 
-    // The time until the count is written; `None` if there is no count, or its time has come.
+    // Returns the time until the end of the second, or `None` if no second has begun or it is over.
     fn left(&self, now: Instant) -> Option<Duration>
         ensures { IfSome result (λ left. as_nanos left ≤ 10 ^ 9) }
     {
@@ -200,8 +200,8 @@ impl<'a> Console<'a> {
         Duration::from_millis(SECOND_MILLIS).checked_sub(now.duration_since(begun))
     }
 
-    /// The time until the count of ended connections is to be written, at most a second; `None` without a
-    /// count.
+    /// Returns the time until the counts of ended connections are due to be written, at most a second, or
+    /// `None` if no connection was counted.
     pub fn patience(&self, now: Instant) -> Option<Duration>
         ensures { IfSome result (λ left. as_nanos left ≤ 10 ^ 9) }
     {
@@ -211,7 +211,7 @@ impl<'a> Console<'a> {
         Some(self.left(now).unwrap_or_default())
     }
 
-    /// Writes how many connections ended without a line of their own, if any did, and counts from 0 again.
+    /// Writes how many connections ended without a line of their own, if any, and sets the counts to 0.
     pub fn finish(&self) {
         let tally = self.tally.get();
         if tally.total() > 0 {
@@ -220,8 +220,8 @@ impl<'a> Console<'a> {
         }
     }
 
-    /// Begins the next second if the one in which connections are counted is over at `now`, and writes how
-    /// many connections ended in it without a line of their own, if any did.
+    /// Begins the next second if the current second is over at `now`. Writes how many connections ended in
+    /// that second without a line of their own, if any.
     pub fn finish_second(&self, now: Instant) {
         if self.left(now).is_none() {
             self.shown.set(0);
@@ -233,7 +233,7 @@ impl<'a> Console<'a> {
         }
     }
 
-    // Counts a connection that ended.
+    // Counts a connection that ended in this way.
     fn count(&self, ending: Ending) {
         let mut tally = self.tally.get();
         let place = ending.place();
@@ -241,8 +241,8 @@ impl<'a> Console<'a> {
         self.tally.set(tally);
     }
 
-    /// Writes how a connection ended, with `what` as its line. After ten lines in the same second it counts
-    /// the connection by its `ending` instead, and the count is written when the second is over.
+    /// Writes `what` as a line about a connection that ended. After ten such lines in one second, only counts
+    /// the connection under its `ending`. The counts are written when the second is over.
     pub fn report_end<T: Display>(&self, ending: Ending, now: Instant, what: &T) {
         self.finish_second(now);
         let shown = self.shown.get();

@@ -1,8 +1,9 @@
-//! The lines that the server writes on standard error, and whether a descriptor can be read or written
-//! without a wait.
+//! Writes the lines of the server on standard error, and tests if a descriptor can be read or written without
+//! waiting.
 //!
-//! No line is waited for: the server answers calls also where its standard error is full. The lines that do
-//! not fit are counted, and so are the connections that end when many end in the same second.
+//! The console never waits, so the server answers calls even if its standard error is full. Lines that
+//! standard error does not take are counted. If many connections end in the same second, the connections
+//! without a line are counted too.
 //!
 //! ```rust
 //! let console = Console::new(&rt);

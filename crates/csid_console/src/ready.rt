@@ -1,4 +1,4 @@
-//! Whether a descriptor can be read or written without a wait.
+//! Tests if a descriptor can be read or written without waiting.
 
 use libc::net::{POLLIN, POLLOUT, poll};
 use libc::types::pollfd;
@@ -7,14 +7,14 @@ use std::os::fd::RawFd;
 /// The kind of readiness that a poll asks for.
 #[derive(Clone, Copy)]
 pub enum Way {
-    /// Ready to read: bytes have come, or the end of the stream.
+    /// Ready to read: bytes or the end of the stream have come.
     Read,
-    /// Ready to write: bytes can be taken.
+    /// Ready to write: the descriptor takes bytes.
     Write,
 }
 
-/// Returns true if a read or a write of a descriptor would end at once, also with an error. The call itself
-/// does not wait. Returns false if the system does not say.
+/// Returns true if a read or a write of a descriptor would end at once, even with an error. The call itself
+/// does not wait. Returns false if the system does not answer.
 pub fn is_ready(fd: RawFd, way: Way) -> bool {
     let events = match way {
         Way::Read => POLLIN,

@@ -1,4 +1,5 @@
-//! `csid --copy-tables`: a copy of the tables in a file as they were committed at one moment, in a new file.
+//! Runs `csid --copy-tables`: copies the tables in a file, as they were committed at one moment, into a new
+//! file.
 
 ghost use Rattle.std.specs.Prelude.{IfErr};
 ghost use Rattle.csid_settings.specs.Statuses.{IsOrNoMemory};
@@ -21,7 +22,7 @@ const OWNER: u32 = 0o600;
 
 const EXISTS: &str = "it exists already, and is not replaced";
 
-// Closes a database and returns its files. The database file then has all of its pages.
+// Closes a database and returns its files. The database file then contains all pages.
 fn closed<D: Disk + Drop>(conn: Connection<FileStore<D>>) -> Result<Files<D>, Error> {
     match conn.close_files() {
         Ok(files) => Ok(files),
@@ -32,7 +33,7 @@ fn closed<D: Disk + Drop>(conn: Connection<FileStore<D>>) -> Result<Files<D>, Er
     }
 }
 
-// The bytes of one file that has the tables in a file and its WAL.
+// Returns the bytes of a single file that contains everything in a file of tables and its WAL.
 fn whole_bytes(rt: &HostRuntime, path: &str) -> Result<Vec<u8>, Failure>
     ensures { IfErr result (λ failure. IsOrNoMemory 4 failure) }
 {
@@ -46,7 +47,7 @@ fn whole_bytes(rt: &HostRuntime, path: &str) -> Result<Vec<u8>, Failure>
     }
 }
 
-// The counts of the tables in the bytes of a file, judged by a configuration.
+// Checks the tables in the bytes of a file by a configuration, and returns their counts.
 fn judged(
     console: &Console<'_>,
     path: &str,
@@ -58,7 +59,7 @@ fn judged(
     adopted(console, path, conn, config)
 }
 
-// Writes a new file, and waits until the disk has its bytes.
+// Writes a new file, and waits until its bytes are on the disk.
 fn write_new(rt: &HostRuntime, path: &str, bytes: &[u8]) -> io::Result<()> {
     let mut file = OpenOptions::new()
         .write(true)
@@ -69,7 +70,7 @@ fn write_new(rt: &HostRuntime, path: &str, bytes: &[u8]) -> io::Result<()> {
     file.sync_all()
 }
 
-// The folder of a path.
+// Returns the folder of a path.
 fn folder_of(path: &str) -> &str {
     match path.rsplit_once('/') {
         Some(("", _)) => "/",
@@ -78,13 +79,26 @@ fn folder_of(path: &str) -> &str {
     }
 }
 
-// Renames a file, and waits until the disk has its new name.
+// Gives a file another name, which no other file may have. A file system without links renames the file.
+fn give_name(rt: &HostRuntime, from: &str, to: &str) -> io::Result<()> {
+    match fs::hard_link(rt, from, to) {
+        Ok(()) => fs::remove_file(rt, from),
+        Err(error) if error.kind() == ErrorKind::AlreadyExists => Err(error),
+        Err(_) => fs::rename(rt, from, to),
+    }
+}
+
+// Gives a new file its name, and waits until the disk has the name. If the name cannot be given, the file is
+// removed.
 fn put_in_place(rt: &HostRuntime, from: &str, to: &str) -> io::Result<()> {
-    fs::rename(rt, from, to)?;
+    if let Err(error) = give_name(rt, from, to) {
+        let _ = fs::remove_file(rt, from);
+        return Err(error);
+    }
     File::open(rt, folder_of(to))?.sync_all()
 }
 
-// Why a copy was not written.
+// Returns the failure if a copy could not be written.
 fn write_failure(rt: &HostRuntime, path: &str, error: &io::Error) -> Failure
     ensures { IsOrNoMemory 4 result }
 {
@@ -94,7 +108,8 @@ fn write_failure(rt: &HostRuntime, path: &str, error: &io::Error) -> Failure
     }
 }
 
-// Writes a copy as `TO.new` and then renames it to `TO`. After a failed write `TO.new` is removed.
+// Writes a copy as `TO.new` and then gives it the name `TO`. After a failure `TO.new` is removed, but for one
+// that was there before.
 fn write_copy(rt: &HostRuntime, to: &str, bytes: &[u8]) -> Result<(), Failure>
     ensures { IfErr result (λ failure. IsOrNoMemory 4 failure) }
 {
@@ -111,9 +126,10 @@ fn write_copy(rt: &HostRuntime, to: &str, bytes: &[u8]) -> Result<(), Failure>
     }
 }
 
-/// Copies the tables in the file at `path`, as they were committed at one moment, into a new file at `to`,
-/// and writes their counts on standard output. The copy needs no WAL, and is judged by the configuration
-/// before it gets its name. The file at `path` is only read; a server may have it open.
+/// Copies the tables in the file at `path` into a new file at `to`. The copy has the tables as they were
+/// committed at one moment. Writes the counts of the tables on standard output. The copy needs no WAL. It is
+/// checked under the configuration before the new file gets the name `to`. The file at `path` is only read,
+/// and a server may have it open.
 ///
 /// # Errors
 ///

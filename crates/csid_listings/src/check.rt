@@ -1,5 +1,5 @@
-//! `csid --check-config` and `csid --check-tables`: what a file has, or why it would be refused. Nothing is
-//! served, and nothing is changed.
+//! Runs `csid --check-config` and `csid --check-tables`: shows what a file contains, or why it is refused.
+//! Neither serves calls or changes a file.
 
 ghost use Rattle.std.specs.Prelude.{◌≡◌, false};
 
@@ -15,7 +15,7 @@ use sqlite::{Alter, Connection};
 use std::fmt::{self, Display};
 use std::io::Write;
 
-/// The counts of a configuration. Its `Display` is one line.
+/// The counts of pools and nodes of a configuration. Its `Display` is one line.
 #[derive(Clone, Copy, Drop)]
 struct Summary<'a> {
     config: &'a Config,
@@ -30,7 +30,7 @@ impl Display for Summary<'_> {
     }
 }
 
-/// Writes a line on standard output.
+/// Writes `what` as a line on standard output.
 ///
 /// # Errors
 ///
@@ -44,23 +44,26 @@ pub(crate) fn report<T: Display>(rt: &HostRuntime, what: &T) -> Result<(), Failu
     }
 }
 
-/// Reads the configuration in the file at `path` as `csid serve` does, and writes its counts on standard
-/// output. All of its faults are reported.
+/// Reads the configuration in the file at `path`, and writes the numbers of its pools and nodes as a line on
+/// standard output. Unknown keys and all faults of the configuration are reported.
 ///
 /// # Errors
 ///
-/// If the configuration is refused, the line cannot be written, or memory is refused.
+/// If the file cannot be read, the configuration has a fault, the line cannot be written, or memory is
+/// refused.
 pub fn check_config(console: &Console<'_>, path: &str) -> Result<(), Failure> {
     let config = checked_configuration(console, path)?;
     report(console.rt, &Summary { config: &config })
 }
 
-/// Adopts tables in memory, and returns their counts from before the adoption, which upgrades them to the
-/// latest format. If the tables are refused for a row, details of that row are reported.
+/// Adopts tables in memory, and returns the counts of the tables. If the tables are refused because of a row,
+/// reports details of this row.
+///
+/// The counts are read before the adoption, which upgrades the tables to the latest format.
 ///
 /// # Errors
 ///
-/// If the tables or memory are refused.
+/// If the tables are refused, or memory is refused.
 pub(crate) fn adopted<S: Alter + Drop>(
     console: &Console<'_>,
     path: &str,
@@ -81,8 +84,9 @@ pub(crate) fn adopted<S: Alter + Drop>(
     }
 }
 
-/// Judges the tables in the file at `path` by a configuration, as an opening does, over a copy in memory, and
-/// writes their counts on standard output. The file is only read.
+/// Checks that the tables in the file at `path` can be adopted under a configuration. Writes a line on
+/// standard output: the numbers of volumes and of attachments, the next number, and the format. The check is
+/// over a copy in memory, and the file is only read.
 ///
 /// # Errors
 ///
@@ -91,7 +95,8 @@ pub fn check_tables(console: &Console<'_>, path: &str, config: &Config) -> Resul
     over_tables_copy(console, path, CopyTask::Check(config))?
 }
 
-/// Adopts the tables on a connection under a configuration, and writes their counts on standard output.
+/// Adopts the tables on a connection under a configuration, and writes the counts of the tables on standard
+/// output.
 ///
 /// # Errors
 ///

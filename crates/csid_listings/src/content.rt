@@ -1,4 +1,4 @@
-//! What tables have.
+//! Counts the rows of tables, and reports the counts.
 
 ghost use Rattle.std.specs.Prelude.{◌≡◌, false};
 
@@ -18,13 +18,13 @@ pub struct Content {
     format: i64,
 }
 
-// A count as an `i64`, as SQLite has numbers; the greatest `i64` for a greater count.
+// Returns a count as an `i64`, as SQLite has numbers, or the greatest `i64` if the count is greater.
 fn shown(count: u64) -> i64 {
     i64::try_from(count).unwrap_or(i64::MAX)
 }
 
 impl Content {
-    /// The counts of adopted tables, which have the latest format.
+    /// Returns the counts of adopted tables, which have the latest format.
     pub fn of_adopted(content: &AdoptedContent) -> Content {
         Content {
             volumes: shown(content.volumes),
@@ -50,7 +50,7 @@ impl fmt::Display for Content {
     }
 }
 
-// The number that a query returns.
+// Returns the number that a query returns in its only row.
 fn number<S: Alter>(conn: &mut Connection<S>, sql: &str) -> Result<i64, Error>
     requires { conn.old.in_transaction ≡ false }
     ensures { conn.new.in_transaction ≡ false }
@@ -58,7 +58,7 @@ fn number<S: Alter>(conn: &mut Connection<S>, sql: &str) -> Result<i64, Error>
     conn.query_row(sql, &[])?.get(0)
 }
 
-/// The counts of the tables on a connection. The tables are only read.
+/// Reads the counts of the tables on a connection. Changes nothing.
 ///
 /// # Errors
 ///
@@ -75,7 +75,7 @@ pub fn read_content<S: Alter>(conn: &mut Connection<S>) -> Result<Content, Error
     })
 }
 
-/// Reports the counts of the tables in the file at `path`, or why they were not read.
+/// Reports the counts of the tables in the file at `path`, or why they could not be read.
 pub fn report_content(console: &Console<'_>, path: &str, content: Result<Content, Error>) {
     match content {
         Ok(content) => console.say_of(path, &content),

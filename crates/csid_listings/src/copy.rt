@@ -1,4 +1,4 @@
-//! A copy of a file of tables in memory, by reads alone.
+//! Copies a file of tables into memory. The file is only read.
 
 ghost use Rattle.std.specs.Prelude.{◌≡◌, ◌↔◌, ℕ, List, ⊤, false, IfErr, IfOk, IfSome, IsTrue};
 ghost use Rattle.sqlite_disk.specs.Memory.{memory_bytes, memory_is_usable};
@@ -18,18 +18,18 @@ use std::alloc::Global;
 use std::fs::{self, File};
 use std::io::{self, ErrorKind, Read};
 
-// The most tries of a copy while another process writes the file.
+// The greatest number of tries of a copy, if another process writes the file.
 const TRIES: usize = 10;
 
-// The length of the header of a WAL (sqlite.org/fileformat2.html, section 4.1).
+// The length in bytes of the header of a WAL (sqlite.org/fileformat2.html, section 4.1).
 const WAL_HEADER_BYTES: usize = 32;
 
 const IS_WRITTEN: &str = "it is written all the time";
 
-/// Why a file without tables is refused.
+/// The line for a file without tables.
 pub(crate) const NO_TABLES: &str = "it has no tables, and none are made";
 
-// Why a file cannot be read.
+// Returns the failure for a file that cannot be read.
 fn read_failure(alloc: Global, path: &str, error: &io::Error) -> Failure
     ensures { IsOrNoMemory 4 result }
 {
@@ -39,7 +39,7 @@ fn read_failure(alloc: Global, path: &str, error: &io::Error) -> Failure
     }
 }
 
-// The bytes of a file; no bytes if there is no file.
+// Reads the bytes of a file. A missing file has no bytes.
 fn bytes_of(rt: &HostRuntime, path: &str) -> Result<Vec<u8>, Failure>
     ensures { IfErr result (λ failure. IsOrNoMemory 4 failure) }
 {
@@ -50,7 +50,7 @@ fn bytes_of(rt: &HostRuntime, path: &str) -> Result<Vec<u8>, Failure>
     }
 }
 
-// The header of a WAL: its first 32 bytes, fewer of a shorter file, and no bytes without a file.
+// Reads the header of a WAL: its first 32 bytes, or all bytes of a shorter file. A missing file has no bytes.
 fn header_of(rt: &HostRuntime, path: &str) -> Result<Vec<u8>, Failure>
     ensures { IfErr result (λ failure. IsOrNoMemory 4 failure) }
 {
@@ -66,7 +66,7 @@ fn header_of(rt: &HostRuntime, path: &str) -> Result<Vec<u8>, Failure>
     }
 }
 
-// The path of the file that links lead to. SQLite keeps the WAL and the journal next to that file.
+// Returns the path of the file to which links lead. SQLite keeps the WAL and the journal next to this file.
 fn real_path(rt: &HostRuntime, path: &str) -> Result<String, Failure>
     ensures { IfErr result (λ failure. IsOrNoMemory 4 failure) }
 {
@@ -76,39 +76,40 @@ fn real_path(rt: &HostRuntime, path: &str) -> Result<String, Failure>
     }
 }
 
-// The path of a file that SQLite keeps next to a database file, with this end.
+// Returns the path of a file that SQLite keeps next to a database file: the path of the database file,
+// followed by `end`.
 fn path_with(alloc: Global, real: &str, end: &str) -> Result<String, Failure>
     ensures { IfErr result (λ failure. IsOrNoMemory 4 failure) }
 {
     Ok(format!(in alloc; "{real}{end}")?)
 }
 
-/// A database file and its WAL, as a copy reads them while another process may write them.
+/// Reads a database file and its WAL for a copy, while another process may write both.
 trait DatabaseReads {
-    // The whole database file was read and had these bytes.
+    // Holds if the whole database file was read and had these bytes.
     ghost database: { Self → Self → List ℕ → Type 0 } = { λ _ _ _. ⊤ };
-    // The whole WAL was read and had these bytes.
+    // Holds if the whole WAL was read and had these bytes.
     ghost wal: { Self → Self → List ℕ → Type 0 } = { λ _ _ _. ⊤ };
-    // The header of the WAL was read and had these bytes.
+    // Holds if the header of the WAL was read and had these bytes.
     ghost wal_header: { Self → Self → List ℕ → Type 0 } = { λ _ _ _. ⊤ };
 
-    /// The bytes of the database file; none if there is no such file.
+    /// Returns the bytes of the database file, or no bytes if there is no such file.
     fn read_database(&mut self) -> Result<Vec<u8>, Failure>
         ensures read { IfOk result (λ bytes. database self.old self.new bytes.items) }
         ensures failure { IfErr result (λ failure. IsOrNoMemory 4 failure) };
 
-    /// The bytes of the WAL; none if there is no such file.
+    /// Returns the bytes of the WAL, or no bytes if there is no such file.
     fn read_wal(&mut self) -> Result<Vec<u8>, Failure>
         ensures read { IfOk result (λ bytes. wal self.old self.new bytes.items) }
         ensures failure { IfErr result (λ failure. IsOrNoMemory 4 failure) };
 
-    /// The first 32 bytes of the WAL, fewer if the file is shorter.
+    /// Returns the first 32 bytes of the WAL, or all its bytes if it is shorter.
     fn read_wal_header(&mut self) -> Result<Vec<u8>, Failure>
         ensures read { IfOk result (λ bytes. wal_header self.old self.new bytes.items) }
         ensures failure { IfErr result (λ failure. IsOrNoMemory 4 failure) };
 }
 
-/// The files at a path.
+/// Reads the database file at a path, and its WAL.
 #[derive(Clone, Copy, Drop)]
 struct PathReads<'a> {
     rt: &'a HostRuntime,
@@ -137,9 +138,9 @@ fn has_header(wal: &[u8], header: &[u8]) -> bool
     header == wal.split_at(WAL_HEADER_BYTES.min(wal.len())).0
 }
 
-// Reads the database file, its WAL, the database file again, and last the header of the WAL. `None` if a
-// writer came between: the database file changed, or the WAL began again, which gives it a new header before
-// any of its frames is written over or cut off.
+// Reads the database file, its WAL, the database file again, and last the header of the WAL. Returns `None`
+// if a process wrote to them meanwhile: the database file changed, or the WAL began anew. A WAL that begins
+// anew gets a new header before any of its frames is overwritten or cut off.
 fn copied_once<F: DatabaseReads>(
     alloc: Global,
     files: &mut F,
@@ -164,7 +165,7 @@ fn copied_once<F: DatabaseReads>(
     Ok(Some(files_of(alloc, wal.as_slice(), database.as_slice())?))
 }
 
-// A copy of a database file and its WAL as they were at one moment.
+// Returns a copy of a database file and its WAL as they were at one moment.
 fn copied<F: DatabaseReads>(
     alloc: Global,
     path: &str,
@@ -185,18 +186,20 @@ fn copied<F: DatabaseReads>(
     Err(Failure::of_tables(alloc, path, &IS_WRITTEN))
 }
 
-// Returns true if a journal has changes to roll back, which only SQLite can do. The opening of the file
-// itself refuses such a journal too.
+// Returns true if a journal has changes to roll back, which only SQLite can do. An opening of the file
+// refuses such a journal too.
 fn is_hot(journal: &[u8]) -> bool {
     journal.first().is_some_and(|first| *first != 0)
 }
 
-/// A connection to a copy of a file and its WAL.
+/// Copies a database file and its WAL into memory, and opens a connection to the copy.
 ///
 /// # Errors
 ///
-/// If the file does not exist, cannot be read, is written all the time or is not a database, if a journal is
-/// next to it, or if memory is refused.
+/// - the file does not exist, cannot be read, or is not a database
+/// - another process writes the file during each try to copy it
+/// - a journal with changes to roll back is next to the file
+/// - memory is refused
 pub(crate) fn open_copy(
     rt: &HostRuntime,
     path: &str,
@@ -220,17 +223,16 @@ pub(crate) fn open_copy(
     open(rt.alloc(), path, copy)
 }
 
-/// A task over a copy of tables.
+/// A task over the copy of tables.
 #[derive(Clone, Copy)]
 pub(crate) enum CopyTask<'a> {
-    /// Judge the tables by a configuration.
+    /// Check that the tables can be adopted under a configuration.
     Check(&'a Config),
     /// List the chosen volumes, in JSON if the flag is true.
     List(&'a Chosen<'a>, bool),
 }
 
-// Does a task over the tables on a connection; fails if there are no tables. The code is independent of the
-// store.
+// Does a task over the tables on a connection. Fails if there are no tables. The code works for any store.
 fn over_tables<S: Alter + Drop>(
     console: &Console<'_>,
     path: &str,
@@ -249,13 +251,15 @@ fn over_tables<S: Alter + Drop>(
     })
 }
 
-/// Does a task over a copy of the tables in a file and its WAL. The files are only read: no lock is taken,
-/// and no file is made or changed. Returns the result of the task.
+/// Copies the tables in a file and its WAL into memory, does a task over the copy, and returns the result of
+/// the task. The files are only read: the function takes no lock, and makes and changes no file.
 ///
 /// # Errors
 ///
-/// If the file does not exist, cannot be read, is written all the time, is not a database or has no tables,
-/// if a journal is next to it, or if memory is refused.
+/// - the file does not exist, cannot be read, is not a database, or has no tables
+/// - another process writes the file during each try to copy it
+/// - a journal with changes to roll back is next to the file
+/// - memory is refused
 pub(crate) fn over_tables_copy(
     console: &Console<'_>,
     path: &str,

@@ -1,16 +1,17 @@
-//! Reports more about the row that made csid refuse tables: its volume, or by how many bytes its pool or how
-//! many volumes its node is too full.
+//! Reports more about the row for which `csid` refused tables. If the row is a volume, reports the volume. If
+//! a pool or a node is too full, reports by how much.
 
 use command_line::size_text;
 use csi_adoption::AdoptFault;
 use csi_config::Config;
 use csi_constraints::BrokenConstraint;
+use csi_rules::ID_PREFIX;
 use csid_console::Console;
 use sqlite::types::ValueRef;
 use sqlite::{Alter, Connection, Error, ErrorCode};
 use std::alloc::{AllocError, Global};
 
-// Why no details are reported.
+// The reason why no details are reported.
 enum Silence {
     // A row lacks a value, or the database fails.
     Unread,
@@ -41,7 +42,7 @@ impl From<Error> for Silence {
     }
 }
 
-// The line that describes a volume.
+// Returns the line about a volume: its name, its size and its pool.
 fn volume_line<S: Alter>(
     alloc: Global,
     conn: &mut Connection<S>,
@@ -58,10 +59,12 @@ fn volume_line<S: Alter>(
     let bytes: u64 = row.get(1)?;
     let pool: String = row.get(2)?;
     let size = size_text(alloc, bytes)?;
-    Ok(format!(in alloc; "volume {number}: it is vol-{number} ({name}), {size} in pool {pool}")?)
+    Ok(format!(in alloc;
+        "volume {number}: it is {ID_PREFIX}{number} ({name}), {size} in pool {pool}"
+    )?)
 }
 
-// The line with a pool's size, and the bytes of its volumes.
+// Returns the line about a pool: its size, and the bytes of its volumes.
 fn pool_line<S: Alter>(
     alloc: Global,
     conn: &mut Connection<S>,
@@ -84,7 +87,7 @@ fn pool_line<S: Alter>(
     Ok(format!(in alloc; "pool {name}: its volumes have {used}, and it has {size}")?)
 }
 
-// The line with a node's limit, and its number of volumes.
+// Returns the line about a node: its limit, and the number of its volumes.
 fn node_line<S: Alter>(
     alloc: Global,
     conn: &mut Connection<S>,
@@ -121,7 +124,7 @@ fn line<S: Alter>(
     }
 }
 
-/// Reports details of the row for which tables are refused, if the fault is of a row.
+/// Reports details of the row for which tables are refused, if the fault is in a row.
 pub(crate) fn explain<S: Alter>(
     console: &Console<'_>,
     path: &str,

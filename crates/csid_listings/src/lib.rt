@@ -1,10 +1,10 @@
-//! The tables in a file as the server reads them and says what they have: judged, counted and listed.
+//! Checks, counts and lists the tables in a file, and describes them for people and programs.
 //!
-//! [`check_tables`], [`list_tables`] and [`copy_tables`] read a copy in memory, which is one of a single
-//! moment, while another process may write the file ([`list_tables`] for people or in JSON, [`copy_tables`]
-//! into a new file). [`keeper_over`] adopts the tables on
-//! a connection, and [`database_failure`], [`adoption_failure`] and [`store_failure`] choose the line and the
-//! exit status where that fails.
+//! [`check_tables`], [`list_tables`] and [`copy_tables`] read a copy in memory, which has the tables as they
+//! were at one moment, even if another process writes the file. [`list_tables`] writes a list for people or
+//! in JSON, and [`copy_tables`] writes a new file. [`keeper_over`] adopts the tables on a connection.
+//! [`database_failure`], [`adoption_failure`] and [`store_failure`] choose the line and the exit status if
+//! that fails.
 //!
 //! ```rust
 //! check_tables(&console, "/var/lib/csid/volumes.db", &config)?;

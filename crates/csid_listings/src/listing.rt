@@ -1,5 +1,5 @@
-//! `csid --list-tables`: the volumes of a file of tables, and how much each pool and node has of them. No
-//! configuration is read, no lock is taken, and nothing is changed.
+//! Runs `csid --list-tables`: lists the volumes in a file of tables, and the sums of their sizes for each
+//! pool and node. It reads no configuration, takes no lock and changes nothing.
 
 ghost use Rattle.std.specs.Prelude.{◌≡◌, false};
 
@@ -11,6 +11,7 @@ mod text;
 
 use crate::copy::{CopyTask, over_tables_copy};
 use csi_keeper::{PageWithNodes, Volume};
+use csi_rules::number_of_id;
 use csi_sql::IdleConnection;
 use csi_tables::{TablesError, TablesFault, page_with_nodes};
 use csi_types::{Items, Text};
@@ -19,10 +20,10 @@ use csid_settings::{Chosen, Failure};
 use sqlite::{Alter, Connection};
 use std::alloc::Global;
 
-// The number of volumes that are read at once.
+// The number of volumes in one read.
 const PAGE: u32 = 1000;
 
-// Greater than the number of any volume, as an integer of SQLite is below 2^63.
+// A number above the number of each volume, since integers of SQLite are below 2^63.
 const NUMBERS: u64 = 1 << 63;
 
 const NONE_READ: &str =
@@ -35,19 +36,28 @@ fn is_wanted(wanted: Option<&str>, text: &Text) -> bool {
     }
 }
 
-// Returns true if `wanted` is `None` or among the nodes.
+// Returns true if `wanted` is `None` or one of the nodes.
 fn is_at(wanted: Option<&str>, nodes: &Items<Text>) -> bool {
     wanted.is_none() || nodes.as_slice().iter().any(|node| is_wanted(wanted, node))
 }
 
+// Returns true if `wanted` is `None` or the id of the volume with this number.
+fn is_id(wanted: Option<&str>, number: u64) -> bool {
+    match wanted {
+        Some(id) => number_of_id(id) == Some(number),
+        None => true,
+    }
+}
+
 // Returns true if a volume that is published to these nodes is listed.
 fn has(chosen: &Chosen<'_>, volume: &Volume, nodes: &Items<Text>) -> bool {
-    is_wanted(chosen.name, &volume.name)
+    is_id(chosen.id, volume.number)
+        && is_wanted(chosen.name, &volume.name)
         && is_wanted(chosen.pool, &volume.pool)
         && is_at(chosen.node, nodes)
 }
 
-/// A visitor of the volumes that are listed.
+/// A visitor of the volumes in a listing, such as the writer of a row for each volume.
 trait Visit {
     fn visit(&mut self, volume: &Volume, nodes: &Items<Text>) -> Result<(), Failure>;
 }
@@ -74,7 +84,7 @@ struct TablesCopy<'a, S: Alter + Drop> {
 }
 
 impl<S: Alter + Drop> TablesCopy<'_, S> {
-    // The failure for a page of volumes that cannot be read.
+    // Returns the failure for a page of volumes that cannot be read.
     fn page_failure(&self, after: u64, error: &TablesError) -> Failure {
         let alloc = self.alloc;
         if let TablesFault::NoMemory = error.fault {
@@ -91,7 +101,7 @@ impl<S: Alter + Drop> TablesCopy<'_, S> {
         }
     }
 
-    // The next page of the volumes after a number.
+    // Reads the page of the volumes after a number.
     fn page(&mut self, after: u64) -> Result<PageWithNodes, Failure> {
         if after >= NUMBERS {
             return Ok(PageWithNodes {
@@ -105,7 +115,7 @@ impl<S: Alter + Drop> TablesCopy<'_, S> {
         }
     }
 
-    // Visits each volume that is chosen, in the order of the numbers.
+    // Visits each volume that passes the filter, in rising order of the numbers.
     fn each<V: Visit>(&mut self, chosen: &Chosen<'_>, visitor: &mut V) -> Result<(), Failure> {
         let mut after = 0;
         for _ in 0..u32::MAX {
@@ -120,9 +130,9 @@ impl<S: Alter + Drop> TablesCopy<'_, S> {
     }
 }
 
-/// Writes the volumes of the tables in the file at `path`, as they were committed at one moment, and their
-/// sums by pool and by node on standard output: in columns, or in JSON with a line for each volume. The file
-/// is only read.
+/// Lists the volumes of the tables in the file at `path`, as they were committed at one moment. After the
+/// volumes come the sums of their sizes for each pool and each node. Writes the list on standard output in
+/// columns, or in JSON with a line for each volume. The file is only read.
 ///
 /// # Errors
 ///
@@ -136,7 +146,7 @@ pub fn list_tables(
     over_tables_copy(console, path, CopyTask::List(chosen, is_json))?
 }
 
-// Lists the volumes of the tables on a connection. The code is independent of the store.
+// Lists the volumes of the tables on a connection. The code works for any store.
 pub(crate) fn list_over<S: Alter + Drop>(
     console: &Console<'_>,
     path: &str,

@@ -1,4 +1,4 @@
-//! Databases in files that are in memory.
+//! Opens databases whose files are in memory.
 
 ghost use Rattle.std.specs.Prelude.{◌≡◌, false, length, IfErr, IfOk, IsTrue};
 ghost use Rattle.sqlite.specs.Files.{file_state};
@@ -13,10 +13,11 @@ use sqlite::{Connection, Error, ErrorCode, FileStore, Files, Options};
 use sqlite_disk::{Disk, Memory};
 use std::alloc::Global;
 
-// The seed of new write-ahead logs. No other program sees these files.
+// The seed for the WAL of a database in memory. No other program sees the files, so the seed need not be
+// random.
 const SEED: u64 = 1;
 
-// A file in memory.
+// Makes a file in memory with these bytes.
 fn in_memory(alloc: Global, bytes: &[u8]) -> Result<Memory, Failure>
     ensures usable { IfOk result (λ file. IsTrue (memory_is_usable file)) }
     ensures bytes { IfOk result (λ file. memory_bytes file ≡ bytes.now) }
@@ -29,7 +30,7 @@ fn in_memory(alloc: Global, bytes: &[u8]) -> Result<Memory, Failure>
     }
 }
 
-/// A database file in memory with the bytes `db`, and its WAL with the bytes `wal`.
+/// Makes a database file and its WAL in memory, with the bytes `db` and `wal`.
 ///
 /// # Errors
 ///
@@ -49,12 +50,13 @@ pub fn files_of(alloc: Global, wal: &[u8], db: &[u8]) -> Result<Files<Memory>, F
 }
 
 /// Returns true if memory was refused to a database in memory. SQLite reports that as a failure of the disk,
-/// and a file in memory has no other failure.
+/// and files in memory have no other failure.
 pub fn is_no_memory(error: &Error) -> bool {
     matches!(error, Error::SqliteFailure(ErrorCode::SystemIoFailure))
 }
 
-/// Why a database in memory cannot be opened or read. `path` names it in the line.
+/// Returns the failure for a database in memory that cannot be opened or read. The line about it has `path`
+/// as the name of the database.
 pub fn memory_failure(alloc: Global, path: &str, error: &Error) -> Failure
     ensures { IsOrNoMemory 4 result }
 {
@@ -64,7 +66,7 @@ pub fn memory_failure(alloc: Global, path: &str, error: &Error) -> Failure
     database_failure(alloc, path, error)
 }
 
-/// Why the tables of a database in memory were not adopted.
+/// Returns the failure for tables of a database in memory that were not adopted.
 pub(crate) fn memory_adoption_failure(alloc: Global, path: &str, fault: &AdoptFault) -> Failure
     ensures { IsOrNoMemory 4 result }
 {
@@ -74,8 +76,8 @@ pub(crate) fn memory_adoption_failure(alloc: Global, path: &str, fault: &AdoptFa
     }
 }
 
-/// A connection to the database in a file and its WAL; to an empty database if both files are empty. An error
-/// names the path.
+/// Opens a connection to the database in a file and its WAL. If both files are empty, the database is empty.
+/// The line about a failure has `path` as the name of the database.
 ///
 /// # Errors
 ///

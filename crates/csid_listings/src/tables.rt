@@ -1,4 +1,4 @@
-//! Why tables cannot be had, and a keeper over the tables on a connection.
+//! Failures about tables, and a keeper over the tables on a connection.
 
 ghost use Rattle.std.specs.Prelude.{◌≡◌, false, IfErr, IfOk};
 ghost use Rattle.csi_adoption.specs.Adopting.{IsAdopted};
@@ -12,7 +12,7 @@ use csid_settings::Failure;
 use sqlite::{Alter, Connection, Error, ErrorCode};
 use std::alloc::Global;
 
-/// Why the file at `path` cannot be opened, read or closed.
+/// Returns the failure for a file at `path` that cannot be opened, read or closed.
 pub fn database_failure(alloc: Global, path: &str, error: &Error) -> Failure
     ensures { IsOrNoMemory 4 result }
 {
@@ -22,7 +22,7 @@ pub fn database_failure(alloc: Global, path: &str, error: &Error) -> Failure
     }
 }
 
-/// Why the tables in the file at `path` were not adopted.
+/// Returns the failure for tables in the file at `path` that were not adopted.
 pub fn adoption_failure(alloc: Global, path: &str, fault: &AdoptFault) -> Failure
     ensures { IsOrNoMemory 4 result }
 {
@@ -32,7 +32,7 @@ pub fn adoption_failure(alloc: Global, path: &str, fault: &AdoptFault) -> Failur
     }
 }
 
-/// Why the volumes of the tables at `path` were not read into memory.
+/// Returns the failure if the volumes of the tables at `path` could not be read into memory.
 pub fn store_failure(alloc: Global, path: &str, fault: StoreFault) -> Failure
     ensures { IsOrNoMemory 4 result }
 {
@@ -42,12 +42,12 @@ pub fn store_failure(alloc: Global, path: &str, fault: StoreFault) -> Failure
     }
 }
 
-/// A keeper over the tables on a connection. If there are no tables, new ones are made. A failure names
-/// `path`.
+/// Makes a keeper over the tables on a connection. If there are no tables, makes new tables. The line about a
+/// failure has `path` as the name of the database.
 ///
 /// # Errors
 ///
-/// If the tables or memory are refused.
+/// If the tables are refused, or memory is refused.
 pub fn keeper_over<S: Alter + Drop>(
     rt: &HostRuntime,
     path: &str,

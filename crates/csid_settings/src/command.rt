@@ -1,100 +1,103 @@
-//! The command line.
+//! The command line of `csid`, and the tasks that it describes.
 
 use clap::ArgMatches;
 use command_line::{
     ArgumentsFault, CommandLine, CommandOption, OPTION, Subcommand, Takes, is_decimal,
 };
 
-/// The filter of a listing: volumes must meet each given condition.
+/// The filter of a listing. A volume is listed if it meets each condition that is given.
 #[derive(Clone, Copy)]
 pub struct Chosen<'a> {
+    /// Only the volume with this id; `None` for any id.
+    pub id: Option<&'a str>,
     /// Only the volume created under this name; `None` for any name.
     pub name: Option<&'a str>,
-    /// Only volumes in the pool with this name; `None` for any pool.
+    /// The name of the pool whose volumes are listed, or `None` for any pool.
     pub pool: Option<&'a str>,
-    /// Only volumes that are published to the node with this id; `None` for any volume, published or not.
+    /// The id of the node whose published volumes are listed, or `None` for all volumes, published or not.
     pub node: Option<&'a str>,
 }
 
-/// The task of a command line.
+/// The task that the command line gives to `csid`.
 #[derive(Clone, Copy)]
 pub enum Task<'a> {
     /// Answer calls from standard input on standard output.
     Pipe(Piped<'a>),
     /// Answer the calls of connections to a socket, one connection at a time.
     Serve(Serving<'a>),
-    /// Judge the configuration in the file at this path.
+    /// Check the configuration in the file at this path.
     CheckConfig(&'a str),
-    /// Judge the tables of a file.
+    /// Check the tables of a file under a configuration.
     CheckTables {
         /// The path of the file.
         tables: &'a str,
-        /// The file of the configuration; without it the sample configuration.
+        /// The file of the configuration, or `None` for the sample configuration.
         config: Option<&'a str>,
     },
     /// Copy the tables of a file into a new file.
     CopyTables {
         /// The path of the file.
         tables: &'a str,
-        /// The path of the copy.
+        /// The path at which the copy is made.
         to: &'a str,
-        /// The file of the configuration that judges the copy; without it the sample configuration.
+        /// The file of the configuration that checks the copy, or `None` for the sample configuration.
         config: Option<&'a str>,
     },
-    /// List the tables of a file.
+    /// List the volumes in the tables of a file.
     ListTables {
         /// The path of the file.
         tables: &'a str,
-        /// The filter of the volumes.
+        /// The filter that volumes must pass to be listed.
         chosen: Chosen<'a>,
-        /// True for a list in JSON; otherwise the list is in columns.
+        /// True for a list in JSON, and false for a list in columns.
         is_json: bool,
     },
 }
 
-/// Options of `csid pipe`, which answers standard input.
+/// The options of `csid pipe`, which answers the calls on standard input.
 #[derive(Clone, Copy)]
 pub struct Piped<'a> {
-    /// The file of the configuration; without it the sample configuration.
+    /// The file of the configuration, or `None` for the sample configuration.
     pub config: Option<&'a str>,
-    /// The file of the tables that have the volumes; `None` if the volumes are in memory.
+    /// The file of the tables that have the volumes, or `None` if the volumes are in memory.
     pub tables: Option<TablesFile<'a>>,
 }
 
-/// Tables in a file, and how they are opened.
+/// The file of tables, and how it is opened.
 #[derive(Clone, Copy)]
 pub struct TablesFile<'a> {
     /// The path of the file.
     pub path: &'a str,
-    /// True if the file must exist and have tables. Otherwise a missing file and missing tables are made.
+    /// True if the file must exist and have tables. If false, a missing file is made, and tables are made in
+    /// a file without tables.
     pub is_existing: bool,
-    /// True if reads are answered from the file; otherwise from a copy in memory.
+    /// True if reads are answered from the file. If false, they are answered from a copy in memory.
     pub is_low_memory: bool,
 }
 
-/// Where a server keeps its volumes.
+/// The store that keeps the volumes of a server.
 #[derive(Clone, Copy)]
 pub enum Volumes<'a> {
-    /// The volumes are in the tables of a file.
+    /// The tables of a file.
     Tables(TablesFile<'a>),
-    /// In the change store that listens at this socket.
+    /// The change store that listens at the socket with this path.
     ChangeStore(&'a str),
 }
 
-/// Options of `csid serve`.
+/// The options of `csid serve`.
 #[derive(Clone, Copy)]
 pub struct Serving<'a> {
     /// The path at which the socket is made.
     pub socket: &'a str,
-    /// Where the volumes are kept.
+    /// The place of the volumes: the tables of a file (`--tables`) or a change store (`--log`).
     pub volumes: Volumes<'a>,
-    /// The file of the configuration; without it the sample configuration.
+    /// The file of the configuration, or `None` for the sample configuration.
     pub config: Option<&'a str>,
-    /// The name or number of a group that may connect; `None` if only the owner may.
+    /// The name or number of the group that may connect, or `None` if only the owner may connect.
     pub group: Option<&'a str>,
-    /// The seconds for which a connection may send nothing; `None` if there is no limit.
+    /// The number of seconds for which a connection may send nothing, or `None` for no limit.
     pub idle: Option<u32>,
-    /// The number of connections to serve before the program ends.
+    /// The number of connections that are served before the program ends.
     pub connections: u32,
 }
 
@@ -126,7 +129,7 @@ const LOW_MEMORY: CommandOption = CommandOption {
     ..OPTION
 };
 
-static CHECKS: [CommandOption; 10] = [
+static CHECKS: [CommandOption; 11] = [
     CommandOption {
         name: "check-config",
         takes: Takes::Text("FILE"),
@@ -162,6 +165,13 @@ static CHECKS: [CommandOption; 10] = [
         name: "list-tables",
         takes: Takes::Text("FILE"),
         help: "Lists the volumes of tables, and what each pool and node has of them, and ends; nothing is changed, also of tables that are served",
+        ..OPTION
+    },
+    CommandOption {
+        name: "id",
+        takes: Takes::Text("ID"),
+        needs: Some("list-tables"),
+        help: "Lists the volume with this id alone, as vol-1",
         ..OPTION
     },
     CommandOption {
@@ -234,11 +244,11 @@ static SERVE: [CommandOption; 9] = [
     },
 ];
 
-/// The parsed arguments; `None` after the help or the version was printed.
+/// Parses the arguments of `csid`. Returns `None` if they ask for help or the version, which is then printed.
 ///
 /// # Errors
 ///
-/// If the command line does not have them, printing fails, or memory is refused.
+/// If the arguments are not a valid command line, printing fails, or memory is refused.
 pub fn read_arguments<'a>(
     rt: &HostRuntime,
     arguments: &'a [String],
@@ -267,14 +277,14 @@ pub fn read_arguments<'a>(
     command_line::matches(rt, &line, arguments)
 }
 
-/// The options that take numbers: the name of each, and how a line shows it.
+/// The options that take a number: the name of each, and the option as a line shows it.
 const NUMBERS: [(&str, &str); 2] = [
     ("connections", "--connections <N>"),
     ("idle", "--idle <SECONDS>"),
 ];
 
-/// The first option whose number is not decimal digits alone, since `clap` accepts a sign: the option as a
-/// line shows it, and the number.
+/// Returns the first option whose value is not only decimal digits: the option as a line shows it, and its
+/// value. Returns `None` if there is no such option. The check is needed since `clap` accepts a sign.
 pub fn odd_number<'a>(matches: &ArgMatches<'a>) -> Option<(&'static str, &'a str)> {
     let (_, arguments) = matches.subcommand()?;
     for (name, shown) in NUMBERS {
@@ -287,8 +297,8 @@ pub fn odd_number<'a>(matches: &ArgMatches<'a>) -> Option<(&'static str, &'a str
     None
 }
 
-/// The fault of a command line with two tasks over tables, or with a configuration but without a task; `None`
-/// if there is no such fault.
+/// Returns the fault if the command line has two tasks over tables, or a configuration but no task. Returns
+/// `None` for any other command line.
 pub fn odd_check<'a>(matches: &ArgMatches<'a>) -> Option<&'static str> {
     let is_check = matches.get_str("check-tables").is_some();
     let is_copy = matches.get_str("copy-tables").is_some();
@@ -318,7 +328,8 @@ pub fn odd_check<'a>(matches: &ArgMatches<'a>) -> Option<&'static str> {
     None
 }
 
-/// The fault if a server has no place for its volumes or two places; `None` if it has exactly one.
+/// Returns the fault if the arguments of a server name no store for the volumes, or name two stores. Returns
+/// `None` if they name one store.
 pub fn odd_store<'a>(matches: &ArgMatches<'a>) -> Option<&'static str> {
     let Some(("serve", arguments)) = matches.subcommand() else {
         return None;
@@ -331,7 +342,7 @@ pub fn odd_store<'a>(matches: &ArgMatches<'a>) -> Option<&'static str> {
     }
 }
 
-// The file of tables at a path, with the options of a subcommand.
+// Returns the file of tables at a path, with the options of a command.
 fn tables_file<'a>(arguments: &ArgMatches<'a>, path: &'a str) -> TablesFile<'a> {
     TablesFile {
         path,
@@ -340,7 +351,8 @@ fn tables_file<'a>(arguments: &ArgMatches<'a>, path: &'a str) -> TablesFile<'a> 
     }
 }
 
-// Where a server keeps its volumes. [`odd_store`] refuses arguments without a place or with two.
+// Returns the store that keeps the volumes of a server. [`odd_store`] has refused arguments that do not name
+// exactly one store.
 fn place_of_volumes<'a>(arguments: &ArgMatches<'a>) -> Volumes<'a> {
     match arguments.get_str("log") {
         Some(socket) => Volumes::ChangeStore(socket),
@@ -348,7 +360,7 @@ fn place_of_volumes<'a>(arguments: &ArgMatches<'a>) -> Volumes<'a> {
     }
 }
 
-// The task of `csid serve`.
+// Returns the task of `csid serve`.
 fn serve_task<'a>(arguments: &ArgMatches<'a>) -> Serving<'a> {
     Serving {
         socket: arguments.get_str("socket").unwrap_or(""),
@@ -360,11 +372,12 @@ fn serve_task<'a>(arguments: &ArgMatches<'a>) -> Serving<'a> {
     }
 }
 
-// The task of a listing.
+// Returns the task of listing the tables of a file.
 fn list_task<'a>(arguments: &ArgMatches<'a>, tables: &'a str) -> Task<'a> {
     Task::ListTables {
         tables,
         chosen: Chosen {
+            id: arguments.get_str("id"),
             name: arguments.get_str("name"),
             pool: arguments.get_str("pool"),
             node: arguments.get_str("node"),
@@ -373,7 +386,7 @@ fn list_task<'a>(arguments: &ArgMatches<'a>, tables: &'a str) -> Task<'a> {
     }
 }
 
-// The task without a subcommand.
+// Returns the task of a command line without a command.
 fn plain_task<'a>(arguments: &ArgMatches<'a>) -> Task<'a> {
     if let Some(path) = arguments.get_str("check-config") {
         return Task::CheckConfig(path);
@@ -400,7 +413,7 @@ fn plain_task<'a>(arguments: &ArgMatches<'a>) -> Task<'a> {
     }
 }
 
-// The task of `csid pipe`.
+// Returns the options of `csid pipe`.
 fn pipe_task<'a>(arguments: &ArgMatches<'a>) -> Piped<'a> {
     let tables = match arguments.get_str("tables") {
         Some(path) => Some(tables_file(arguments, path)),
@@ -412,7 +425,7 @@ fn pipe_task<'a>(arguments: &ArgMatches<'a>) -> Piped<'a> {
     }
 }
 
-/// The task of arguments that [`read_arguments`] accepts.
+/// Returns the task of arguments that [`read_arguments`] has accepted.
 pub fn task_of<'a>(matches: &ArgMatches<'a>) -> Task<'a> {
     match matches.subcommand() {
         Some(("serve", arguments)) => Task::Serve(serve_task(arguments)),

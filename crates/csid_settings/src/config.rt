@@ -1,4 +1,4 @@
-//! The configuration of the program.
+//! Reads the configuration of the program, and reports its faults.
 
 ghost use Rattle.std.specs.Prelude.{IfErr};
 ghost use Rattle.csid_settings.specs.Statuses.{IsOrNoMemory};
@@ -11,7 +11,7 @@ use std::alloc::Global;
 use std::fs;
 use std::io::ErrorKind;
 
-// The bytes of a file.
+// Reads the bytes of a file.
 fn read_file(rt: &HostRuntime, path: &str) -> Result<Vec<u8>, Failure>
     ensures { IfErr result (λ failure. IsOrNoMemory 3 failure) }
 {
@@ -22,7 +22,7 @@ fn read_file(rt: &HostRuntime, path: &str) -> Result<Vec<u8>, Failure>
     }
 }
 
-// The configuration in the bytes of a file.
+// Reads the configuration in the bytes of a file.
 fn config_of(alloc: Global, path: &str, bytes: &[u8]) -> Result<Config, Failure>
     ensures { IfErr result (λ failure. IsOrNoMemory 3 failure) }
 {
@@ -33,7 +33,7 @@ fn config_of(alloc: Global, path: &str, bytes: &[u8]) -> Result<Config, Failure>
     }
 }
 
-// Reports each unknown key of a configuration, a line each: it may be misspelt.
+// Reports each unknown key of a configuration on a line of its own, since the key may be misspelt.
 fn report_unknown(console: &Console<'_>, path: &str, bytes: &[u8]) {
     match unknown_keys(console.rt.alloc(), bytes) {
         Ok(keys) => {
@@ -46,7 +46,7 @@ fn report_unknown(console: &Console<'_>, path: &str, bytes: &[u8]) {
 }
 
 // Reports the unknown keys of a refused configuration, and all of its faults except the last. Returns the
-// last fault.
+// last fault, which the caller reports.
 fn report_faults(console: &Console<'_>, path: &str, bytes: &[u8], refused: Failure) -> Failure
     requires { IsOrNoMemory 3 refused }
     ensures { IsOrNoMemory 3 result }
@@ -65,12 +65,13 @@ fn report_faults(console: &Console<'_>, path: &str, bytes: &[u8], refused: Failu
     Failure::configuration(alloc, path, last)
 }
 
-/// The configuration in a file. Its unknown keys are reported, and all of its faults except the last, which
-/// is the error.
+/// Reads the configuration in a file, and reports its unknown keys. If it has faults, reports all of them
+/// except the last, which is the error.
 ///
 /// # Errors
 ///
-/// If the file cannot be read; if it has faults, the last of them.
+/// Returns the last fault of the configuration, or the failure if the file cannot be read or memory is
+/// refused.
 pub fn checked_configuration(console: &Console<'_>, path: &str) -> Result<Config, Failure>
     ensures { IfErr result (λ failure. IsOrNoMemory 3 failure) }
 {
@@ -85,8 +86,8 @@ pub fn checked_configuration(console: &Console<'_>, path: &str) -> Result<Config
     }
 }
 
-/// The configuration in a file; without a file the sample configuration. Unknown keys are ignored, and
-/// reported if `names_unknown` is true.
+/// Reads the configuration in a file, or returns the sample configuration if no file is given. Unknown keys
+/// are ignored. They are reported if `names_unknown` is true.
 ///
 /// # Errors
 ///

@@ -1,4 +1,4 @@
-//! Why the program ends otherwise than well, and the status that it ends with.
+//! The failures with which the program ends, and the exit status of each.
 
 ghost use Rattle.std.specs.Prelude.{◌≡◌, IfErr, IfOk, Some};
 ghost use Rattle.csid_settings.specs.Statuses.{IsOrNoMemory, end_of, failure_status, status_of, resource_status};
@@ -11,19 +11,20 @@ use std::alloc::{AllocError, Global};
 use std::fmt::Display;
 use thiserror::Error;
 
-/// A resource that may be unavailable. A line names it by its path or its group.
+/// A resource that the program may fail to use. The line about the failure has the resource's path or group.
 #[derive(Clone, Copy, Debug)]
 pub enum Resource {
-    /// The configuration, named by its file.
+    /// The configuration. The line has the path of the configuration file.
     Configuration,
-    /// The tables, named by their file.
+    /// The tables. The line has the path of the file of tables.
     Tables,
-    /// The socket, named by its path or by its group: it cannot be made, or accepts no connection.
+    /// The socket, which cannot be made or accepts no connection. The line has the path of the socket, or the
+    /// group.
     Socket,
 }
 
 impl Resource {
-    // The exit status if the resource is unavailable.
+    // Returns the exit status if the resource cannot be used.
     fn status(self) -> u8
         ensures { result ≡ resource_status self }
     {
@@ -35,16 +36,16 @@ impl Resource {
     }
 }
 
-/// Why the program ends with a status other than 0. Its `Display` is the line on standard error.
+/// The reason why the program ends with a status other than 0. Its `Display` is the line on standard error.
 #[derive(Debug, Error)]
 pub enum Failure {
-    /// A frame is malformed.
+    /// A frame of a call is malformed.
     #[error("{0}")]
     Malformed(FrameFault),
-    /// The arguments are refused.
+    /// The command line is not valid, or its help could not be written.
     #[error("{0}")]
     Arguments(#[from] ArgumentsFault),
-    /// A resource is unavailable: its name, and why.
+    /// A resource cannot be used. The value has the name of the resource and the reason.
     #[error("{1}")]
     Unusable(Resource, Cause),
     /// The path of the tables is empty.
@@ -56,7 +57,7 @@ pub enum Failure {
     /// The output with this name cannot be written.
     #[error("a write to {0} failed")]
     WriteFailed(&'static str),
-    /// A run over calls ended because it made the greatest number of reads.
+    /// A run over calls ended because it reached the limit of reads.
     #[error("the reads of one run are spent")]
     TurnsSpent,
     /// Memory was refused.
@@ -67,8 +68,8 @@ pub enum Failure {
     NoSocketPath,
 }
 
-// Written out, so that a function that drops a failure has one call for it, and its proof no branch for each
-// variant.
+// Written by hand and not derived: the proof of code that drops a failure then has one call for the drop, and
+// no branch for each variant.
 impl Drop for Failure {
     fn drop(self) {
         match self {
@@ -97,8 +98,8 @@ impl From<AllocError> for Failure {
 }
 
 impl Failure {
-    // The failure for an unavailable resource and its cause; [`Failure::NoMemory`] if memory for the cause
-    // was refused.
+    // Returns the failure for a resource that cannot be used, or [`Failure::NoMemory`] if memory for the
+    // cause was refused.
     fn of(thing: Resource, cause: Result<Cause, AllocError>) -> Failure
         ensures unusable { IfOk cause (λ why. result ≡ Unusable thing why) }
         ensures memory { IfErr cause (λ _. result ≡ NoMemory) }
@@ -110,31 +111,32 @@ impl Failure {
         }
     }
 
-    /// The failure that the configuration in the file at `path` cannot be used, and why;
-    /// [`Failure::NoMemory`] if memory for the line is refused.
+    /// Returns the failure for a configuration that cannot be used, with the path of its file and the reason.
+    /// Returns [`Failure::NoMemory`] if memory for the line is refused.
     pub fn configuration<T: Display>(alloc: Global, path: &str, why: &T) -> Failure
         ensures { IsOrNoMemory 3 result }
     {
         Failure::of(Resource::Configuration, cause(alloc, path, why))
     }
 
-    /// The failure that the tables in the file at `path` cannot be used, and why; [`Failure::NoMemory`] if
-    /// memory for the line is refused.
+    /// Returns the failure for tables that cannot be used, with the path of their file and the reason.
+    /// Returns [`Failure::NoMemory`] if memory for the line is refused.
     pub fn of_tables<T: Display>(alloc: Global, path: &str, why: &T) -> Failure
         ensures { IsOrNoMemory 4 result }
     {
         Failure::of(Resource::Tables, cause(alloc, path, why))
     }
 
-    /// The failure that a socket fails or cannot be made for a group, and why: `name` is the path or the
-    /// group. [`Failure::NoMemory`] if memory for the line is refused.
+    /// Returns the failure for a socket that fails or cannot be made for a group, with the reason. `name` is
+    /// the path or the group. Returns [`Failure::NoMemory`] if memory for the line is refused.
     pub fn of_socket<T: Display>(alloc: Global, name: &str, why: &T) -> Failure
         ensures { IsOrNoMemory 7 result }
     {
         Failure::of(Resource::Socket, cause(alloc, name, why))
     }
 
-    /// The exit status of the program, 1 to 7 (docs/OPERATING.md, "Arguments and exit statuses of `csid`").
+    /// Returns the exit status of the program, 1 to 7 (docs/OPERATING.md, "Arguments and exit statuses of
+    /// `csid`").
     pub fn status(&self) -> u8
         ensures { result ≡ failure_status self.now }
     {
@@ -150,7 +152,7 @@ impl Failure {
     }
 }
 
-/// Where calls come from and replies go to.
+/// The stream that calls come from and replies go to.
 #[derive(Clone, Copy)]
 pub enum Endpoint {
     /// Standard input and standard output.
@@ -160,7 +162,7 @@ pub enum Endpoint {
 }
 
 impl Endpoint {
-    // The name of the input in a line.
+    // Returns the name of the input, as lines show it.
     fn source(self) -> &'static str {
         match self {
             Endpoint::Pipe => "standard input",
@@ -168,7 +170,7 @@ impl Endpoint {
         }
     }
 
-    // The name of the output in a line.
+    // Returns the name of the output, as lines show it.
     fn sink(self) -> &'static str {
         match self {
             Endpoint::Pipe => "standard output",
@@ -177,12 +179,12 @@ impl Endpoint {
     }
 }
 
-/// The outcome of the program after a run of calls that ended so.
+/// Returns the outcome of the program after a run of calls that ended with `end`.
 ///
 /// # Errors
 ///
-/// If the end is not [`RunEnd::Done`]: the failure has the status for that end, and its line names the input
-/// or the output.
+/// If the end is not [`RunEnd::Done`]. The failure has the exit status for this end, and its line names the
+/// input or the output.
 pub fn outcome(peer: Endpoint, end: RunEnd) -> Result<(), Failure>
     ensures done { IfOk result (λ _. status_of end ≡ 0) }
     ensures failed { IfErr result (λ failure. failure_status failure ≡ status_of end) }

@@ -1,4 +1,4 @@
-//! Groups of the system.
+//! Finds the number of a group of the system.
 
 ghost use Rattle.std.specs.Prelude.{◌≡◌, IfErr};
 ghost use Rattle.csid_settings.specs.Statuses.{IsOrNoMemory};
@@ -13,10 +13,11 @@ const GROUPS: &str = "/etc/group";
 
 const NO_SUCH: &str = "there is no such group in /etc/group";
 
-// The number that is not a group (chown(2)).
+// A number that chown(2) does not take as a group: it leaves the group unchanged.
 const NO_GROUP: u32 = u32::MAX;
 
-// The number in a line `NAME:PASSWORD:NUMBER:MEMBERS`; `None` if the line has another name.
+// Returns the number in a line `NAME:PASSWORD:NUMBER:MEMBERS`, or `None` if the line has another name or no
+// number.
 fn number_in(line: &str, name: &str) -> Option<u32> {
     let mut parts = line.split(':');
     if parts.next()? != name {
@@ -26,7 +27,7 @@ fn number_in(line: &str, name: &str) -> Option<u32> {
     parts.next()?.parse().ok()
 }
 
-// The number of the group with this name in the lines of the file.
+// Returns the number of the group with this name in the lines of the file, or `None` if no line has the name.
 fn number_among(lines: &str, name: &str) -> Option<u32> {
     for line in lines.lines() {
         if let Some(number) = number_in(line, name) {
@@ -36,7 +37,7 @@ fn number_among(lines: &str, name: &str) -> Option<u32> {
     None
 }
 
-// The number of a group that is given as a decimal number.
+// Parses a text as the decimal number of a group. Returns `None` for any other text.
 fn number_of(text: &str) -> Option<u32> {
     if is_decimal(text) {
         text.parse().ok()
@@ -45,7 +46,8 @@ fn number_of(text: &str) -> Option<u32> {
     }
 }
 
-/// The number of the group with this name; if there is none, the number that the text itself is.
+/// Returns the number of the group with this name. If no group has the name, parses the name as a decimal
+/// number.
 ///
 /// # Errors
 ///

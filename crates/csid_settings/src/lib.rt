@@ -1,5 +1,5 @@
-//! What the server is told to do, and how it ends: its command line, its configuration, the groups of the
-//! system, and each failure with its line and its exit status.
+//! The settings and the ends of the server: its command line, its configuration, the groups of the system,
+//! and each failure with its line and its exit status.
 //!
 //! ```rust
 //! match read_arguments(&rt, arguments.as_slice())? {

@@ -1,3 +1,5 @@
+//! The faults of a stream of frames, and the rules that a frame of a call can break.
+
 ghost use Rattle.std.specs.Prelude.{◌≡◌, ℕ, ◌≤◌, length, All};
 ghost use Rattle.envelope.specs.declared.kind.FrameKind.TheVariants.{Calls};
 ghost use Rattle.envelope.specs.declared.kind.Part.TheVariants.{Missing};
@@ -10,15 +12,15 @@ ghost use Rattle.envelope.specs.Texts.{fault_words};
 use crate::kind::{FrameKind, Part};
 use thiserror::Error;
 
-/// The fault that ends a stream of frames: of calls ([`FrameFault`]) or of replies
-/// ([`ReplyFault`](crate::ReplyFault)).
+/// The fault that ends a stream of frames. In a stream of calls the fault is a [`FrameFault`], and in a
+/// stream of replies a [`ReplyFault`](crate::ReplyFault).
 pub trait Fault: Copy + Drop {
     ghost use Rattle.std.specs.Prelude.{ℕ};
     ghost use Rattle.envelope.specs.declared.kind.FrameKind.{FrameKind};
     ghost use Rattle.envelope.specs.declared.kind.Part.{Part};
 
-    // The kind of the frames, the part that breaks a rule, its place, and the fault of an input that ends
-    // inside a frame.
+    // The kind of the frames, the part that breaks a rule, the place of the break, and the fault of an input
+    // that ends inside a frame.
     ghost kind: { FrameKind };
 
     ghost wrong_part: { Self → Part };
@@ -27,11 +29,12 @@ pub trait Fault: Copy + Drop {
 
     ghost cut_at: { ℕ → Self };
 
-    /// The kind of the frames in the stream.
+    /// Returns the kind of the frames in the stream.
     fn kind() -> FrameKind
         ensures { result ≡ kind };
 
-    /// Makes the fault of this part at this place. The part must be one that the kind of frame has.
+    /// Makes the fault of a frame whose part `part` breaks a rule at the offset `at`. The part must be a part
+    /// of this kind of frame.
     fn of(part: Part, at: u64) -> Self
         requires { HasPart kind part }
         ensures part { wrong_part result ≡ part }
@@ -39,23 +42,25 @@ pub trait Fault: Copy + Drop {
         ensures missing { part ≡ Missing → result ≡ cut_at at };
 }
 
-/// The rules that a request frame can break, in the order of the bytes that show it.
+/// The rules that the frame of a call can break, in the order of the frame's parts. The last rule is about
+/// the end of the input.
 #[derive(Clone, Copy, Debug, PartialEq, Eq)]
 pub enum FrameWhy {
-    /// The two length bytes give 0 or more than 128. The place of the fault is the first byte of the frame.
+    /// The two length bytes give the number 0 or a number above 128. The place of the fault is the first byte
+    /// of the frame.
     BadPathLength,
-    /// A byte of the path is not 0x21 to 0x7E. The place of the fault is that byte.
+    /// A byte of the path is not from 0x21 to 0x7E. The place of the fault is that byte.
     BadPath,
     /// The flag is not 0 (compression is not supported). The place of the fault is the flag.
     BadFlag,
-    /// The four length bytes give more than 1,048,576. The place of the fault is the first of the four.
+    /// The four length bytes give a number above 1,048,576. The place of the fault is the first length byte.
     TooLong,
     /// The input ends inside a frame. The place of the fault is the length of the input.
     EndOfInput,
 }
 
 impl FrameWhy {
-    /// The text of the fault up to the number of the byte, such as `bad flag at byte `.
+    /// Returns the text of the fault up to the number of the byte, such as `bad flag at byte `.
     pub fn text(self) -> &'static str
         ensures value { result.now ≡ fault_words self }
         ensures short { length result.now ≤ 120 }
@@ -70,7 +75,8 @@ impl FrameWhy {
         }
     }
 
-    /// The rule that a call's frame breaks in this part. The part is not [`Part::Status`]: calls have none.
+    /// Returns the rule that the frame of a call breaks in this part. The part must not be [`Part::Status`],
+    /// since calls have no status.
     pub(crate) fn of(part: Part) -> FrameWhy
         requires { HasPart Calls part }
         ensures { part_of result ≡ part }
@@ -86,7 +92,7 @@ impl FrameWhy {
     }
 }
 
-/// A malformed request frame. The stream cannot be read past it.
+/// The fault of a malformed frame of a call. The stream cannot be read past such a frame.
 #[derive(Clone, Copy, Debug, PartialEq, Eq, Error)]
 #[error("{}{}", self.why.text(), self.at)]
 pub struct FrameFault {

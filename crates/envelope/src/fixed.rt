@@ -1,3 +1,5 @@
+//! Heads of replies, refusals and texts of faults, in arrays of a fixed size.
+
 ghost use Rattle.std.specs.Prelude.{◌≡◌, ◌≢◌, true, ℕ, ◌+◌, ◌<◌, ◌≤◌, [], ◌∷◌, ◌++◌, List, length, take, decimal, All};
 ghost use Rattle.envelope.specs.Envelope.{reply, is_status, IsReply, IsTextByte};
 ghost use Rattle.envelope.specs.Texts.{fault_words};
@@ -7,7 +9,7 @@ use crate::limits::{MAX_REFUSAL_TEXT_BYTES, REPLY_HEAD_BYTES};
 use itoa::Buffer;
 use std::marker::Model;
 
-/// An array that holds at most `N` bytes, which contracts see as the list of these bytes.
+/// A list of at most `N` bytes in an array. Contracts see it as the list.
 #[derive(Drop)]
 pub struct Fixed<const N: usize> {
     array: [u8; N],
@@ -22,10 +24,10 @@ impl<const N: usize> Model for Fixed<N> {
     ghost invariant = { λ f. f.len ≤ N };
 }
 
-/// Holds the frame of a refusal, or a reply's frame up to its body.
+/// The frame of a refusal, or the head of a reply's frame.
 pub type FixedFrame = Fixed<168>;
 
-/// Holds one line of text, of at most 140 bytes.
+/// One line of text, of at most 140 bytes.
 pub type FixedText = Fixed<140>;
 
 impl<const N: usize> Fixed<N> {
@@ -55,7 +57,7 @@ impl<const N: usize> Fixed<N> {
         }
     }
 
-    /// The bytes, as a slice.
+    /// Returns the bytes of the list, at most `N`.
     pub fn bytes(&self) -> &[u8]
         ensures value { result.now ≡ self.now }
         ensures short { length result.now ≤ N }
@@ -64,8 +66,8 @@ impl<const N: usize> Fixed<N> {
     }
 }
 
-/// Returns the [`REPLY_HEAD_BYTES`] that precede the body in the frame of a reply with status 0, for a body
-/// of `body_len` bytes.
+/// Returns the head of a reply with status 0 and a body of `body_len` bytes: the [`REPLY_HEAD_BYTES`] bytes
+/// of the frame before the body.
 #[tactic(auto, unfolding(crate::specs::Envelope::reply))]
 pub fn reply_head(body_len: u32) -> FixedFrame
     ensures spelled { (body : List ℕ) → length body ≡ body_len → result ++ body ≡ reply (record {
@@ -83,8 +85,9 @@ pub fn reply_head(body_len: u32) -> FixedFrame
 
 /// Returns the frame of the reply that refuses a call with this status code and text.
 ///
-/// The code must not be 0. The text must have at most [`MAX_REFUSAL_TEXT_BYTES`], each 0x20 to 0x7E. If the
-/// code is also one of docs/PROTOCOL.md, "Status codes", the frame is a valid reply.
+/// The code must not be 0. The text must have at most [`MAX_REFUSAL_TEXT_BYTES`] bytes, each from 0x20 to
+/// 0x7E. If the code is also a status code of the envelope (docs/PROTOCOL.md, "Status codes"), the frame is a
+/// valid reply.
 #[tactic(auto, unfolding(crate::specs::Envelope::reply))]
 pub fn refusal_frame(code: u8, text: &[u8]) -> FixedFrame
     requires refusal { code ≢ 0 }
@@ -103,7 +106,8 @@ pub fn refusal_frame(code: u8, text: &[u8]) -> FixedFrame
 
 /// Returns the text followed by the number in decimal.
 ///
-/// The text must have at most 120 bytes, each 0x20 to 0x7E. All bytes of the result are in this range too.
+/// The text must have at most 120 bytes, each from 0x20 to 0x7E. Each byte of the result is in this range
+/// too.
 pub fn text_and_number(text: &[u8], n: u64) -> FixedText
     requires short { length text.now ≤ 120 }
     requires printable { All IsTextByte text.now }

@@ -1,3 +1,5 @@
+//! Looks for a frame at the start of bytes, and for the first rule that the bytes break.
+
 ghost use Rattle.std.specs.Prelude.{◌≡◌, ℕ, ◌+◌, ◌-◌, ◌<◌, ◌≤◌, ◌↔◌, ◌≢◌, ◌⊎◌, length, take, slice_index, false, IsTrue, MatchOption};
 ghost use Rattle.envelope.specs.declared.kind.FrameKind.TheVariants.{Calls, Replies};
 ghost use Rattle.envelope.specs.Grammar.{lead, text_length, body_length, IsUnbroken};
@@ -8,7 +10,7 @@ use crate::call::Call;
 use crate::kind::{FrameKind, Part};
 use crate::reply::Reply;
 
-// The length of the text, from the two bytes before it.
+// Returns the length of the text, from the two bytes before the text.
 #[tactic(auto, unfolding(crate::specs::Grammar::text_length))]
 #[inline(always)]
 fn text_length_of(kind: FrameKind, bytes: &[u8]) -> usize
@@ -20,7 +22,7 @@ fn text_length_of(kind: FrameKind, bytes: &[u8]) -> usize
     usize::from(bytes[at]) * 256 + usize::from(bytes[at + 1])
 }
 
-// The length of the body, from the four bytes after the flag.
+// Returns the length of the body, from the four bytes after the flag.
 #[tactic(auto, unfolding(crate::specs::Grammar::body_length))]
 #[inline(always)]
 fn body_length_of(kind: FrameKind, bytes: &[u8], from: usize) -> usize
@@ -35,7 +37,7 @@ fn body_length_of(kind: FrameKind, bytes: &[u8], from: usize) -> usize
         + usize::from(bytes[from + 3])
 }
 
-/// Where the body of a frame begins and how long it is, read from the bytes before the body.
+/// The place and the length of a frame's body, read from the bytes before the body.
 #[derive(Clone, Copy)]
 pub struct Head {
     /// The offset of the body in the frame, in bytes.
@@ -45,7 +47,7 @@ pub struct Head {
 }
 
 impl Head {
-    /// Reads the head of a frame; `None` if not all bytes before the body are there.
+    /// Reads the head of a frame. Returns `None` if a byte before the body is missing.
     #[inline(always)]
     pub fn read(kind: FrameKind, bytes: &[u8]) -> Option<Head>
         ensures { MatchOption result (length bytes.now < lead kind + 7 + text_length kind bytes.now)
@@ -65,8 +67,8 @@ impl Head {
         })
     }
 
-    /// The length of the whole frame in bytes. The head must come from [`read`](Head::read), which keeps both
-    /// of its numbers within bounds.
+    /// Returns the length of the whole frame in bytes. The head must come from [`read`](Head::read), which
+    /// bounds the two numbers in it.
     pub fn frame_bytes(self) -> usize
         requires { (self.body_at < 65544) × (self.body_length < 4294967296) }
         ensures { result ≡ self.body_at + self.body_length }
@@ -75,9 +77,10 @@ impl Head {
     }
 }
 
-/// Whether the number of bytes is the length of the frame that they begin.
+/// Returns true if the frame that the bytes begin has the same length as the bytes. The length of the frame
+/// is read from its head.
 ///
-/// If [`look_at`] finds no broken rule in the bytes either, they are exactly one frame.
+/// If the bytes also break no rule ([`look_at`]), they are exactly one frame.
 #[tactic(auto, unfolding(crate::specs::Head::IsWhole))]
 #[inline(always)]
 pub fn is_whole(kind: FrameKind, bytes: &[u8]) -> bool
@@ -89,30 +92,33 @@ pub fn is_whole(kind: FrameKind, bytes: &[u8]) -> bool
     }
 }
 
-/// A rule of the table that a frame breaks, and the place of the break.
+/// A rule of the envelope that a frame breaks, and the place of the break.
 #[derive(Clone, Copy)]
 pub struct Flaw {
     /// The part of the frame that breaks the rule.
     pub part: Part,
-    /// The offset of the break in the frame, in bytes.
+    /// The offset of the byte that breaks the rule, counted from the start of the frame. For a length, the
+    /// offset of its first byte.
     pub at: usize,
 }
 
-/// What the first bytes of the remaining input are.
+/// What stands at the start of the remaining input: a part of a frame, a complete frame, or bytes that break
+/// a rule of frames.
 #[derive(Clone, Copy)]
 pub enum Look {
-    /// The start of a frame, without a broken rule so far.
+    /// The bytes are the start of a frame and break no rule.
     Short,
-    /// A whole frame; the number is its length in bytes.
+    /// The bytes begin with a complete frame. The number is the length of the frame in bytes.
     Whole(usize),
-    /// Bytes that break a rule, and the number of bytes up to and including the one that shows the break.
+    /// The bytes break a rule. The number counts the bytes up to and including the byte that shows the break.
     Broken(Flaw, usize),
 }
 
-/// Looks for a frame or a broken rule in `bytes`. The first `seen` bytes must have been looked at before,
-/// without a broken rule.
+/// Looks for a complete frame or a broken rule at the start of `bytes`. An earlier call must have looked at
+/// the first `seen` bytes and found no broken rule. For a first look, `seen` is 0.
 ///
-/// Takes time in proportion to the new bytes of the text. The body is not read.
+/// Takes time in proportion to the number of bytes of the text that are after the first `seen` bytes. The
+/// body is not read.
 #[inline(always)]
 pub fn look_at(kind: FrameKind, bytes: &[u8], seen: usize) -> Look
     requires within { seen ≤ length bytes.now }
@@ -161,7 +167,7 @@ fn broken(part: Part, at: usize, size: usize) -> Look
     Look::Broken(Flaw { part, at }, size)
 }
 
-// The offset of the first byte from `from` on that is in the text and that no text may have.
+// Returns the offset of the first byte of the text, from the offset `from` on, that no text may have.
 #[inline(always)]
 fn bad_byte(kind: FrameKind, bytes: &[u8], from: usize, end: usize) -> Option<usize>
     ensures { MatchOption result (AreGoodBytes kind bytes.now from end (length bytes.now))
@@ -179,7 +185,7 @@ fn bad_byte(kind: FrameKind, bytes: &[u8], from: usize, end: usize) -> Option<us
     None
 }
 
-// The text and the body of a whole frame.
+// Returns the text and the body of a complete frame.
 #[tactic(auto, unfolding(crate::specs::Head::IsWhole))]
 #[inline(always)]
 fn parts(kind: FrameKind, bytes: &[u8]) -> (&[u8], &[u8])
@@ -194,7 +200,7 @@ fn parts(kind: FrameKind, bytes: &[u8]) -> (&[u8], &[u8])
     (text, body)
 }
 
-/// The call of a whole frame, whose path and message borrow from the bytes. The bytes must break no rule
+/// Returns the call of a complete frame. Its path and message borrow from the bytes, which must break no rule
 /// ([`look_at`]) and be complete ([`is_whole`]).
 #[inline(always)]
 pub fn call_of(bytes: &[u8]) -> Call<'_>
@@ -205,7 +211,7 @@ pub fn call_of(bytes: &[u8]) -> Call<'_>
     Call { path, message }
 }
 
-/// The reply of a whole frame, whose text and body borrow from the bytes. The bytes must break no rule
+/// Returns the reply of a complete frame. Its text and body borrow from the bytes, which must break no rule
 /// ([`look_at`]) and be complete ([`is_whole`]).
 #[tactic(auto, unfolding(crate::specs::Head::IsWhole))]
 pub fn reply_of(bytes: &[u8]) -> Reply<'_>

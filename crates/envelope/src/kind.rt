@@ -1,3 +1,5 @@
+//! The two kinds of frame, calls and replies, and the limits of their parts.
+
 ghost use Rattle.std.specs.Prelude.{◌≡◌, ◌<◌, ◌≤◌, false, IsTrue};
 ghost use Rattle.envelope.specs.Envelope.{is_status as is_status_number};
 ghost use Rattle.envelope.specs.Grammar.{lead, least_text, most_text, most_body, least_byte, HasBadStatus};
@@ -8,35 +10,36 @@ use crate::limits::{
     MAX_REPLY_BYTES, MAX_REPLY_HEAD_BYTES, MAX_TEXT_BYTES,
 };
 
-/// The two kinds of frame. One table reads both: a text after its length, a flag, and a body after its
-/// length.
+/// The two kinds of frame. Both have the length of a text, the text, a flag, the length of a body, and the
+/// body, in this order. A reply also begins with a status. So the same code reads both kinds.
 #[derive(Clone, Copy)]
 pub enum FrameKind {
-    /// Frames of calls: the text is the method's path, the body is the request message.
+    /// Frames of calls. The text is the path of the method, and the body is the request message.
     Calls,
-    /// Frames of replies: a status comes before the text; the body is the response message.
+    /// Frames of replies. A status comes before the length of the text, and the body is the response message.
     Replies,
 }
 
 /// The part of a frame that breaks a rule.
 #[derive(Clone, Copy)]
 pub enum Part {
-    /// The status of a reply, which is not one of the ten codes.
+    /// The status of a reply is not one of the ten status codes.
     Status,
-    /// The length of the text, which is out of its range.
+    /// The length of the text is out of its range.
     TextLength,
-    /// A byte of the text, which is out of its range.
+    /// A byte of the text is out of its range.
     Text,
-    /// The flag, which is not 0.
+    /// The flag is not 0, the only value that it may have.
     Flag,
-    /// The length of the body, which is out of its range.
+    /// The length of the body is out of its range.
     BodyLength,
-    /// The part at which the input ends too early.
+    /// The input ends before this frame is complete.
     Missing,
 }
 
 impl FrameKind {
-    /// The number of bytes before the length of the text: 1 in replies, for the status.
+    /// Returns the number of bytes before the length of the text: 1 in a reply, for the status, and 0 in a
+    /// call.
     pub(crate) fn lead(self) -> usize
         ensures value { result ≡ lead self }
         ensures small { result ≤ 1 }
@@ -47,7 +50,7 @@ impl FrameKind {
         }
     }
 
-    /// The least length of a text, in bytes.
+    /// Returns the least length of a text in bytes: 1 for a path, 0 for the text of a reply.
     pub(crate) fn least_text(self) -> usize
         ensures { result ≡ least_text self }
     {
@@ -57,7 +60,7 @@ impl FrameKind {
         }
     }
 
-    /// The greatest length of a text in bytes, in a frame whose first byte is `first`.
+    /// Returns the greatest length of a text in bytes, in a frame whose first byte is `first`.
     pub(crate) fn most_text(self, first: u8) -> usize
         ensures { result ≡ most_text self first }
     {
@@ -68,7 +71,7 @@ impl FrameKind {
         }
     }
 
-    /// The greatest length of a body in bytes, in a frame whose first byte is `first`.
+    /// Returns the greatest length of a body in bytes, in a frame whose first byte is `first`.
     pub(crate) fn most_body(self, first: u8) -> usize
         ensures { result ≡ most_body self first }
     {
@@ -79,7 +82,7 @@ impl FrameKind {
         }
     }
 
-    /// The least value that a byte of the text may have.
+    /// Returns the least value of a byte in the text: 0x21 in a path, 0x20 in the text of a reply.
     pub(crate) fn least_byte(self) -> u8
         ensures { result ≡ least_byte self }
     {
@@ -89,7 +92,7 @@ impl FrameKind {
         }
     }
 
-    /// The most bytes that a frame of this kind may have before its body.
+    /// Returns the greatest number of bytes before the body of a frame of this kind.
     pub fn most_head(self) -> usize
         ensures { result ≡ most_head self }
     {
@@ -99,7 +102,7 @@ impl FrameKind {
         }
     }
 
-    /// The most bytes that a frame of this kind may have.
+    /// Returns the greatest number of bytes of a frame of this kind.
     pub fn most_frame(self) -> usize
         ensures { result ≡ most_frame self }
     {
@@ -109,8 +112,8 @@ impl FrameKind {
         }
     }
 
-    /// Whether the frame should begin with a status, and `bytes` begins with another number. False if `bytes`
-    /// is empty.
+    /// Returns true if frames of this kind begin with a status, but the first of these bytes is not a status
+    /// code. Returns false if `bytes` is empty.
     pub(crate) fn has_bad_status(self, bytes: &[u8]) -> bool
         ensures bad { IsTrue result → HasBadStatus self bytes.now }
         ensures good { (result ≡ false) → HasBadStatus self bytes.now → ⊥ }
@@ -123,7 +126,7 @@ impl FrameKind {
     }
 }
 
-// Whether the number is one of the ten status codes.
+// Returns true if the number is one of the ten status codes.
 fn is_status(number: u8) -> bool
     ensures { result ≡ is_status_number number }
 {

@@ -1,4 +1,5 @@
-//! Laws of the definitions. Each law is the contract of a function whose body is empty.
+//! Laws about the frames of calls and replies. A law is a function that does nothing: its caller gets what
+//! the contract of the law states.
 
 ghost use Rattle.std.specs.Prelude.{List, ℕ, All, ◌<◌, ◌++◌, ◌^◌, decimal};
 ghost use Rattle.envelope.specs.Envelope.{CallBytes, IsCall, IsReply, IsTextByte, ReplyBytes, frame, reply};
@@ -8,7 +9,8 @@ ghost use Rattle.envelope.specs.Taken.{IsTaken, TakesFirst};
 ghost use Rattle.envelope.specs.TakenReply.{IsTakenReply, TakesFirstReply};
 ghost use Rattle.envelope.specs.Stream.{HasReading, HasOneReading, KeepsReading};
 
-/// Every list of bytes is the frames of some calls and then a rest, which ends the list in one of three ways.
+/// Every list of bytes has a reading: the frames of some calls, and after them an end. The end is no further
+/// byte, bytes that break a rule of frames, or the start of a frame that is not complete.
 pub fn some_reading()
     ensures { (bytes : List ℕ) → All (λ byte. byte < 256) bytes → HasReading bytes }
 {}
@@ -18,7 +20,8 @@ pub fn one_reading()
     ensures { (bytes : List ℕ) → HasOneReading bytes }
 {}
 
-/// Bytes that are appended later change neither the calls already read nor a fault already found.
+/// If more bytes are appended to a list of bytes, the calls that were read stay the same, and so does the
+/// fault that was found.
 pub fn longer_keeps()
     ensures { (bytes more : List ℕ) → KeepsReading bytes more }
 {}

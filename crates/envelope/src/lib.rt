@@ -1,17 +1,17 @@
-//! The envelope: how calls and replies are framed as bytes, and which calls a list of bytes has.
+//! The envelope: the frames of calls and replies as bytes, and which calls a list of bytes contains.
 //!
-//! The envelope is this project's own (docs/PROTOCOL.md, "Envelope"). Calls and replies share one kind of
-//! frame: the length of a text, the text, a flag, the length of a body, and the body. A reply has its status
-//! before these, and the status bounds the lengths of text and body. So one table reads both:
-//! `specs/Envelope.antt` encodes a frame, `specs/Grammar.antt` defines which byte breaks the table and in
-//! which part (the break at the least place is the fault), and `specs/Stream.antt` reads a list of bytes as
-//! calls and an end. Each lemma is proved once, for both kinds; `specs/facts/` has the lemmas that other
-//! crates use too.
+//! The envelope is this project's own (docs/PROTOCOL.md, "Envelope"). Calls and replies have the same form of
+//! frame: the length of a text, the text, a flag, the length of a body, and the body. A reply also has a
+//! status before the length of the text, and the status bounds the lengths of text and body. So both kinds of
+//! frame have one table of rules. `specs/Envelope.antt` encodes a frame. `specs/Grammar.antt` defines which
+//! byte breaks a rule of the table, and in which part of the frame. The fault is the first break.
+//! `specs/Stream.antt` reads a list of bytes as calls and an end. Each lemma is proved once, for both kinds
+//! of frame, and `specs/facts/` has the lemmas that other crates also use.
 //!
 //! [`take_frame`] and [`take_reply`] read the first frame of all remaining input, and [`put_request`] appends
-//! a call. Heads of replies, refusals and fault texts are made in fixed arrays, without allocating. The crate
-//! `frames_core` reads a stream that comes in pieces, with [`look_at`], [`Head`], [`call_of`] and
-//! [`reply_of`].
+//! the frame of a call. Heads of replies, refusals and fault texts are made in arrays of a fixed size,
+//! without allocating. The crate `frames_core` reads a stream that comes in pieces, with [`look_at`],
+//! [`Head`], [`call_of`] and [`reply_of`].
 //!
 //! ```rust
 //! match take_frame(rest) {

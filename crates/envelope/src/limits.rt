@@ -1,31 +1,32 @@
-//! Lengths of the envelope's parts, in bytes (docs/PROTOCOL.md, "Envelope").
+//! The greatest lengths of the envelope's parts, in bytes (docs/PROTOCOL.md, "Envelope").
 
-/// The most bytes of the method's path in a request frame.
+/// The greatest length in bytes of the path in a frame of a call.
 pub const MAX_PATH_BYTES: usize = 128;
 
-/// The most bytes of the message in a request frame, which is an encoded request.
+/// The greatest length in bytes of the message in a frame of a call. The message is an encoded request.
 pub const MAX_MESSAGE_BYTES: usize = 1_048_576;
 
-/// The most bytes of a request frame before its message: path length, path, flag and message length.
+/// The greatest length in bytes of the head of a call's frame: path length, path, flag and message length.
 pub const MAX_HEAD_BYTES: usize = 2 + MAX_PATH_BYTES + 1 + 4;
 
-/// The most bytes of a request frame: the longest head and the longest message.
+/// The greatest length in bytes of a frame of a call: the longest head and the longest message.
 pub const MAX_FRAME_BYTES: usize = MAX_HEAD_BYTES + MAX_MESSAGE_BYTES;
 
-/// The most bytes of the text in a reply, which states why a call was refused.
+/// The greatest length in bytes of the text in a reply, which is the reason why a call was refused.
 pub const MAX_TEXT_BYTES: usize = 1_024;
 
-/// The most bytes of the body in a reply, which is an encoded response.
+/// The greatest length in bytes of the body in a reply, which is an encoded response.
 pub const MAX_BODY_BYTES: usize = 4_194_304;
 
-/// The bytes of a reply with status 0 before its body: status, text length, flag and body length.
+/// The length in bytes of the head of a reply with status 0: status, text length, flag and body length.
 pub const REPLY_HEAD_BYTES: usize = 1 + 2 + 1 + 4;
 
-/// The most bytes of a reply frame before its body: status, text length, text, flag and body length.
+/// The greatest length in bytes of the head of a reply: status, text length, text, flag and body length.
 pub const MAX_REPLY_HEAD_BYTES: usize = 1 + 2 + MAX_TEXT_BYTES + 1 + 4;
 
-/// The most bytes of a reply frame, which a reply with status 0 and the longest body has.
+/// The greatest length in bytes of a frame of a reply. A reply with status 0 and the longest body has this
+/// length.
 pub const MAX_REPLY_BYTES: usize = REPLY_HEAD_BYTES + MAX_BODY_BYTES;
 
-/// The most bytes of the text that [`refusal_frame`](crate::refusal_frame) accepts.
+/// The greatest length in bytes of the text that [`refusal_frame`](crate::refusal_frame) accepts.
 pub const MAX_REFUSAL_TEXT_BYTES: usize = 160;

@@ -1,3 +1,5 @@
+//! The rules that a frame of a reply can break.
+
 ghost use Rattle.std.specs.Prelude.{◌≡◌};
 ghost use Rattle.envelope.specs.Texts.{reply_fault_words};
 ghost use Rattle.envelope.specs.declared.kind.FrameKind.TheVariants.{Replies};
@@ -8,27 +10,28 @@ use crate::fault::Fault;
 use crate::kind::{FrameKind, Part};
 use thiserror::Error;
 
-/// The rules that a reply frame can break, in the order of the bytes that show it.
+/// The rules that a frame of a reply can break, in the order of the bytes that show the break. The last rule
+/// is about the end of the input.
 #[derive(Clone, Copy, Debug, PartialEq, Eq)]
 pub enum ReplyWhy {
     /// The status is not one of the ten codes. The place of the fault is the first byte of the frame.
     BadStatus,
-    /// The two length bytes give more than 1,024, or not 0 although the status is 0. The place of the fault
-    /// is the first of the two.
+    /// The two length bytes give a number above 1,024, or the status is 0 and they give a number other than
+    /// 0. The place of the fault is the first length byte.
     BadTextLength,
-    /// A byte of the text is not 0x20 to 0x7E. The place of the fault is that byte.
+    /// A byte of the text is not from 0x20 to 0x7E. The place of the fault is that byte.
     BadText,
     /// The flag is not 0 (compression is not supported). The place of the fault is the flag.
     BadFlag,
-    /// The four length bytes give more than 4,194,304, or not 0 although the status is not 0. The place of
-    /// the fault is the first of the four.
+    /// The four length bytes give a number above 4,194,304, or the status is not 0 and they give a number
+    /// other than 0. The place of the fault is the first length byte.
     BadBodyLength,
     /// The input ends inside a frame. The place of the fault is the length of the input.
     EndOfInput,
 }
 
 impl ReplyWhy {
-    /// The text of the fault up to the number of the byte, such as `bad status at byte `.
+    /// Returns the text of the fault up to the number of the byte, such as `bad status at byte `.
     pub fn text(self) -> &'static str
         ensures { result.now ≡ reply_fault_words self }
     {
@@ -42,7 +45,7 @@ impl ReplyWhy {
         }
     }
 
-    /// The rule that a reply's frame breaks in this part.
+    /// Returns the rule that a reply's frame breaks in this part.
     pub(crate) fn of(part: Part) -> ReplyWhy
         ensures { reply_part_of result ≡ part }
     {
@@ -57,7 +60,7 @@ impl ReplyWhy {
     }
 }
 
-/// A malformed reply frame. The stream cannot be read past it.
+/// The fault of a malformed frame of a reply. The stream cannot be read past such a frame.
 #[derive(Clone, Copy, Debug, PartialEq, Eq, Error)]
 #[error("{}{}", self.why.text(), self.at)]
 pub struct ReplyFault {

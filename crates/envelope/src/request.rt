@@ -1,3 +1,5 @@
+//! Appends the frames of calls to a vector of bytes.
+
 ghost use Rattle.std.specs.Prelude.{◌≡◌, ◌++◌, OnOk, OnErr};
 ghost use Rattle.envelope.specs.Envelope.{IsCall, frame};
 
@@ -5,12 +7,12 @@ use std::alloc::AllocError;
 
 /// Appends the frame of a call, which [`take_frame`](crate::take_frame) reads back.
 ///
-/// The path must have 1 to 128 bytes, each 0x21 to 0x7E, and the message at most 1,048,576 bytes. The vector
-/// grows at most once.
+/// The path must have 1 to 128 bytes, each from 0x21 to 0x7E, and the message at most 1,048,576 bytes. The
+/// vector grows at most once.
 ///
 /// # Errors
 ///
-/// If memory is refused; the vector is unchanged.
+/// If memory is refused. The vector is unchanged.
 #[tactic(auto, unfolding(crate::specs::Envelope::frame))]
 pub fn put_request(out: &mut Vec<u8>, path: &[u8], message: &[u8]) -> Result<(), AllocError>
     requires { IsCall (record { path = path.now; message = message.now }) }

@@ -1,3 +1,5 @@
+//! Reads the first frame of a call from all of the remaining input.
+
 ghost use Rattle.envelope.specs.Taken.{BeginsWith, TakesFirst};
 
 use crate::call::Call;
@@ -5,7 +7,7 @@ use crate::fault::{Fault, FrameFault};
 use crate::head::{Look, call_of, look_at};
 use crate::kind::Part;
 
-/// What [`take_frame`] finds at the start of the remaining input.
+/// The result of [`take_frame`] for the remaining input.
 #[derive(Clone, Copy, Debug)]
 pub enum Taken<'a> {
     /// The remaining input is empty.
@@ -16,10 +18,10 @@ pub enum Taken<'a> {
     Fault(FrameFault),
 }
 
-/// Reads the first frame of the bytes, or finds the fault that is there instead.
+/// Reads the first frame of the bytes, or finds the fault of bytes that do not begin with a frame.
 ///
-/// The bytes must be all of the remaining input: a frame that is not complete is the fault `EndOfInput`. Does
-/// not allocate, and does not read the message.
+/// The bytes must be all of the remaining input, since an incomplete frame is the fault `EndOfInput`. The
+/// function does not allocate and does not read the message.
 pub fn take_frame(bytes: &[u8]) -> Taken<'_>
     ensures { TakesFirst bytes.now result }
 {
@@ -33,8 +35,8 @@ pub fn take_frame(bytes: &[u8]) -> Taken<'_>
     }
 }
 
-/// Returns the length of the first frame in bytes; `None` if there are no bytes. Fails with the fault if the
-/// bytes do not begin with a frame.
+/// Returns the length in bytes of the first frame, or `None` if there are no bytes. If the bytes do not begin
+/// with a frame, the call fails and the error is the fault.
 pub(crate) fn first_frame<F: Fault>(bytes: &[u8]) -> Result<Option<usize>, F>
     ensures { BeginsWith F.kind F.wrong_part F.place bytes.now result }
 {

@@ -1,3 +1,5 @@
+//! Reads the first frame of a reply from all of the remaining input.
+
 ghost use Rattle.envelope.specs.TakenReply.{TakesFirstReply};
 
 use crate::head::reply_of;
@@ -5,7 +7,7 @@ use crate::reply::Reply;
 use crate::reply_fault::ReplyFault;
 use crate::taken::first_frame;
 
-/// What [`take_reply`] finds at the start of the remaining input.
+/// The result of [`take_reply`] for the remaining input.
 #[derive(Clone, Copy, Debug)]
 pub enum TakenReply<'a> {
     /// The remaining input is empty.
@@ -16,10 +18,10 @@ pub enum TakenReply<'a> {
     Fault(ReplyFault),
 }
 
-/// Reads the first reply of the bytes, or finds the fault that is there instead.
+/// Reads the first reply of the bytes, or finds the fault of bytes that do not begin with a reply.
 ///
-/// The bytes must be all of the remaining input: a frame that is not complete is the fault `EndOfInput`. Does
-/// not allocate, and does not read the body.
+/// The bytes must be all of the remaining input, since an incomplete frame is the fault `EndOfInput`. The
+/// function does not allocate and does not read the body.
 pub fn take_reply(bytes: &[u8]) -> TakenReply<'_>
     ensures { TakesFirstReply bytes.now result }
 {

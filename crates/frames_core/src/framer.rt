@@ -1,3 +1,5 @@
+//! Cuts a stream of bytes into frames.
+
 ghost use Rattle.std.specs.Prelude.{◌≡◌, ℕ, ◌+◌, ◌^◌, ◌<◌, ◌≤◌, [], ◌++◌, length, take, slice_index, min, vec_len, vec_capacity, None, Some, IfOk, MatchOption, IsTrue, IsNone, IfSome, is_some, false};
 ghost use Rattle.envelope.specs.Envelope.{IsCall, bytes_of, frame, IsReply, reply_bytes_of, reply};
 ghost use Rattle.envelope.specs.Grammar.{BeginsFrame, IsFrame, IsUnbroken, IsUnfinished};
@@ -11,21 +13,20 @@ use envelope::{Call, Fault, FrameFault, Part, Reply, ReplyFault, call_of, reply_
 use std::alloc::{AllocError, Global};
 use std::marker::Model;
 
-/// Cuts a stream of bytes, which may come in any pieces, into frames: into calls if `F` is [`FrameFault`],
-/// into replies if `F` is [`ReplyFault`].
+/// Cuts a stream of bytes, which comes in pieces of any size, into frames. The frames are calls if `F` is
+/// [`FrameFault`], and replies if `F` is [`ReplyFault`].
 ///
-/// `new` allocates one buffer for the longest frame, and no later call allocates. Appending within reserved
-/// capacity cannot fail, so no other function returns an error for memory.
+/// `new` allocates one buffer for the longest frame, and no later call allocates. Appending to a buffer with
+/// enough room cannot fail, so no other function returns an error for memory.
 ///
-/// Contracts see a cutter as three values: the length of all frames that were given up (`past`), the bytes
-/// taken since then (`held`), and the fault, once it is known (`fault`). Once a fault is known it never
-/// changes.
+/// Contracts see a cutter as three values: the length of all frames that were discarded (`past`), the bytes
+/// taken since then (`held`), and the fault of the stream (`fault`). Once a fault is known, it never changes.
 #[derive(Drop)]
 pub struct Cutter<F: Fault> {
     buffer: Vec<u8>,
     past: u64,
     known: Option<F>,
-    // Whether the held bytes are a whole frame, so that its head is not read again.
+    // True if the held bytes are a complete frame, so that its head need not be read again.
     whole: bool,
 }
 
@@ -66,7 +67,7 @@ impl<F: Fault> Cutter<F> {
         })
     }
 
-    /// The number of bytes taken since the start of the stream.
+    /// Returns the number of bytes that were taken since the start of the stream.
     pub fn taken(&self) -> u64
         ensures value { result ≡ self.now.past + length self.now.held }
         ensures bounded { result < 2 ^ 63 }
@@ -74,7 +75,8 @@ impl<F: Fault> Cutter<F> {
         self.past + self.buffer.len() as u64
     }
 
-    /// The fault of the stream; `None` until one is known. Its place is counted from the start of the stream.
+    /// Returns the fault of the stream, or `None` while no fault is known. The place in the fault is counted
+    /// from the start of the stream.
     pub fn fault(&self) -> Option<F>
         ensures value { result ≡ self.now.fault }
         ensures exact { MatchOption result (IsUnbroken F.kind self.now.held)
@@ -83,7 +85,8 @@ impl<F: Fault> Cutter<F> {
         self.known
     }
 
-    // The bytes of the frame, if it is whole. The clauses state what is known if it is not.
+    // Returns the bytes of the frame if it is complete. The clauses `none` and `short` say what is known
+    // otherwise.
     #[inline(always)]
     fn whole_frame(&self) -> Option<&[u8]>
         ensures value { IfSome result (λ bytes. (bytes.now ≡ self.now.held) × IsUnbroken F.kind bytes.now
@@ -101,7 +104,8 @@ impl<F: Fault> Cutter<F> {
         Some(held)
     }
 
-    /// Discards the whole frame, so that the next one can be taken. Changes nothing if no frame is whole.
+    /// Discards the complete frame, so that the next frame can be taken. Does nothing if no frame is
+    /// complete.
     #[inline(always)]
     pub fn next_frame(&mut self)
         ensures given_up { IsFrame F.kind self.old.held
@@ -116,8 +120,8 @@ impl<F: Fault> Cutter<F> {
         }
     }
 
-    /// Ends the input. If a frame has begun and is not whole, the fault `EndOfInput` becomes known; otherwise
-    /// nothing changes.
+    /// Ends the input. If a frame has begun and is not complete, the fault `EndOfInput` becomes known.
+    /// Otherwise nothing changes.
     pub fn end(&mut self)
         ensures ends { IsCutShortAs F.kind self.old → self.new ≡ cut_with F.cut_at self.old }
         ensures kept { ¬ IsCutShortAs F.kind self.old → self.new ≡ self.old }
@@ -127,7 +131,7 @@ impl<F: Fault> Cutter<F> {
         }
     }
 
-    // Whether no more bytes are taken, because a frame is whole or a fault is known.
+    // Returns true if no more bytes are taken, because a frame is complete or a fault is known.
     #[inline(always)]
     fn is_settled(&self) -> bool
         ensures settled { IsTrue result → IsSettledAs F.kind self.now }
@@ -138,20 +142,22 @@ impl<F: Fault> Cutter<F> {
     }
 
     /// Takes bytes of the piece up to the end of one frame, or up to the byte that makes a fault known.
-    /// Returns the number of bytes taken: 0 if a frame is whole or a fault is known already.
+    /// Returns the number of bytes that were taken. If a frame is complete or a fault is known already, takes
+    /// no bytes.
     ///
-    /// The bytes taken since the start of the stream and the piece must be fewer than 2^63 together.
+    /// The stream must have fewer than 2^63 bytes: the bytes that were taken since its start, and the bytes
+    /// of the piece.
     #[inline(always)]
     pub fn feed(&mut self, piece: &[u8]) -> usize
         requires room { self.old.past + length self.old.held + length piece.now < 2 ^ 63 }
         ensures within { result ≤ length piece.now }
         ensures past { self.new.past ≡ self.old.past }
         ensures held { self.new.held ≡ self.old.held ++ take result piece.now }
-        // Takes the least prefix of the piece that completes a frame or makes a fault known, otherwise the
-        // whole piece.
+        // Takes the shortest prefix of the piece that completes a frame or makes a fault known. If there is
+        // no such prefix, takes the whole piece.
         ensures least { (k : ℕ) → k < result → IsUnfinished F.kind (self.old.held ++ take k piece.now) }
         ensures all { result < length piece.now → IsSettledAs F.kind self.new }
-        // A fault that becomes known is of the bytes, and not of an end of the input.
+        // A fault that becomes known comes from the bytes, and not from an end of the input.
         ensures known { self.old.fault ≡ None
             → IfSome self.new.fault (λ f. IsBreakIn F.kind self.new.past self.new.held (F.wrong_part f)
             (F.place f)) }
@@ -176,7 +182,7 @@ impl<F: Fault> Cutter<F> {
 }
 
 impl Cutter<FrameFault> {
-    /// The call whose frame is whole, borrowed from the buffer; `None` if no frame is whole.
+    /// Returns the call whose frame is complete, borrowed from the buffer, or `None` if no frame is complete.
     pub fn frame(&self) -> Option<Call<'_>>
         ensures { MatchOption result (¬ BeginsFrame Calls self.now.held) (λ call. IsCall (bytes_of call)
             × (self.now.held ≡ frame (bytes_of call))) }
@@ -186,7 +192,8 @@ impl Cutter<FrameFault> {
 }
 
 impl Cutter<ReplyFault> {
-    /// The reply whose frame is whole, borrowed from the buffer; `None` if no frame is whole.
+    /// Returns the reply whose frame is complete, borrowed from the buffer, or `None` if no frame is
+    /// complete.
     pub fn reply(&self) -> Option<Reply<'_>>
         ensures { MatchOption result (¬ BeginsFrame Replies self.now.held) (λ r. IsReply (reply_bytes_of r)
             × (self.now.held ≡ reply (reply_bytes_of r))) }

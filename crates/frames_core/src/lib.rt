@@ -1,14 +1,15 @@
 //! Streams of calls and replies, cut into their frames as they come, in any pieces.
 //!
-//! The crate `envelope` defines frames and which calls a list of bytes contains. Types and limits such as
-//! `envelope::MAX_MESSAGE_BYTES` have their names there alone: this crate exports none of them again.
-//! `specs/Framer.antt` defines what a framer has taken, `specs/Holding.antt` what is true of the bytes held,
-//! and `specs/Prefix.antt` which bytes of a piece are taken. [`send`] writes a frame (`specs/Writing.antt`).
+//! The crate `envelope` defines frames, and which calls a list of bytes contains. It also has the types and
+//! limits, such as `envelope::MAX_MESSAGE_BYTES`; this crate does not export them again. `specs/Framer.antt`
+//! defines the bytes that a framer has taken, `specs/Holding.antt` the properties of the bytes it holds, and
+//! `specs/Prefix.antt` which bytes of a piece it takes. [`send`] writes a frame (`specs/Writing.antt`).
 //!
-//! [`Framer`] and [`ReplyFramer`] are one type, [`Cutter`]. It appends the bytes that may be a head, looks at
-//! them, and removes those after the end of the frame or the fault. It then copies the body in one block into
-//! the same buffer, which is the only memory it allocates. It remembers whether the frame is whole (`Marks`
-//! of `specs/Holding.antt`), so that its head is not read again.
+//! [`Framer`] and [`ReplyFramer`] are one type, [`Cutter`]. A cutter appends the bytes that may belong to a
+//! head to its buffer, looks at them, and removes the bytes after the end of the frame or after the fault.
+//! Then it appends the body to the buffer in one block. The buffer is the only memory that a cutter
+//! allocates. A cutter remembers if the frame is complete (`Marks` of `specs/Holding.antt`), so that the head
+//! is not read again.
 //!
 //! ```rust
 //! let mut framer = Framer::new(alloc)?;

@@ -1,3 +1,5 @@
+//! Takes the part of a piece of bytes that belongs to the current frame.
+
 ghost use Rattle.std.specs.Prelude.{◌≡◌, ◌≢◌, ℕ, ◌+◌, ◌<◌, ◌≤◌, ◌++◌, false, IsTrue, length};
 ghost use Rattle.std.specs.Prelude.{slice_index, min, vec_len, vec_capacity};
 ghost use Rattle.frames_core.specs.Prefix.{TakesPrefix, Misses};
@@ -6,21 +8,23 @@ ghost use Rattle.envelope.specs.Head.{IsShort, most_frame};
 
 use envelope::{Flaw, FrameKind, Head, Look, look_at};
 
-/// The bytes of a piece that [`take_prefix`] took, and what they complete or break.
+/// The bytes of a piece that [`take_prefix`] took, and the result of taking them.
 #[derive(Clone, Copy)]
 pub(crate) struct Prefix {
-    /// The number of bytes taken.
+    /// The number of bytes that were taken.
     pub count: usize,
-    /// The rule that the last taken byte breaks, with its place in the held bytes; `None` if none is broken.
+    /// The rule that the last taken byte breaks, or `None` if no rule is broken. The place in the flaw is
+    /// counted from the start of the held bytes.
     pub flaw: Option<Flaw>,
-    /// Whether the held bytes are now a whole frame.
+    /// True if the held bytes are now a complete frame.
     pub whole: bool,
 }
 
-/// Takes bytes of the piece up to the end of one frame, or up to the byte that breaks a rule of the table.
+/// Takes bytes of the piece up to the end of one frame, or up to the byte that breaks a rule of the envelope.
 ///
-/// Appends the bytes that may be the head, looks at them, and removes those after the end of the frame or the
-/// break. Then copies the body in one block. The buffer must have room for the longest frame.
+/// First appends the bytes that may belong to the head to the buffer and looks at them. If the frame ends in
+/// these bytes, or one of them breaks a rule, removes the bytes after that place. Otherwise appends the body
+/// in one block. The buffer must have room for the longest frame.
 #[inline(always)]
 pub(crate) fn take_prefix(kind: FrameKind, buffer: &mut Vec<u8>, piece: &[u8]) -> Prefix
     requires room { most_frame kind ≤ vec_capacity buffer.old }
@@ -65,7 +69,7 @@ pub(crate) fn take_prefix(kind: FrameKind, buffer: &mut Vec<u8>, piece: &[u8]) -
     }
 }
 
-/// States as a clause what the type `u8` states: each byte is below 256.
+/// A fact for proofs: each value of type `u8` is below 256.
 pub(crate) fn each_fits(bytes: &[u8])
     ensures { (k : ℕ) → slice_index bytes.now k < 256 }
 {}
@@ -88,8 +92,8 @@ fn append(buffer: &mut Vec<u8>, bytes: &[u8])
     }
 }
 
-// Whether `count` is the number of missing bytes. No byte counts as missing until the length of the body is
-// known.
+// Returns true if `count` is the number of missing bytes. The number of missing bytes is 0 until the length
+// of the body is known, and then the result is false.
 #[inline(always)]
 fn are_all(count: usize, missing: usize) -> bool
     ensures all { IsTrue result → (0 < missing) × (count ≡ missing) }
@@ -98,7 +102,7 @@ fn are_all(count: usize, missing: usize) -> bool
     missing > 0 && count == missing
 }
 
-// The number of bytes of the body that are missing: 0 until the length of the body is known.
+// Returns the number of bytes that the body still lacks, or 0 if the length of the body is not known yet.
 #[tactic(auto, unfolding(envelope::specs::Head::IsShort))]
 #[inline(always)]
 fn missing(kind: FrameKind, bytes: &[u8]) -> usize

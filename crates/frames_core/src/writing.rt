@@ -1,7 +1,7 @@
-//! Writing a frame.
+//! Writes a frame.
 //!
-//! Errors are std's `io::Error`: code that sends a frame displays the error or sends again, and needs no type
-//! of this project.
+//! The errors are std's `io::Error`. Code that sends a frame displays the error or sends the frame again, so
+//! it needs no error type of this project.
 
 ghost use Rattle.std.specs.Prelude.{OnOk};
 ghost use Rattle.std.specs.Io.KnownBytes.{Appends};
@@ -9,8 +9,8 @@ ghost use Rattle.frames_core.specs.Writing.{WrotePrefix};
 
 use std::io::{self, ErrorKind, Write};
 
-// Writes all of the bytes, or fails after a prefix of them.
-// std's `write_all` promises what was written only if all was. A change store that fails needs more.
+// Writes all of the bytes, or fails after a prefix of them. The contract of std's `write_all` does not say
+// what was written if it fails, and a change store needs that.
 #[inline(always)]
 fn put<W: Write>(writer: &mut W, bytes: &[u8]) -> io::Result<()>
     ensures all { OnOk result (Appends (W.contents writer.old) (W.contents writer.new) bytes.now) }
@@ -32,12 +32,12 @@ fn put<W: Write>(writer: &mut W, bytes: &[u8]) -> io::Result<()>
 ///
 /// # Errors
 ///
-/// If a write or the flush fails, or a write takes no byte. A prefix of the bytes was then written, which may
-/// be none or all of them. An interrupted write is an error too.
+/// If a write or the flush fails, a write is interrupted, or a write takes no byte. A prefix of the bytes was
+/// then written, which may be empty or complete.
 ///
 /// # Not promised
 ///
-/// That the bytes are flushed. The rows of `test_bytes` show it.
+/// The contract does not say that the bytes are flushed. Rows of `test_bytes` show that they are.
 #[inline(always)]
 pub fn send<W: Write>(writer: &mut W, frame: &[u8]) -> io::Result<()>
     ensures all { OnOk result (Appends (W.contents writer.old) (W.contents writer.new) frame.now) }

@@ -1,4 +1,5 @@
-//! Laws of the definitions that the contracts cite.
+//! A law about the fields of a message. A law is a function that does nothing: its caller gets what the
+//! contract of the law states.
 
 ghost use Rattle.std.specs.Prelude.{◌≡◌, ℕ, List};
 ghost use Rattle.pbwire.specs.Wire.{WireField, AreFields};
@@ -6,8 +7,8 @@ ghost use Rattle.pbmessage.specs.Fields.{fields_of};
 
 use pbwire::laws::spelled;
 
-/// The function `fields_of` gives the fields that the bytes encode, if the bytes are a list of fields
-/// (Protocol Buffers encoding guide, 'Message Structure').
+/// If bytes are a list of fields, the function `fields_of` returns these fields (Protocol Buffers encoding
+/// guide, 'Message Structure').
 #[inline(always)]
 pub fn fields()
     ensures { (bytes : List ℕ) (es : List WireField) → AreFields es bytes → fields_of bytes ≡ es }

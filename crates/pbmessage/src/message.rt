@@ -1,4 +1,4 @@
-//! Decoding a message of any type. The first pass looks for faults and takes no memory; the second builds the
+//! Decodes a message of any type. The first pass looks for faults and takes no memory; the second builds the
 //! value.
 
 ghost use Rattle.std.specs.Prelude.{◌≡◌, ◌↔◌, ℕ, List, [], ◌∷◌, ◌++◌, IsTrue, OnOk, IfOk, IfErr, MatchOption};
@@ -14,33 +14,33 @@ use pbwire::laws::spelled;
 use pbwire::{Field, Fields, Value};
 use std::alloc::{AllocError, Global};
 
-/// A type that is decoded from the fields of a message.
+/// A type that is decoded from the fields of a message, by merging them into an empty value in order. The
+/// order of fields with different numbers does not matter, except for the members of a oneof.
 ///
-/// The value is a function of what is under each field number, so a message is decoded by taking its fields
-/// in order. `P` names the package of the message. It is a type of the crate that implements this trait, so
-/// the type of the value may belong to another crate.
+/// `P` stands for the package of the message. The crate that implements this trait must have its own type
+/// `P`, since the type of the value may belong to another crate.
 pub trait Message<P>: Drop {
-    /// The field numbers of texts and embedded messages.
+    /// The field numbers of the texts and embedded messages.
     ghost schema: { Schema };
 
-    /// The value, as a function of what the fields have.
+    /// The value of the message, as a function of the views of its fields.
     ghost of: { Views → Self };
 
-    /// The value of a message without fields. Takes no memory.
+    /// Returns the value of a message without fields. Takes no memory.
     fn empty(alloc: Global) -> Self
         ensures { result ≡ of no_views };
 
-    /// Whether this payload is well-formed under this field number. Other payloads make the message
-    /// malformed.
+    /// Returns true if this payload is well-formed for the field with this number. A message that has another
+    /// payload in this field is malformed.
     fn is_good(number: u32, payload: &[u8]) -> bool
         ensures { IsTrue result ↔ Good schema number payload.now };
 
-    /// Takes a field that holds a varint into the value.
+    /// Merges a field with a varint into the value.
     fn merge_number(&mut self, number: u32, value: u64)
         ensures { (v : Views) → self.old ≡ of v → self.new ≡ of (with_number number value v) };
 
-    /// Takes a field that holds a payload into the value. The payload must be well-formed. If memory is
-    /// refused, a part of it may have been taken.
+    /// Merges a field with a payload into the value. The payload must be well-formed. If memory is refused, a
+    /// part of the payload may have been merged.
     fn merge_payload(
         &mut self,
         alloc: Global,
@@ -52,15 +52,14 @@ pub trait Message<P>: Drop {
             → self.new ≡ of (with_payload number payload.now v)) };
 }
 
-/// The text that refuses a malformed message, up to the offset of the field, which follows in decimal.
+/// The beginning of the text that refuses a malformed message. The offset of the field follows in decimal.
 pub const MALFORMED_MESSAGE: &str = "malformed message in the field at byte ";
 
-/// Why a message cannot be decoded. `NoMemory` is displayed as [`Reason::OutOfMemory`] is.
+/// The reason why a message cannot be decoded. `NoMemory` has the same `Display` as [`Reason::OutOfMemory`].
 #[derive(Clone, Copy, Debug, PartialEq, Eq, thiserror::Error)]
 pub enum DecodeFault {
-    /// The bytes encode no value: the field at this byte is malformed, holds a text that is not UTF-8, or
-    /// holds an embedded message that is malformed itself. The bytes before it are the longest prefix of the
-    /// message that is a list of well-formed fields.
+    /// The bytes encode no value. The field at this offset is malformed, is a text that is not UTF-8, or is
+    /// an embedded message that is malformed itself. All fields before it are well-formed.
     #[error("{}{at}", MALFORMED_MESSAGE)]
     Malformed {
         /// The offset of the field, in bytes from the start of the message.
@@ -99,8 +98,8 @@ fn merge_field<P, M: Message<P>>(
 
 /// The offset at which the bytes stop being a list of good fields, if they do. It takes no memory.
 ///
-/// A field is good if it is well-formed and, if the message has a text or an embedded message under its
-/// number, its payload is well-formed too.
+/// The offset is the place of the first field that is not good. A field is good if it is well-formed. If its
+/// number belongs to a text or an embedded message, its payload must be well-formed too.
 pub fn first_fault<P, M: Message<P>>(bytes: &[u8]) -> Option<usize>
     ensures { MatchOption result (AreGood (GoodField (Good M.schema)) bytes.now)
         (IsRefusedAt (GoodField (Good M.schema)) bytes.now) }
@@ -120,8 +119,8 @@ pub fn first_fault<P, M: Message<P>>(bytes: &[u8]) -> Option<usize>
     None
 }
 
-/// Takes all fields of the bytes into the message. The bytes must be well-formed. If memory is refused, some
-/// fields may have been taken.
+/// Merges all fields of the bytes into the message. The bytes must be well-formed. If memory is refused, some
+/// fields may have been merged.
 pub fn merge<P, M: Message<P>>(
     message: &mut M,
     alloc: Global,
@@ -140,7 +139,7 @@ pub fn merge<P, M: Message<P>>(
     Ok(())
 }
 
-/// Decodes a message from bytes already known to be well-formed. Fails if memory is refused.
+/// Decodes a message from bytes that were found to be well-formed. Fails if memory is refused.
 pub fn read<P, M: Message<P>>(alloc: Global, bytes: &[u8]) -> Result<M, AllocError>
     requires { AreGood (GoodField (Good M.schema)) bytes.now }
     ensures { IfOk result (λ message. message ≡ value_of M.of (fields_of bytes.now)) }
@@ -150,11 +149,11 @@ pub fn read<P, M: Message<P>>(alloc: Global, bytes: &[u8]) -> Result<M, AllocErr
     Ok(message)
 }
 
-/// Decodes a message.
+/// Decodes a message of type `M` in two passes: the first looks for faults, the second builds the value.
 ///
 /// # Errors
 ///
-/// `Malformed` if the bytes are malformed, which is checked before any memory is taken; `NoMemory` if they
+/// `Malformed` if the bytes are malformed, which is checked before memory is taken. `NoMemory` if the bytes
 /// are well-formed and memory is refused.
 #[inline(always)]
 pub fn decode_message<P, M: Message<P>>(alloc: Global, bytes: &[u8]) -> Result<M, DecodeFault>
@@ -171,7 +170,12 @@ pub fn decode_message<P, M: Message<P>>(alloc: Global, bytes: &[u8]) -> Result<M
     }
 }
 
-/// Decodes a message as [`decode_message`] does, and boxes it, so that callers do not move the message.
+/// Decodes a message of type `M` into a box, so that callers do not move the message.
+///
+/// # Errors
+///
+/// `Malformed` if the bytes are malformed, which is checked before memory is taken. `NoMemory` if the bytes
+/// are well-formed and memory is refused.
 pub fn decode_boxed<P, M: Message<P>>(alloc: Global, bytes: &[u8]) -> Result<Boxed<M>, DecodeFault>
     ensures ok { IfOk result (Means (GoodField (Good M.schema)) (value_of M.of) bytes.now) }
     ensures err { IfErr result (Refuses (GoodField (Good M.schema)) bytes.now) }

@@ -1,4 +1,4 @@
-//! Checking one payload, and adding it to a part of a message.
+//! Checks one payload, and merges it into a part of a message.
 
 ghost use Rattle.std.specs.Prelude.{◌≡◌, ◌↔◌, ◌++◌, ◌∷◌, [], IsTrue, IsUtf8, IfOk, OnOk};
 ghost use Rattle.pbmessage.specs.Schema.{GoodField, Good, map_entry_schema};
@@ -10,7 +10,7 @@ use crate::message::{Message, first_fault, merge, read};
 use csi_types::{Items, Map, Text};
 use std::alloc::{AllocError, Global};
 
-/// Whether the payload is a text: valid UTF-8.
+/// Returns true if the payload is a text: valid UTF-8.
 pub fn is_text(payload: &[u8]) -> bool
     ensures { IsTrue result ↔ IsUtf8 payload.now }
 {
@@ -26,29 +26,29 @@ pub fn text(alloc: Global, payload: &[u8]) -> Result<Text, AllocError>
     requires { IsUtf8 payload.now }
     ensures { IfOk result (λ text. text ≡ payload.now) }
 {
-    // The pass that looked for faults found these bytes to be UTF-8.
+    // The pass that looked for faults has found that these bytes are UTF-8.
     Text::from_str(alloc, unsafe { std::str::from_utf8_unchecked(payload) })
 }
 
-/// Sets a text to the payload, which must be UTF-8, in the memory that the text already has if that is
-/// enough. Fails if memory is refused.
+/// Sets a text to the payload, which must be UTF-8. Allocates only if the text does not have enough memory
+/// already. Fails if memory is refused.
 pub fn set_text(slot: &mut Text, payload: &[u8]) -> Result<(), AllocError>
     requires { IsUtf8 payload.now }
     ensures { OnOk result (slot.new ≡ payload.now) }
 {
-    // The pass that looked for faults found these bytes to be UTF-8.
+    // The pass that looked for faults has found that these bytes are UTF-8.
     slot.set(unsafe { std::str::from_utf8_unchecked(payload) })
 }
 
-/// Whether the payload, taken alone, is a well-formed message of type `M`.
+/// Returns true if the payload is a well-formed message of type `M`.
 pub fn is_message<P, M: Message<P>>(payload: &[u8]) -> bool
     ensures { IsTrue result ↔ AreGood (GoodField (Good M.schema)) payload.now }
 {
     first_fault::<P, M>(payload).is_none()
 }
 
-/// Merges the payload of an embedded message with earlier occurrences of its field. The payload must be
-/// well-formed. Fails if memory is refused.
+/// Merges the payload of an embedded message into `slot`, which has the message of the earlier occurrences of
+/// the field. The payload must be well-formed. Fails if memory is refused.
 pub fn merge_message<P, M: Message<P>>(
     slot: &mut Option<M>,
     alloc: Global,
@@ -80,7 +80,7 @@ pub fn push_message<P, M: Message<P>>(
     Ok(())
 }
 
-/// Whether the payload, taken alone, is a well-formed entry of a map of texts.
+/// Returns true if the payload is a well-formed entry of a map of texts.
 pub fn is_entry(payload: &[u8]) -> bool
     ensures { IsTrue result ↔ AreGood (GoodField (Good map_entry_schema)) payload.now }
 {

@@ -1,7 +1,9 @@
-//! Encoding a message of any type, in its one encoding.
+//! Encodes a message of any type. A value has exactly one encoding.
 //!
 //! An embedded message is written in place: first a field with an empty payload, then the fields of the
-//! message, then the length.
+//! message. At last the length is set.
+//!
+//! If memory is refused, each function fails, and may have appended a part of the field.
 
 ghost use Rattle.std.specs.Prelude.{◌≡◌, ◌++◌, ◌∷◌, [], ◌≤◌, ◌<◌, ◌^◌, List, OnOk, OnErr, option_to_list, length, take};
 ghost use Rattle.std.specs.FinMap.{empty, entries, insert};
@@ -15,23 +17,25 @@ use pbwire::laws::closed;
 use pbwire::{close_bytes, put_bytes, put_entry, put_varint};
 use std::alloc::AllocError;
 
-/// A type whose values have one encoding each. `P` is the package, as for [`Message`](crate::Message).
+/// A type whose values have one encoding each. `P` stands for the package of the message. The crate that
+/// implements this trait must have its own type `P`, since the type of the value may belong to another crate.
 pub trait Written<P> {
-    /// The fields of the encoding, by their numbers.
+    /// The fields of the encoding, by field number.
     ghost canon: { Self → Rows };
 
     /// The values that have an encoding. `write` succeeds only for these.
     ghost fits: { Self → Type 0 };
 
-    /// Appends the encoding. If memory is refused, a part of the encoding may have been appended.
+    /// Appends the encoding of the value. If memory is refused, a part of the encoding may have been
+    /// appended.
     fn write(&self, out: &mut Vec<u8>) -> Result<(), AllocError>
         ensures ok { OnOk result (out.new.items ≡ out.old.items ++ bytes_of (canon self.now)) }
         ensures fitting { OnOk result (fits self.now) }
         ensures kept { Keeps out.old.items out.new.items };
 }
 
-/// Returns `written`. If it is an error, first truncates the vector to its first `from` bytes, which removes
-/// an encoding written in part.
+/// Returns `written`, the result of writing an encoding. If `written` is an error, first cuts the vector to
+/// its first `from` bytes. So no part of the encoding is left in the vector.
 pub fn whole_or_none(
     out: &mut Vec<u8>,
     from: usize,
@@ -48,7 +52,7 @@ pub fn whole_or_none(
     written
 }
 
-// Appends a text as field `number`; appends nothing if the text is empty.
+// Appends a text as field `number`. Appends nothing if the text is empty.
 #[tactic(auto, unfolding(crate::specs::Canon::row_fields))]
 fn put_str(out: &mut Vec<u8>, number: u32, text: &str) -> Result<(), AllocError>
     requires { (1 ≤ number) × (number < 2 ^ 29) }
@@ -63,7 +67,7 @@ fn put_str(out: &mut Vec<u8>, number: u32, text: &str) -> Result<(), AllocError>
     put_bytes(out, number, text.as_bytes())
 }
 
-/// Appends the text as field `number`; appends nothing if the text is empty.
+/// Appends the text as field `number`. Appends nothing if the text is empty.
 pub fn put_text(out: &mut Vec<u8>, number: u32, text: &Text) -> Result<(), AllocError>
     requires { (1 ≤ number) × (number < 2 ^ 29) }
     ensures ok { OnOk result (out.new.items
@@ -74,7 +78,7 @@ pub fn put_text(out: &mut Vec<u8>, number: u32, text: &Text) -> Result<(), Alloc
     put_str(out, number, text.as_str())
 }
 
-/// Appends the text `first` followed by `second` as one field `number`; appends nothing if both are empty.
+/// Appends one text, `first` followed by `second`, as field `number`. Appends nothing if both are empty.
 pub fn put_joined(
     out: &mut Vec<u8>,
     number: u32,
@@ -93,7 +97,7 @@ pub fn put_joined(
     pbwire::put_joined(out, number, first.as_bytes(), second.as_bytes())
 }
 
-/// Appends each text as a field `number` of its own, empty texts too.
+/// Appends one field for each text, all with the field number `number`. An empty text gets a field too.
 #[tactic(auto, unfolding(crate::specs::Canon::row_fields))]
 pub fn put_texts(out: &mut Vec<u8>, number: u32, texts: &Items<Text>) -> Result<(), AllocError>
     requires { (1 ≤ number) × (number < 2 ^ 29) }
@@ -108,7 +112,7 @@ pub fn put_texts(out: &mut Vec<u8>, number: u32, texts: &Items<Text>) -> Result<
     Ok(())
 }
 
-/// Appends the signed number as field `number`; appends nothing if the value is 0.
+/// Appends the signed number as field `number`. Appends nothing if the number is 0.
 #[tactic(auto, unfolding(crate::specs::Canon::row_fields))]
 pub fn put_signed(out: &mut Vec<u8>, number: u32, value: i64) -> Result<(), AllocError>
     requires { (1 ≤ number) × (number < 2 ^ 29) }
@@ -122,7 +126,7 @@ pub fn put_signed(out: &mut Vec<u8>, number: u32, value: i64) -> Result<(), Allo
     put_varint(out, number, value.cast_unsigned())
 }
 
-/// Appends the flag as field `number`; appends nothing if the flag is false.
+/// Appends the flag as field `number`. Appends nothing if the flag is false.
 #[tactic(auto, unfolding(crate::specs::Canon::row_fields))]
 pub fn put_flag(out: &mut Vec<u8>, number: u32, flag: bool) -> Result<(), AllocError>
     requires { (1 ≤ number) × (number < 2 ^ 29) }
@@ -136,7 +140,7 @@ pub fn put_flag(out: &mut Vec<u8>, number: u32, flag: bool) -> Result<(), AllocE
     put_varint(out, number, 1)
 }
 
-/// Appends an empty message as field `number` if `present`; otherwise appends nothing.
+/// Appends an empty message as field `number` if `present` is true. Appends nothing otherwise.
 #[tactic(auto, unfolding(crate::specs::Canon::row_fields))]
 pub fn put_presence(out: &mut Vec<u8>, number: u32, present: bool) -> Result<(), AllocError>
     requires { (1 ≤ number) × (number < 2 ^ 29) }
@@ -169,7 +173,7 @@ pub fn put_message<P, M: Written<P>>(
     close_bytes(out, from)
 }
 
-/// Appends the message as field `number`; appends nothing if it is `None`.
+/// Appends the message as field `number`. Appends nothing if the message is `None`.
 #[tactic(auto, unfolding(crate::specs::Canon::row_fields))]
 pub fn put_option<P, M: Written<P>>(
     out: &mut Vec<u8>,
@@ -188,7 +192,7 @@ pub fn put_option<P, M: Written<P>>(
     }
 }
 
-/// Appends each message as a field `number` of its own.
+/// Appends one field for each message, all with the field number `number`.
 #[tactic(auto, unfolding(crate::specs::Canon::row_fields))]
 pub fn put_messages<P, M: Written<P>>(
     out: &mut Vec<u8>,
@@ -207,7 +211,8 @@ pub fn put_messages<P, M: Written<P>>(
     Ok(())
 }
 
-/// Appends each entry of the map as a field `number`, in byte order of the keys.
+/// Appends one field for each entry of the map, all with the field number `number`, in byte order of the
+/// keys.
 #[tactic(auto, unfolding(crate::specs::Canon::row_fields))]
 pub fn put_map(out: &mut Vec<u8>, number: u32, map: &Map) -> Result<(), AllocError>
     requires { (1 ≤ number) × (number < 2 ^ 29) }
@@ -222,7 +227,7 @@ pub fn put_map(out: &mut Vec<u8>, number: u32, map: &Map) -> Result<(), AllocErr
     Ok(())
 }
 
-/// Appends a map with one entry as field `number`, without copying key or value.
+/// Appends a map with one entry as field `number`, without copying the key or the value.
 #[tactic(auto, using(crate::proofs::EntryLemmas::one_entry, crate::proofs::EntryLemmas::one_entry_fits), unfolding(crate::specs::Canon::row_fields))]
 pub fn put_single(out: &mut Vec<u8>, number: u32, key: &str, value: &str) -> Result<(), AllocError>
     requires { (1 ≤ number) × (number < 2 ^ 29) }
@@ -234,7 +239,8 @@ pub fn put_single(out: &mut Vec<u8>, number: u32, key: &str, value: &str) -> Res
     put_map_entry(out, number, key, value)
 }
 
-// Appends an entry of a map as field `number`. Key and value are both written, even if empty.
+// Appends an entry of a map as field `number`. The key and the value are both written, even if they are
+// empty.
 #[tactic(auto, unfolding(crate::specs::Canon::row_fields))]
 fn put_map_entry(out: &mut Vec<u8>, number: u32, key: &str, value: &str) -> Result<(), AllocError>
     requires { (1 ≤ number) × (number < 2 ^ 29) }

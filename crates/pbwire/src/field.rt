@@ -1,4 +1,4 @@
-//! Fields, and the faults of bytes that should be a field.
+//! Fields of a message, and the faults of bytes that are not a field.
 
 use thiserror::Error;
 
@@ -20,16 +20,16 @@ pub enum Value<'a> {
 pub struct Field<'a> {
     /// The field's number, from 1 to 536,870,911.
     pub number: u32,
-    /// The field's value, in the form of its wire type.
+    /// The field's value. Its variant is the wire type.
     pub value: Value<'a>,
 }
 
-/// Why there is no field at an offset. Only one reason holds: a fault of the tag counts before a fault of the
-/// payload, and a fault of the tag's number before a fault of its wire type.
+/// The reason why bytes are not a field. Only one reason holds: a fault of the tag comes before a fault of
+/// the payload, and a fault of the tag's number comes before a fault of its wire type.
 #[derive(Clone, Copy, Debug, PartialEq, Eq, Error)]
 pub enum WireWhy {
-    /// The tag, the value or the length is a malformed varint: at least ten bytes are there, and no prefix of
-    /// them is a varint ("Base 128 Varints"). A tenth byte above 1 is malformed too.
+    /// The tag, the value or the length is a malformed varint ("Base 128 Varints"): its tenth byte is above
+    /// 1. So the varint has more than ten bytes, or its number has more than 64 bits.
     #[error("malformed varint")]
     Varint,
     /// The field number of the tag is 0, or the tag is 2^32 or more.
@@ -43,12 +43,12 @@ pub enum WireWhy {
     CutShort,
 }
 
-/// The fault of bytes at an offset where a field should be.
+/// A fault of bytes that are not a field: the reason, and the offset of the bytes in the message.
 #[derive(Clone, Copy, Debug, PartialEq, Eq, Error)]
 #[error("{why} at byte {at}")]
 pub struct WireFault {
     /// The rule of the wire format that the bytes break.
     pub why: WireWhy,
-    /// The offset of the faulty field's tag in the message, in bytes.
+    /// The offset of the faulty field's tag, in bytes from the start of the message.
     pub at: usize,
 }

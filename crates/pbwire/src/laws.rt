@@ -1,4 +1,5 @@
-//! Laws of the wire format. Each law is the contract of a function that does nothing.
+//! Laws of the wire format. A law is a function that does nothing: its caller gets what the contract of the
+//! law states.
 
 ghost use Rattle.std.specs.Prelude.{◌≡◌, ◌↔◌, [], ◌∷◌, ◌++◌, ◌-◌, ◌<◌, ◌≤◌, ℕ, List, Ok, Err, All, length, take, drop};
 ghost use Rattle.pbwire.specs.declared.field.WireWhy.{WireWhy};
@@ -7,8 +8,8 @@ ghost use Rattle.pbwire.specs.Reading.{field_at};
 ghost use Rattle.pbwire.specs.Faults.{Faults};
 ghost use Rattle.pbwire.specs.Writing.{varint, spelling, spellings};
 
-/// A field is read exactly if the bytes begin with an encoding of it, no matter what follows, and takes at
-/// least one byte.
+/// A read of bytes gives a field and the rest of the bytes if and only if the bytes are an encoding of the
+/// field, followed by this rest. An encoding has at least one byte.
 #[inline(always)]
 pub fn spelled()
     ensures exactly { (bytes rest : List ℕ) (e : WireField) →
@@ -17,8 +18,9 @@ pub fn spelled()
         → length rest < length bytes }
 {}
 
-/// Reading fails with a reason exactly if the table of faults has that reason for the bytes. At most one
-/// reason holds for any bytes, and if one does, no prefix of the bytes encodes a field.
+/// A read of bytes fails with a reason if and only if the table of faults has this reason for the bytes. The
+/// table has at most one reason for any bytes. If the table has a reason for some bytes, no prefix of these
+/// bytes encodes a field.
 #[inline(always)]
 pub fn faulted()
     ensures reason { (bytes : List ℕ) (why : WireWhy) → (field_at bytes ≡ Err why) ↔ Faults why bytes }
@@ -28,8 +30,7 @@ pub fn faulted()
         Faults why bytes → bytes ≡ first ++ rest → Spells e first → ⊥ }
 {}
 
-/// A message has at most one list of fields, and reading field after field gives that list: the first field
-/// at the start of the message, and the others in order after it.
+/// Bytes can be read as at most one list of fields, and reading field after field gives this list.
 #[inline(always)]
 pub fn listed()
     ensures unique { (es others : List WireField) (bytes : List ℕ) → AreFields es bytes
@@ -38,9 +39,9 @@ pub fn listed()
         AreFields (e ∷ es) bytes ↔ ((rest : List ℕ) × (field_at bytes ≡ Ok (e, rest)) × AreFields es rest) }
 {}
 
-/// A written field is read back, no matter what follows it; fields written in order are the message with
-/// this list of fields; and no other encoding of a field is shorter. A field can be encoded exactly if its
-/// number and its value are in range.
+/// The shortest encoding of a field is read back as the field, whatever bytes follow it. If the fields of a
+/// list are written in order, the bytes are a message with this list of fields. No other encoding of a field
+/// is shorter. A field can be encoded if and only if its number and its value are in range.
 #[inline(always)]
 pub fn written()
     ensures again { (e : WireField) (more : List ℕ) → FitsField e
@@ -52,8 +53,8 @@ pub fn written()
         → length (spelling e) ≤ length bytes }
 {}
 
-/// Appending bytes to a field with an empty payload and then setting its length to theirs, as
-/// [`close_bytes`](crate::close_bytes) does, gives the field that has these bytes as its payload.
+/// [`close_bytes`](crate::close_bytes) sets the length of a field with an empty payload to the number of the
+/// bytes that were appended after it. The result is the field that has these bytes as its payload.
 #[inline(always)]
 pub fn closed()
     ensures begins { (number from : ℕ) (old : List ℕ) →

@@ -1,15 +1,15 @@
 //! The wire format of Protocol Buffers: a message's bytes read as fields, and fields written as bytes.
 //!
-//! [`Fields`] goes over a message from the left and borrows each payload from it, without allocating.
+//! [`Fields`] reads a message from its start and borrows each payload from it, without allocating.
 //! [`put_varint`], [`put_bytes`], [`put_joined`] (bytes in two parts) and [`put_entry`] append one field in
-//! its shortest encoding, and [`put_map`] appends one for each entry of a map; if memory is refused, they
-//! leave the vector unchanged. [`close_bytes`] ends a field whose payload was appended after it, so an
-//! embedded message is written in place, without a buffer of its own.
+//! its shortest encoding, and [`put_map`] appends one field for each entry of a map. If memory is refused,
+//! they leave the vector unchanged. [`close_bytes`] ends a field whose payload was appended after its head.
+//! So an embedded message is written in place, without a buffer of its own.
 //!
-//! `specs/Wire.antt` encodes varints, fields and lists of fields, following the Protocol Buffers encoding
-//! guide. `specs/Reading.antt` defines the field at the start of some bytes, or the first fault that a reader
-//! meets, `specs/Faults.antt` the table of faults, and `specs/Writing.antt` the shortest encoding. The
-//! functions of [`laws`] relate them to one another.
+//! `specs/Wire.antt` defines the encodings of varints, fields and lists of fields, following the Protocol
+//! Buffers encoding guide. `specs/Reading.antt` defines the field at the start of bytes, or the first fault
+//! that a reader meets. `specs/Faults.antt` has the table of faults, and `specs/Writing.antt` the shortest
+//! encoding. The functions of [`laws`] relate these definitions to one another.
 //!
 //! ```rust
 //! let mut fields = Fields::new(message);

@@ -1,4 +1,4 @@
-//! Reading fields from the left. Each function reads a prefix of the bytes and returns the rest.
+//! Reads fields from the start of a message. Each function reads a prefix of the bytes and returns the rest.
 
 ghost use Rattle.std.specs.Prelude.{◌≡◌, ◌*◌, ◌^◌, nat_le, if◌then◌else◌, Ok, Err, IsTrue, IsNone};
 ghost use Rattle.pbwire.specs.declared.field.WireWhy.TheVariants as why;
@@ -7,7 +7,7 @@ ghost use Rattle.pbwire.specs.Reading.{seen, varint_at, tag_at, bytes_at, part_a
 use crate::field::{Field, Value, WireFault, WireWhy};
 use std::marker::Model;
 
-// Most varints have one byte.
+// Reads a varint. Most varints have one byte.
 #[inline(always)]
 #[tactic(auto, unfolding(crate::specs::Reading::varint_at, crate::specs::Reading::groups_at))]
 fn read_varint(bytes: &[u8]) -> Result<(u64, &[u8]), WireWhy>
@@ -21,7 +21,8 @@ fn read_varint(bytes: &[u8]) -> Result<(u64, &[u8]), WireWhy>
     read_long_varint(bytes)
 }
 
-// Nine groups hold 63 bits, so the tenth may hold only one.
+// Returns the number that the tenth byte of a varint adds. Nine bytes hold 63 bits, so the tenth may add only
+// one bit.
 fn tenth_group(byte: u8) -> Result<u64, WireWhy>
     ensures { result ≡ if nat_le byte 1 then Ok (2 ^ 63 * byte) else Err why.Varint }
 {
@@ -129,8 +130,8 @@ fn read_field(bytes: &[u8]) -> Result<(Field<'_>, &[u8]), WireWhy>
     ))
 }
 
-/// The fields of a message, from the first to the last or to the first fault. Payloads are borrowed from the
-/// message, and nothing is allocated.
+/// Reads the fields of a message in order, up to the first fault. Payloads are borrowed from the message, and
+/// nothing is allocated.
 #[derive(Drop)]
 pub struct Fields<'a> {
     len: usize,
@@ -163,15 +164,16 @@ impl<'a> Fields<'a> {
         }
     }
 
-    /// The offset in bytes after the last field read; after a fault, the offset of the fault.
+    /// Returns the offset in bytes after the last field that was read, or the offset of the fault after a
+    /// fault.
     pub fn at(&self) -> usize
         ensures { result ≡ self.now.at }
     {
         self.len - self.rest.len()
     }
 
-    /// Returns the next field of the message, whether or not its encoding is the shortest, or the fault that
-    /// is there instead. Returns `None` at the end of the message, and always after a fault.
+    /// Returns the next field of the message, or the fault of bytes that are not a field. The encoding of a
+    /// field need not be the shortest. Returns `None` at the end of the message, and always after a fault.
     #[inline(always)]
     pub fn next_field(&mut self) -> Option<Result<Field<'a>, WireFault>>
         ensures given { seen_next result ≡ (next_of self.old).0 }

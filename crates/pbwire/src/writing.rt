@@ -1,4 +1,4 @@
-//! Appending fields, each in its shortest encoding.
+//! Appends fields, each in its shortest encoding.
 
 ghost use Rattle.std.specs.Prelude.{◌-◌, ◌≡◌, ◌≤◌, ◌<◌, ◌^◌, ◌+◌, ◌*◌, ◌∷◌, ◌++◌, OnOk, OnErr, length, map, take, drop};
 ghost use Rattle.std.specs.Option.{IfSome};
@@ -23,7 +23,7 @@ fn push_varint(out: &mut ArrayVec<u8, 20>, number: u64)
     out.push(rest as u8);
 }
 
-// A tag and the varint after it, which is a number or the length of a payload.
+// Encodes a tag and the varint after it, which is a number or the length of a payload.
 #[inline(always)]
 fn head_of(number: u32, wire_type: u64, after: u64) -> ArrayVec<u8, 20>
     requires { wire_type < 8 }
@@ -35,7 +35,8 @@ fn head_of(number: u32, wire_type: u64, after: u64) -> ArrayVec<u8, 20>
     head
 }
 
-// The head of a field of wire type 2 if its tag and its length take one byte each, as they mostly do.
+// Returns the head of a field of wire type 2 if its tag and its length take one byte each, otherwise `None`.
+// Most heads are so short.
 #[inline(always)]
 fn short_head(number: u32, len: usize) -> Option<[u8; 2]>
     ensures { IfSome result (λ head. head ≡ varint (number * 8 + 2) ++ varint len) }
@@ -46,8 +47,8 @@ fn short_head(number: u32, len: usize) -> Option<[u8; 2]>
     Some([number as u8 * 8 + 2, len as u8])
 }
 
-/// Encodes a field that holds a number (wire type 0), for a caller that must know the length of the field
-/// before it is written.
+/// Encodes a field that has a number (wire type 0), for callers that must know the length of the field before
+/// they write it.
 #[inline(always)]
 pub fn varint_field(number: u32, value: u64) -> ArrayVec<u8, 20>
     requires { (1 ≤ number) × (number < 2 ^ 29) }
@@ -56,7 +57,7 @@ pub fn varint_field(number: u32, value: u64) -> ArrayVec<u8, 20>
     head_of(number, 0, value)
 }
 
-/// Appends a field that holds a number (wire type 0). If memory is refused, the vector is unchanged.
+/// Appends a field that has a number (wire type 0). If memory is refused, the vector is unchanged.
 pub fn put_varint(out: &mut Vec<u8>, number: u32, value: u64) -> Result<(), AllocError>
     requires { (1 ≤ number) × (number < 2 ^ 29) }
     ensures ok { OnOk result (out.new.items ≡ out.old.items ++ spelling (record {
@@ -79,7 +80,7 @@ fn append_both(out: &mut Vec<u8>, head: &[u8], bytes: &[u8]) -> Result<(), Alloc
     out.extend_from_slice(bytes)
 }
 
-// `put_bytes` for a head of any length.
+// Does the same as `put_bytes`, for a head of any length.
 #[inline(never)]
 fn put_long_bytes(out: &mut Vec<u8>, number: u32, bytes: &[u8]) -> Result<(), AllocError>
     requires { (1 ≤ number) × (number < 2 ^ 29) }
@@ -93,8 +94,8 @@ fn put_long_bytes(out: &mut Vec<u8>, number: u32, bytes: &[u8]) -> Result<(), Al
     append_both(out, head.as_slice(), bytes)
 }
 
-/// Appends a field that holds bytes (wire type 2), such as a text or an embedded message. The vector grows at
-/// most once; if memory is refused, it is unchanged.
+/// Appends a field that has bytes (wire type 2), such as a text or an embedded message. The vector grows at
+/// most once. If memory is refused, the vector is unchanged.
 #[inline(always)]
 pub fn put_bytes(out: &mut Vec<u8>, number: u32, bytes: &[u8]) -> Result<(), AllocError>
     requires { (1 ≤ number) × (number < 2 ^ 29) }
@@ -110,7 +111,8 @@ pub fn put_bytes(out: &mut Vec<u8>, number: u32, bytes: &[u8]) -> Result<(), All
     }
 }
 
-// Moves the bytes back by the length of `head`, over the bytes at their end, and writes `head` before them.
+// Moves the bytes back by the length of `head`, and writes `head` before them. The last bytes are
+// overwritten.
 #[inline(always)]
 fn put_before(bytes: &mut [u8], head: &[u8])
     requires { length head.now ≤ length bytes.old }
@@ -134,7 +136,7 @@ fn insert_before(out: &mut Vec<u8>, from: usize, head: &[u8]) -> Result<(), Allo
     Ok(())
 }
 
-// `close_bytes` for a length that takes more than the one byte reserved for it.
+// Does the same as `close_bytes`, for a length that takes more than the one byte that was reserved for it.
 #[inline(never)]
 fn close_long_bytes(out: &mut Vec<u8>, from: usize, len: usize) -> Result<(), AllocError>
     requires within { (1 ≤ from) × (from + len ≡ length out.old.items) }
@@ -152,10 +154,10 @@ fn close_long_bytes(out: &mut Vec<u8>, from: usize, len: usize) -> Result<(), Al
     Ok(())
 }
 
-/// Ends a field (wire type 2) whose payload was appended after it. The field was put with an empty payload
-/// and ended at `from`; all bytes from `from` on become its payload. So an embedded message is written in
-/// place, without knowing its length first, and moves only if its length takes more than one byte. If memory
-/// is refused, the vector is unchanged.
+/// Ends a field (wire type 2) whose payload was appended after its head. The field was put with an empty
+/// payload, and `from` is the offset after it. All bytes from `from` on become the payload. So an embedded
+/// message is written in place before its length is known. The payload moves only if its length takes more
+/// than one byte. If memory is refused, the vector is unchanged.
 #[inline(always)]
 pub fn close_bytes(out: &mut Vec<u8>, from: usize) -> Result<(), AllocError>
     requires { (1 ≤ from) × (from ≤ length out.old.items) }
@@ -172,7 +174,7 @@ pub fn close_bytes(out: &mut Vec<u8>, from: usize) -> Result<(), AllocError>
     Ok(())
 }
 
-// Appends `head` and two parts, of less than 256 bytes together. The vector grows at most once.
+// Appends `head` and two parts that have fewer than 256 bytes together. The vector grows at most once.
 fn append_short_joined(
     out: &mut Vec<u8>,
     head: &[u8],
@@ -189,7 +191,7 @@ fn append_short_joined(
     out.extend_from_slice(second)
 }
 
-// `put_joined`, except that if memory is refused, a part of the field may have been appended.
+// Does the same as `put_joined`, but if memory is refused, a part of the field may have been appended.
 fn append_joined(
     out: &mut Vec<u8>,
     number: u32,
@@ -238,7 +240,7 @@ pub fn put_joined(
     joined
 }
 
-// Appends an entry of less than 128 bytes after its head. The vector grows at most once, and nothing moves.
+// Appends an entry of fewer than 128 bytes, with its head. The vector grows at most once, and nothing moves.
 fn append_short_entry(
     out: &mut Vec<u8>,
     head: &[u8],
@@ -259,7 +261,7 @@ fn append_short_entry(
     out.extend_from_slice(value)
 }
 
-// `put_entry`, except that if memory is refused, a part of the entry may have been appended.
+// Does the same as `put_entry`, but if memory is refused, a part of the entry may have been appended.
 fn append_entry(out: &mut Vec<u8>, number: u32, key: &[u8], value: &[u8]) -> Result<(), AllocError>
     requires { (1 ≤ number) × (number < 2 ^ 29) }
     ensures ok { OnOk result (out.new.items
@@ -294,8 +296,10 @@ pub fn put_entry(out: &mut Vec<u8>, number: u32, key: &[u8], value: &[u8]) -> Re
     written
 }
 
-/// Appends a map of texts: each entry as [`put_entry`] does, in the order of the iterator. To encode equal
-/// maps alike, pass the entries in byte order of their keys. If memory is refused, the vector is unchanged.
+/// Appends a map of texts: one field for each entry, in the order of the iterator. An entry is an embedded
+/// message with the key as field 1 and the value as field 2, also if one of them is empty. If the entries
+/// come in byte order of their keys, equal maps have the same encoding. If memory is refused, the vector is
+/// unchanged.
 pub fn put_map<'a, I: Iterator<Item = (&'a [u8], &'a [u8])> + Drop>(
     out: &mut Vec<u8>,
     number: u32,

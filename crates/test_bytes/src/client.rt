@@ -1,4 +1,4 @@
-//! Rows about replies, as the client shows them.
+//! Answers rows about replies: the lines in which the client shows them.
 
 use crate::words::{first_word, named};
 use csi_client::{put_body_lines, put_reply_line};
@@ -8,8 +8,8 @@ use pbmessage::DecodeFault;
 use std::alloc::Global;
 use test_kit::{RowFault, bytes_of};
 
-/// Returns the answer to a row, which has a method or `-`, then bytes: the lines that the client prints for
-/// the first reply in the bytes.
+/// Answers a row about a reply. The row is the name of a method, or `-` for no method, and bytes. The answer
+/// is the lines that the client prints for the first reply in the bytes.
 pub(crate) fn answer(alloc: Global, row: &str) -> Result<Vec<u8>, RowFault> {
     let (name, notation) = first_word(row)?;
     let method = match name {
@@ -26,8 +26,8 @@ fn first_lines(alloc: Global, method: Option<Method>, bytes: &[u8]) -> Result<Ve
     }
 }
 
-/// Returns the lines that the client prints for a reply. The line `malformed` stands for a body that cannot
-/// be decoded as the response of `method`.
+/// Returns the lines that the client prints for a reply. If the body cannot be decoded as the response of
+/// `method`, its line is `malformed`.
 pub(crate) fn lines_of(
     alloc: Global,
     method: Option<Method>,

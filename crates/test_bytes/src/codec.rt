@@ -1,4 +1,4 @@
-//! Rows about messages.
+//! Answers rows about messages: their decoding, their checks and their canonical bytes.
 
 mod wire;
 
@@ -16,8 +16,9 @@ use std::alloc::Global;
 use test_kit::{RowFault, bytes_of, bytes_text};
 use wire::{fields_answer, prefixes_answer, write_answer};
 
-/// Returns the answer to a row: a method's name, a question and the bytes of a message, or a question that
-/// needs no method, and its arguments.
+/// Answers a row about messages. The row is the name of a method, a question and the bytes of a message, such
+/// as `Probe request -`. Some questions need no method. Their row is the question, such as `fields`, and its
+/// arguments.
 pub(crate) fn answer(alloc: Global, row: &str) -> Result<String, RowFault> {
     let (name, rest) = first_word(row)?;
     match name {
@@ -34,8 +35,8 @@ pub(crate) fn answer(alloc: Global, row: &str) -> Result<String, RowFault> {
     }
 }
 
-// A message is passed on at once to a function that does not name its type: a value of this size is expensive
-// to own.
+// Answers a question about a message. The message goes at once to a generic function, since owning a value of
+// this size is expensive to prove.
 fn message_answer(
     alloc: Global,
     method: Method,
@@ -51,7 +52,7 @@ fn message_answer(
     }
 }
 
-// The answer to a question about a message; the fault if the bytes cannot be decoded.
+// Answers a question about a message. Returns the fault if the bytes cannot be decoded.
 fn read_answer<M: Message>(
     alloc: Global,
     message: Result<M, DecodeFault>,
@@ -64,9 +65,9 @@ fn read_answer<M: Message>(
     }
 }
 
-// A request or a response.
+// A message that rows ask about: a request or a response.
 trait Message: Drop {
-    // The answer to a question about the message, which was decoded from these bytes.
+    // Answers a question about the message, which was decoded from these bytes.
     fn answer(&self, alloc: Global, question: &str, bytes: &[u8]) -> Result<String, RowFault>;
 }
 
@@ -97,7 +98,7 @@ impl Message for Response {
     }
 }
 
-// The text of the reason for which the argument checks refuse a request, or `passed`.
+// Returns the text of the reason for which the argument checks refuse a request, or `passed`.
 fn checked(request: &Request) -> &'static str {
     match check(request) {
         Ok(()) => "passed",
@@ -105,7 +106,7 @@ fn checked(request: &Request) -> &'static str {
     }
 }
 
-// The canonical bytes in hexadecimal, or `same` if they are the bytes of the row.
+// Returns the canonical bytes in hexadecimal, or `same` if they are the bytes of the row.
 fn compared(alloc: Global, bytes: &[u8], canonical: &[u8]) -> Result<String, RowFault> {
     if canonical == bytes {
         return displayed(alloc, &"same");
@@ -113,7 +114,7 @@ fn compared(alloc: Global, bytes: &[u8], canonical: &[u8]) -> Result<String, Row
     bytes_text(alloc, canonical)
 }
 
-// The limits, by their names.
+// The names and values of the limits.
 static LIMITS: [(&str, u64); 11] = [
     ("MAX_TEXT_BYTES", MAX_TEXT_BYTES as u64),
     ("MAX_NODE_ID_BYTES", MAX_NODE_ID_BYTES as u64),
@@ -128,7 +129,7 @@ static LIMITS: [(&str, u64); 11] = [
     ("MAX_NUMBER", MAX_NUMBER),
 ];
 
-// The value of the limit with this name.
+// Returns the value of the limit with this name.
 fn limit_answer(alloc: Global, name: &str) -> Result<String, RowFault> {
     for (limit, value) in &LIMITS {
         if *limit == name {

@@ -1,4 +1,4 @@
-//! Rows about frames.
+//! Answers rows about frames of calls and of replies.
 
 ghost use Rattle.std.specs.Prelude.{IsTrue};
 ghost use Rattle.std.specs.List.{All};
@@ -11,25 +11,26 @@ mod spelled;
 
 use crate::words::first_word;
 use envelope::{MAX_MESSAGE_BYTES, MAX_PATH_BYTES, Taken, put_request, take_frame};
-use parts::{Kind, parts_answer, prefixes_answer};
+use parts::{FrameKind, parts_answer, prefixes_answer};
 use pieces::{pieces_answer, steps_answer};
 use spelled::{head_answer, limits_answer, refusal_answer, texts_answer};
 use std::alloc::Global;
 use test_kit::{RowFault, bytes_of, bytes_text};
 
-/// Returns the answer to a row: a question and its arguments.
+/// Answers a row about frames. The first word names the question, such as `calls` or `head`, and the rest of
+/// the row is its arguments.
 pub(crate) fn answer(alloc: Global, row: &str) -> Result<String, RowFault> {
     let (word, rest) = first_word(row)?;
     match word {
         "request" => request_answer(alloc, rest),
-        "replies" => parts_answer(alloc, Kind::Replies, rest),
-        "prefixes" => prefixes_answer(alloc, Kind::Replies, rest),
-        "pieces" => pieces_answer(alloc, Kind::Replies, rest),
-        "steps" => steps_answer(alloc, Kind::Replies, rest),
-        "calls" => parts_answer(alloc, Kind::Calls, rest),
-        "call_prefixes" => prefixes_answer(alloc, Kind::Calls, rest),
-        "call_pieces" => pieces_answer(alloc, Kind::Calls, rest),
-        "call_steps" => steps_answer(alloc, Kind::Calls, rest),
+        "replies" => parts_answer(alloc, FrameKind::Replies, rest),
+        "prefixes" => prefixes_answer(alloc, FrameKind::Replies, rest),
+        "pieces" => pieces_answer(alloc, FrameKind::Replies, rest),
+        "steps" => steps_answer(alloc, FrameKind::Replies, rest),
+        "calls" => parts_answer(alloc, FrameKind::Calls, rest),
+        "call_prefixes" => prefixes_answer(alloc, FrameKind::Calls, rest),
+        "call_pieces" => pieces_answer(alloc, FrameKind::Calls, rest),
+        "call_steps" => steps_answer(alloc, FrameKind::Calls, rest),
         "head" => head_answer(alloc, rest),
         "refusal" => refusal_answer(alloc, rest),
         "texts" => texts_answer(alloc, rest),
@@ -38,7 +39,7 @@ pub(crate) fn answer(alloc: Global, row: &str) -> Result<String, RowFault> {
     }
 }
 
-// The frame of a call, and whether reading the frame gives the same call.
+// Returns the frame of a call, and whether reading the frame gives the same call.
 fn request_answer(alloc: Global, rest: &str) -> Result<String, RowFault> {
     let (path, notation) = first_word(rest)?;
     let message = bytes_of(alloc, notation)?;
@@ -63,7 +64,7 @@ fn frame_text(alloc: Global, frame: &[u8], is_read: bool) -> Result<String, RowF
     Ok(format!(in alloc; "{}, {read}", bytes_text(alloc, frame)?)?)
 }
 
-// Whether a call with this path and message can be put in a frame.
+// Returns true if a call with this path and message can be put in a frame.
 fn has_frame(path: &[u8], message: &[u8]) -> bool
     ensures { IsTrue result → IsCall (record { path = path.now; message = message.now }) }
 {

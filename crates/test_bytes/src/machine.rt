@@ -1,4 +1,4 @@
-//! Rows about requests to the volume machine, in order, over one keeper in memory.
+//! Answers rows that are requests to the volume machine. They are made in order over one keeper in memory.
 
 use crate::words::{first_word, named};
 use csi_config::Config;
@@ -11,7 +11,7 @@ use test_kit::{
     reply_to,
 };
 
-/// A configuration, and the keeper in memory that the requests of the rows read and change.
+/// A configuration and a keeper in memory, over which the requests of rows are made.
 pub(crate) struct Bench {
     pub(crate) config: Config,
     pub(crate) keeper: MemKeeper,
@@ -58,22 +58,22 @@ impl Bench {
         reply_to(alloc, &self.config, &mut self.keeper, method, message)
     }
 
-    // The keeper's count of volumes at a node.
+    // Returns the keeper's count of the volumes at a node.
     fn count(&mut self, alloc: Global, node: &str) -> Result<String, RowFault> {
         let node = Text::from_str(alloc, node)?;
         let count = self.keeper.count_at(alloc, &node)?;
         Ok(format!(in alloc; "{count}")?)
     }
 
-    // Begins with a new configuration and a new keeper without volumes.
+    // Begins anew with a configuration and a new keeper without volumes.
     fn begin(&mut self, alloc: Global, words: &str) -> Result<String, RowFault> {
         let bench = begun(alloc, words)?;
         *self = bench;
         Ok(String::from_str(alloc, "begun")?)
     }
 
-    // Makes a request again and again. The answer has how many are done, and the last reply to one that is
-    // not.
+    // Makes a request many times. The answer has the number of requests that were done, and the last reply
+    // that was not OK.
     fn answer_many(&mut self, alloc: Global, words: &str) -> Result<String, RowFault> {
         let (times, rest) = first_word(words)?;
         let (name, notation) = first_word(rest)?;
@@ -97,7 +97,7 @@ impl AnswerRow for Bench {
     }
 }
 
-// A configuration by its name, and a keeper whose first volume gets this number.
+// Makes a bench of the configuration with this name, and a keeper whose first volume gets this number.
 fn begun(alloc: Global, words: &str) -> Result<Bench, RowFault> {
     let (name, first) = words.split_once(' ').unwrap_or((words, "1"));
     let first: u64 = number_of(first)?;

@@ -26,7 +26,7 @@ use test_kit::{AnswerRow, AnswerSection, RowAnswer, RowFault, Rows, answer_rows}
 // The exit status if the socket cannot be made, or its file cannot be removed.
 const SOCKET: u8 = 7;
 
-// A section that keeps nothing from row to row.
+// A section that keeps no state from row to row.
 #[derive(Clone, Copy)]
 enum Plain {
     Codec,

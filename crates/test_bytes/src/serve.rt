@@ -1,5 +1,6 @@
-//! Rows that put a stream of calls together and try it: the program serves the stream again and again, each
-//! time with another part cut short or refused, and compares the outcome with the outcome that the row wants.
+//! Answers rows that put a stream of calls together and then try it. A trial serves the stream again and
+//! again, each time with another part cut short or refused, and compares each outcome with the outcome that
+//! the row wants.
 
 mod again;
 mod compared;
@@ -19,7 +20,7 @@ use stream::Stream;
 use test_kit::{AnswerRow, RowAnswer, RowFault, bytes_of};
 use trials::{Trials, kept_after_each};
 
-/// The configuration that a stream is served under, and the stream that the rows have put together so far.
+/// The configuration under which a stream is served, and the stream that the rows have put together so far.
 #[derive(Drop)]
 pub(crate) struct Streams {
     config: Config,
@@ -73,7 +74,7 @@ impl AnswerRow for Streams {
     }
 }
 
-// The bytes to send, and the wanted answer.
+// Returns the bytes to send and the wanted answer.
 fn wanted(words: &str) -> Result<(&str, &str), RowFault> {
     words.split_once(" => ").ok_or(RowFault::NotRow)
 }
@@ -86,7 +87,7 @@ fn identity(words: &str) -> Result<Server<'_>, RowFault> {
     })
 }
 
-// '-' is an empty text.
+// Returns the text of a word. The word `-` is an empty text.
 fn text_of(word: &str) -> &str {
     if word == "-" { "" } else { word }
 }

@@ -1,4 +1,5 @@
-//! Rows about calls over a socket, each by a connection of its own, to a server over one keeper in memory.
+//! Answers rows that are calls over a socket. Each call has a connection of its own to a server over one
+//! keeper in memory.
 
 use crate::client::lines_of;
 use crate::machine::Bench;
@@ -26,7 +27,7 @@ pub(crate) struct Calls<'a> {
 }
 
 impl AnswerRow for Calls<'_> {
-    // The lines of the reply to a row's call, or to the first bytes of its frame.
+    // Returns the lines of the reply to a row's call, or to the first bytes of its frame.
     fn answer_row(&mut self, rt: &HostRuntime, row: &str) -> Result<RowAnswer, RowFault> {
         let alloc = rt.alloc();
         let (most, call) = match row.strip_prefix("part ") {
@@ -53,8 +54,8 @@ impl AnswerRow for Calls<'_> {
     }
 }
 
-// Sends bytes over a new connection, ends the writing, and serves it. The received bytes show how the run
-// ended.
+// Sends bytes over a new connection, ends the sending side, and serves the connection. The received bytes
+// show how the run ended.
 fn served(
     rt: &HostRuntime,
     listener: &UnixListener,

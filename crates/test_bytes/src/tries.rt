@@ -1,4 +1,4 @@
-//! Rows about calls that are sent again.
+//! Answers rows about calls that are sent again.
 
 ghost use Rattle.std.specs.Prelude.{⊤};
 
@@ -8,10 +8,11 @@ use envelope::{ReplyFault, ReplyWhy};
 use std::alloc::{AllocError, Global};
 use test_kit::{RowFault, number_at, word_at, words_of};
 
-// The frame of a call. Its bytes do not matter to the line.
+// The frame of a call. The test does not depend on its bytes.
 const FRAME: &[u8] = b"the frame of a call";
 
-/// Returns the answer to a row: the question `call` or `pause`, and its arguments.
+/// Answers a row about tries of a call. The first word is `call` or `pause`, and the other words are its
+/// arguments.
 pub(crate) fn answer(alloc: Global, row: &str) -> Result<String, RowFault> {
     let words = words_of(alloc, row)?;
     match word_at(&words, 0)? {
@@ -21,7 +22,7 @@ pub(crate) fn answer(alloc: Global, row: &str) -> Result<String, RowFault> {
     }
 }
 
-// A reply: its status, its text and its body.
+// The status, the text and the body of a reply.
 #[derive(Clone, Copy)]
 struct Said {
     status: u8,
@@ -57,10 +58,10 @@ impl Said {
     }
 }
 
-// The words of replies.
+// The words for the replies of scripted exchanges.
 const REPLIES: [&str; 5] = ["done", "exists", "inside", "with-text", "with-body"];
 
-// The outcome of an exchange, by its word.
+// The outcome of an exchange. Its word in a row names it.
 #[derive(Clone, Copy)]
 enum Outcome {
     Reply(Said),
@@ -103,7 +104,7 @@ impl Outcome {
     }
 }
 
-// The word of a reply.
+// Returns the word for a reply.
 fn reply_word(reply: &ReceivedReply) -> &'static str {
     for word in REPLIES {
         if Said::named(word).is_some_and(|said| said.is(reply)) {
@@ -113,7 +114,7 @@ fn reply_word(reply: &ReceivedReply) -> &'static str {
     "another reply"
 }
 
-// The word for the result of an exchange.
+// Returns the word for the result of an exchange.
 fn word_of(received: &Received) -> &'static str {
     match received {
         Received::Reply(reply) => reply_word(reply),
@@ -131,14 +132,14 @@ fn word_of(received: &Received) -> &'static str {
     }
 }
 
-// A line whose exchanges have the outcomes that the words name, in order; the last word counts for all later
-// exchanges.
+// A scripted line. The words name the outcomes of its exchanges in order, and the last word counts for all
+// later exchanges.
 #[derive(Drop)]
 struct Script<'w> {
     alloc: Global,
     words: &'w [&'w str],
     exchanges: Exchanges,
-    // Whether each exchange was given the same frame.
+    // True if each exchange was given the same frame.
     is_same: bool,
 }
 
@@ -188,7 +189,7 @@ fn call_answer(alloc: Global, words: &[&str]) -> Result<String, RowFault> {
     reported(alloc, &line, word)
 }
 
-// The last outcome, and the counts of the line.
+// Writes the word for the last outcome, and the counts of the line.
 fn reported(alloc: Global, line: &Script<'_>, word: &str) -> Result<String, RowFault> {
     let Exchanges {
         made,
@@ -199,7 +200,7 @@ fn reported(alloc: Global, line: &Script<'_>, word: &str) -> Result<String, RowF
     Ok(format!(in alloc; "{word}, {made} made, {unanswered} unanswered{frames}")?)
 }
 
-// The length of a pause in milliseconds.
+// Returns the length of a pause in milliseconds.
 fn pause_answer(alloc: Global, words: &[&str]) -> Result<String, RowFault> {
     let tried: u32 = number_at(words, 1)?;
     let chance: u32 = number_at(words, 2)?;

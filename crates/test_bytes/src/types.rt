@@ -1,4 +1,4 @@
-//! Rows about values and configurations.
+//! Answers rows about values and configurations.
 
 mod configs;
 mod values;
@@ -12,7 +12,8 @@ use values::{
     over_answer, reason_answer, text_answer,
 };
 
-/// Returns the answer to a row: a question and its arguments.
+/// Answers a row about values or configurations. The first word names the question, such as `code` or `map`,
+/// and the rest of the row is its arguments.
 pub(crate) fn answer(alloc: Global, row: &str) -> Result<String, RowFault> {
     let (kind, rest) = first_word(row)?;
     let words = words_of(alloc, rest)?;

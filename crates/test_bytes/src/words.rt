@@ -13,7 +13,7 @@ pub(crate) fn first_word(row: &str) -> Result<(&str, &str), RowFault> {
     row.split_once(' ').ok_or(RowFault::NotRow)
 }
 
-/// Returns the method with this name.
+/// Returns the method with this name, such as `CreateVolume`.
 ///
 /// # Errors
 ///

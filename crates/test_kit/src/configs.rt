@@ -21,8 +21,7 @@ pub fn plugin_of(alloc: Global, words: &[&str]) -> Result<Plugin, RowFault> {
     })
 }
 
-/// Parses the words `NAME BYTES ..` as pools without segments. A single word, or no word, gives an empty
-/// list.
+/// Parses the words `NAME BYTES ..` as pools without segments. A single word, or no word, gives no pools.
 ///
 /// # Errors
 ///
@@ -57,8 +56,8 @@ pub fn nodes_of(alloc: Global, words: &[&str]) -> Result<Vec<Node>, RowFault> {
     Ok(nodes)
 }
 
-/// Makes a configuration with the pools of the words `NAME BYTES ..`, and with the nodes n1, n2 and n3 for
-/// two volumes each. A volume has 1 MiB by default and 8 MiB at most.
+/// Makes a configuration for tests. Its pools are the words `NAME BYTES ..`, and its nodes are n1, n2 and n3
+/// for two volumes each. A volume has 1 MiB by default and 8 MiB at most.
 ///
 /// # Errors
 ///

@@ -1,4 +1,4 @@
-//! The faults that are written instead of the answer to a row.
+//! The reasons why a row cannot be answered.
 
 use crate::notation::NotationFault;
 use csi_keeper::StoreFault;
@@ -6,7 +6,7 @@ use std::alloc::{AllocError, AllocFailed};
 use std::fmt;
 use thiserror::Error;
 
-/// Why a row cannot be answered. Its `Display` is written instead of an answer.
+/// The reason why a row cannot be answered. Its `Display` is written in place of the answer.
 #[derive(Debug, Error)]
 pub enum RowFault {
     /// The row does not have a form that its section knows.
@@ -15,19 +15,19 @@ pub enum RowFault {
     /// A word cannot be parsed as bytes by [`bytes_of`](crate::bytes_of).
     #[error("not bytes")]
     NotBytes,
-    /// An allocation failed while the row was answered.
+    /// Memory was refused while the row was answered.
     #[error("no memory for the row")]
     NoMemory,
-    /// The tested call failed. The value is the fixed text of its cause.
+    /// The call that the row tests failed. The value is the fixed text of its cause.
     #[error("{0}")]
     Refused(&'static str),
-    /// The result differs from the expected result. The value is a text about the difference.
+    /// The result differs from the expected result. The value describes the difference.
     #[error("{0}")]
     Differs(String),
 }
 
-// Written out, so that code which drops a fault has one call for that, and its proof no branch for each
-// variant.
+// Written by hand and not derived: the proof of code that drops a fault then has one call for the drop, and
+// no branch for each variant.
 impl Drop for RowFault {
     fn drop(self) {
         match self {
@@ -50,7 +50,7 @@ impl<T: Drop> From<AllocFailed<T>> for RowFault {
     }
 }
 
-// Writing to a text in memory fails only if memory is refused.
+// Converts the error of writing to a text in memory. Such a write fails only if memory is refused.
 impl From<fmt::Error> for RowFault {
     fn from(_error: fmt::Error) -> RowFault {
         RowFault::NoMemory
@@ -66,7 +66,7 @@ impl From<NotationFault> for RowFault {
     }
 }
 
-// A fault of a keeper: `NoMemory`, or the text `refused` or `down`.
+// Converts a fault of a keeper: to `NoMemory`, or to `Refused` with the text `refused` or `down`.
 impl From<StoreFault> for RowFault {
     fn from(fault: StoreFault) -> RowFault {
         match fault {

@@ -1,10 +1,10 @@
-//! The parts that test programs of rows share. Such a program answers each line of its input, and its
-//! output is compared with a stored output.
+//! The parts that test programs of rows share. Such a program answers each line of its input, and its output
+//! is compared with a stored output.
 //!
-//! A program has sections. A line `@ NAME` begins a section. A line that is empty or begins with `#` is
-//! copied unchanged. Each other line is a row, which the section answers; if a row cannot be answered, its
-//! [`RowFault`] is written instead. State that a section keeps from row to row lives while the section is
-//! answered: [`AnswerSection`] makes the state and passes it to [`Rows::answer`].
+//! The input has sections. A line `@ NAME` begins a section. A line that is empty or begins with `#` is
+//! copied unchanged. Each other line is a row, which the section answers. If the row cannot be answered, its
+//! [`RowFault`] is written in place of the answer. A section may keep state from row to row:
+//! [`AnswerSection`] makes the state and passes it to [`Rows::answer`].
 //!
 //! ```text
 //! @ calls

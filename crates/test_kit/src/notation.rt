@@ -1,26 +1,29 @@
 //! Parses bytes from a notation that people can write.
 //!
-//! Two hexadecimal digits are a byte, and a text between quotation marks is the bytes of the text.
-//! Parentheses are the length of their contents, as a varint, followed by the contents, so `0a(61)` is
-//! `0a0161`. Square brackets are a group. `*N` after a byte, a text or a group repeats it N times, so
-//! `61*3` is `616161`. In a group, `#N` is the number of earlier repetitions of the group, as N digits to
-//! the base 64 (N is 1 to 3), each a byte with the value of the digit; `#0` is the same number as a decimal
-//! text. Spaces are skipped, and `-` alone is no bytes. Digits are in lower case, and parentheses and
-//! brackets nest up to 11 deep.
+//! - Two hexadecimal digits are a byte, and a text between quotation marks is the bytes of the text.
+//! - Parentheses are the length of their contents, as a varint, followed by the contents: `0a(61)` is
+//!   `0a0161`.
+//! - Square brackets are a group.
+//! - `*N` after a byte, a text or a group repeats it N times: `61*3` is `616161`.
+//! - In a group, `#N` is the number of earlier repetitions of the group, as N digits to the base 64 (N is 1
+//!   to 3). Each digit is a byte with the value of the digit. `#0` is the same number as a decimal text.
+//! - Spaces are skipped, and `-` alone is no bytes.
+//!
+//! Digits are in lower case, and parentheses and brackets nest up to 11 deep.
 ghost use Rattle.std.specs.Prelude.{◌≡◌, ◌<◌, ◌++◌, [], IfOk, IfSome, codes, length};
 
 use std::alloc::{AllocError, AllocFailed, Global};
 use std::str;
 
-// One more than the deepest nesting of parentheses and brackets.
+// The limit of the nesting of parentheses and brackets, which is at most 11 deep.
 const DEEPEST: u8 = 12;
 
-/// Why a text cannot be parsed as bytes.
+/// The reason why a text cannot be parsed as bytes.
 #[derive(Clone, Copy, Debug, PartialEq, Eq)]
 pub enum NotationFault {
     /// The text is not in the notation that [`bytes_of`](crate::bytes_of) parses.
     NotBytes,
-    /// Memory for the bytes was refused.
+    /// Memory for the parsed bytes was refused.
     NoMemory,
 }
 
@@ -36,7 +39,7 @@ impl From<AllocFailed<u8>> for NotationFault {
     }
 }
 
-// A part of a text in the notation.
+// A part of a text in the notation: one byte, text, enclosed text or count.
 #[derive(Clone, Copy)]
 enum Part<'t> {
     Space,
@@ -47,12 +50,11 @@ enum Part<'t> {
     Sized(&'t [u8]),
     // The contents of square brackets.
     Group(&'t [u8]),
-    // The number of digits that follows `#`.
+    // `#N`: the number of digits, N.
     Count(u8),
 }
 
-/// Parses a text in the notation as bytes: hexadecimal digits, quoted texts, and parentheses, brackets and
-/// `*N` around them.
+/// Parses a text in the notation of this file as bytes.
 ///
 /// # Errors
 ///
@@ -63,8 +65,8 @@ pub fn bytes_of(alloc: Global, text: &str) -> Result<Vec<u8>, NotationFault>
     bytes_counted(alloc, text, 0)
 }
 
-/// Parses a text in the notation of [`bytes_of`] as bytes, as the contents of a group after `count`
-/// repetitions.
+/// Parses a text in the notation of [`bytes_of`] as the contents of a group, after `count` earlier
+/// repetitions of the group.
 ///
 /// # Errors
 ///
@@ -79,7 +81,8 @@ pub fn bytes_counted(alloc: Global, text: &str, count: u32) -> Result<Vec<u8>, N
     Ok(out)
 }
 
-// Appends the bytes of a text in the notation. The group around the text had `count` repetitions before.
+// Appends the bytes of a text in the notation. The group around the text has been repeated `count` times
+// before.
 #[cycle(put)]
 fn put_all(
     out: &mut Vec<u8>,
@@ -89,7 +92,7 @@ fn put_all(
     depth: u8,
 ) -> Result<(), NotationFault> {
     let mut rest = text;
-    // Each part has at least one byte of the text.
+    // Each turn takes a part, and each part has at least one byte of the text.
     for _ in 0..text.len() {
         if rest.is_empty() {
             break;
@@ -102,7 +105,7 @@ fn put_all(
     Ok(())
 }
 
-// Appends a part `times` times.
+// Appends the bytes of a part `times` times.
 #[cycle(put)]
 fn put_times(
     out: &mut Vec<u8>,
@@ -158,7 +161,7 @@ fn put_varint(out: &mut Vec<u8>, number: usize) -> Result<(), NotationFault> {
     Ok(())
 }
 
-// Appends a count as one to three digits to the base 64, each a byte.
+// Appends a count as one to three digits to the base 64. Each digit is a byte.
 fn put_count(out: &mut Vec<u8>, count: u32, digits: u8) -> Result<(), NotationFault> {
     let high = (count / 4096 % 64) as u8;
     let middle = (count / 64 % 64) as u8;
@@ -197,7 +200,7 @@ fn first_part(text: &[u8]) -> Option<(Part<'_>, &[u8])> {
     }
 }
 
-// Returns the part after an opening quotation mark or bracket, and the text after the closing one.
+// Returns the part between an opening quotation mark or bracket and its closing one, and the text after it.
 fn enclosed(opening: u8, text: &[u8]) -> Option<(Part<'_>, &[u8])> {
     let end = match opening {
         b'"' => text.iter().position(|byte| *byte == b'"'),
@@ -224,7 +227,7 @@ fn digit(character: u8) -> Option<u8>
     }
 }
 
-// Returns the place of the bracket that closes the bracket before the text.
+// Returns the index of the bracket that closes the bracket before the text.
 fn closing(text: &[u8]) -> Option<usize>
     ensures { IfSome result (λ place. place < length text.now) }
 {
@@ -243,7 +246,7 @@ fn closing(text: &[u8]) -> Option<usize>
     None
 }
 
-// Returns the number of repetitions after a part, which is 1 without `*N`, and the rest of the text.
+// Returns the number N of a `*N` at the start of the text, or 1 without it, and the rest of the text.
 fn times_of(text: &[u8]) -> Option<(u32, &[u8])> {
     let Some((b'*', rest)) = text.split_first() else {
         return Some((1, text));

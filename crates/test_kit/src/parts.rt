@@ -4,10 +4,10 @@ use crate::fault::RowFault;
 use std::alloc::Global;
 use std::str::FromStr;
 
-// Of more bytes only the number is shown.
+// The greatest number of bytes that an answer shows. Of more bytes, it shows only the number.
 const SHOWN_BYTES: usize = 64;
 
-/// Splits a row into words at each space. Two spaces in a row enclose an empty word.
+/// Splits a row into words at each space. Two spaces in a row have an empty word between them.
 ///
 /// # Errors
 ///
@@ -20,7 +20,7 @@ pub fn words_of(alloc: Global, row: &str) -> Result<Vec<&str>, RowFault> {
     Ok(words)
 }
 
-/// Returns the word at a place, counted from 0, unchanged.
+/// Returns the word at a place in the row, counted from 0.
 ///
 /// # Errors
 ///
@@ -69,8 +69,8 @@ pub fn put_part(out: &mut String, part: &str) -> Result<(), RowFault> {
     Ok(())
 }
 
-/// Writes bytes in hexadecimal digits: `-` for no bytes, and only their number, as `N bytes`, for more than
-/// 64.
+/// Writes bytes in hexadecimal digits. Writes `-` for no bytes, and only the number, as `N bytes`, for more
+/// than 64 bytes.
 ///
 /// # Errors
 ///

@@ -1,4 +1,4 @@
-//! Runs a call over a keeper, from its message to its reply.
+//! Executes a call over a keeper and returns its reply, from the bytes of its message.
 
 use crate::fault::RowFault;
 use crate::parts::bytes_text;
@@ -12,13 +12,13 @@ use pbmessage::DecodeFault;
 use std::alloc::Global;
 use std::fmt::Write;
 
-// The greatest number of tries: a call for which memory is refused is made once more.
+// The greatest number of tries. A call for which memory is refused is made once more.
 const TRIES: u8 = 2;
 
-// The text of the fault if the body of a listing cannot be decoded.
+// The text of the fault that the body of a listing cannot be decoded.
 const NO_PAGE: &str = "the body is no page";
 
-/// The reply to a call of a test, which is executed over a keeper without a server.
+/// The reply to a call in a test. The call is executed over a keeper, without a server.
 pub enum Reply {
     /// The call succeeded. The value is the body of its response.
     Done(Vec<u8>),
@@ -40,7 +40,7 @@ impl Drop for Reply {
 }
 
 impl Reply {
-    // Whether the reply is that memory was refused.
+    // Returns true if the call was refused because memory was refused.
     fn is_for_memory(&self) -> bool {
         matches!(
             self,
@@ -48,7 +48,8 @@ impl Reply {
         )
     }
 
-    /// Writes the status number, and after it the body in hexadecimal digits or the text of the refusal.
+    /// Writes the status number, and after it the body in hexadecimal digits if the call succeeded. If the
+    /// call was refused, writes the text of the refusal instead of the body.
     ///
     /// # Errors
     ///
@@ -62,12 +63,12 @@ impl Reply {
         })
     }
 
-    /// Writes the reply to a listing like [`text`](Reply::text), but the body in words: the number of
-    /// entries, the token, and for each entry the id and the nodes.
+    /// Writes the reply to ListVolumes. If the call succeeded, writes the number of entries, the token, and
+    /// for each entry the id and the nodes. Otherwise writes the status number and the text of the refusal.
     ///
     /// # Errors
     ///
-    /// If the keeper failed, or memory is refused.
+    /// If the body is not a page, the keeper failed, or memory is refused.
     pub fn page_text(&self, alloc: Global) -> Result<String, RowFault> {
         match self {
             Reply::Done(body) => page_text(alloc, body),
@@ -76,7 +77,7 @@ impl Reply {
     }
 }
 
-/// Decodes a message, checks the request and executes it. If memory is refused, it tries once more.
+/// Decodes a message, checks the request and executes it. If memory is refused, tries once more.
 pub fn reply_to<K: Keeper>(
     alloc: Global,
     config: &Config,
@@ -131,7 +132,7 @@ fn page_text(alloc: Global, body: &[u8]) -> Result<String, RowFault> {
     }
 }
 
-// The response is borrowed here, since a value this large is expensive to own.
+// Writes the entries of a listing. The response is borrowed, since moving a value of this size is expensive.
 fn entries_text(alloc: Global, response: &Response) -> Result<String, RowFault> {
     let Response::List { entries, token } = response else {
         return Err(RowFault::Refused(NO_PAGE));

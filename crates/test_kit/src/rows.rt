@@ -1,4 +1,4 @@
-//! Copies each line of the input to the output, together with its answer.
+//! Writes each line of the input, with its answer.
 
 use crate::fault::RowFault;
 use std::io::{self, Read, Write};
@@ -13,17 +13,17 @@ const HEAD: &str = "@ ";
 /// The answer to a row of the input.
 #[derive(Drop)]
 pub enum RowAnswer {
-    /// No answer; the row itself is not written either.
+    /// No answer. The row itself is not written either.
     Nothing,
-    /// A text, which is written after ` -> ` on the line of the row.
+    /// A text, which is written on the line of the row, after ` -> `.
     Text(String),
-    /// Lines, each with its line end, which are written below the row.
+    /// Lines with their line ends, which are written below the row.
     Lines(Vec<u8>),
 }
 
 /// A section, which answers its rows in order.
 pub trait AnswerRow {
-    /// The answer to a row of the input.
+    /// Returns the answer to a row of the input.
     ///
     /// # Errors
     ///
@@ -33,12 +33,12 @@ pub trait AnswerRow {
 
 /// A test program, which answers its sections in order.
 pub trait AnswerSection {
-    /// Answers the rows of the section with this name, by [`Rows::answer`].
+    /// Answers the rows of the section with this name, by calling [`Rows::answer`].
     ///
     /// # Errors
     ///
-    /// If the program has no section with this name, or the section cannot begin. No row of the section is
-    /// answered then.
+    /// If the program has no section with this name, or the section cannot begin. Then no row of the section
+    /// is answered.
     fn answer_section<W: Write>(
         &self,
         rt: &HostRuntime,
@@ -53,13 +53,13 @@ pub struct Rows<'a, W> {
     name: &'a str,
     lines: &'a str,
     out: &'a mut W,
-    // The first error of writing; `Ok` if no write failed.
+    // The first error of writing, or `Ok` if no write has failed.
     end: io::Result<()>,
 }
 
 impl<W: Write> Rows<'_, W> {
-    /// Answers the rows of the section, and writes them with their answers. Nothing more is written after a
-    /// write failed.
+    /// Answers the rows of the section, and writes each row with its answer. Nothing is written after a
+    /// failed write.
     pub fn answer<R: AnswerRow>(&mut self, rt: &HostRuntime, section: &mut R) {
         self.end = writeln!(self.out, "{HEAD}{}", self.name);
         for line in self.lines.split('\n') {
@@ -98,7 +98,7 @@ fn answer_line<W: Write, R: AnswerRow>(
     write_answer(out, line, section.answer_row(rt, line))
 }
 
-// Answers a section. The first line of the text is the name of the section.
+// Answers one section. The first line of the text has the name of the section.
 fn answer_lines<W: Write, S: AnswerSection>(
     rt: &HostRuntime,
     sections: &S,

@@ -1,7 +1,7 @@
 //! Parses texts, lists of texts and maps of texts from words.
 //!
 //! A word stands for its own text, with two exceptions: `U+` and a hexadecimal number is the character with
-//! that number, and `-` is the empty text. `*N` after a text or a character repeats it N times.
+//! this number, and `-` is the empty text. `*N` after a text or a character repeats it N times.
 
 use crate::fault::RowFault;
 use crate::parts::{number_of, word_at};
@@ -60,7 +60,7 @@ fn text_of(alloc: Global, word: &str) -> Result<Text, RowFault> {
     Ok(Text::from_string(text))
 }
 
-// Returns the character whose number follows `U+`; `None` if the part does not begin with `U+`.
+// Returns the character whose number follows `U+`, or `None` if the part does not begin with `U+`.
 fn character_of(part: &str) -> Result<Option<char>, RowFault> {
     match part.strip_prefix("U+") {
         Some(digits) => {

@@ -1,4 +1,4 @@
-//! Adopts tables in memory, reads them, gives them back and adopts them again.
+//! Answers rows that adopt tables in memory, read them, give the connection back and adopt them again.
 
 ghost use Rattle.std.specs.Prelude.{◌≡◌, false};
 
@@ -13,7 +13,7 @@ use sqlite::{Alter, Connection};
 use std::alloc::Global;
 use test_kit::RowFault;
 
-/// Answers a row: begins a database as the row names it, runs the statements of the row, and adopts the
+/// Answers a row: begins the database that the row names, runs the statements of the row, and adopts the
 /// tables twice under the configuration of the row.
 pub(crate) fn answer(alloc: Global, row: &str) -> Result<String, RowFault> {
     let (how, statements) = row.split_once(" |").ok_or(RowFault::NotRow)?;
@@ -22,7 +22,7 @@ pub(crate) fn answer(alloc: Global, row: &str) -> Result<String, RowFault> {
     adopt_twice(alloc, without_tables(alloc)?, &config, start, statements)
 }
 
-// Begins a database as `start` names it, and runs the statements.
+// Begins the database that `start` names, and runs the statements.
 fn begin<S: Alter>(conn: &mut Connection<S>, start: &str, statements: &str) -> Result<(), RowFault>
     requires { conn.old.in_transaction ≡ false }
 {
@@ -41,7 +41,8 @@ fn begin<S: Alter>(conn: &mut Connection<S>, start: &str, statements: &str) -> R
     Ok(())
 }
 
-// Adopts the tables, gives them back and adopts them again. Returns the answers of both adoptions.
+// Adopts the tables, gives the connection back and adopts the tables again. Returns the answers of both
+// adoptions.
 fn adopt_twice<S: Alter + Drop>(
     alloc: Global,
     mut conn: Connection<S>,
@@ -65,7 +66,7 @@ fn both(alloc: Global, first: String, format: String, second: String) -> Result<
     Ok(format!(in alloc; "{first}, and then {second}")?)
 }
 
-// The format of the tables as a text, or an empty text if the tables did not begin with format 1.
+// Returns the format of the tables as a text, or an empty text if the tables did not begin with format 1.
 fn format_of<S: Alter>(
     alloc: Global,
     conn: &mut Connection<S>,
@@ -81,7 +82,7 @@ fn format_of<S: Alter>(
     Ok(format!(in alloc; ", in format {format}")?)
 }
 
-// Adopts the tables, and returns their State or the fault as a text, and the connection.
+// Adopts the tables. Returns their State or the fault as a text, and the connection.
 fn reported<S: Alter>(
     alloc: Global,
     conn: Connection<S>,

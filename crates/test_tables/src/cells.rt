@@ -1,12 +1,12 @@
-//! Rows of a database as a text.
+//! Writes rows of a database as a text.
 
 use sqlite::Row;
 use sqlite::types::ValueRef;
 use std::alloc::{AllocError, Global};
 use std::str;
 
-/// Returns the cell of a row with index `at` as a text: a number, a text between quotation marks, bytes in
-/// hexadecimal after an x, `real` or `NULL`; `none` if the row has no such cell.
+/// Returns the cell with index `at` of a row as a text, or `none` if the row has no such cell. A cell is a
+/// number, a text between quotation marks, bytes in hexadecimal after an x, `real` or `NULL`.
 pub(crate) fn cell_text(alloc: Global, row: &Row, at: usize) -> Result<String, AllocError> {
     match row.get_ref(at) {
         Ok(ValueRef::Int(number)) => format!(in alloc; "{number}"),
@@ -21,7 +21,7 @@ pub(crate) fn cell_text(alloc: Global, row: &Row, at: usize) -> Result<String, A
     }
 }
 
-/// Appends a row: a space between two cells, and a comma and a space between two rows.
+/// Appends a row. A space separates two cells, and a comma and a space separate two rows.
 pub(crate) fn put_row(out: &mut String, alloc: Global, row: &Row) -> Result<(), AllocError> {
     if !out.is_empty() {
         out.push(',')?;
@@ -35,7 +35,7 @@ pub(crate) fn put_row(out: &mut String, alloc: Global, row: &Row) -> Result<(), 
     Ok(())
 }
 
-/// Returns the text of rows, or `none` if the text is empty.
+/// Returns the text itself, or `none` if the text is empty.
 pub(crate) fn or_none(mut text: String) -> Result<String, AllocError> {
     if text.is_empty() {
         text.push_str("none")?;

@@ -1,4 +1,4 @@
-//! Constraints over the rows of tables in memory.
+//! Answers rows that test constraints over the rows of tables in memory.
 
 use crate::database::{idle, make, run, without_tables};
 use crate::scans::Scan;
@@ -15,7 +15,7 @@ use std::alloc::Global;
 use std::fmt::{Display, Write};
 use test_kit::{RowFault, number_at, word_at, words_of};
 
-/// Answers a row: makes our tables, runs the statements of the row, and tests its constraint.
+/// Answers a row: makes the tables, runs the statements of the row, and tests its constraint.
 pub(crate) fn answer(alloc: Global, row: &str) -> Result<String, RowFault> {
     let (constraint, statements) = row.split_once(" | ").ok_or(RowFault::NotRow)?;
     let config = Config::sample(alloc)?;
@@ -25,7 +25,7 @@ pub(crate) fn answer(alloc: Global, row: &str) -> Result<String, RowFault> {
     look(alloc, &mut idle(conn)?, &config, constraint)
 }
 
-// Tests whether the rows of our tables meet a constraint.
+// Tests if the rows of the tables meet a constraint.
 fn look<S: Alter>(
     alloc: Global,
     conn: &mut IdleConnection<S>,
@@ -161,7 +161,7 @@ fn ask_attachments<S: Alter>(
     }
 }
 
-// Tests whether all rows of a scan meet a constraint.
+// Tests if all rows of a scan meet a constraint.
 fn ask<S: Alter, T: RowTrial + Drop>(
     alloc: Global,
     conn: &mut IdleConnection<S>,
@@ -184,18 +184,18 @@ fn ask<S: Alter, T: RowTrial + Drop>(
     reported(alloc, &fold.found, words)
 }
 
-// How the answer describes a row that breaks a constraint.
+// The words with which the answer describes a row that breaks a constraint.
 #[derive(Clone, Copy)]
 enum Words {
-    // With the name of the row.
+    // The name of the row.
     Row,
-    // With the text of a constraint of volumes.
+    // The text of a constraint of volumes.
     Volume(VolumeConstraint),
-    // With the text of a constraint of attachments.
+    // The text of a constraint of attachments.
     Attachment(AttachmentConstraint),
 }
 
-// Returns `holds` if the rows meet a constraint, or describes the first row that does not.
+// Returns `holds` if the rows meet a constraint. Otherwise describes the first row that breaks it.
 fn reported(alloc: Global, found: &Option<RowName>, words: Words) -> Result<String, RowFault> {
     match found {
         Some(row) => broken_text(alloc, row, words),
@@ -203,8 +203,8 @@ fn reported(alloc: Global, found: &Option<RowName>, words: Words) -> Result<Stri
     }
 }
 
-// Describes a row that breaks a constraint. If the words need a cell that the row lacks, the row is named by
-// the cells that it has.
+// Describes a row that breaks a constraint. If the words need a cell that the row lacks, the description has
+// the cells that the row has.
 fn broken_text(alloc: Global, row: &RowName, words: Words) -> Result<String, RowFault> {
     match (words, row.number, &row.text) {
         (Words::Volume(constraint), Some(number), _) => {

@@ -1,4 +1,4 @@
-//! Databases in memory.
+//! Makes databases in memory for rows, and runs SQL statements over them.
 
 ghost use Rattle.std.specs.Prelude.{◌≡◌, false, IfOk};
 
@@ -7,7 +7,7 @@ use sqlite::{Alter, Connection, Error as SqlError, ErrorCode, MemStore};
 use std::alloc::Global;
 use test_kit::RowFault;
 
-/// Returns the fault of a row for an error of the database: [`RowFault::NoMemory`] if memory was refused,
+/// Converts an error of the database to the fault of a row: [`RowFault::NoMemory`] if memory was refused,
 /// otherwise [`RowFault::Refused`].
 pub(crate) fn refused(error: SqlError) -> RowFault {
     match error {
@@ -23,14 +23,15 @@ pub(crate) fn without_tables(alloc: Global) -> Result<Connection<MemStore>, RowF
     Ok(Connection::open_in_memory(alloc)?)
 }
 
-/// Makes our tables in an empty database.
+/// Makes the tables of volumes in an empty database.
 pub(crate) fn make<S: Alter>(conn: &mut Connection<S>) -> Result<(), RowFault>
     requires { conn.old.in_transaction ≡ false }
 {
     make_tables(conn).map_err(refused)
 }
 
-/// Returns the connection as an idle one; [`RowFault::Refused`] if a transaction is open on it.
+/// Returns the connection as an idle connection, or fails with [`RowFault::Refused`] if a transaction is open
+/// on it.
 pub(crate) fn idle<S: Alter + Drop>(conn: Connection<S>) -> Result<IdleConnection<S>, RowFault> {
     if !conn.is_autocommit() {
         return Err(RowFault::Refused("refused"));

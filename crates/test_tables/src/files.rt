@@ -1,5 +1,5 @@
-//! Runs of `csi_files` over files in memory: the making of a database, and runs over disks that stop, are
-//! full, or lie.
+//! Runs `csi_files` over files in memory: makes databases, and serves calls over disks that stop, are full,
+//! or return wrong bytes.
 
 pub(crate) mod disks;
 pub(crate) mod laying;
@@ -13,7 +13,8 @@ use test_kit::{
     AnswerRow, RowAnswer, RowFault, bytes_of, bytes_text, number_at, word_at, words_of,
 };
 
-/// The state between rows: the files that earlier rows left, and the bytes of a new database file.
+/// The state that is kept between rows: the files that earlier rows left, and the bytes of a new database
+/// file.
 #[derive(Drop)]
 pub(crate) struct Bench<D> {
     stops: stops::Bench<D>,
@@ -21,7 +22,7 @@ pub(crate) struct Bench<D> {
 }
 
 impl<D: TestDisk> Bench<D> {
-    /// Makes a bench over new, empty files.
+    /// Makes the state over new, empty files.
     pub(crate) fn new(alloc: Global) -> Result<Bench<D>, RowFault> {
         Ok(Bench {
             stops: stops::Bench::new(alloc)?,
@@ -35,7 +36,7 @@ impl<D: TestDisk> Bench<D> {
         Ok(format!(in alloc; "{} bytes", self.page.len())?)
     }
 
-    // Lays out a database over a log and a file with these bytes, and returns the outcome.
+    // Makes a database over a log and a file with these bytes, and returns the outcome.
     fn lay(&self, alloc: Global, words: &str) -> Result<String, RowFault> {
         let (log, db) = words.split_once(" / ").ok_or(RowFault::NotRow)?;
         let log = bytes_of(alloc, log)?;
@@ -45,7 +46,7 @@ impl<D: TestDisk> Bench<D> {
         Ok(format!(in alloc; "{laid}")?)
     }
 
-    // Serves calls over the files, and returns the outcome and the replies.
+    // Serves calls over the files. Returns the outcome and the replies.
     fn serve(
         &mut self,
         alloc: Global,
@@ -61,8 +62,9 @@ impl<D: TestDisk> Bench<D> {
         Ok(format!(in alloc; "{outcome}: {}", bytes_text(alloc, &replies)?)?)
     }
 
-    // Serves calls like `serve`, but the database file lies: reads return one byte with some bits flipped,
-    // the byte at this distance after the first place of a text. The files are unchanged.
+    // Serves calls like `serve`, but each read of one byte of the database file returns it with some bits
+    // flipped. The byte is at a distance, which the row gives, after the first occurrence of a text. The
+    // files stay unchanged.
     fn lie(&mut self, alloc: Global, row: &str) -> Result<String, RowFault> {
         let (lie, calls) = row.split_once(" / ").ok_or(RowFault::NotRow)?;
         let words = words_of(alloc, lie)?;

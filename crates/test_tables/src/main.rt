@@ -1,6 +1,6 @@
-//! Answers rows about tables: statements and scans over them, the constraints of their rows, the volume
-//! machine over them, their adoption, tables in files whose disk stopped in a call, and runs from files to
-//! files. In the file `stdin` of this crate, the comment at the head of each section describes its rows.
+//! Answers rows about tables: statements and scans over tables, the constraints of rows, the volume machine
+//! over tables, the adoption of tables, tables in files whose disk stopped in a call, and runs over files.
+//! The head of each section in this crate's file `stdin` describes the rows of the section.
 #![tactic(auto)]
 
 mod adoption;
@@ -39,8 +39,8 @@ impl AnswerRow for Plain {
     }
 }
 
-// Answers the rows of a section over files. Only the caller names the type of their disks: each call that
-// names it is expensive to prove.
+// Answers the rows of a section over files. Only the caller names the type of their disks, since each call
+// that names this type is expensive to prove.
 fn answer_on<D: TestDisk, W: Write>(
     rt: &HostRuntime,
     name: &str,
@@ -75,7 +75,7 @@ impl AnswerSection for Sections {
 }
 
 // Answers the rows of a section, or returns the fault if the section could not begin. This function owns the
-// large values that sections keep, because their types are not written out here.
+// large values that sections keep, since its types are generic.
 fn answer<W: Write, R: AnswerRow + Drop>(
     rt: &HostRuntime,
     rows: &mut Rows<'_, W>,

@@ -1,11 +1,11 @@
-//! Numbers of a row with an upper limit.
+//! Parses numbers of a row that have an upper limit.
 
 ghost use Rattle.std.specs.Prelude.{◌<◌, ◌^◌, IfOk};
 
 use test_kit::{RowFault, number_at};
 
-/// Returns the number in the word with index `place`; [`RowFault::NotRow`] if the word is not a number below
-/// 2^62.
+/// Returns the number in the word with index `place`, or fails with [`RowFault::NotRow`] if the word is not a
+/// number below 2^62.
 pub(crate) fn small_at(words: &[&str], place: usize) -> Result<u64, RowFault>
     ensures { IfOk result (λ number. number < 2 ^ 62) }
 {

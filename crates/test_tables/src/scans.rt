@@ -1,4 +1,4 @@
-//! Scans of tables in memory.
+//! Answers rows that make scans of tables in memory.
 
 ghost use Rattle.std.specs.Prelude.{◌≡◌, false};
 
@@ -16,8 +16,8 @@ use std::alloc::Global;
 use std::fmt::Write;
 use test_kit::{RowFault, number_at, word_at, words_of};
 
-/// Answers a row: begins a database as the row names it, runs the statements of the row, and then makes its
-/// scan.
+/// Answers a row: begins the database that the row names, runs the statements of the row, and makes the scan
+/// of the row.
 pub(crate) fn answer(alloc: Global, row: &str) -> Result<String, RowFault> {
     let (start, rest) = row.split_once(" | ").ok_or(RowFault::NotRow)?;
     let (question, statements) = rest.split_once(" | ").ok_or(RowFault::NotRow)?;
@@ -26,7 +26,8 @@ pub(crate) fn answer(alloc: Global, row: &str) -> Result<String, RowFault> {
     ask(alloc, &mut idle(conn)?, question)
 }
 
-// Begins a database that is empty or has our tables, and runs the statements; `-` means none.
+// Begins a database that is empty or has the tables of volumes, and runs the statements. `-` means no
+// statements.
 fn begin<S: Alter>(conn: &mut Connection<S>, start: &str, statements: &str) -> Result<(), RowFault>
     requires { conn.old.in_transaction ≡ false }
 {
@@ -41,7 +42,7 @@ fn begin<S: Alter>(conn: &mut Connection<S>, start: &str, statements: &str) -> R
     }
 }
 
-// Whether the database has our tables and no others.
+// Returns `ours` if the database has the tables of volumes and no other tables, otherwise `other`.
 fn is_ours<S: Alter>(alloc: Global, conn: &IdleConnection<S>) -> Result<String, RowFault> {
     let word = if is_our_schema(conn.schema()) {
         "ours"
@@ -51,7 +52,7 @@ fn is_ours<S: Alter>(alloc: Global, conn: &IdleConnection<S>) -> Result<String, 
     Ok(String::from_str(alloc, word)?)
 }
 
-// Answers a question about our tables.
+// Answers the question `ours`, about the tables of the database, or a question about the rows of a scan.
 fn ask<S: Alter>(
     alloc: Global,
     conn: &mut IdleConnection<S>,
@@ -86,7 +87,8 @@ fn shown<S: Alter>(
     Ok(or_none(fold.text)?)
 }
 
-// Whether each row has an integer in a column that is greater than the integers of all rows before.
+// Makes a scan, and returns `rising` if each row has an integer in a column that is greater than the integer
+// in the row before. Otherwise returns `not rising`.
 fn judged<S: Alter>(
     alloc: Global,
     conn: &mut IdleConnection<S>,
@@ -103,7 +105,7 @@ fn judged<S: Alter>(
     Ok(String::from_str(alloc, word)?)
 }
 
-// Makes a sum for each of the texts in the last word, which are separated by commas.
+// Makes a sum for each text in the last word. Commas separate the texts.
 fn sums_of(alloc: Global, words: &[&str]) -> Result<Vec<TextSum>, RowFault> {
     let (weight, place) = match word_at(words, 1)? {
         "count" => (Weight::One, 2),

@@ -1,4 +1,4 @@
-//! The State of a keeper, as a text.
+//! Writes the State of a keeper as a text.
 
 use csi_config::Config;
 use csi_keeper::{Keeper, PageWithNodes, Volume};
@@ -7,7 +7,7 @@ use std::alloc::Global;
 use std::fmt::Write;
 use test_kit::RowFault;
 
-// More volumes than any row makes.
+// A number above the number of volumes of any row.
 const MOST_VOLUMES: u32 = 100;
 
 /// Returns the State of a keeper as a text: the next number, each volume with its mutable parameters and its

@@ -1,4 +1,4 @@
-//! Statements over tables in memory.
+//! Answers rows that are statements over tables in memory.
 
 ghost use Rattle.std.specs.Prelude.{◌≡◌, false};
 
@@ -11,11 +11,11 @@ use sqlite::{Alter, Connection, Error as SqlError, MemStore, Row};
 use std::alloc::Global;
 use test_kit::{AnswerRow, RowAnswer, RowFault, bytes_of, number_at, put_part, word_at, words_of};
 
-/// The state between rows: a database in any store. The proofs about its rows do not look into the type of
-/// the store.
+/// The state that is kept between rows: a database in any store. The proofs about its rows do not look into
+/// the type of the store.
 #[derive(Drop)]
 pub(crate) struct Bench<S: Alter + Drop> {
-    // The connection; `None` only while a row is answered.
+    // The connection. It is `None` only while a row is answered.
     conn: Option<IdleConnection<S>>,
 }
 
@@ -193,7 +193,7 @@ fn take_first_format<S: Alter>(conn: &mut Connection<S>) -> Result<(), SqlError>
     tx.commit()
 }
 
-// Reads the rows of the table `meta`: the key, the format and the next number of each.
+// Reads the rows of the table `meta`: the key, the format and the next number of each row.
 fn meta<S: Alter>(conn: &mut Connection<S>) -> Result<Vec<Row>, SqlError>
     requires { conn.old.in_transaction ≡ false }
     ensures { conn.new.in_transaction ≡ false }
@@ -229,7 +229,7 @@ fn rows_text(alloc: Global, rows: &[Row]) -> Result<String, RowFault> {
     Ok(or_none(text)?)
 }
 
-// The numbers of the volumes as a text.
+// Writes the numbers of the volumes as a text.
 fn numbers_text(alloc: Global, volumes: &[Row]) -> Result<String, RowFault> {
     let mut text = String::new(alloc);
     for row in volumes {
@@ -244,7 +244,7 @@ fn both(alloc: Global, volumes: &[Row], places: &[Row]) -> Result<String, RowFau
     Ok(format!(in alloc; "{numbers}; {places}")?)
 }
 
-// The attachments as a text: node, capability, and whether it is read-only.
+// Writes the attachments as a text: node, capability, and whether the attachment is read-only.
 fn attachments(alloc: Global, rows: Result<Vec<Row>, SqlError>) -> Result<String, RowFault> {
     let mut text = String::new(alloc);
     for row in &rows.map_err(refused)? {

@@ -1,5 +1,5 @@
-//! Makes a call many times over the tables in two files. Each time the disk stops later, and the State that
-//! the next start finds is compared with the State of a run without a stop.
+//! Makes a call many times over the tables in two files. Each time the disk stops later. The State that the
+//! next start finds is compared with the State of a run without a stop.
 
 mod disks;
 mod runs;
@@ -21,29 +21,29 @@ use test_kit::{AnswerRow, RowAnswer, RowFault, bytes_of, number_at};
 use trials::{Trials, Way};
 use troubled::{Trouble, lying};
 
-/// How a run leaves the files of a database.
+/// The way in which a run leaves the files of a database.
 #[derive(Clone, Copy)]
 pub(crate) enum Ending {
-    /// The connection is closed.
+    /// The connection is closed, so the database file is complete without the WAL.
     Closed,
-    /// The connection is not closed, so that the committed changes are only in the WAL.
+    /// The connection is not closed, so the committed changes are only in the WAL.
     Open,
     /// The tables are set to format 1, and the connection is closed.
     Older,
 }
 
-/// The state between rows: the sample configuration, and the two files of a database.
+/// The state that is kept between rows: the sample configuration, and the two files of a database.
 #[derive(Drop)]
 pub(crate) struct Bench<D> {
     config: Config,
     files: Files<Memory>,
-    // Whether a database was made in the files.
+    // True if a database was made in the files.
     is_made: bool,
     of: PhantomData<D>,
 }
 
 impl<D: TestDisk> Bench<D> {
-    /// Makes a bench over new, empty files.
+    /// Makes the state over new, empty files.
     pub(crate) fn new(alloc: Global) -> Result<Bench<D>, RowFault> {
         Ok(Bench {
             config: Config::sample(alloc)?,
@@ -54,8 +54,8 @@ impl<D: TestDisk> Bench<D> {
     }
 
     /// Serves calls with `csi_files` over copies of the files, and returns the outcome as a text. Without a
-    /// `lie`, the bench then keeps the copies as the run leaves them. With a `lie`, the copy of the database
-    /// file lies, and the files of the bench are unchanged.
+    /// `lie`, the copies then replace the files. With a `lie`, the copy of the database file has a wrong
+    /// byte, and the files stay unchanged.
     pub(crate) fn serve(
         &mut self,
         alloc: Global,
@@ -80,8 +80,8 @@ impl<D: TestDisk> Bench<D> {
         Ok(outcome?)
     }
 
-    /// Returns the offset of the first occurrence of a text in the database file; [`RowFault::NotRow`] if the
-    /// text does not occur.
+    /// Returns the offset of the first occurrence of a text in the database file, or fails with
+    /// [`RowFault::NotRow`] if the text does not occur.
     pub(crate) fn place_of(&self, text: &[u8]) -> Result<usize, RowFault> {
         let bytes = self.files.db.bytes();
         for at in 0..bytes.len() {
@@ -92,7 +92,7 @@ impl<D: TestDisk> Bench<D> {
         Err(RowFault::NotRow)
     }
 
-    /// Answers a row; its first word names what is done with the files.
+    /// Answers a row. Its first word names what is done with the files.
     pub(crate) fn answer(&mut self, alloc: Global, row: &str) -> Result<String, RowFault> {
         let (word, rest) = row.split_once(' ').ok_or(RowFault::NotRow)?;
         match word {
@@ -113,7 +113,7 @@ impl<D: TestDisk> Bench<D> {
         }
     }
 
-    // Sets the files to an empty log and a database file with these bytes, in which no database was made.
+    // Replaces the files by an empty log and a database file with these bytes, in which no database was made.
     fn set_files(&mut self, alloc: Global, bytes: &str) -> Result<String, RowFault> {
         let bytes = bytes_of(alloc, bytes)?;
         self.files = Files {
@@ -134,7 +134,7 @@ impl<D: TestDisk> Bench<D> {
         Ok(made.after)
     }
 
-    // The outcome of a call over the files, or over new files if no database was made in the files.
+    // Returns the outcome of a call over the files, or over new files if no database was made in the files.
     fn outcome_of(&self, alloc: Global, call: &[u8]) -> Result<Outcome, RowFault> {
         if self.is_made {
             outcome_of::<D>(alloc, &self.config, &self.files, call)
@@ -143,8 +143,8 @@ impl<D: TestDisk> Bench<D> {
         }
     }
 
-    // Makes the runs of a call that stop. The words are the step, which is the number of calls of the disk by
-    // which each run stops later than the last, and the call.
+    // Makes the runs of a call in which the disk stops. The words are a step and the call: the disk stops in
+    // each run later than in the run before, by this number of calls of the disk.
     fn stop(&mut self, alloc: Global, words: &str, way: Way) -> Result<String, RowFault> {
         let (step, call) = words.split_once(' ').ok_or(RowFault::NotRow)?;
         let step = number_at(&[step], 0)?;

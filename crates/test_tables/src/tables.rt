@@ -1,4 +1,4 @@
-//! The volume machine over tables in memory.
+//! Answers rows that are requests to the volume machine over tables in memory.
 
 mod calls;
 mod words;
@@ -16,7 +16,8 @@ use std::mem;
 use test_kit::{AnswerRow, RowAnswer, RowFault, bytes_of, reply_to};
 use words::numbers_in_words;
 
-/// The state between rows: the sample configuration, and the tables with the volumes that requests made.
+/// The state that is kept between rows: the sample configuration, and the tables with the volumes of earlier
+/// requests.
 #[derive(Drop)]
 pub(crate) struct Bench {
     config: Config,
@@ -24,7 +25,7 @@ pub(crate) struct Bench {
 }
 
 impl Bench {
-    /// Makes a bench without volumes.
+    /// Makes the state with new tables, without volumes.
     pub(crate) fn new(alloc: Global) -> Result<Bench, RowFault> {
         Ok(Bench {
             config: Config::sample(alloc)?,
@@ -55,7 +56,7 @@ fn new_tables(alloc: Global) -> Result<Tables<MemStore>, RowFault> {
     }
 }
 
-// Replaces the tables by new ones.
+// Replaces the tables by new tables.
 fn begin<T: Drop>(
     alloc: Global,
     tables: &mut T,
@@ -66,7 +67,7 @@ fn begin<T: Drop>(
 }
 
 // Makes the tables a second time, which is refused, and shows the next number that the returned connection
-// still has. Replaces the tables by new ones.
+// still has. Then replaces the tables by new tables.
 fn remake<S: Alter + Drop>(
     alloc: Global,
     tables: &mut Tables<S>,

@@ -39,6 +39,9 @@ func TestList(t *testing.T) {
 		{"", listedThree},
 		{"--volume a", listedThree},
 		{"--volume b", listedNone},
+		{"--id vol-1", listedThree},
+		{"--id vol-2", listedNone},
+		{"--id 1", listedNone},
 		{"--pool ssd", listedThree},
 		{"--pool s", listedNone},
 		{"--node n", listedThree},
@@ -49,6 +52,13 @@ func TestList(t *testing.T) {
 			got.check(t, c.args, 0, c.want, "")
 		})
 	}
+	for _, c := range []struct{ volume, want string }{{"a", listedThree}, {name, listedNone}} {
+		out, err := exec.Command(processes.EtcdProgram(t), "--list", "--plugin", name, "--name", c.volume,
+			"--endpoints", cluster.Endpoints()).Output()
+		if err != nil || string(out) != c.want {
+			t.Errorf("--plugin and --name %s: got %s, error %v", c.volume, out, err)
+		}
+	}
 	put(t, client, name+"/volumes/00000000000000000001", strings.Replace(blockRow, "1a060a001a020801", "1a", 1))
 	runOnce(t, "", "--list", cluster.Endpoints()).check(t, "capabilities that are none", 1, "",
 		"csid-etcd: --list: volumes/00000000000000000001: its caps or params are not those of a volume\n")
@@ -58,6 +68,34 @@ func TestList(t *testing.T) {
 		!strings.HasPrefix(got.stderr,
 			"csid-etcd: --list: volumes/00000000000000000001: its value is not of the form ") {
 		t.Errorf("a broken row: got %v, want its key and form", got)
+	}
+}
+
+// A reader that goes away ends a listing without a line, with status 0. An export that is cut off
+// fails.
+func TestReaderThatGoes(t *testing.T) {
+	t.Parallel()
+	cluster := clusters.Start(t, 1)
+	if got := runOnce(t, threeRows, "--import", cluster.Endpoints()); got.status != 0 {
+		t.Fatal(got)
+	}
+	const broken = "csid-etcd: --export: write /dev/stdout: broken pipe\n"
+	for _, c := range []struct {
+		args, said string
+		status     int
+	}{{"--list", "", 0}, {"--list --json", "", 0}, {"--export", broken, 1}} {
+		t.Run(c.args, func(t *testing.T) {
+			var said strings.Builder
+			command := exec.Command(processes.EtcdProgram(t),
+				append(strings.Fields(c.args), "--name", name, "--endpoints", cluster.Endpoints())...)
+			command.Stdout, command.Stderr = processes.ClosedPipe(t), &said
+			command.Run()
+			got := said.String()
+			if status := command.ProcessState.ExitCode(); status != c.status || !strings.HasSuffix(got, c.said) ||
+				c.said == "" && got != "" {
+				t.Errorf("got status %d, %q", status, got)
+			}
+		})
 	}
 }
 

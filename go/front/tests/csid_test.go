@@ -34,71 +34,72 @@ const (
 	volume2 = "0a25 088080c001 1205 766f6c2d32 1a0a 0a04706f6f6c 12027032 2a0b 0a09 0a047a6f6e65 120162"
 )
 
-// A day of an orchestrator, under the sample configuration (docs/OPERATING.md). The rows go over
-// one another's volumes.
+// The calls of a day of an orchestrator, under the sample configuration (docs/OPERATING.md), and
+// their answers. A row goes over the volumes of the rows before it.
+var callsOfVolumes = []struct {
+	path, message string
+	want          answer
+}{
+	{probe, "", ok(ready)},
+	{identity + "GetPluginInfo", "", ok("0a11 706f6f6c732e6578616d706c652e6f7267 1205 312e302e30")},
+	{identity + "GetPluginCapabilities", "", ok("0a040a020801 0a040a020802")},
+	{controller + "ControllerGetCapabilities", "",
+		ok("0a040a020801 0a040a020802 0a040a020803 0a040a020804 0a040a020808 0a040a02080a 0a040a02080d " +
+			"0a040a02080e")},
+	{controller + "GetCapacity", "", ok("0880808007 1205 0880808004")},
+	{controller + "CreateVolume", createA, ok(volume1)},
+	{controller + "CreateVolume", createA, ok(volume1)},
+	{controller + "CreateVolume", "0a0162" + threeB + block + zoneB, ok(volume2)},
+	{controller + "CreateVolume", "0a0161" + threeB +
+		"1a06 0a00 1a020801", refused(codes.AlreadyExists, "volume exists and is not compatible")},
+	{controller + "CreateVolume", block, refused(codes.InvalidArgument, "name is missing")},
+	{controller + "CreateVolume", createA + "0a",
+		refused(codes.InvalidArgument, "malformed message in the field at byte 11")},
+	{controller + "CreateVolume", "0a0163 1206 088080808001" +
+		block, refused(codes.OutOfRange, "capacity is out of range")},
+	{controller + "CreateVolume", "0a0163 1205 0880808002" + block +
+		zoneB, refused(codes.ResourceExhausted, "no room in the topology")},
+	{controller + "GetCapacity", "", ok("0880808005 1205 0880808004")},
+	{controller + "ControllerPublishVolume", vol1 + n1 + block, ok("0a11 0a08 726561646f6e6c79 1205 66616c7365")},
+	{controller + "ControllerPublishVolume", vol1 + "1202 6e32" +
+		block, refused(codes.FailedPrecondition, "volume is published elsewhere")},
+	{controller + "ControllerPublishVolume", vol2 + "1202 6e39" + block, refused(codes.NotFound, "node not found")},
+	{controller + "ControllerModifyVolume", vol1 + "1a06 0a016b 120176", ok("")},
+	{controller + "ControllerModifyVolume", vol1 + "1a06 0a016b 120176", ok("")},
+	{controller + "ControllerModifyVolume", vol1, refused(codes.InvalidArgument, "mutable parameters are missing")},
+	{controller + "ControllerModifyVolume", "0a05 766f6c2d39 1a06 0a016b 120176",
+		refused(codes.NotFound, "volume not found")},
+	{controller + "CreateVolume", createA + "4206 0a016b 120176", ok(volume1)},
+	{controller + "CreateVolume", createA + "4206 0a016b 120177",
+		refused(codes.AlreadyExists, "volume exists and is not compatible")},
+	{controller + "ListVolumes", "0801", ok("0a2c" + volume1 + "1204 0a026e31 120131")},
+	{controller + "ListVolumes", "120131", ok("0a29" + volume2 + "1200")},
+	{controller + "ListVolumes", "120139", refused(codes.Aborted, "bad starting token")},
+	{controller + "ValidateVolumeCapabilities", vol1 + block, ok("0a08 1206 0a00 1a020801")},
+	{controller + "DeleteVolume", vol1, refused(codes.FailedPrecondition, "volume is in use")},
+	{controller + "ControllerUnpublishVolume", vol1, ok("")},
+	{controller + "DeleteVolume", vol1, ok("")},
+	{controller + "DeleteVolume", vol1, ok("")},
+	{controller + "ListVolumes", "", ok("0a29" + volume2 + "1200")},
+	{controller + "CreateSnapshot", "", refused(codes.Unimplemented, "unknown method")},
+	{"/csi.v1.Node/NodeGetInfo", "", refused(codes.Unimplemented, "unknown method")},
+	{"/grpc.health.v1.Health/Check", "", refused(codes.Unimplemented, "unknown method")},
+	{probe + "/", "", refused(codes.Unimplemented, "unknown method")},
+	{"/~/" + strings.Repeat("~", 125), "", refused(codes.Unimplemented, "unknown method")},
+	{"/~/" + strings.Repeat("~", 126), "", refused(codes.Unimplemented, "unknown method")},
+	// One unknown field of 1,048,576 bytes: its tag, a length of three bytes, and so many
+	// bytes. Then one of a byte more.
+	{probe, "7a fcff3f" + strings.Repeat("78", 1048572), ok(ready)},
+	{probe, "7a fdff3f" + strings.Repeat("78", 1048573),
+		refused(codes.ResourceExhausted, "grpc: received message larger than max (1048577 vs. 1048576)")},
+	{probe, "", ok(ready)},
+}
+
 func TestCallsOfVolumes(t *testing.T) {
 	t.Parallel()
-	rows := []struct {
-		path, message string
-		want          answer
-	}{
-		{probe, "", ok(ready)},
-		{identity + "GetPluginInfo", "", ok("0a11 706f6f6c732e6578616d706c652e6f7267 1205 312e302e30")},
-		{identity + "GetPluginCapabilities", "", ok("0a040a020801 0a040a020802")},
-		{controller + "ControllerGetCapabilities", "",
-			ok("0a040a020801 0a040a020802 0a040a020803 0a040a020804 0a040a020808 0a040a02080a 0a040a02080d " +
-				"0a040a02080e")},
-		{controller + "GetCapacity", "", ok("0880808007 1205 0880808004")},
-		{controller + "CreateVolume", createA, ok(volume1)},
-		{controller + "CreateVolume", createA, ok(volume1)},
-		{controller + "CreateVolume", "0a0162" + threeB + block + zoneB, ok(volume2)},
-		{controller + "CreateVolume", "0a0161" + threeB +
-			"1a06 0a00 1a020801", refused(codes.AlreadyExists, "volume exists and is not compatible")},
-		{controller + "CreateVolume", block, refused(codes.InvalidArgument, "name is missing")},
-		{controller + "CreateVolume", createA + "0a",
-			refused(codes.InvalidArgument, "malformed message in the field at byte 11")},
-		{controller + "CreateVolume", "0a0163 1206 088080808001" +
-			block, refused(codes.OutOfRange, "capacity is out of range")},
-		{controller + "CreateVolume", "0a0163 1205 0880808002" + block +
-			zoneB, refused(codes.ResourceExhausted, "no room in the topology")},
-		{controller + "GetCapacity", "", ok("0880808005 1205 0880808004")},
-		{controller + "ControllerPublishVolume", vol1 + n1 + block, ok("0a11 0a08 726561646f6e6c79 1205 66616c7365")},
-		{controller + "ControllerPublishVolume", vol1 + "1202 6e32" +
-			block, refused(codes.FailedPrecondition, "volume is published elsewhere")},
-		{controller + "ControllerPublishVolume", vol2 + "1202 6e39" + block, refused(codes.NotFound, "node not found")},
-		{controller + "ControllerModifyVolume", vol1 + "1a06 0a016b 120176", ok("")},
-		{controller + "ControllerModifyVolume", vol1 + "1a06 0a016b 120176", ok("")},
-		{controller + "ControllerModifyVolume", vol1, refused(codes.InvalidArgument, "mutable parameters are missing")},
-		{controller + "ControllerModifyVolume", "0a05 766f6c2d39 1a06 0a016b 120176",
-			refused(codes.NotFound, "volume not found")},
-		{controller + "CreateVolume", createA + "4206 0a016b 120176", ok(volume1)},
-		{controller + "CreateVolume", createA + "4206 0a016b 120177",
-			refused(codes.AlreadyExists, "volume exists and is not compatible")},
-		{controller + "ListVolumes", "0801", ok("0a2c" + volume1 + "1204 0a026e31 120131")},
-		{controller + "ListVolumes", "120131", ok("0a29" + volume2 + "1200")},
-		{controller + "ListVolumes", "120139", refused(codes.Aborted, "bad starting token")},
-		{controller + "ValidateVolumeCapabilities", vol1 + block, ok("0a08 1206 0a00 1a020801")},
-		{controller + "DeleteVolume", vol1, refused(codes.FailedPrecondition, "volume is in use")},
-		{controller + "ControllerUnpublishVolume", vol1, ok("")},
-		{controller + "DeleteVolume", vol1, ok("")},
-		{controller + "DeleteVolume", vol1, ok("")},
-		{controller + "ListVolumes", "", ok("0a29" + volume2 + "1200")},
-		{controller + "CreateSnapshot", "", refused(codes.Unimplemented, "unknown method")},
-		{"/csi.v1.Node/NodeGetInfo", "", refused(codes.Unimplemented, "unknown method")},
-		{"/grpc.health.v1.Health/Check", "", refused(codes.Unimplemented, "unknown method")},
-		{probe + "/", "", refused(codes.Unimplemented, "unknown method")},
-		{"/~/" + strings.Repeat("~", 125), "", refused(codes.Unimplemented, "unknown method")},
-		{"/~/" + strings.Repeat("~", 126), "", refused(codes.Unimplemented, "unknown method")},
-		// One unknown field of 1,048,576 bytes: its tag, a length of three bytes, and so many
-		// bytes. Then one of a byte more.
-		{probe, "7a fcff3f" + strings.Repeat("78", 1048572), ok(ready)},
-		{probe, "7a fdff3f" + strings.Repeat("78", 1048573),
-			refused(codes.ResourceExhausted, "grpc: received message larger than max (1048577 vs. 1048576)")},
-		{probe, "", ok(ready)},
-	}
 	csid := processes.StartCsid(t)
 	front := newClient(t, processes.StartFront(t, csid.Socket()).Socket)
-	for _, row := range rows {
+	for _, row := range callsOfVolumes {
 		front.wants(t, row.path, row.message, row.want)
 	}
 	csid.WantsStartAlone(t)

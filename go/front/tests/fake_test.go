@@ -173,6 +173,17 @@ func (f *fake) seen() (calls []string, ends int) {
 	return append([]string(nil), f.calls...), f.ends
 }
 
+// messagesOf are the messages of the calls of a method, in hexadecimal.
+func (f *fake) messagesOf(path string) (messages []string) {
+	calls, _ := f.seen()
+	for _, call := range calls {
+		if strings.HasPrefix(call, path+" ") {
+			messages = append(messages, strings.TrimPrefix(call, path+" "))
+		}
+	}
+	return messages
+}
+
 func (f *fake) sees(t *testing.T, want ...string) {
 	t.Helper()
 	if calls, _ := f.seen(); strings.Join(calls, ", ") != strings.Join(want, ", ") {

@@ -90,8 +90,10 @@ func TestLogOfChanges(t *testing.T) {
 	t.Parallel()
 	const secrets = "2a07 0a0168 12027077"
 	csid := startFake(t, step{write: okFrame(volume1)}, step{write: okFrame("")},
-		step{write: refusalFrame(9, "volume is published elsewhere")}, step{write: okFrame("")},
-		step{write: okFrame("")}, step{close: true})
+		step{write: refusalFrame(9, "volume is published elsewhere")},
+		step{write: okFrame(vol1AtN1)}, step{write: okFrame("")},
+		step{write: okFrame("")},
+		step{write: okFrame(vol1AtN1)}, step{close: true})
 	process, socket := controlled(t, csid.socket, "--log-changes")
 	front := newClient(t, process.Socket)
 	front.call(t, controller+"CreateVolume", createA+secrets)
@@ -106,7 +108,8 @@ func TestLogOfChanges(t *testing.T) {
 	want := []string{
 		"CreateVolume 0 \"\" N ms name=a volume=vol-1",
 		"ControllerPublishVolume 9 \"volume is published elsewhere\" N ms volume=vol-1 node=n1",
-		"control ControllerUnpublishVolume 0 \"\" N ms volume=vol-1 node=n1",
+		fmt.Sprintf("control ControllerUnpublishVolume 0 \"\" N ms volume=vol-1 node=n1 uid=%d pid=%d", os.Getuid(),
+			os.Getpid()),
 		"ControllerModifyVolume 0 \"\" N ms volume=vol-1",
 		"DeleteVolume 14 \"csid: the connection was closed unanswered: see the log of csid\" N ms volume=vol-1",
 	}
@@ -114,6 +117,72 @@ func TestLogOfChanges(t *testing.T) {
 		" N ms")
 	if got != "front: "+strings.Join(want, "\nfront: ")+"\n" {
 		t.Errorf("logged %q", got)
+	}
+}
+
+// vol1AtN1 is the page of one entry (docs/PROTOCOL.md, "Messages"): the volume 'vol-1' at the node
+// 'n1'.
+const vol1AtN1 = "0a0f 0a07 1205 766f6c2d31 1204 0a026e31"
+
+// A delete and an unpublish that remove nothing are no changes, and have no line.
+func TestLogOfRemovalsOfNothing(t *testing.T) {
+	t.Parallel()
+	const vol2, n2 = "0a05 766f6c2d32", "1202 6e32"
+	csid := startFake(t,
+		// No volume is there; another one is; the volume is there, but not at n2.
+		step{write: okFrame("")}, step{write: okFrame("")},
+		step{write: okFrame(vol1AtN1)}, step{write: okFrame("")},
+		step{write: okFrame(vol1AtN1)}, step{write: okFrame("")},
+		// No volume had this number yet.
+		step{write: refusalFrame(10, "bad starting token")}, step{write: okFrame("")},
+		// An id that csid does not give is not looked up.
+		step{write: okFrame("")},
+		// A refusal has its line. So has a call before which csid did not say what is there.
+		step{write: okFrame("")}, step{write: refusalFrame(9, "volume is in use")},
+		step{write: refusalFrame(13, "out of memory")}, step{write: okFrame("")})
+	process, socket := controlled(t, csid.socket, "--log-changes")
+	front := newClient(t, process.Socket)
+	front.call(t, controller+"DeleteVolume", vol1)
+	front.call(t, controller+"DeleteVolume", vol2)
+	front.call(t, controller+"ControllerUnpublishVolume", vol1+n2)
+	if _, err := control(t, socket, frameOf(t, controller+"DeleteVolume", vol2)); err != nil {
+		t.Error(err)
+	}
+	front.call(t, controller+"DeleteVolume", "0a0161")
+	front.call(t, controller+"DeleteVolume", vol1)
+	front.call(t, controller+"ControllerUnpublishVolume", vol1)
+	processes.Eventually(t, "two lines", func() bool { return strings.Count(process.Log.String(), "\n") >= 2 })
+	want := "front: DeleteVolume 9 \"volume is in use\" N ms volume=vol-1\n" +
+		"front: ControllerUnpublishVolume 0 \"\" N ms volume=vol-1\n"
+	got := regexp.MustCompile(` [0-9]+ ms`).ReplaceAllString(strings.ReplaceAll(process.Log.String(), controller, ""),
+		" N ms")
+	if got != want {
+		t.Errorf("logged %q", got)
+	}
+	// The page of one entry that begins with the volume: max_entries is 1, and the token is the
+	// number before the volume's.
+	if pages := csid.messagesOf(controller + "ListVolumes"); !reflect.DeepEqual(pages,
+		[]string{"0801", "0801120131", "0801", "0801120131", "0801", "0801"}) {
+		t.Errorf("csid was asked for %q", pages)
+	}
+}
+
+// Without a journal each line begins with its time and level, except the line about refused
+// arguments.
+func TestLinesWithoutJournal(t *testing.T) {
+	t.Parallel()
+	const stamp = "[0-9]{4}-[0-9]{2}-[0-9]{2}T[0-9]{2}:[0-9]{2}:[0-9]{2}Z "
+	absent := filepath.Join(processes.Folder(t), "absent", "csi.sock")
+	for words, want := range map[string]string{
+		"--csid csid.sock --listen " + absent: "^" + stamp + "error front: .*absent.*\n$",
+		"--csid csid.sock --listen csid.sock": "^front: the two sockets are one\n$",
+	} {
+		command := exec.Command(processes.FrontProgram(t), strings.Fields(words)...)
+		command.Env = append(os.Environ(), "JOURNAL_STREAM=")
+		said, _ := command.CombinedOutput()
+		if !regexp.MustCompile(want).Match(said) {
+			t.Errorf("%s: got %q", words, said)
+		}
 	}
 }
 
@@ -191,7 +260,7 @@ func TestManyLines(t *testing.T) {
 	begin := time.Now()
 	for i := 0; i < calls; i++ {
 		front.call(t, "/a/no path", "")
-		front.call(t, controller+"DeleteVolume", vol1)
+		front.call(t, controller+"ControllerModifyVolume", vol1)
 	}
 	if _, err := control(t, socket, fromHex(t, "0081")); err != nil {
 		t.Error(err)
@@ -203,7 +272,7 @@ func TestManyLines(t *testing.T) {
 	}
 	text := process.Log.String()
 	refused, left, changed := strings.Count(text, `front: "/a/no path" 12 `), 0,
-		strings.Count(text, `DeleteVolume 0 ""`)
+		strings.Count(text, `ControllerModifyVolume 0 ""`)
 	for _, count := range regexp.MustCompile(`(?m)^front: lines left out, since more than 10 came in a second: `+
 		`([0-9]+) \(.*\)$`).FindAllStringSubmatch(text, -1) {
 		number, _ := strconv.Atoi(count[1])

@@ -1,4 +1,4 @@
-//! The requests of several fields.
+//! Decodes and encodes the requests that have several fields.
 
 ghost use Rattle.csi_codec.specs.messages.VolumeRequests.{create_in, create_schema, canon_create, FitsCreate, delete_in, delete_schema, canon_delete, FitsDelete, modify_in, modify_schema, canon_modify, FitsModify};
 ghost use Rattle.csi_codec.specs.messages.PublishRequests.{publish_in, publish_schema, canon_publish, FitsPublish, unpublish_in, unpublish_schema, canon_unpublish, FitsUnpublish};

@@ -1,4 +1,4 @@
-//! Responses of several fields: types to decode them into, and functions to encode them.
+//! Responses that have several fields: the types to decode them into, and the functions that encode them.
 
 ghost use Rattle.std.specs.Prelude.{◌≡◌, ◌++◌, OnOk};
 ghost use Rattle.pbmessage.specs.Canon.{bytes_of};
@@ -195,8 +195,8 @@ impl Message<Csi> for FreeCapacity {
     }
 }
 
-/// Appends a `GetPluginInfoResponse` with this name and vendor version. If memory is refused, a part of it
-/// may have been appended; the same holds for the functions below.
+/// Appends a `GetPluginInfoResponse` with this name and vendor version. If memory is refused, a part of the
+/// response may have been appended.
 pub fn put_plugin_info(out: &mut Vec<u8>, name: &Text, version: &Text) -> Result<(), AllocError>
     ensures ok { OnOk result (out.new.items ≡ out.old.items ++ bytes_of (canon_info (record {
       name = name.now;
@@ -210,7 +210,8 @@ pub fn put_plugin_info(out: &mut Vec<u8>, name: &Text, version: &Text) -> Result
     Ok(())
 }
 
-/// Appends a `ValidateVolumeCapabilitiesResponse` with `confirmed` and `message` as given.
+/// Appends a `ValidateVolumeCapabilitiesResponse` with `confirmed` and `message` as given. If memory is
+/// refused, a part of the response may have been appended.
 pub fn put_validation(
     out: &mut Vec<u8>,
     confirmed: &Option<Confirmed>,
@@ -232,7 +233,8 @@ pub fn put_validation(
     Ok(())
 }
 
-/// Appends a `ListVolumesResponse` with these entries and this `next_token`.
+/// Appends a `ListVolumesResponse` with these entries and this `next_token`. If memory is refused, a part of
+/// the response may have been appended.
 pub fn put_listing(
     out: &mut Vec<u8>,
     entries: &Items<Entry>,
@@ -248,7 +250,8 @@ pub fn put_listing(
     Ok(())
 }
 
-/// Appends a `GetCapacityResponse` with this available capacity and maximum volume size, in bytes.
+/// Appends a `GetCapacityResponse` with this available capacity and maximum volume size, in bytes. If memory
+/// is refused, a part of the response may have been appended.
 pub fn put_free_capacity(
     out: &mut Vec<u8>,
     available: i64,

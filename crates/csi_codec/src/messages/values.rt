@@ -1,4 +1,4 @@
-//! Messages with one field or none.
+//! Decodes and encodes messages with one field or none.
 
 ghost use Rattle.std.specs.Prelude.{◌≡◌, ◌%◌, ◌^◌};
 ghost use Rattle.std.specs.Int.{cast_signed, w32};
@@ -45,7 +45,7 @@ impl Message<Csi> for NoFields {
     }
 }
 
-/// `google.protobuf.BoolValue`: `value`, field 1.
+/// `google.protobuf.BoolValue`, a message with a flag: `value`, field 1.
 pub type BoolValue = bool;
 
 #[tactic(auto, using(pbmessage::specs::facts::Views::last_after))]
@@ -78,7 +78,7 @@ impl Message<Csi> for BoolValue {
     }
 }
 
-/// `google.protobuf.Int64Value`: `value`, field 1.
+/// `google.protobuf.Int64Value`, a message with a number: `value`, field 1.
 pub type Int64Value = i64;
 
 #[tactic(auto, using(pbmessage::specs::facts::Views::last_after, pbmessage::specs::facts::Views::signed_kept))]
@@ -111,7 +111,7 @@ impl Message<Csi> for Int64Value {
     }
 }
 
-/// A message with one field, the number of an enum (field 1): `AccessMode`, `PluginCapability.Service` or
+/// A message whose one field, field 1, is the number of an enum: `AccessMode`, `PluginCapability.Service` or
 /// `ControllerServiceCapability.RPC`.
 pub type EnumValue = i32;
 
@@ -145,7 +145,7 @@ impl Message<Csi> for EnumValue {
     }
 }
 
-/// A message with one field, an embedded message (field 1).
+/// A message whose one field, field 1, is an embedded message.
 impl<M: Message<Csi>> Message<Csi> for Option<M> {
     ghost schema = { only_schema M.schema };
 
@@ -177,17 +177,19 @@ impl<M: Message<Csi>> Message<Csi> for Option<M> {
     }
 }
 
-/// The low 32 bits of a varint as a signed number, which is how an `int32` or enum field reads them.
+/// Returns the low 32 bits of a varint as a signed number, which is the value of a field of type `int32` or
+/// of an enum.
 pub fn low_half(value: u64) -> i32
     ensures { result ≡ cast_signed w32 (value % 2 ^ 32) }
 {
     ((value % (1 << 32)) as u32).cast_signed()
 }
 
-/// `PluginCapability` or `ControllerServiceCapability`: field 1 is the message that has the enum.
+/// `PluginCapability` or `ControllerServiceCapability`. Field 1 is a message whose one field is the number of
+/// an enum.
 pub type ServiceCapability = Option<EnumValue>;
 
-/// A message with one repeated field (field 1): the capabilities of a service.
+/// A message whose one field, field 1, is repeated: the capabilities of a service.
 impl Message<Csi> for Items<ServiceCapability> {
     ghost schema = { types_schema };
 
@@ -279,7 +281,7 @@ impl Written<Csi> for Items<ServiceCapability> {
     }
 }
 
-/// A message with one map (field 1): the segments of a `Topology`, or the `publish_context` of
+/// A message whose one field, field 1, is a map: the segments of a `Topology`, or the `publish_context` of
 /// ControllerPublishVolume.
 impl Message<Csi> for Map {
     ghost schema = { map_schema };

@@ -1,4 +1,5 @@
-//! The messages inside requests and responses: capabilities, capacity ranges, topologies and volumes.
+//! Decodes and encodes the messages inside requests and responses: capabilities, capacity ranges, topologies
+//! and volumes.
 
 ghost use Rattle.std.specs.Prelude.{◌≡◌, ◌++◌, ◌∷◌, [], ℕ, List, OnOk, IfOk};
 ghost use Rattle.std.specs.Int.{cast_signed};
@@ -68,7 +69,7 @@ impl Message<Csi> for Mount {
     }
 }
 
-// Merges a further occurrence of the message into the mount.
+// Returns the mount, merged with a further occurrence of its message.
 fn merged(alloc: Global, mut mount: Mount, payload: &[u8]) -> Result<Mount, AllocError>
     requires { AreGood (GoodField (Good mount_schema)) payload.now }
     ensures { IfOk result (λ new. (fs : List WireField) → mount ≡ value_of mount_in fs
@@ -85,8 +86,9 @@ fn set_mount(slot: &mut Access, alloc: Global, mount: Mount) -> Result<(), Alloc
     Ok(())
 }
 
-/// Merges a mount into the mount of earlier occurrences; only occurrences after the last other member of the
-/// oneof count. If memory is refused, no member is set.
+/// Merges one occurrence of the field `mount` into the value of the oneof. If the value is a mount, the
+/// occurrence is merged into this mount. Otherwise a new mount is made of the occurrence. If memory is
+/// refused, no member of the oneof is set.
 fn merge_mount(slot: &mut Access, alloc: Global, payload: &[u8]) -> Result<(), AllocError>
     requires { AreGood (GoodField (Good mount_schema)) payload.now }
     ensures { OnOk result ((ms : List (ℕ × List ℕ)) → slot.old ≡ access (one_of ms)

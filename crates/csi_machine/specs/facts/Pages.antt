@@ -2,7 +2,6 @@
 use Rattle.std.proofs.Common.{◌∙◌, ap, refl, sym, ℕ, List, [], ◌++◌, append-nil}
 use Rattle.pbmessage.specs.Kept.{Keeps}
 use Rattle.csi_codec.specs.facts.Listing.{listing_none}
-use Rattle.csi_types.specs.declared.responses.Response.TheVariants as response
 use Rattle.csi_machine.specs.Pages.{HasWritten}
 use Rattle.csi_machine.specs.Places.{ArePlaced}
 use Rattle.csi_machine.specs.declared.page.Page.{Page}

@@ -1,4 +1,4 @@
-//! GetCapacity (CSI specification, 'GetCapacity').
+//! Plans GetCapacity: how many bytes new volumes can take (CSI specification, 'GetCapacity').
 
 ghost use Rattle.std.specs.Prelude.{◌≡◌, ◌≤◌, ◌^◌, None, IfOk, map, sum_by};
 ghost use Rattle.std.specs.List.{list_all};
@@ -34,8 +34,8 @@ fn is_served(topology: &Option<Map>, room: &Room<'_>) -> bool
     }
 }
 
-// Returns the sum of the free bytes of the pools that serve the topology, and the greatest number of free
-// bytes in one of these pools.
+// Returns two numbers for the pools that serve the topology: the sum of their free bytes, and the greatest
+// number of free bytes in one pool.
 fn free_in(rooms: &[Room<'_>], topology: &Option<Map>) -> (u64, u64)
     ensures sum { result.0 ≡ up_to_u64 (sum_by free (served (map room_value rooms.now) topology.now)) }
     ensures greatest { result.1 ≡ greatest (map free (served (map room_value rooms.now) topology.now)) }
@@ -85,8 +85,8 @@ fn capacity_of(
     report_capacity(alloc, sum, config.sizes().greatest_bytes.min(greatest))
 }
 
-/// Plans the answer: the free bytes of the pools that serve the topology, and the greatest size that a volume
-/// can have in one of them. Both are 0 if a capability is not supported.
+/// Plans GetCapacity. The answer is the free bytes of the pools that serve the topology, and the greatest
+/// size that a volume can have in one of them. Both are 0 if a capability is not supported.
 impl Planned for GetCapacity {
     ghost planned = { capacity };
 

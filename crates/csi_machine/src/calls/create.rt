@@ -1,4 +1,4 @@
-//! CreateVolume (CSI specification, 'CreateVolume').
+//! Plans CreateVolume: an existing volume, a new volume or a refusal (CSI specification, 'CreateVolume').
 
 ghost use Rattle.std.specs.Prelude.{◌≡◌, Some, None, IfOk, IfSome, map};
 ghost use Rattle.std.specs.Option.{option_copied};
@@ -21,7 +21,7 @@ use csi_types::{
 };
 use std::alloc::{AllocError, Global};
 
-// Whether the volume, whose pool has these segments, is as the request asks.
+// Returns true if an existing volume, whose pool has these segments, is compatible with the request.
 fn is_compatible(
     alloc: Global,
     segments: &Map,
@@ -44,7 +44,7 @@ fn is_compatible(
     )
 }
 
-// The plan of a create if a volume of this name exists.
+// Plans CreateVolume if a volume with this name exists.
 fn again<'a>(
     alloc: Global,
     config: &'a Config,
@@ -120,7 +120,7 @@ fn place<'a>(
     place_in(alloc, request, next, bytes, pool)
 }
 
-// The plan of a create if no volume of this name exists.
+// Plans CreateVolume if no volume has this name.
 #[tactic(auto, using(crate::proofs::CreateLemmas::fresh_bounded))]
 fn fresh<'a>(
     alloc: Global,
@@ -155,13 +155,15 @@ fn create_fresh<'a, K: Keeper>(
     Ok(fresh(alloc, config, &rooms, next, request)?)
 }
 
-/// Plans a create, by reads of the keeper alone. `no_segments` is an empty map, the segments of a pool that
-/// is not configured.
+/// Plans CreateVolume, by reads of the keeper alone. `no_segments` must be an empty map. It stands for the
+/// segments of a pool that the configuration lacks.
 ///
-/// If a volume with this name exists, the answer is that volume if it is as the request asks, and a refusal
-/// otherwise. If there is no such volume, the plan makes one in the chosen pool. The create is refused if the
-/// size is out of range, if there are too many volumes, if the numbers are used up, or if no pool has room;
-/// these are checked in this order.
+/// If a volume with this name exists and is compatible with the request, the answer is that volume. If it
+/// exists and is not compatible, the request is refused. If no volume has the name, the plan creates a volume
+/// in the chosen pool.
+///
+/// A new volume is refused in the first of these cases that applies: the size is out of range, there are too
+/// many volumes, the numbers are used up, or no pool has room.
 pub(crate) fn create<'a, K: Keeper>(
     alloc: Global,
     config: &'a Config,

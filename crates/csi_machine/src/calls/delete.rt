@@ -1,4 +1,4 @@
-//! DeleteVolume (CSI specification, 'DeleteVolume').
+//! Plans DeleteVolume: removes a volume that is published to no node (CSI specification, 'DeleteVolume').
 
 ghost use Rattle.std.specs.Prelude.{◌≡◌, None, IfOk, IfSome};
 ghost use Rattle.csi_keeper.specs.State.{IsBounded};
@@ -14,7 +14,7 @@ use csi_rules::existing_number;
 use csi_types::{DeleteVolume, Reason};
 use std::alloc::{AllocError, Global};
 
-// The plan for a volume that exists.
+// Plans DeleteVolume for a volume that exists. A volume with attachments is in use and not deleted.
 fn delete_volume(alloc: Global, number: u64, attachments: &[Attachment]) -> Result<Plan, AllocError>
     ensures bounded { IfOk result (λ p. IfSome p.change IsBounded) }
     ensures value { IfOk result (λ p. p ≡ delete_volume number attachments.now) }
@@ -29,8 +29,8 @@ fn delete_volume(alloc: Global, number: u64, attachments: &[Attachment]) -> Resu
     )
 }
 
-/// Plans to delete the volume. A volume that is attached is refused; a volume that does not exist is answered
-/// as deleted.
+/// Plans DeleteVolume. A volume that is attached is not deleted, and the request is refused. If the volume
+/// does not exist, the answer is the same as for a volume that is deleted.
 impl Planned for DeleteVolume {
     ghost planned = { λ config s r. delete s r };
 

@@ -1,5 +1,5 @@
-//! ListVolumes (CSI specification, 'ListVolumes'). The entries of a page are written as they are read, and
-//! are not collected in a response first.
+//! Answers ListVolumes (CSI specification, 'ListVolumes'). The entries of a page are written while they are
+//! read, and not collected in a response first.
 
 ghost use Rattle.std.specs.Prelude.{◌≡◌, ◌++◌, [], Some, Ok, OnOk};
 ghost use Rattle.pbmessage.specs.Kept.{Keeps};
@@ -44,7 +44,7 @@ fn entries_for(most: i32) -> u32
     }
 }
 
-// Appends the token of the next page, if there is one.
+// Appends the token of the next page, if there is a next page.
 fn put_token(alloc: Global, last: u64, is_more: bool, out: &mut Vec<u8>) -> Result<(), AllocError>
     ensures ok { OnOk result (out.new.items
         ≡ out.old.items ++ response_bytes (response.List [] (token_when last is_more))) }
@@ -59,7 +59,7 @@ fn put_token(alloc: Global, last: u64, is_more: bool, out: &mut Vec<u8>) -> Resu
     encode_response(&Response::List { entries, token }, out)
 }
 
-// Appends the entries of a page and its token.
+// Appends the entries of a page, and the token of the next page.
 #[inline(always)]
 fn write_page<K: Keeper>(
     alloc: Global,
@@ -79,7 +79,7 @@ fn write_page<K: Keeper>(
     Ok(put_token(alloc, page.last, rest.is_any, &mut page.body)?)
 }
 
-// Appends the body of a page, or refuses a page that is too large for a reply.
+// Appends the body of the page after a number. Refuses a page that is too large for a reply.
 #[inline(always)]
 fn append_after<K: Keeper>(
     alloc: Global,
@@ -112,9 +112,9 @@ fn append_after<K: Keeper>(
     Ok(limit_body(out, from))
 }
 
-/// Appends the body of a page of at most 100 entries, or refuses the request's token. The token of the next
-/// page is the number of the last volume on this page. This volume may be deleted before the next page is
-/// asked for.
+/// Appends the body of a page of at most 100 entries. If the token of the request is not valid, the request
+/// is refused. The token of the next page is the number of the last volume on this page. This volume may be
+/// deleted before the client asks for the next page.
 #[inline(always)]
 pub(crate) fn append_page<K: Keeper>(
     alloc: Global,

@@ -1,4 +1,4 @@
-//! ControllerPublishVolume (CSI specification, 'ControllerPublishVolume').
+//! Plans ControllerPublishVolume: attaches a volume to a node (CSI specification, 'ControllerPublishVolume').
 
 ghost use Rattle.std.specs.Prelude.{◌≡◌, Some, None, IfOk, IfSome, find};
 ghost use Rattle.std.specs.Option.{option_copied};
@@ -27,8 +27,8 @@ fn publish_again(key: &CapKey, readonly: bool, attachment: &Attachment) -> Plan
     refuse(Reason::PublishedOtherwise)
 }
 
-// A volume that exists: its uses, its attachments, and a node with the number of volumes that are attached
-// there.
+// What a publish is about: the volume, with its capabilities and attachments, and the node, with the number
+// of volumes that are attached to it.
 #[derive(Clone, Copy)]
 struct Target<'a> {
     number: u64,
@@ -55,7 +55,7 @@ fn attach(alloc: Global, target: &Target, mine: Attachment) -> Result<Plan, Allo
     make(alloc, answer, Change::Attach(target.number, mine))
 }
 
-/// Returns the attachment at this node, if there is one.
+/// Returns the attachment to this node, or `None` if the volume is not attached to it.
 pub(crate) fn attachment_at<'a>(
     attachments: &'a [Attachment],
     node: &Text,

@@ -1,4 +1,5 @@
-//! ControllerUnpublishVolume (CSI specification, 'ControllerUnpublishVolume').
+//! Plans ControllerUnpublishVolume: detaches a volume from one node or from all nodes (CSI specification,
+//! 'ControllerUnpublishVolume').
 
 ghost use Rattle.std.specs.Prelude.{◌≡◌, None, IfOk, IfSome};
 ghost use Rattle.csi_keeper.specs.State.{IsBounded};
@@ -29,7 +30,7 @@ fn detach_all(alloc: Global, number: u64, attachments: &[Attachment]) -> Result<
     )
 }
 
-// The plan for the attachments of one volume: an empty node id is each node.
+// Plans to detach a volume from the node with this id, or from all nodes if the id is empty.
 fn detach(
     alloc: Global,
     number: u64,
@@ -53,8 +54,8 @@ fn detach(
     )
 }
 
-/// Plans to detach the volume. A volume that is not published at the node, or does not exist, is answered as
-/// unpublished.
+/// Plans ControllerUnpublishVolume. If the volume does not exist or is not published to the node, the answer
+/// is the same as for a volume that is unpublished.
 impl Planned for Unpublish {
     ghost planned = { λ config s r. unpublish s r };
 

@@ -1,4 +1,4 @@
-//! The CHECK of meta, `k = 1`, read from its plan.
+//! Tests that the CHECK of `meta` is `k = 1`. The test is on the operations to which the CHECK was compiled.
 
 ghost use Rattle.std.specs.Prelude.{◌≡◌, ◌≢◌, ◌↔◌, IsTrue, IfSome, None, Some, ℕ, pos, [], ◌∷◌, slice_get};
 ghost use Rattle.sqlite.specs.Collation.TheVariants.{Binary as ByBytes};
@@ -14,7 +14,7 @@ use sqlite_sql::ops::{BinaryOp, CompareOp};
 use sqlite_value::keys::Collation;
 use sqlite_value::value::Value;
 
-// Returns the places of the two operands of the `=` at this place.
+// Returns the indices of the two operands if the operation at index `at` is `=`, otherwise `None`.
 fn sides_at(nodes: &[Op], at: usize) -> Option<(usize, usize)>
     ensures value { IfSome result (λ p. slice_get nodes.now at ≡ Some (Binary (Compare Eq ByBytes) p.0 p.1)) }
     ensures none { result ≡ None → (a b : ℕ)
@@ -63,7 +63,7 @@ fn only_root(roots: &[usize]) -> Option<usize>
     Some(*root)
 }
 
-/// Returns whether there is exactly one CHECK, and it is that the first column equals 1.
+/// Returns true if there is exactly one CHECK, and it says that the first column equals 1.
 pub(super) fn is_key_check(checks: &Terms) -> bool
     ensures { IsTrue result ↔ checks.now ≡ meta.checks }
 {

@@ -1,4 +1,4 @@
-//! Compares the parts of a schema with what they should be.
+//! Compares the parts of a table's schema with the expected parts.
 
 ghost use Rattle.std.specs.Prelude.{◌≡◌, ◌↔◌, [], ◌∷◌, IsTrue};
 ghost use Rattle.sqlite_value.specs.Keys.{plain};
@@ -21,7 +21,7 @@ pub(super) fn are_places(places: &[usize], wanted: &[usize]) -> bool
     places == wanted
 }
 
-/// Returns whether the index is the one that SQL makes for a UNIQUE or a PRIMARY KEY over these columns.
+/// Returns true if this is the index that SQL makes for a UNIQUE or a PRIMARY KEY over these columns.
 pub(super) fn is_index(index: &Index, name: &[u8], tree: u32, table: u32, columns: &[usize]) -> bool
     ensures true_only_if { IsTrue result → index.now ≡ unique_index name.now tree table columns.now }
     ensures true_if { index.now ≡ unique_index name.now tree table columns.now → IsTrue result }
@@ -46,7 +46,7 @@ pub(super) fn is_column(column: &Column, name: &[u8], kind: Kind, not_null: bool
         & (column.collation == Collation::Binary)
 }
 
-// Returns whether there is exactly one key, and it is over these columns.
+// Returns true if there is exactly one key, and the key is over these columns.
 fn is_one_key(uniques: &Items<Items<usize>>, places: &[usize]) -> bool
     ensures true_only_if { IsTrue result → uniques.now ≡ places.now ∷ [] }
     ensures true_if { uniques.now ≡ places.now ∷ [] → IsTrue result }
@@ -57,7 +57,7 @@ fn is_one_key(uniques: &Items<Items<usize>>, places: &[usize]) -> bool
     are_places(one.as_slice(), places)
 }
 
-// Returns whether there is exactly one index, and it is ascending in each of its columns.
+// Returns true if there is exactly one index, and it is ascending in each of its columns.
 fn is_one_ascending(orders: &Items<Order>) -> bool
     ensures true_only_if { IsTrue result → orders.now ≡ plain ∷ [] }
     ensures true_if { orders.now ≡ plain ∷ [] → IsTrue result }
@@ -68,7 +68,7 @@ fn is_one_ascending(orders: &Items<Order>) -> bool
     one.digits == 0
 }
 
-/// Returns whether the table has this primary key, this one other key, and no CHECK.
+/// Returns true if the table has this primary key, one other key, which is `unique`, and no CHECK.
 pub(super) fn has_keys(table: &Table, primary: &[usize], unique: &[usize]) -> bool
     ensures true_only_if { IsTrue result → HasKeys primary.now unique.now table.now }
     ensures true_if { HasKeys primary.now unique.now table.now → IsTrue result }
@@ -86,7 +86,7 @@ fn is_no_stamp(stamps: &Stamps) -> bool
     stamps.places.is_empty() & stamps.terms.roots.is_empty() & stamps.formats.is_empty()
 }
 
-/// Returns whether the table has this name and tree, and no reference, no computed default and no counter.
+/// Returns true if the table has this name and tree, and no reference, no computed default and no counter.
 pub(super) fn is_bare(table: &Table, name: &[u8], tree: u32) -> bool
     ensures true_only_if { IsTrue result → IsBare name.now tree table.now }
     ensures true_if { IsBare name.now tree table.now → IsTrue result }

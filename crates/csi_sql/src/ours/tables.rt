@@ -1,4 +1,4 @@
-//! Compares each of the three tables with what it should be.
+//! Compares the schema of each of the three tables with the expected schema.
 
 ghost use Rattle.std.specs.Prelude.{◌≡◌, IsTrue};
 ghost use Rattle.csi_sql.specs.Tables.{attachments, meta, volumes};

@@ -1,4 +1,4 @@
-//! The statements that change attachments.
+//! The statements that add and delete rows of attachments.
 
 ghost use Rattle.std.specs.Prelude.{◌≡◌, ◌<◌, ◌^◌};
 ghost use Rattle.csi_sql.specs.Transactions.{RunsOver};
@@ -56,7 +56,7 @@ pub fn delete_attachment<S: Alter>(tx: &mut Transaction<'_, S>, volume: u64, nod
     .and(Ok(()))
 }
 
-/// Takes away all attachments of a volume, whose number is below 2^63.
+/// Deletes the rows of all attachments of the volume with this number (below 2^63).
 pub fn delete_attachments<S: Alter>(tx: &mut Transaction<'_, S>, volume: u64) -> Changed
     requires { volume < 2 ^ 63 }
     ensures same_reference { tx.new.conn.ghost_name ≡ tx.old.conn.ghost_name }

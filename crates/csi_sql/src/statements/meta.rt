@@ -1,4 +1,4 @@
-//! The statements that read and change the row of meta.
+//! The statements that read and change the row of `meta`.
 
 ghost use Rattle.std.specs.Prelude.{◌≡◌, ◌<◌, ◌^◌};
 ghost use Rattle.csi_sql.specs.Transactions.{RunsOver};
@@ -27,11 +27,11 @@ pub fn update_format<S: Alter>(tx: &mut Transaction<'_, S>) -> Changed
     ensures same_reference { tx.new.conn.ghost_name ≡ tx.old.conn.ghost_name }
     ensures runs { RunsOver S.Store tx.old.conn.now tx.new.conn.now schema SetsFormat RefusesFormat result }
 {
-    // The statement has no parameter: a parameter would need a promise of the numbers that it can be.
+    // The text has no parameter, since a parameter would need a proof of the numbers that it can have.
     tx.execute("UPDATE meta SET format_no = 2", &[]).and(Ok(()))
 }
 
-/// Reads the number that the next volume gets, as a row of one cell.
+/// Reads the number that the next volume gets, as a row with one column.
 pub(crate) fn select_next<S: Alter>(tx: &mut Transaction<'_, S>) -> Result<Row, Error>
     ensures same_reference { tx.new.conn.ghost_name ≡ tx.old.conn.ghost_name }
     ensures selects { Selects S.Store tx.old.conn.now tx.new.conn.now IsNext HasNoNext result }

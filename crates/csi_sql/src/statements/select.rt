@@ -1,7 +1,7 @@
 //! The SELECTs of rows of volumes and of attachments.
 //!
-//! All seven are arms of one function: one clause of its contract says what each of them shows, so that the
-//! text of a query is matched with its meaning once.
+//! The seven SELECTs are arms of one function. One clause of this function's contract says which rows each
+//! SELECT shows. So the text of each query is compared with its meaning in one place.
 
 ghost use Rattle.std.specs.Prelude.{◌≡◌};
 ghost use Rattle.csi_sql.specs.Refusing.{NothingRefuses};
@@ -23,11 +23,13 @@ pub(crate) enum Select<'a> {
     Named(&'a str),
     /// The size in bytes of each volume of this pool, in rising order of the volumes' numbers.
     Sizes(&'a str),
-    /// The number of each volume that is attached at this node, in rising order.
+    /// The numbers of the volumes that are attached at this node, in rising order.
     Attached(&'a str),
-    /// The volumes with a number greater than the first argument, at most as many as the second argument.
+    /// The first volumes with a number greater than the first argument, in rising order of their numbers. The
+    /// second argument is the greatest number of volumes.
     Page(u64, u32),
-    /// The number and the node of each attachment with a number above the first argument, up to the second.
+    /// The number and the node of each attachment whose number is greater than the first argument and not
+    /// greater than the second.
     Places(u64, u64),
 }
 
@@ -50,7 +52,7 @@ fn text_of(read: &Select<'_>) -> &'static str
     }
 }
 
-/// Runs a SELECT and returns its rows, in order.
+/// Runs a SELECT and returns its rows, in the order of the query.
 pub(crate) fn select_rows<S: Alter>(
     tx: &mut Transaction<'_, S>,
     read: &Select<'_>,

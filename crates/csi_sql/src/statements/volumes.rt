@@ -1,4 +1,4 @@
-//! The statements that change volumes.
+//! The statements that add, change and delete rows of volumes.
 
 ghost use Rattle.std.specs.Prelude.{◌≡◌, ◌<◌, ◌^◌};
 ghost use Rattle.csi_sql.specs.Transactions.{RunsOver};
@@ -15,14 +15,14 @@ use crate::values::integer;
 use sqlite::types::ValueRef;
 use sqlite::{Alter, Transaction};
 
-/// The row of a volume that is to be added.
+/// The row of a volume that an INSERT adds.
 #[derive(Clone, Copy)]
 pub struct VolumeRow<'a> {
-    /// The number of the volume, below 2^63. No other volume has this number.
+    /// The number of the volume, below 2^63. A number that another volume has is refused.
     pub number: u64,
-    /// The name of the volume. No other volume has this name.
+    /// The name of the volume. A name that another volume has is refused.
     pub name: &'a str,
-    /// The size in bytes, below 2^63.
+    /// The size of the volume in bytes, below 2^63.
     pub bytes: u64,
     /// The name of the pool that the volume takes its bytes from.
     pub pool: &'a str,
@@ -32,7 +32,7 @@ pub struct VolumeRow<'a> {
     pub params: &'a [u8],
 }
 
-/// Adds the row of a volume. A number or a name that already exists is refused.
+/// Adds the row of a volume. A number or a name that another row has is refused.
 pub fn insert_volume<S: Alter>(tx: &mut Transaction<'_, S>, row: &VolumeRow<'_>) -> Changed
     requires number { row.now.number < 2 ^ 63 }
     requires bytes { row.now.bytes < 2 ^ 63 }

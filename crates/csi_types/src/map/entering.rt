@@ -1,8 +1,8 @@
-//! Inserting an entry into a map.
+//! Inserts an entry into a map.
 //!
-//! A map is a list and a tree. The keys of the list rise, and all keys of the tree are above them. So entries
-//! that come in the order of their keys, as they mostly do, need no tree, and an entry moves at most once,
-//! from the list to the tree.
+//! A map is a list and a tree. The keys in the list rise, and each key in the tree is greater than all keys
+//! in the list. So a map needs no tree if its entries are inserted in the order of their keys, as they mostly
+//! are. An entry moves at most once, from the list to the tree.
 
 ghost use Rattle.std.specs.Prelude.{◌≡◌, ◌<◌, ◌+◌, ◌++◌, ◌∷◌, [], IsFalse, IsTrue, OnErr, OnOk, length};
 ghost use Rattle.std.specs.FinMap.{put};
@@ -14,7 +14,8 @@ use crate::text::Text;
 use std::alloc::AllocError;
 use std::collections::BTreeMap;
 
-/// Sets the value under `key`, replacing any earlier one. If memory is refused, the entries are unchanged.
+/// Sets the value under `key`. An earlier value under this key is replaced. If memory is refused, the entries
+/// are unchanged.
 pub(super) fn enter(
     listed: &mut Vec<(Text, Text)>,
     tree: &mut BTreeMap<Text, Text>,
@@ -35,7 +36,7 @@ pub(super) fn enter(
     Ok(())
 }
 
-// Whether a key is above all keys of a list.
+// Returns true if a key is above all keys of a list.
 fn is_beyond(key: &Text, listed: &[(Text, Text)]) -> bool
     requires { IsRising listed.now }
     ensures beyond { IsTrue result → AreBelow key.now listed.now }
@@ -47,7 +48,8 @@ fn is_beyond(key: &Text, listed: &[(Text, Text)]) -> bool
     }
 }
 
-// Appends an entry. An empty list reserves room for one entry only, since most maps have one.
+// Appends an entry to the list. An empty list reserves room for one entry only, since most maps have one
+// entry.
 fn append(listed: &mut Vec<(Text, Text)>, key: Text, value: Text) -> Result<(), AllocError>
     ensures ok { OnOk result (listed.new.items ≡ listed.old.items ++ (key, value) ∷ []) }
     ensures err { OnErr result (listed.new.items ≡ listed.old.items) }
@@ -59,7 +61,8 @@ fn append(listed: &mut Vec<(Text, Text)>, key: Text, value: Text) -> Result<(), 
     Ok(())
 }
 
-// Moves the entries whose keys are not below `key` to the tree. If memory is refused, some may have moved.
+// Moves the entries whose keys are not below `key` from the list to the tree. If memory is refused, some of
+// these entries may have moved.
 fn move_from(
     key: &Text,
     listed: &mut Vec<(Text, Text)>,
@@ -91,7 +94,7 @@ fn move_last(
     match tree.insert(key, value) {
         Ok(_) => Ok(()),
         Err(refused) => {
-            // The list still has the room for the entry that was popped.
+            // The list still has the room of the entry that was popped, so `push` cannot fail.
             let Ok(()) = listed.push(refused.value) else {
                 unreachable!()
             };

@@ -1,4 +1,4 @@
-//! Iterating over the entries of a map.
+//! Iterates over the entries of a map.
 
 ghost use Rattle.std.specs.Prelude.{◌≡◌, ◌++◌, ◌&&◌, length};
 ghost use Rattle.std.specs.Iterator.{at_most};
@@ -12,8 +12,8 @@ use std::collections::btree_map;
 use std::marker::Model;
 use std::slice;
 
-/// An iterator over the entries of a map, in byte order of their keys. Contracts see the entries not yet
-/// returned.
+/// An iterator over the entries of a map, in byte order of their keys. Contracts see the iterator as the list
+/// of the entries that it has not returned yet.
 #[derive(Drop)]
 pub struct MapEntries<'a> {
     pub(super) listed: slice::Iter<'a, (Text, Text)>,
@@ -44,7 +44,7 @@ impl<'a> Iterator for MapEntries<'a> {
     }
 }
 
-/// Whether the entries that the iterators have left are equal, key by key and value by value.
+/// Returns true if the remaining entries of two iterators are equal, key by key and value by value.
 pub(super) fn are_same(one: MapEntries<'_>, other: MapEntries<'_>) -> bool
     ensures { result ≡ pointwise (λ p q. same_text p.0 q.0 && same_text p.1 q.1) one.entry other.entry }
 {

@@ -1,4 +1,4 @@
-//! The segments of a topology in the order of their folded keys.
+//! Sorts the segments of a topology by their keys, with ASCII letters in lower case.
 
 ghost use Rattle.std.specs.Prelude.{◌≡◌, IsPermutation, IsSorted, length, map};
 ghost use Rattle.std.specs.FinMap.{entries, len};
@@ -11,15 +11,16 @@ use crate::map::Map;
 use crate::text::Text;
 use std::cmp::Ordering;
 
-/// The most segments that a map of 4,096 bytes can have: one with an empty key, 128 with a key of 1 byte and
-/// 1,984 with a key of 2 bytes, all with empty values.
+/// The greatest number of segments of a map of 4,096 bytes. A map has the most segments if all values are
+/// empty and the keys are as short as possible: 1 key of 0 bytes, 128 keys of 1 byte and 1,984 keys of 2
+/// bytes.
 pub(crate) const MOST_SEGMENTS: usize = 2_113;
 
-/// A segment of a topology. Segments are compared by their keys alone, without regard to the case of ASCII
-/// letters.
+/// A segment of a topology. Segments are ordered by their keys with ASCII letters in lower case, and their
+/// values do not matter.
 #[derive(Clone, Copy)]
 pub(crate) struct Segment<'m> {
-    /// The key, in the case in which the topology has it.
+    /// The key, as it is in the topology.
     pub key: &'m Text,
     /// The value that the topology has under this key.
     pub value: &'m Text,

@@ -1,12 +1,13 @@
-//! The parts of a volume, as people read them.
+//! Makes the row of a volume in a listing for people: its capabilities, parameters and nodes as words.
 
 use command_line::{MODE_NAMES, or_dash, put_next, put_word, size_text, word};
 use csi_keeper::{CapKey, Kind, Volume};
+use csi_rules::ID_PREFIX;
 use csi_types::{Items, Map, Text};
 use std::alloc::{AllocError, Global};
 
-/// The name of the access mode with this number (CSI specification, 'CreateVolume'); `UNKNOWN` for any other
-/// number.
+/// Returns the name of the access mode with this number (CSI specification, 'CreateVolume'), or `UNKNOWN` for
+/// any other number.
 pub(crate) fn mode_name(mode: u8) -> &'static str {
     match MODE_NAMES.get(usize::from(mode)) {
         Some(name) => name,
@@ -14,7 +15,7 @@ pub(crate) fn mode_name(mode: u8) -> &'static str {
     }
 }
 
-// A capability in words.
+// Writes a capability in words.
 fn capability(alloc: Global, key: &CapKey) -> Result<String, AllocError> {
     let mode = mode_name(key.mode);
     match &key.kind {
@@ -55,7 +56,7 @@ fn words(alloc: Global, texts: &Items<Text>) -> Result<String, AllocError> {
     or_dash(cell)
 }
 
-/// The headings of the columns of volumes.
+/// The headings of the columns in a table of volumes.
 pub(crate) const HEADINGS: [&str; 8] = [
     "ID",
     "NAME",
@@ -67,14 +68,14 @@ pub(crate) const HEADINGS: [&str; 8] = [
     "NODES",
 ];
 
-/// The row of a volume.
+/// Makes the row of a volume in the table.
 pub(crate) fn row(
     alloc: Global,
     volume: &Volume,
     nodes: &Items<Text>,
 ) -> Result<Vec<String>, AllocError> {
     let mut row = Vec::new(alloc);
-    row.push(format!(in alloc; "vol-{}", volume.number)?)?;
+    row.push(format!(in alloc; "{ID_PREFIX}{}", volume.number)?)?;
     row.push(word(alloc, volume.name.as_str())?)?;
     row.push(word(alloc, volume.pool.as_str())?)?;
     row.push(size_text(alloc, volume.bytes)?)?;

@@ -1,10 +1,11 @@
-//! A listing for programs: one document of JSON, with a volume a line.
+//! Writes a listing for programs: one JSON document, with a line for each volume.
 
 use super::cells::mode_name;
 use super::output::Output;
 use super::sums::{Counted, Sums};
 use super::{TablesCopy, Visit};
 use csi_keeper::{CapKey, Kind, Volume};
+use csi_rules::ID_PREFIX;
 use csi_types::{Items, Map as TextMap, Text};
 use csid_settings::{Chosen, Failure};
 use serde_json::{Map, Value, json};
@@ -49,7 +50,7 @@ fn texts(alloc: Global, texts: &Items<Text>) -> Json {
 }
 
 fn volume_value(alloc: Global, volume: &Volume, nodes: &Items<Text>) -> Json {
-    let id = format!(in alloc; "vol-{}", volume.number)?;
+    let id = format!(in alloc; "{ID_PREFIX}{}", volume.number)?;
     json!(in alloc; {
         "id": id.as_str(),
         "name": volume.name.as_str(),
@@ -80,7 +81,7 @@ fn sum_values(alloc: Global, key: &'static str, sums: &Sums) -> Json {
     Ok(Value::Array(array))
 }
 
-// The volumes, each on a line of its own.
+// Writes each volume on a line of its own.
 #[derive(Drop)]
 struct Lines<'a> {
     alloc: Global,
@@ -99,7 +100,8 @@ impl Visit for Lines<'_> {
     }
 }
 
-/// Writes an object of three lists: `volumes`, and the sums of the `pools` and the `nodes` that have volumes.
+/// Writes a JSON object of three lists: `volumes`, and the sums of the `pools` and the `nodes` that have
+/// volumes.
 pub(crate) fn write<S: Alter + Drop>(
     rt: &HostRuntime,
     tables: &mut TablesCopy<'_, S>,

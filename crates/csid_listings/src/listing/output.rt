@@ -1,16 +1,18 @@
-//! Standard output, for lists.
+//! Writes lists on standard output.
 
 use csid_settings::Failure;
-use std::io::Write;
+use std::io::{ErrorKind, Write};
 
 // The number of bytes that are collected before they are written.
 const FULL: usize = 1 << 16;
 
-/// Standard output, written in large pieces.
+/// Standard output, written in large pieces. Once its reader has gone, further texts are dropped without a
+/// failure.
 #[derive(Drop)]
 pub(crate) struct Output<'a> {
     rt: &'a HostRuntime,
     text: String,
+    is_gone: bool,
 }
 
 impl<'a> Output<'a> {
@@ -18,10 +20,11 @@ impl<'a> Output<'a> {
         Output {
             rt,
             text: String::new(rt.alloc()),
+            is_gone: false,
         }
     }
 
-    /// Writes the collected bytes.
+    /// Writes the bytes that were collected.
     pub(crate) fn flush(&mut self) -> Result<(), Failure> {
         let mut out = self.rt.stdout();
         let written = out
@@ -30,12 +33,19 @@ impl<'a> Output<'a> {
         self.text.clear();
         match written {
             Ok(()) => Ok(()),
+            Err(error) if error.kind() == ErrorKind::BrokenPipe => {
+                self.is_gone = true;
+                Ok(())
+            }
             Err(_) => Err(Failure::WriteFailed("standard output")),
         }
     }
 
-    /// Appends a text, and writes the buffer if it has 64 KiB or more.
+    /// Appends a text, and writes the collected bytes if there are 64 KiB or more.
     pub(crate) fn push(&mut self, text: &str) -> Result<(), Failure> {
+        if self.is_gone {
+            return Ok(());
+        }
         self.text.push_str(text)?;
         if self.text.len() < FULL {
             return Ok(());

@@ -1,11 +1,11 @@
-//! How many volumes pools and nodes have, and how many bytes these are.
+//! Sums the volumes of pools and nodes: their number and their bytes.
 
 use csi_keeper::Volume;
 use csi_types::{Items, Text};
 use std::alloc::{AllocError, Global};
 use std::collections::BTreeMap;
 
-/// A count of volumes, and the sum of their bytes, each up to the greatest `u64`.
+/// A number of volumes, and the sum of their bytes. Both are at most 2^64 - 1.
 #[derive(Clone, Copy)]
 pub(crate) struct Sum {
     pub(crate) volumes: u64,
@@ -21,10 +21,10 @@ impl Sum {
     }
 }
 
-/// The sums of pools or of nodes, by their names.
+/// The sums of pools or of nodes, by name or id.
 pub(crate) type Sums = BTreeMap<Text, Sum>;
 
-// Adds a volume with this size to the sum with this name.
+// Adds a volume with this size to the sum of the pool or node with this name.
 fn count(alloc: Global, sums: &mut Sums, name: &Text, bytes: u64) -> Result<(), AllocError> {
     let sum = match sums.get(name) {
         Some(sum) => *sum,
@@ -52,7 +52,7 @@ impl Counted {
         }
     }
 
-    /// Counts a volume: in its pool once, and at each of its nodes.
+    /// Counts a volume once in its pool, and once at each of its nodes.
     pub(crate) fn add(
         &mut self,
         alloc: Global,

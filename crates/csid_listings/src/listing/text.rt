@@ -1,4 +1,4 @@
-//! A listing for people: columns under headings.
+//! Writes a listing for people, in columns under headings.
 
 use super::cells::{HEADINGS, row};
 use super::output::Output;
@@ -27,7 +27,7 @@ impl Visit for Rows {
     }
 }
 
-// The sums of pools or of nodes, after an empty line.
+// Writes the sums of pools or of nodes, after an empty line.
 fn sums_text(alloc: Global, heading: &'static str, sums: &Sums) -> Result<String, AllocError> {
     let mut table = Table::with_headings(alloc, &[heading, "VOLUMES", "SIZE"])?;
     for (name, sum) in sums {
@@ -41,7 +41,7 @@ fn sums_text(alloc: Global, heading: &'static str, sums: &Sums) -> Result<String
     format!(in alloc; "\n{text}")
 }
 
-/// Writes a row for each volume, and then a row for each pool and each node that has volumes.
+/// Writes a row for each volume, then a row for each pool and each node that has volumes.
 pub(crate) fn write<S: Alter + Drop>(
     rt: &HostRuntime,
     tables: &mut TablesCopy<'_, S>,

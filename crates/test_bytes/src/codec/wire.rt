@@ -1,4 +1,4 @@
-//! Rows about fields in the wire format.
+//! Answers rows about fields in the wire format of Protocol Buffers.
 
 ghost use Rattle.std.specs.Prelude.{◌≤◌, ◌<◌, ◌^◌};
 
@@ -11,11 +11,11 @@ use pbwire::{
 use std::alloc::Global;
 use test_kit::{RowFault, bytes_of, bytes_text, number_of, put_part};
 
-// Field numbers are less than this.
+// Field numbers are below this number.
 const NUMBERS: u32 = 1 << 29;
 
-/// Returns the fields of a message in order, the fault that ends them, if any, and the byte at which the
-/// reader stops.
+/// Returns the fields of a message in order, the fault after them if there is one, and the offset at which
+/// the reader stops.
 pub(crate) fn fields_answer(alloc: Global, notation: &str) -> Result<String, RowFault> {
     let bytes = bytes_of(alloc, notation)?;
     let mut fields = Fields::new(&bytes);
@@ -30,7 +30,7 @@ pub(crate) fn fields_answer(alloc: Global, notation: &str) -> Result<String, Row
             None => break,
         }
     }
-    // A reader that has stopped gives no further field.
+    // A reader that has stopped returns no more fields.
     let at = fields.at();
     let end = match fields.next_field() {
         None => format!(in alloc; "ends at byte {at}")?,
@@ -59,7 +59,8 @@ fn field_text(alloc: Global, field: &Field<'_>) -> Result<String, RowFault> {
     })
 }
 
-/// Returns for how many nonempty proper prefixes of a field the reader finds the field at byte 0 cut short.
+/// Cuts a field to each of its proper prefixes that are not empty. Returns how often the reader finds that
+/// the field at byte 0 is cut short.
 pub(crate) fn prefixes_answer(alloc: Global, notation: &str) -> Result<String, RowFault> {
     let bytes = bytes_of(alloc, notation)?;
     let count = cut_short_of(&bytes);

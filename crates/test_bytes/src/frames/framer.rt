@@ -1,11 +1,11 @@
-//! One type for the two framers, of calls and of replies.
+//! One type for the framers of calls and of replies.
 
-use super::parts::{Kind, call_fault_text, call_text, reply_fault_text, reply_text};
+use super::parts::{FrameKind, call_fault_text, call_text, reply_fault_text, reply_text};
 use frames_core::{Framer, ReplyFramer};
 use std::alloc::{AllocError, Global};
 use test_kit::RowFault;
 
-// 2^40, more bytes than any row has.
+// 2^40, which is more than the number of bytes of any row.
 const MANY: u64 = 1_099_511_627_776;
 
 /// A framer of calls or of replies.
@@ -14,7 +14,7 @@ pub(crate) enum AnyFramer {
     Replies(ReplyFramer),
 }
 
-// Written out, so that what drops one has one call for it, and its proof no branch for each of its parts.
+// Written by hand and not derived: the proof of code that drops a framer then has one call for the drop.
 impl Drop for AnyFramer {
     fn drop(self) {
         match self {
@@ -25,18 +25,19 @@ impl Drop for AnyFramer {
 }
 
 impl AnyFramer {
-    pub(crate) fn new(alloc: Global, kind: Kind) -> Result<AnyFramer, AllocError> {
+    pub(crate) fn new(alloc: Global, kind: FrameKind) -> Result<AnyFramer, AllocError> {
         Ok(match kind {
-            Kind::Calls => AnyFramer::Calls(Framer::new(alloc)?),
-            Kind::Replies => AnyFramer::Replies(ReplyFramer::new(alloc)?),
+            FrameKind::Calls => AnyFramer::Calls(Framer::new(alloc)?),
+            FrameKind::Replies => AnyFramer::Replies(ReplyFramer::new(alloc)?),
         })
     }
 
-    /// Feeds a piece of a stream to the framer. Returns how many bytes of the piece the framer took.
+    /// Feeds a piece of a stream to the framer. Returns the number of bytes of the piece that the framer
+    /// took.
     ///
     /// # Errors
     ///
-    /// `NotRow` if the piece has 2^40 bytes or more, or the framer took that many before.
+    /// `NotRow` if the piece has 2^40 bytes or more, or if the framer has already taken 2^40 bytes or more.
     pub(crate) fn feed(&mut self, piece: &[u8]) -> Result<usize, RowFault> {
         if piece.len() as u64 >= MANY {
             return Err(RowFault::NotRow);
@@ -48,7 +49,7 @@ impl AnyFramer {
         }
     }
 
-    /// Returns how many bytes of the stream the framer has taken.
+    /// Returns the number of bytes of the stream that the framer has taken.
     pub(crate) fn taken(&self) -> u64 {
         match self {
             AnyFramer::Calls(framer) => framer.taken(),
@@ -70,7 +71,8 @@ impl AnyFramer {
         }
     }
 
-    /// Returns the complete call or reply in the framer as a text; `None` if the framer has no complete one.
+    /// Returns the complete call or reply in the framer as a text, or `None` if the framer has no complete
+    /// frame.
     pub(crate) fn frame_text(&self, alloc: Global) -> Result<Option<String>, RowFault> {
         match self {
             AnyFramer::Calls(framer) => match framer.frame() {
@@ -84,7 +86,7 @@ impl AnyFramer {
         }
     }
 
-    /// Returns the text of the fault that the framer found; `None` if it found no fault.
+    /// Returns the text of the fault that the framer found, or `None` if it found no fault.
     pub(crate) fn fault_text(&self, alloc: Global) -> Result<Option<String>, RowFault> {
         match self {
             AnyFramer::Calls(framer) => match framer.fault() {

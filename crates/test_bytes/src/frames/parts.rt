@@ -1,4 +1,4 @@
-//! Rows about frames that are whole in memory.
+//! Answers rows about frames that are complete in memory.
 
 use crate::shown::displayed;
 use envelope::{Call, FrameFault, Reply, ReplyFault, Taken, TakenReply, take_frame, take_reply};
@@ -6,14 +6,14 @@ use std::alloc::Global;
 use std::str;
 use test_kit::{RowFault, bytes_of, bytes_text, put_part};
 
-/// Whether the frames of a stream are calls or replies.
+/// The kind of the frames in a stream: calls or replies.
 #[derive(Clone, Copy)]
-pub(crate) enum Kind {
+pub(crate) enum FrameKind {
     Calls,
     Replies,
 }
 
-// What bytes begin with, as a text: nothing, a fault, or a frame and its size in bytes.
+// The beginning of bytes, as a text: nothing, a fault, or a frame and its size in bytes.
 #[derive(Drop)]
 enum Part {
     Nothing,
@@ -21,8 +21,13 @@ enum Part {
     Frame(String, usize),
 }
 
-/// Returns the frames in the row's bytes, in order, then how the bytes end: a fault, or `nothing`.
-pub(crate) fn parts_answer(alloc: Global, kind: Kind, notation: &str) -> Result<String, RowFault> {
+/// Returns the frames in the row's bytes, in order. After them comes the fault, or `nothing` if all bytes are
+/// frames.
+pub(crate) fn parts_answer(
+    alloc: Global,
+    kind: FrameKind,
+    notation: &str,
+) -> Result<String, RowFault> {
     let bytes = bytes_of(alloc, notation)?;
     let mut out = String::new(alloc);
     let mut at: usize = 0;
@@ -46,11 +51,11 @@ pub(crate) fn parts_answer(alloc: Global, kind: Kind, notation: &str) -> Result<
     Ok(out)
 }
 
-/// Returns for how many nonempty proper prefixes of a frame the fault is the early end of the input, at the
-/// length of the prefix.
+/// Cuts a frame to each of its proper prefixes that are not empty. Returns the number of prefixes that have
+/// this fault: the input ends early, at the length of the prefix.
 pub(crate) fn prefixes_answer(
     alloc: Global,
-    kind: Kind,
+    kind: FrameKind,
     notation: &str,
 ) -> Result<String, RowFault> {
     let bytes = bytes_of(alloc, notation)?;
@@ -64,7 +69,7 @@ pub(crate) fn prefixes_answer(
     Ok(format!(in alloc; "{count} of {}", bytes.len().saturating_sub(1))?)
 }
 
-fn ends_early(alloc: Global, kind: Kind, prefix: &[u8]) -> Result<bool, RowFault> {
+fn ends_early(alloc: Global, kind: FrameKind, prefix: &[u8]) -> Result<bool, RowFault> {
     let early = format!(in alloc; "end of input at byte {}", prefix.len())?;
     match part_of(alloc, kind, prefix, 0)? {
         Part::Fault(text) => Ok(text == early),
@@ -72,11 +77,11 @@ fn ends_early(alloc: Global, kind: Kind, prefix: &[u8]) -> Result<bool, RowFault
     }
 }
 
-// The first frame or fault of bytes that begin at this place of a stream.
-fn part_of(alloc: Global, kind: Kind, bytes: &[u8], from: u64) -> Result<Part, RowFault> {
+// Returns the first frame or fault of bytes. The bytes begin at the offset `from` of a stream.
+fn part_of(alloc: Global, kind: FrameKind, bytes: &[u8], from: u64) -> Result<Part, RowFault> {
     match kind {
-        Kind::Calls => call_part(alloc, bytes, from),
-        Kind::Replies => reply_part(alloc, bytes, from),
+        FrameKind::Calls => call_part(alloc, bytes, from),
+        FrameKind::Replies => reply_part(alloc, bytes, from),
     }
 }
 
@@ -96,8 +101,8 @@ fn reply_part(alloc: Global, bytes: &[u8], from: u64) -> Result<Part, RowFault> 
     })
 }
 
-/// Returns the text of a fault in a stream of calls. The fault was found in bytes that begin at byte `from`
-/// of the stream; the text has the fault's place in the stream.
+/// Returns the text of a fault in a stream of calls. The fault was found in bytes that begin at the offset
+/// `from` of the stream. The text has the place of the fault in the stream.
 pub(crate) fn call_fault_text(
     alloc: Global,
     fault: FrameFault,
@@ -110,8 +115,8 @@ pub(crate) fn call_fault_text(
     displayed(alloc, &placed)
 }
 
-/// Returns the text of a fault in a stream of replies. The fault was found in bytes that begin at byte `from`
-/// of the stream; the text has the fault's place in the stream.
+/// Returns the text of a fault in a stream of replies. The fault was found in bytes that begin at the offset
+/// `from` of the stream. The text has the place of the fault in the stream.
 pub(crate) fn reply_fault_text(
     alloc: Global,
     fault: ReplyFault,
@@ -124,15 +129,15 @@ pub(crate) fn reply_fault_text(
     displayed(alloc, &placed)
 }
 
-/// Returns a call as a text: its path, then the bytes of its message.
+/// Returns a call as a text: its path, and the bytes of its message.
 pub(crate) fn call_text(alloc: Global, call: Call<'_>) -> Result<String, RowFault> {
     let path = text_of(call.path)?;
     let message = bytes_text(alloc, call.message)?;
     Ok(format!(in alloc; "{path} {message}")?)
 }
 
-/// Returns a reply as a text: its status, its text (`-` if empty, `long` above 64 bytes), then the bytes of
-/// its body.
+/// Returns a reply as a text: its status, its text, and the bytes of its body. An empty text is `-`, and a
+/// text of more than 64 bytes is `long`.
 pub(crate) fn reply_text(alloc: Global, reply: Reply<'_>) -> Result<String, RowFault> {
     let text = match reply.text.len() {
         0 => "-",

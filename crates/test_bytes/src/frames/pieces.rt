@@ -1,15 +1,19 @@
-//! Rows about a stream of calls or of replies that comes in pieces.
+//! Answers rows about a stream of calls or of replies that comes in pieces.
 
 use super::framer::AnyFramer;
-use super::parts::Kind;
+use super::parts::FrameKind;
 use crate::shown::displayed;
 use crate::words::first_word;
 use std::alloc::Global;
 use test_kit::{RowFault, bytes_of, number_of, put_part};
 
-/// Returns the frames of a stream that comes in pieces of the row's size, then how the stream ends: a fault,
-/// or `nothing`.
-pub(crate) fn pieces_answer(alloc: Global, kind: Kind, rest: &str) -> Result<String, RowFault> {
+/// Returns the frames of a stream that comes in pieces. The row gives the size of the pieces. After the
+/// frames comes the fault, or `nothing` if the stream has no fault.
+pub(crate) fn pieces_answer(
+    alloc: Global,
+    kind: FrameKind,
+    rest: &str,
+) -> Result<String, RowFault> {
     let (size, notation) = first_word(rest)?;
     let size: usize = number_of(size)?;
     if size == 0 {
@@ -26,7 +30,7 @@ pub(crate) fn pieces_answer(alloc: Global, kind: Kind, rest: &str) -> Result<Str
     Ok(out)
 }
 
-// Feeds a piece to the framer. Appends to `out` each frame that the piece completes, and goes on to the next.
+// Feeds a piece to the framer, and appends to `out` each frame that the piece completes.
 fn feed_all(
     alloc: Global,
     framer: &mut AnyFramer,
@@ -48,7 +52,7 @@ fn feed_all(
     Ok(())
 }
 
-// The state of a framer at the end of the input.
+// Appends the state of a framer at the end of the input.
 fn put_end(alloc: Global, framer: &AnyFramer, out: &mut String) -> Result<(), RowFault> {
     match framer.fault_text(alloc)? {
         Some(text) => put_part(out, &text),
@@ -56,10 +60,14 @@ fn put_end(alloc: Global, framer: &AnyFramer, out: &mut String) -> Result<(), Ro
     }
 }
 
-/// Returns the results of steps of a framer. A step is `next`, `end`, or bytes to feed; the result of feeding
-/// is how many of the bytes the framer took. After the last step come the number of bytes taken in all, and
-/// the complete frame, the fault or `nothing`.
-pub(crate) fn steps_answer(alloc: Global, kind: Kind, steps: &str) -> Result<String, RowFault> {
+/// Returns the results of the steps of a framer. A step is `next`, `end`, or bytes to feed. The result of
+/// feeding is the number of bytes that the framer took. After the last step come the number of bytes taken in
+/// all, and the complete frame, the fault or `nothing`.
+pub(crate) fn steps_answer(
+    alloc: Global,
+    kind: FrameKind,
+    steps: &str,
+) -> Result<String, RowFault> {
     let mut framer = AnyFramer::new(alloc, kind)?;
     let mut out = String::new(alloc);
     for step in steps.split(' ') {

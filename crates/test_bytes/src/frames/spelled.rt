@@ -1,4 +1,4 @@
-//! Rows about parts of replies, texts and limits.
+//! Answers rows about the heads of replies, refusals, texts of faults, and limits.
 
 use super::parts::text_of;
 use crate::shown::displayed;
@@ -10,13 +10,13 @@ use envelope::{
 use std::alloc::Global;
 use test_kit::{RowFault, bytes_text, number_of, put_part};
 
-/// Returns the bytes of a reply that come before a body of this length.
+/// Returns the head of a reply with status 0 for a body of this length.
 pub(crate) fn head_answer(alloc: Global, length: &str) -> Result<String, RowFault> {
     let length: u32 = number_of(length)?;
     bytes_text(alloc, reply_head(length).bytes())
 }
 
-/// Returns the reply that refuses a call with this status, which is not 0, and the text `unknown method`.
+/// Returns the reply that refuses a call with the text `unknown method` and this status, which must not be 0.
 pub(crate) fn refusal_answer(alloc: Global, status: &str) -> Result<String, RowFault> {
     let status: u8 = number_of(status)?;
     if status == 0 {
@@ -25,8 +25,8 @@ pub(crate) fn refusal_answer(alloc: Global, status: &str) -> Result<String, RowF
     bytes_text(alloc, refusal_frame(status, b"unknown method").bytes())
 }
 
-/// Returns the text that a server sends for each kind of fault at byte `at`. After a text that differs from
-/// the fault's `Display` comes `displayed otherwise`.
+/// Returns the text that a server sends for each kind of fault at byte `at`. If a text differs from the
+/// fault's `Display`, `displayed otherwise` follows the text.
 pub(crate) fn texts_answer(alloc: Global, at: &str) -> Result<String, RowFault> {
     let at: u64 = number_of(at)?;
     let mut out = String::new(alloc);
@@ -46,8 +46,11 @@ pub(crate) fn texts_answer(alloc: Global, at: &str) -> Result<String, RowFault> 
     Ok(out)
 }
 
-/// Returns the limits of the envelope in bytes: for the path, message, head and frame of a call; for the
-/// text, body, head without a text, head with a text, and frame of a reply; and for the text of a refusal.
+/// Returns the limits of the envelope in bytes, in this order:
+///
+/// - of a call: path, message, head and frame
+/// - of a reply: text, body, head without a text, head with a text, and frame
+/// - of a refusal: text
 pub(crate) fn limits_answer(alloc: Global) -> Result<String, RowFault> {
     let mut out = String::new(alloc);
     for limit in [

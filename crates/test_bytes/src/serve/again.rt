@@ -1,4 +1,4 @@
-//! A call whose reply was lost, sent again.
+//! Sends a call again if its reply was lost.
 
 use super::compared::{End, Served, Trial, Wanted, compare};
 use super::fakes::{GREATEST_PIECE, Pieces, Takes, Trouble};
@@ -8,12 +8,12 @@ use csi_memory::MemKeeper;
 use test_kit::RowFault;
 
 impl Trials<'_> {
-    /// Loses the reply to each call in turn: the first run does the call, but fails to write its reply. A
-    /// second run over the same keeper serves the call and all later calls again.
+    /// Loses the reply to each call in turn. The first run executes the call, but fails to write its reply.
+    /// The second run over the same keeper serves this call and all later calls.
     ///
     /// # Errors
     ///
-    /// If a second run has another outcome than the wanted one, or memory is refused.
+    /// If a second run has another outcome than the wanted outcome, or memory is refused.
     pub(crate) fn again(&self) -> Result<(), RowFault> {
         for call in 0..self.stream.calls.len() {
             self.again_from(call)?;
@@ -39,7 +39,7 @@ impl Trials<'_> {
         compare(self.alloc, trial, &served, &wanted)
     }
 
-    // Loses the reply to a call, and serves it again with those after it.
+    // Loses the reply to a call, and then serves this call and all later calls.
     fn serve_twice<K: Keeper>(&self, call: usize, keeper: &mut K) -> Result<Served, RowFault> {
         let lost = Takes::troubled(usize::MAX, Trouble::Write, call as u64);
         self.server

@@ -1,10 +1,10 @@
-//! The outcome of a run, and the wanted outcome.
+//! Compares the outcome of a run with the wanted outcome.
 
 use csi_server::RunEnd;
 use std::alloc::{AllocError, Global};
 use test_kit::RowFault;
 
-/// How a run should end.
+/// The way in which a run should end.
 #[derive(Clone, Copy)]
 pub(crate) enum End<'a> {
     Done,
@@ -14,20 +14,20 @@ pub(crate) enum End<'a> {
     WriteFailed,
 }
 
-/// The outcome that a run should have.
+/// The wanted outcome of a run: how it ends, the bytes that it writes, and the State after it.
 #[derive(Clone, Copy)]
 pub(crate) struct Wanted<'a> {
     pub(crate) end: End<'a>,
-    /// The whole replies, which the run writes first.
+    /// The complete replies, which the run writes first.
     pub(crate) replies: &'a [u8],
-    /// The bytes that the run writes after the whole replies: the answer to a fault, the beginning of a
-    /// reply, or none.
+    /// The bytes that the run writes after the complete replies: the answer to a fault, the beginning of a
+    /// reply, or no bytes.
     pub(crate) last: &'a [u8],
     /// The State of the keeper after the run, as a text.
     pub(crate) kept: &'a str,
 }
 
-/// The outcome that a run had.
+/// The outcome of a run: how it ended, the bytes that it wrote, and the State after it.
 #[derive(Drop)]
 pub(crate) struct Served {
     pub(crate) end: RunEnd,
@@ -36,8 +36,8 @@ pub(crate) struct Served {
     pub(crate) kept: String,
 }
 
-/// The name of a trial in a report: words, and the number of the byte, call or write at which the trial
-/// differs from the others.
+/// The name of a trial in a report: words, and the number of the byte, call or write at which this trial
+/// differs from the other trials.
 #[derive(Clone, Copy)]
 pub(crate) struct Trial {
     pub(crate) name: &'static str,
@@ -62,7 +62,7 @@ pub(crate) fn compare(
     Err(RowFault::Differs(reported(alloc, trial, came)?))
 }
 
-// The outcome of a trial, as a text.
+// Describes the outcome of a trial as a text.
 fn reported(alloc: Global, trial: Trial, came: &Served) -> Result<String, AllocError> {
     let written = hex::encode(alloc, &came.written)?;
     format!(in alloc;

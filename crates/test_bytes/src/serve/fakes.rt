@@ -1,26 +1,26 @@
-//! A reader and a writer that move few bytes at a time, and fail at a set call.
+//! A reader and a writer that move few bytes at a time, and fail at a chosen call.
 
 use std::alloc::Global;
 use std::cell::Cell;
 use std::io;
 use std::io::{ErrorKind, Read, Write};
 
-/// The size in bytes of the buffer of each read of the server, and so of the greatest piece.
+/// The size in bytes of the buffer of each read of the server, which is the greatest size of a piece.
 pub(crate) const GREATEST_PIECE: usize = 4096;
 
 /// The state that the reader and the writer of one run share.
 #[derive(Drop)]
 pub(crate) struct Watch {
-    // Whether all written bytes are flushed.
+    // True if all written bytes are flushed.
     is_flushed: Cell<bool>,
-    // Whether a fault is known, or writing failed.
+    // True if a fault is known, or writing failed.
     is_over: Cell<bool>,
-    // Whether a read was made after a fault was known or writing failed.
+    // True if a read was made after a fault was known or writing failed.
     has_read_on: Cell<bool>,
 }
 
 impl Watch {
-    /// The state before anything is read or written.
+    /// Makes the state before any read or write.
     pub(crate) fn new() -> Watch {
         Watch {
             is_flushed: Cell::new(true),
@@ -29,28 +29,28 @@ impl Watch {
         }
     }
 
-    /// Whether a read was made after a fault was known, or after writing failed.
+    /// Returns true if the server has read after a fault was known, or after a write failed.
     pub(crate) fn has_read_on(&self) -> bool {
         self.has_read_on.get()
     }
 }
 
-/// The bytes of a stream, and how a reader gives them: in pieces of a set size, with at most one failing
+/// The bytes of a stream, and how a reader returns them: in pieces of a fixed size, with at most one failing
 /// read.
 #[derive(Clone, Copy)]
 pub(crate) struct Pieces<'a> {
     bytes: &'a [u8],
-    // The sizes of the first piece and of the others.
+    // The greatest sizes of the first piece and of the other pieces.
     first: usize,
     size: usize,
-    // The number of reads before a read fails; `None` if no read fails.
+    // The number of reads before the failing read, or `None` if no read fails.
     fails_after: Option<u64>,
-    // The bytes to give until a fault is known; `None` if the stream has no fault.
+    // The number of bytes until a fault is known, or `None` if the stream has no fault.
     until_fault: Option<usize>,
 }
 
 impl<'a> Pieces<'a> {
-    /// Pieces of at most `size` bytes. No read fails.
+    /// Makes pieces of at most `size` bytes. No read fails.
     pub(crate) fn new(bytes: &'a [u8], size: usize) -> Pieces<'a> {
         Pieces {
             bytes,
@@ -61,8 +61,8 @@ impl<'a> Pieces<'a> {
         }
     }
 
-    /// A first piece of at most `first` bytes, then pieces of at most [`GREATEST_PIECE`] bytes. No read
-    /// fails.
+    /// Makes a first piece of at most `first` bytes, and further pieces of at most [`GREATEST_PIECE`] bytes.
+    /// No read fails.
     pub(crate) fn cut_at(bytes: &'a [u8], first: usize) -> Pieces<'a> {
         Pieces {
             bytes,
@@ -73,7 +73,7 @@ impl<'a> Pieces<'a> {
         }
     }
 
-    /// Pieces of one byte. The read after the first `pieces` of them fails.
+    /// Makes pieces of one byte. The read after the first `pieces` pieces fails.
     pub(crate) fn failing(bytes: &'a [u8], pieces: u64) -> Pieces<'a> {
         Pieces {
             bytes,
@@ -84,8 +84,8 @@ impl<'a> Pieces<'a> {
         }
     }
 
-    /// Returns the same pieces for a stream whose first `known_at` bytes show a fault; `None` if the stream
-    /// has no fault.
+    /// Returns the same pieces, for a stream whose fault is known after `known_at` bytes. `None` means a
+    /// stream without a fault.
     pub(crate) fn with_fault_at(self, known_at: Option<usize>) -> Pieces<'a> {
         Pieces {
             until_fault: known_at,
@@ -94,8 +94,8 @@ impl<'a> Pieces<'a> {
     }
 }
 
-/// A reader that gives pieces to a server. A read fails if its buffer does not have [`GREATEST_PIECE`] bytes,
-/// or if the server has written bytes that it has not flushed.
+/// A reader that returns pieces to a server. A read fails if its buffer does not have [`GREATEST_PIECE`]
+/// bytes, or if the server has written bytes and not flushed them.
 #[derive(Drop)]
 pub(crate) struct Reader<'a> {
     pieces: Pieces<'a>,
@@ -103,12 +103,13 @@ pub(crate) struct Reader<'a> {
 }
 
 impl<'a> Reader<'a> {
-    /// Makes a reader that gives these pieces, and reports reads after the end of a run to `watch`.
+    /// Makes a reader that returns these pieces. If the server reads after the end of a run, the reader notes
+    /// this in `watch`.
     pub(crate) fn new(pieces: Pieces<'a>, watch: &'a Watch) -> Reader<'a> {
         Reader { pieces, watch }
     }
 
-    // Counts `given` bytes. If they make a fault known, notes that the run is over.
+    // Counts the bytes that were returned. If they make a fault known, notes that the run is over.
     fn count(&mut self, given: usize) {
         if let Some(left) = self.pieces.until_fault {
             let left = left.saturating_sub(given);
@@ -119,7 +120,7 @@ impl<'a> Reader<'a> {
         }
     }
 
-    // Whether this read fails. Counts down the reads before the failing one.
+    // Returns true if this read fails. Counts down the reads before the failing read.
     fn is_failing(&mut self) -> bool {
         match self.pieces.fails_after {
             Some(0) => {
@@ -161,20 +162,21 @@ impl Read for Reader<'_> {
     }
 }
 
-/// What goes wrong at one call of a writer.
+/// The trouble that a writer has at one call.
 #[derive(Clone, Copy, PartialEq, Eq)]
 pub(crate) enum Trouble {
     /// Nothing goes wrong.
     Never,
-    /// A write fails.
+    /// A write fails with an error.
     Write,
     /// A write takes no bytes, and returns 0.
     Nothing,
-    /// A flush fails.
+    /// A flush fails with an error.
     Flush,
 }
 
-/// The behaviour of a writer: the most bytes that it takes in one write, and the trouble that it has once.
+/// The behaviour of a writer: the greatest number of bytes that it takes in one write, and the trouble that
+/// it has once.
 #[derive(Clone, Copy)]
 pub(crate) struct Takes {
     size: usize,
@@ -183,13 +185,13 @@ pub(crate) struct Takes {
 }
 
 impl Takes {
-    /// A writer that takes all bytes of each write, without trouble.
+    /// Makes the behaviour of a writer that takes all bytes of each write, without trouble.
     pub(crate) fn all() -> Takes {
         Takes::troubled(usize::MAX, Trouble::Never, 0)
     }
 
-    /// A writer that takes at most `size` bytes of each write, and has the trouble once: after `after`
-    /// flushes for [`Trouble::Flush`], after `after` writes for the others.
+    /// Makes the behaviour of a writer that takes at most `size` bytes of each write and has the trouble
+    /// once. [`Trouble::Flush`] comes after `after` flushes, and other troubles come after `after` writes.
     pub(crate) fn troubled(size: usize, trouble: Trouble, after: u64) -> Takes {
         Takes {
             size,
@@ -199,7 +201,7 @@ impl Takes {
     }
 }
 
-/// A writer that keeps in memory the bytes that it takes.
+/// A writer that stores its bytes in memory.
 #[derive(Drop)]
 pub(crate) struct Writer<'a> {
     takes: Takes,
@@ -208,7 +210,7 @@ pub(crate) struct Writer<'a> {
 }
 
 impl<'a> Writer<'a> {
-    /// Makes a writer that has taken no bytes yet.
+    /// Makes a writer that has taken no bytes.
     pub(crate) fn new(alloc: Global, takes: Takes, watch: &'a Watch) -> Writer<'a> {
         Writer {
             takes,
@@ -222,7 +224,7 @@ impl<'a> Writer<'a> {
         self.bytes
     }
 
-    // Whether the trouble comes at this call. If not, counts down the calls before the trouble.
+    // Returns true if the trouble comes at this call. If not, counts down the calls before the trouble.
     fn is_due(&mut self, trouble: Trouble) -> bool {
         if self.takes.trouble != trouble {
             return false;

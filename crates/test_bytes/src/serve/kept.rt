@@ -1,14 +1,14 @@
-//! The State of a keeper, as a text.
+//! Writes the State of a keeper as a text.
 
 use csi_keeper::{Keeper, StoreFault};
 use std::alloc::Global;
 use std::fmt::Write;
 use test_kit::RowFault;
 
-// More volumes than any row makes.
+// A number above the number of volumes of any row.
 const MOST_VOLUMES: u32 = 100_000;
 
-/// Returns the State of a keeper as a text: the number that the next volume gets, then each volume with all
+/// Returns the State of a keeper as a text: the number that the next volume gets, and each volume with all
 /// its fields and its attachments.
 pub(crate) fn kept<K: Keeper>(alloc: Global, keeper: &mut K) -> Result<String, RowFault> {
     let next = keeper.next_number().map_err(refused)?;
@@ -22,7 +22,7 @@ pub(crate) fn kept<K: Keeper>(alloc: Global, keeper: &mut K) -> Result<String, R
     Ok(text)
 }
 
-// The keepers of these trials refuse a read only if memory is refused.
+// Converts a refused read. The keepers of these trials refuse a read only if memory is refused.
 fn refused(_fault: StoreFault) -> RowFault {
     RowFault::NoMemory
 }

@@ -1,4 +1,4 @@
-//! The two servers that a stream is tried with.
+//! The two servers with which a stream is tried.
 
 use super::compared::Served;
 use super::fakes::{Pieces, Reader, Takes, Watch, Writer};
@@ -10,15 +10,16 @@ use csi_server::{RunEnd, serve, serve_identity};
 use std::alloc::Global;
 use test_kit::RowFault;
 
-// The most bytes of a name and of a version.
+// The greatest length of a name and of a version, in bytes.
 const MAX_NAME_BYTES: usize = 128;
 
-/// The service that serves the stream of a trial.
+/// The service that answers the calls of a stream: the volume machine, or only the calls that identify a
+/// plugin.
 #[derive(Clone, Copy)]
 pub(crate) enum Server<'a> {
     /// Serves the calls of all methods, under this configuration.
     Volumes(&'a Config),
-    /// Serves `Probe` and `GetPluginInfo` alone, with this name and version of the plugin.
+    /// Serves only `Probe` and `GetPluginInfo`, with this name and version of the plugin.
     Identity { name: &'a str, version: &'a str },
 }
 
@@ -27,8 +28,9 @@ impl Server<'_> {
     ///
     /// # Errors
     ///
-    /// If the name or the version is longer than 128 bytes, the server reads after a fault was known or
-    /// writing failed, or memory is refused before or after the run.
+    /// - the name or the version is longer than 128 bytes
+    /// - the server reads after a fault or a failed write
+    /// - memory is refused outside the run
     pub(crate) fn run(
         self,
         alloc: Global,
@@ -43,8 +45,9 @@ impl Server<'_> {
     ///
     /// # Errors
     ///
-    /// If the name or the version is longer than 128 bytes, the server reads after a fault was known or
-    /// writing failed, or memory is refused after the run.
+    /// - the name or the version is longer than 128 bytes
+    /// - the server reads after a fault or a failed write
+    /// - memory is refused after the run
     pub(crate) fn run_on<K: Keeper>(
         self,
         alloc: Global,
@@ -64,8 +67,8 @@ impl Server<'_> {
     ///
     /// # Errors
     ///
-    /// If the name or the version is longer than 128 bytes, or the server reads after a fault was known or
-    /// writing failed.
+    /// - the name or the version is longer than 128 bytes
+    /// - the server reads after a fault or a failed write
     pub(crate) fn run_over<K: Keeper>(
         self,
         alloc: Global,

@@ -1,4 +1,4 @@
-//! Trials of a stream over a store that refuses a call.
+//! Tries a stream over a store that refuses a call.
 
 use super::compared::{Served, Trial, Wanted, compare};
 use super::fakes::{GREATEST_PIECE, Pieces, Takes};
@@ -10,16 +10,16 @@ use csi_server::RunEnd;
 use std::alloc::AllocError;
 use test_kit::RowFault;
 
-// The status 13, and a text of 13 bytes.
+// The frame of the refusal: the status 13, and a text of 13 bytes.
 pub(super) const STORE_REFUSED: &[u8] = b"\x0d\x00\x0dstore refused\x00\x00\x00\x00\x00";
 
 const STORE_DOWN: &[u8] = b"\x0d\x00\x0dstore is down\x00\x00\x00\x00\x00";
 
-/// More calls of the store than the stream of any row makes.
+/// A number of calls that no stream makes to its store: each stream makes fewer.
 pub(super) const MOST_CALLS: u64 = 1_000_000;
 
-/// A run over a store that refuses a call: how the run ended, the bytes that the server wrote, and how many
-/// refusals the keeper counted.
+/// A run over a store that refuses a call: how the run ended, the bytes that the server wrote, and the number
+/// of refusals that the keeper counted.
 #[derive(Drop)]
 pub(super) struct Run {
     end: RunEnd,
@@ -27,8 +27,8 @@ pub(super) struct Run {
     refusals: u64,
 }
 
-/// The outcome of a run over a store that refuses a call, how many refusals the keeper counted, and whether
-/// the store is down after the run.
+/// A run over a store that refuses a call: its outcome, the number of refusals that the keeper counted, and
+/// whether the store is down at the end.
 #[derive(Drop)]
 pub(super) struct Refused {
     pub(super) served: Served,
@@ -45,12 +45,12 @@ struct Replies {
 }
 
 impl Trials<'_> {
-    /// Refuses each call of the store in turn, one in each run, until a run has no refused call. Each call of
-    /// the stream that asks the store must be refused in at least one run, and no other call may be refused.
+    /// Refuses each call of the store in turn, one in each run, until no call is refused. Each call of the
+    /// stream that asks the store must be refused in at least one run. No other call may be refused.
     ///
     /// # Errors
     ///
-    /// If a run has another outcome than the wanted one, or memory is refused.
+    /// If a run has another outcome than the wanted outcome, or memory is refused.
     pub(crate) fn store(&self) -> Result<(), RowFault> {
         let mut seen = 0;
         for at in 0..MOST_CALLS {
@@ -63,8 +63,8 @@ impl Trials<'_> {
         Err(RowFault::Refused("the store was asked too often"))
     }
 
-    // The index after `call`, the call refused last. Fails if `call` is neither the call refused before it
-    // nor the next one that asks the store.
+    // Returns the index after `call`, which is the call that was refused last. Fails if `call` is neither the
+    // call that was refused before nor the next call that asks the store.
     fn seen_with(&self, seen: usize, call: usize) -> Result<usize, RowFault> {
         let next = call.saturating_add(1);
         if next == seen || self.first_asking(seen) == Some(call) {
@@ -73,15 +73,15 @@ impl Trials<'_> {
         Err(RowFault::Refused("another call than the next was refused"))
     }
 
-    // The first call, from this one on, that asks the store.
+    // Returns the first call, from this index on, that asks the store.
     fn first_asking(&self, from: usize) -> Option<usize> {
         let calls = self.stream.calls.get(from..)?;
         let place = calls.iter().position(|call| call.asks)?;
         from.checked_add(place)
     }
 
-    // Refuses a call of the store. Returns the call of the stream that made it, or `None` if there are fewer
-    // calls.
+    // Refuses a call of the store. Returns the call of the stream that made it, or `None` if the stream makes
+    // fewer calls of the store.
     fn refuse(&self, at: u64) -> Result<Option<usize>, RowFault> {
         let trial = Trial {
             name: "refused call of the store",
@@ -90,12 +90,12 @@ impl Trials<'_> {
         self.judge(trial, &self.serve_refusing(at)?)
     }
 
-    /// Compares the outcome of a run with the wanted outcome. Returns the call of the stream whose read or
-    /// change was refused, or `None` if no call was refused.
+    /// Compares the outcome of a run with the wanted outcome. Returns the index of the call whose read or
+    /// change was refused, counted from 0 in the stream, or `None` if no call was refused.
     ///
     /// # Errors
     ///
-    /// If the outcome or the number of refusals differs from the wanted one, or memory is refused.
+    /// If the outcome or the number of refusals is not the wanted one, or memory is refused.
     pub(super) fn judge(&self, trial: Trial, came: &Refused) -> Result<Option<usize>, RowFault> {
         if came.refusals == 0 {
             compare(self.alloc, trial, &came.served, &self.whole())?;
@@ -131,7 +131,7 @@ impl Trials<'_> {
     ///
     /// # Errors
     ///
-    /// If the server reads after a fault was known or writing failed.
+    /// If the server reads after a fault or a failed write.
     pub(super) fn run_over<K: Keeper>(&self, keeper: &mut K) -> Result<Run, RowFault> {
         let pieces = self.whole_pieces();
         let (end, written) = self
@@ -144,8 +144,7 @@ impl Trials<'_> {
         })
     }
 
-    /// Returns the outcome of a run, with the State that `keeper` has after the run, and whether the store is
-    /// down.
+    /// Returns the outcome of a run, with the State of `keeper` after the run and whether the store is down.
     ///
     /// # Errors
     ///
@@ -169,8 +168,8 @@ impl Trials<'_> {
         })
     }
 
-    /// Returns how many calls, from the first on, have their usual replies in `written`, the bytes that the
-    /// server wrote.
+    /// Returns how many calls of the stream, counted from the first, were answered as without a refusal.
+    /// These are the calls whose replies `written` begins with; it has the bytes that the server wrote.
     pub(super) fn answered(&self, written: &[u8]) -> usize {
         let mut answered = 0;
         for call in 0..self.stream.calls.len() {
@@ -181,7 +180,8 @@ impl Trials<'_> {
         answered
     }
 
-    // The wanted outcome if the change of a call is refused: later calls that ask the store find it down.
+    // Returns the wanted outcome if the change of a call is refused: the store is down for each later call
+    // that asks it.
     fn after_change(&self, call: usize) -> Result<Replies, AllocError> {
         let mut bytes = self.refused_after(call)?;
         let refused = self.put_refused(call.saturating_add(1), STORE_DOWN, &mut bytes)?;
@@ -192,8 +192,9 @@ impl Trials<'_> {
         })
     }
 
-    /// Appends to `bytes` the replies to the calls from index `behind` on: `refusal` for each call that asks
-    /// the store, the usual reply for any other call. Returns the number of refusals.
+    /// Appends to `bytes` the replies to the calls from the index `behind` to the end of the stream. A call
+    /// that asks the store gets the reply `refusal`, and each other call gets its reply in the stream.
+    /// Returns the number of refusals.
     pub(super) fn put_refused(
         &self,
         behind: usize,
@@ -212,14 +213,15 @@ impl Trials<'_> {
         Ok(refused)
     }
 
-    // The replies to the first calls, and the refusal of the next.
+    // Returns the usual replies to the first calls, followed by the refusal of the next call.
     fn refused_after(&self, calls: usize) -> Result<Vec<u8>, AllocError> {
         let mut bytes = Vec::from_slice(self.alloc, self.stream.replies(calls))?;
         bytes.extend_from_slice(STORE_REFUSED)?;
         Ok(bytes)
     }
 
-    // The wanted outcome if a read of a call is refused: the rest is as if the call had not come.
+    // Returns the wanted outcome if a read of a call is refused: the other calls are answered as if this call
+    // had not come.
     fn after_read(&self, call: usize) -> Result<Replies, RowFault> {
         let input = self.input_without(call)?;
         let pieces = Pieces::new(&input, GREATEST_PIECE);
@@ -234,7 +236,7 @@ impl Trials<'_> {
         })
     }
 
-    // All frames except the frame of a call.
+    // Returns all frames of the input except the frame of a call.
     fn input_without(&self, call: usize) -> Result<Vec<u8>, AllocError> {
         let (start, _) = self.stream.ends_of(call);
         let (end, _) = self.stream.ends_of(call.saturating_add(1));

@@ -2,17 +2,17 @@
 
 use std::alloc::{AllocError, Global};
 
-/// A call of a stream: the byte at which its frame ends in the input, and the byte at which its reply ends in
-/// the output.
+/// A call of a stream: the offset at which its frame ends in the input, and the offset at which its reply
+/// ends in the output.
 #[derive(Clone, Copy)]
 pub(crate) struct Call {
     pub(crate) frame_end: usize,
     pub(crate) reply_end: usize,
-    /// Whether the server asks the store to answer the call.
+    /// True if the server asks the store to answer the call.
     pub(crate) asks: bool,
 }
 
-/// The fault that ends a stream.
+/// The fault that ends a stream, and the reply that the server must write for it.
 #[derive(Drop)]
 pub(crate) struct StreamFault {
     pub(crate) text: String,
@@ -22,7 +22,7 @@ pub(crate) struct StreamFault {
     pub(crate) frame: Vec<u8>,
 }
 
-/// A stream of calls, perhaps with a fault after them. `input` has the bytes to serve, and `output` the
+/// A stream of calls, with or without a fault after them. `input` has the bytes to serve, and `output` the
 /// wanted replies to the calls.
 pub(crate) struct Stream {
     pub(crate) input: Vec<u8>,
@@ -70,7 +70,7 @@ impl Stream {
         Ok(())
     }
 
-    /// Appends bytes to the input, the last of which shows a fault with this text.
+    /// Appends bytes to the input. The last of these bytes shows a fault with this text.
     pub(crate) fn put_fault(
         &mut self,
         alloc: Global,
@@ -88,7 +88,7 @@ impl Stream {
         Ok(())
     }
 
-    /// Returns how many calls have their whole frame within the first `bytes` bytes of the input.
+    /// Returns the number of calls whose complete frame is in the first `bytes` bytes of the input.
     pub(crate) fn calls_within(&self, bytes: usize) -> usize {
         self.calls
             .iter()
@@ -96,8 +96,8 @@ impl Stream {
             .count()
     }
 
-    /// Returns where the first `calls` calls end: the byte after their frames in the input, and the byte
-    /// after their replies in the output.
+    /// Returns the offsets at which the first `calls` calls end: after their frames in the input, and after
+    /// their replies in the output.
     pub(crate) fn ends_of(&self, calls: usize) -> (usize, usize) {
         let last = calls.checked_sub(1).and_then(|last| self.calls.get(last));
         match last {
@@ -112,8 +112,8 @@ impl Stream {
         self.output.get(..end).unwrap_or(&[])
     }
 
-    /// Returns the reply to the call with this index, counted from 0. At the index after the last call,
-    /// returns the frame that answers the fault, which is empty if the stream has no fault.
+    /// Returns the reply to the call with this index, counted from 0. For the index after the last call,
+    /// returns the frame that answers the fault, or no bytes if the stream has no fault.
     pub(crate) fn reply(&self, call: usize) -> &[u8] {
         if call == self.calls.len() {
             return self.fault_frame();
@@ -123,7 +123,7 @@ impl Stream {
         self.output.get(start..end).unwrap_or(&[])
     }
 
-    /// Returns the frame that answers the fault; empty if the stream has no fault.
+    /// Returns the frame that answers the fault, or no bytes if the stream has no fault.
     pub(crate) fn fault_frame(&self) -> &[u8] {
         match &self.fault {
             Some(fault) => fault.frame.as_slice(),
@@ -131,8 +131,8 @@ impl Stream {
         }
     }
 
-    /// Returns the number of bytes of the input after which the fault is known; `None` if the stream has no
-    /// fault.
+    /// Returns the number of bytes of the input after which the fault is known, or `None` if the stream has
+    /// no fault.
     pub(crate) fn fault_known_at(&self) -> Option<usize> {
         match &self.fault {
             Some(fault) => Some(fault.known_at),
@@ -140,7 +140,8 @@ impl Stream {
         }
     }
 
-    /// Whether the first `bytes` bytes of the input make the fault known; false if the stream has no fault.
+    /// Returns true if the first `bytes` bytes of the input make the fault known. Returns false if the stream
+    /// has no fault.
     pub(crate) fn is_faulty_within(&self, bytes: usize) -> bool {
         match self.fault_known_at() {
             Some(known_at) => known_at <= bytes,

@@ -1,4 +1,5 @@
-//! Trials of a stream over a memory and a log, one of which refuses a call.
+//! Tries a stream over two stores: a keeper in memory, and a change store, the log. In each run one of the
+//! two refuses a call.
 
 use super::compared::{Trial, Wanted, compare};
 use super::store::{MOST_CALLS, Refused, STORE_REFUSED};
@@ -9,12 +10,12 @@ use csi_through::{KeeperChanges, Through};
 use test_kit::RowFault;
 
 impl Trials<'_> {
-    /// Refuses each change of the log in turn, one in each run, until a run has no refused change. The memory
+    /// Refuses each change of the log in turn, one in each run, until no change is refused. The memory
     /// answers the reads.
     ///
     /// # Errors
     ///
-    /// If a run has another outcome than the wanted one, or memory is refused.
+    /// If a run has another outcome than the wanted outcome, or memory is refused.
     pub(crate) fn change_store(&self) -> Result<(), RowFault> {
         for at in 0..MOST_CALLS {
             let trial = Trial {
@@ -46,7 +47,7 @@ impl Trials<'_> {
     ///
     /// # Errors
     ///
-    /// If a run has another outcome than the wanted one, or memory is refused.
+    /// If a run has another outcome than the wanted outcome, or memory is refused.
     pub(crate) fn memory(&self) -> Result<(), RowFault> {
         for at in 0..MOST_CALLS {
             if !self.refuse_in_memory(at)? {
@@ -56,7 +57,7 @@ impl Trials<'_> {
         Err(RowFault::Refused("the memory was asked too often"))
     }
 
-    // Refuses a call of the memory. Returns false if there are fewer calls.
+    // Refuses a call of the memory. Returns false if the stream makes fewer calls of the memory.
     fn refuse_in_memory(&self, at: u64) -> Result<bool, RowFault> {
         let memory = FusedMem::new(self.alloc, 1, at)?;
         let change_store = MemKeeper::new(self.alloc, 1)?;
@@ -81,8 +82,8 @@ impl Trials<'_> {
         Ok(true)
     }
 
-    // The memory lacks a change that was answered with OK: each later call that asks it is refused, and
-    // changes nothing.
+    // Checks the outcome if the memory lacks a change that was answered with OK: each later call that asks
+    // the memory is refused and changes nothing.
     fn judge_after(&self, trial: Trial, came: &Refused) -> Result<(), RowFault> {
         let calls = self.answered(&came.served.written);
         let mut replies = Vec::from_slice(self.alloc, self.stream.replies(calls))?;

@@ -1,4 +1,5 @@
-//! Trials of a stream: pieces, ends, reads and writes.
+//! Serves one stream many times: in pieces of other sizes, with an early end, and with reads, writes, stores
+//! and memory that fail. Each run is one trial.
 
 use super::compared::{End, Trial, Wanted, compare};
 use super::fakes::{GREATEST_PIECE, Pieces, Takes, Trouble};
@@ -7,11 +8,12 @@ use super::stream::{Stream, refusal};
 use std::alloc::Global;
 use test_kit::RowFault;
 
-// The most bytes of a stream that is tried in all ways. A longer stream is tried only in pieces.
+// The greatest length in bytes of a stream that is tried in all ways. A longer stream is tried only in
+// pieces.
 const LONGEST: usize = 4096;
 
-/// A stream, the service that serves it, and as texts the State before the first call and the State after
-/// each call, in order.
+/// A stream, the server that serves it, and the States that the server should have: before the first call,
+/// and after each call. Each State is a text.
 #[derive(Clone, Copy)]
 pub(crate) struct Trials<'a> {
     pub(crate) alloc: Global,
@@ -37,12 +39,12 @@ pub(crate) fn kept_after_each(
 }
 
 impl Trials<'_> {
-    /// Makes all trials of the stream, and returns a text that names them. A stream of more than 4096 bytes
-    /// is tried only in pieces.
+    /// Makes all trials of the stream, and returns a text that names them. If a stream has more than 4,096
+    /// bytes, only the trials with pieces are made.
     ///
     /// # Errors
     ///
-    /// If a trial has another outcome than the wanted one, or memory is refused.
+    /// If a trial has another outcome than the wanted outcome, or memory is refused.
     pub(crate) fn all(&self) -> Result<&'static str, RowFault> {
         self.pieces()?;
         if self.stream.input.len() > LONGEST {
@@ -67,7 +69,8 @@ impl Trials<'_> {
         }
     }
 
-    /// Returns the State after the first `calls` calls, as a text; empty if the stream has fewer calls.
+    /// Returns the State after the first `calls` calls as a text, or an empty text if the stream has fewer
+    /// calls.
     pub(crate) fn kept_after(&self, calls: usize) -> &str {
         match self.kept.get(calls) {
             Some(text) => text.as_str(),
@@ -75,7 +78,7 @@ impl Trials<'_> {
         }
     }
 
-    /// Returns the outcome that serving the whole stream should have.
+    /// Returns the wanted outcome of serving the whole stream.
     pub(crate) fn whole(&self) -> Wanted<'_> {
         let end = match &self.stream.fault {
             Some(fault) => End::StreamFault(fault.text.as_str()),
@@ -96,7 +99,7 @@ impl Trials<'_> {
         )
     }
 
-    // Serves the pieces, and compares the outcome with the wanted one.
+    // Serves the pieces, and compares the outcome with the wanted outcome.
     fn attempt(
         &self,
         trial: Trial,
@@ -121,7 +124,7 @@ impl Trials<'_> {
         Ok(())
     }
 
-    // Serves the stream in two parts, cut after each byte in turn.
+    // Serves the stream in two pieces, cut after each byte in turn.
     fn cuts(&self) -> Result<(), RowFault> {
         for at in 1..self.stream.input.len() {
             let pieces = Pieces::cut_at(self.stream.input.as_slice(), at);
@@ -141,7 +144,7 @@ impl Trials<'_> {
         Ok(())
     }
 
-    // The input ends after `at` bytes.
+    // Tries an input that ends after `at` bytes.
     fn end(&self, at: usize) -> Result<(), RowFault> {
         let (boundary, _) = self.stream.ends_of(self.stream.calls_within(at));
         if at == boundary {
@@ -152,7 +155,7 @@ impl Trials<'_> {
         self.ended(at, End::StreamFault(text.as_str()), frame.as_slice())
     }
 
-    // The input ends after `at` bytes. The run ends with `end`, unless the bytes show a fault.
+    // Tries an input that ends after `at` bytes. The wanted end is `end`, unless the bytes show a fault.
     fn ended<'w>(&'w self, at: usize, end: End<'w>, last: &'w [u8]) -> Result<(), RowFault> {
         let bytes = self.stream.input.get(..at).unwrap_or(&[]);
         let pieces = Pieces::new(bytes, GREATEST_PIECE);
@@ -164,7 +167,8 @@ impl Trials<'_> {
         self.attempt(trial, pieces, Takes::all(), &wanted)
     }
 
-    // The wanted outcome if only the first `bytes` bytes come: `end`, unless those bytes show a fault.
+    // Returns the wanted outcome if only the first `bytes` bytes come. The wanted end is `end`, unless these
+    // bytes show a fault.
     fn front<'w>(&'w self, bytes: usize, end: End<'w>, last: &'w [u8]) -> Wanted<'w> {
         if self.stream.is_faulty_within(bytes) {
             return self.whole();
@@ -178,7 +182,7 @@ impl Trials<'_> {
         }
     }
 
-    // Each read of a byte fails in turn, the read of the end included.
+    // Tries runs in which each read of a byte fails in turn, and the read of the end.
     fn reads(&self) -> Result<(), RowFault> {
         for at in 0..=self.stream.input.len() {
             let pieces = Pieces::failing(self.stream.input.as_slice(), at as u64);
@@ -192,7 +196,8 @@ impl Trials<'_> {
         Ok(())
     }
 
-    // Each write fails, or takes nothing, of one byte, of five, and of a whole reply.
+    // Tries runs in which each write fails or takes no bytes, for writes of one byte, of five bytes and of a
+    // whole reply.
     fn writes(&self) -> Result<(), RowFault> {
         for size in [1usize, 5, usize::MAX] {
             self.writes_of(size, Trouble::Write)?;
@@ -201,7 +206,8 @@ impl Trials<'_> {
         Ok(())
     }
 
-    // Each write of `size` bytes has this trouble in turn, and then no write has.
+    // Tries runs in which each write of `size` bytes has this trouble in turn, and a run in which no write
+    // has it.
     fn writes_of(&self, size: usize, trouble: Trouble) -> Result<(), RowFault> {
         let mut before = 0;
         for call in 0..=self.stream.calls.len() {
@@ -215,8 +221,8 @@ impl Trials<'_> {
         self.attempt(trial, self.whole_pieces(), takes, &self.whole())
     }
 
-    // Each write of a reply has this trouble in turn, after `before` earlier writes. Returns the number of
-    // writes after the reply.
+    // Tries runs in which each write of a reply has this trouble in turn, after `before` earlier writes.
+    // Returns the number of writes after the reply.
     fn writes_of_reply(
         &self,
         call: usize,
@@ -248,7 +254,8 @@ impl Trials<'_> {
         Ok(count)
     }
 
-    // The wanted outcome if the writing of a call's reply ends after `written` bytes: the call is done.
+    // Returns the wanted outcome if the writing of a call's reply ends after `written` bytes. The call is
+    // done.
     fn stopped(&self, call: usize, written: usize) -> Wanted<'_> {
         let done = call.saturating_add(1).min(self.stream.calls.len());
         let reply = self.stream.reply(call);
@@ -260,7 +267,7 @@ impl Trials<'_> {
         }
     }
 
-    // Each flush fails.
+    // Tries runs in which each flush fails in turn.
     fn flushes(&self) -> Result<(), RowFault> {
         for call in 0..=self.stream.calls.len() {
             let reply = self.stream.reply(call);

@@ -1,5 +1,5 @@
-//! Rows about configurations. Unless a row gives other values, the plugin is `x` in version 1, both sizes are
-//! 1 MiB, the only pool is `p` of 1 MiB without segments, and there are no nodes.
+//! Answers rows about configurations. Unless a row gives other values, the plugin is `x` in version 1, both
+//! sizes are 1 MiB, the only pool is `p` of 1 MiB without segments, and there are no nodes.
 
 use crate::shown::{displayed, in_rust};
 use csi_config::{Config, ConfigFault, Pool, Sizes};
@@ -9,8 +9,8 @@ use test_kit::{RowFault, map_of, nodes_of, number_at, plugin_of, pools_of};
 
 const MEBIBYTE: u64 = 1_048_576;
 
-/// Returns the text of the fault of a configuration, or `faultless`. `kind` names the part of the
-/// configuration that the words give: `plugin`, `sizes`, `pools`, `segments` or `nodes`.
+/// Returns the text of the fault of a configuration, or `faultless`. The words give one part of the
+/// configuration, which `kind` names: `plugin`, `sizes`, `pools`, `segments` or `nodes`.
 pub(crate) fn config_answer(alloc: Global, kind: &str, words: &[&str]) -> Result<String, RowFault> {
     match config_of(alloc, kind, words)? {
         Ok(_) => displayed(alloc, &"faultless"),
@@ -50,7 +50,7 @@ fn config_of(
     Ok(Config::new(plugin, sizes, pools, nodes))
 }
 
-// The pool `p` alone.
+// Makes a list of one pool, `p`.
 fn one_pool(alloc: Global, bytes: u64, segments: Map) -> Result<Vec<Pool>, RowFault> {
     let mut pools = Vec::new(alloc);
     pools.push(Pool {

@@ -1,4 +1,4 @@
-//! Rows about values.
+//! Answers rows about values, such as codes, reasons, names, texts, lists and maps.
 
 use crate::shown::{displayed, in_rust};
 use csi_types::{
@@ -10,7 +10,7 @@ use std::convert::AsStr;
 use std::fmt::Write;
 use test_kit::{RowFault, map_of, number_at, text_at, texts_of, word_at};
 
-// All reasons.
+// All reasons for refusals, in the order of their declaration.
 const REASONS: [Reason; 36] = [
     Reason::NameMissing,
     Reason::NameTooLong,
@@ -91,7 +91,8 @@ fn bytes_after<T: AsStr>(text: &T) -> usize {
     text.as_str().len()
 }
 
-/// Answers `text TEXT` with the text, at the right of a column of eight characters, and its length in bytes.
+/// Answers `text TEXT` with the text and its length in bytes. The text is at the right end of a column that
+/// is eight characters wide.
 pub(crate) fn text_answer(alloc: Global, words: &[&str]) -> Result<String, RowFault> {
     let text = text_at(alloc, words, 0)?;
     Ok(format!(in alloc; "[{text:>8}] of {} bytes", bytes_after(&text))?)
@@ -121,8 +122,9 @@ fn entries_reported(alloc: Global, map: &Map) -> Result<String, RowFault> {
     Ok(reported)
 }
 
-/// Answers `over KEY VALUE .. under KEY VALUE ..`: lays the first map over the second, and returns the
-/// entries of the result, their length in bytes, and whether the second map had each entry of the first.
+/// Answers `over KEY VALUE .. under KEY VALUE ..`: lays the first map over the second. The answer is the
+/// entries of the result, the length of the result in bytes, and whether the second map had each entry of the
+/// first.
 pub(crate) fn over_answer(alloc: Global, words: &[&str]) -> Result<String, RowFault> {
     let parts = words.iter().position(|word| *word == "under");
     let place = parts.ok_or(RowFault::NotRow)?;

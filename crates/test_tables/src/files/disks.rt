@@ -1,4 +1,4 @@
-//! A disk with troubles, over any disk.
+//! A disk with troubles, over any other disk.
 
 ghost use Rattle.std.specs.Prelude.{◌+◌, false};
 ghost use Rattle.sqlite_disk.specs.Tally.{both_counts};
@@ -6,28 +6,30 @@ ghost use Rattle.sqlite_disk.specs.Tally.{both_counts};
 use sqlite_disk::{Crash, Disk, Fuse, Memory, Tally, digest_of};
 use std::io::{self, ErrorKind};
 
-/// A lie of a disk: each read of the byte at offset `at` returns it with `bits` flipped.
+/// A wrong byte of a disk. Each read of the byte at offset `at` returns this byte with `bits` flipped.
 #[derive(Clone, Copy)]
 pub(crate) struct Lie {
     pub(crate) at: usize,
     pub(crate) bits: u8,
 }
 
-/// A disk that is full after a number of writes: each later write fails and changes nothing. With a [`Lie`],
-/// reads return a wrong byte: `read_checked` detects the wrong byte by its digest, and `read_at` does not.
+/// A disk that is full after a number of writes: each later write fails and changes nothing. If a [`Lie`] is
+/// given, reads return a wrong byte: `read_at` returns it undetected, and `read_checked` detects it by a
+/// digest.
 #[derive(Drop)]
 pub(crate) struct Faulty<D: Disk> {
     inner: D,
     writes_left: u64,
     refused: u64,
     lie: Option<Lie>,
-    // The number of reads that a digest found wrong, and the number of other reads that failed.
+    // The number of reads that a digest found wrong, and of other reads that failed.
     caught: u64,
     failed: u64,
 }
 
 impl<D: Disk> Faulty<D> {
-    /// Makes a disk over `inner` that is full after `writes` writes, and lies if `lie` is given.
+    /// Makes a disk over `inner` that is full after `writes` writes. If `lie` is given, reads return the
+    /// wrong byte that it describes.
     pub(crate) fn new(inner: D, writes: u64, lie: Option<Lie>) -> Faulty<D> {
         Faulty {
             inner,
@@ -40,7 +42,7 @@ impl<D: Disk> Faulty<D> {
     }
 }
 
-// Flips the bits of the lie's byte if the byte is in `buf`, which was read at offset `at`.
+// If the wrong byte is in `buf`, which was read at offset `at`, flips its bits.
 fn turn(lie: Option<Lie>, at: usize, buf: &mut [u8]) {
     let Some(Lie { at: place, bits }) = lie else {
         return;
@@ -141,17 +143,17 @@ impl<D: Crash> Crash for Faulty<D> {
     }
 }
 
-/// A disk over a file in memory that can stop, be full or lie. The sections are generic over this trait, so
-/// that their proofs do not look into the type of the disk.
+/// A disk over a file in memory, which can stop, be full or have a wrong byte. The sections are generic over
+/// this trait, so that their proofs do not look into the type of the disk.
 pub(crate) trait TestDisk: Crash + Drop {
-    /// Makes a disk over `file` that stops after `calls` calls, is full after `writes` writes, and lies if
-    /// `lie` is given.
+    /// Makes a disk over `file`. It stops after `calls` calls, and is full after `writes` writes. If `lie` is
+    /// given, reads return the wrong byte that it describes.
     fn over(file: Memory, calls: u64, writes: u64, lie: Option<Lie>) -> Self;
 
     /// Returns the file in memory that the disk writes to.
     fn memory(&self) -> &Memory;
 
-    /// Whether a write has failed because the disk was full.
+    /// Returns true if a write has failed because the disk was full.
     fn is_full(&self) -> bool;
 }
 

@@ -1,4 +1,4 @@
-//! Makes databases in files that do not contain one yet.
+//! Makes databases in files that contain no database yet.
 
 ghost use Rattle.std.specs.Prelude.{IfOk, IsTrue};
 ghost use Rattle.sqlite_disk.specs.Memory.{memory_is_usable};
@@ -11,11 +11,12 @@ use test_kit::RowFault;
 
 const SEED: u64 = 1;
 
-// The bytes of the shortest log with a change: the header, and a frame with a page of 512 bytes.
+// The length of the shortest log with a change, in bytes: the header of the log, and a frame with a page of
+// 512 bytes.
 const FRAME_BYTES: usize = 32 + 24 + 512;
 
-/// The number of pairs of files for each outcome: a database was made, the files were kept as they were, the
-/// files were refused as [`NotLaidOut::Emptied`] and are unchanged, or anything else.
+/// The number of pairs of files for each outcome: a database was made, the files were left unchanged, the
+/// files were refused as [`NotLaidOut::Emptied`] and are unchanged, or something else happened.
 #[derive(Clone, Copy)]
 pub(crate) struct Laid {
     made: usize,
@@ -25,7 +26,7 @@ pub(crate) struct Laid {
 }
 
 impl Laid {
-    /// The counts before the first file.
+    /// Makes the counts before the first pair of files.
     pub(crate) fn none() -> Laid {
         Laid {
             made: 0,
@@ -51,7 +52,7 @@ impl fmt::Display for Laid {
     }
 }
 
-/// Makes a file in memory with these bytes, all synchronised.
+/// Makes a file in memory with these bytes, which are synchronised.
 pub(crate) fn holding(alloc: Global, bytes: &[u8]) -> Result<Memory, RowFault>
     ensures { IfOk result (λ file. IsTrue (memory_is_usable file)) }
 {
@@ -62,7 +63,7 @@ pub(crate) fn holding(alloc: Global, bytes: &[u8]) -> Result<Memory, RowFault>
     Ok(file)
 }
 
-/// Lays out a database in a pair of files with these bytes, and counts the outcome in `laid`. `page` is the
+/// Makes a database in a pair of files with these bytes, and counts the outcome in `laid`. `page` is the
 /// content of a new database file.
 pub(crate) fn lay(
     alloc: Global,
@@ -91,8 +92,8 @@ pub(crate) fn lay(
     Ok(())
 }
 
-/// Lays out a database file with each prefix of these bytes, from the empty one to all of them, and counts
-/// the outcomes. The log is empty.
+/// Makes a database in a file for each prefix of these bytes, from no byte to all bytes. The prefix is the
+/// content of the file, and the log is empty. Counts the outcomes.
 pub(crate) fn lay_each(alloc: Global, page: &[u8], bytes: &[u8]) -> Result<Laid, RowFault> {
     let mut laid = Laid::none();
     for len in 0..=bytes.len() {
@@ -101,7 +102,7 @@ pub(crate) fn lay_each(alloc: Global, page: &[u8], bytes: &[u8]) -> Result<Laid,
     Ok(laid)
 }
 
-// Returns a copy of the bytes in which the byte at index `at` is changed.
+// Returns a copy of the bytes in which the byte at index `at` is different.
 fn with_odd(alloc: Global, bytes: &[u8], at: usize) -> Result<Vec<u8>, RowFault> {
     let mut odd = Vec::from_slice(alloc, bytes)?;
     if at < odd.len() {
@@ -110,8 +111,8 @@ fn with_odd(alloc: Global, bytes: &[u8], at: usize) -> Result<Vec<u8>, RowFault>
     Ok(odd)
 }
 
-/// Lays out, for each of these bytes, a database file with all of them in which that byte is changed, and
-/// counts the outcomes. The log is empty.
+/// Changes one of these bytes, and makes a database in a file with the bytes. Does this for each byte in
+/// turn, and counts the outcomes. The log is empty.
 pub(crate) fn lay_odd(alloc: Global, page: &[u8], bytes: &[u8]) -> Result<Laid, RowFault> {
     let mut laid = Laid::none();
     for at in 0..bytes.len() {

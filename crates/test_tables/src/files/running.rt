@@ -1,4 +1,4 @@
-//! Runs of `csi_files` over files.
+//! Makes runs of `csi_files` over files.
 
 use csi_adoption::Content;
 use csi_config::Config;
@@ -24,7 +24,7 @@ impl Observer for Unheard {
 
     fn refused(&self, _cause: &Error) {}
 
-    // There is always room: rows refuse memory in another way.
+    // Rows refuse memory in another way, so there is always room.
     fn has_room(&self, _opening: usize) -> bool {
         true
     }
@@ -41,7 +41,7 @@ fn end_word(end: RunEnd) -> &'static str {
     }
 }
 
-// The report of a run, as a text.
+// Writes the report of a run as a text.
 fn report_text(alloc: Global, word: &str, report: &RunReport) -> Result<String, AllocError> {
     let end = end_word(report.end);
     let made = if report.is_new { ", made" } else { "" };
@@ -53,7 +53,7 @@ fn report_text(alloc: Global, word: &str, report: &RunReport) -> Result<String, 
     )
 }
 
-// The reason why a database was refused, as a text.
+// Writes the reason why a database was refused as a text.
 fn refusal_text(alloc: Global, refusal: &Refusal) -> Result<String, AllocError> {
     match refusal {
         Refusal::Blank => String::from_str(alloc, "blank"),
@@ -62,7 +62,7 @@ fn refusal_text(alloc: Global, refusal: &Refusal) -> Result<String, AllocError> 
     }
 }
 
-// The reason why files were not closed after calls, as a text.
+// Writes the reason why files were not closed after calls as a text.
 fn failure_text<D: Disk + Drop>(
     alloc: Global,
     failure: &RunFailure<D>,
@@ -76,12 +76,11 @@ fn failure_text<D: Disk + Drop>(
     }
 }
 
-/// Serves calls over files with `csi_files`. Returns the outcome as a text, and the files as the run leaves
-/// them.
+/// Serves calls over files with `csi_files`. Returns the outcome as a text, and the files after the run.
 ///
 /// # Errors
 ///
-/// If the run does not give the files back.
+/// If the run does not return the files.
 pub(crate) fn served_by<D: Disk + Drop>(
     alloc: Global,
     config: &Config,

@@ -1,4 +1,4 @@
-//! A fold that shows rows.
+//! A fold that shows the rows of a scan.
 
 use crate::cells::put_row;
 use csi_sql::Fold;
@@ -8,9 +8,9 @@ use std::alloc::Global;
 /// A fold that appends each row to a text.
 #[derive(Drop)]
 pub(crate) struct Showing {
-    /// The allocator of the text.
+    /// The allocator of the text in `text`.
     pub(crate) alloc: Global,
-    /// The rows so far, as a text.
+    /// The rows that were added, as a text.
     pub(crate) text: String,
 }
 

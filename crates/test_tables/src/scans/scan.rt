@@ -6,7 +6,7 @@ use csi_sql::{Fold, IdleConnection, is_our_schema};
 use sqlite::Alter;
 use test_kit::RowFault;
 
-/// A scan over our tables; each variant is one of the `scan_` functions of `csi_constraints`.
+/// A scan of the tables. Each variant is one of the `scan_` functions of `csi_constraints`.
 #[derive(Clone, Copy)]
 pub(crate) enum Scan {
     Meta,
@@ -17,7 +17,7 @@ pub(crate) enum Scan {
 }
 
 impl Scan {
-    /// Returns the scan with this name; [`RowFault::NotRow`] if no scan has the name.
+    /// Returns the scan with this name, or fails with [`RowFault::NotRow`] if no scan has the name.
     pub(crate) fn named(name: &str) -> Result<Scan, RowFault> {
         match name {
             "meta" => Ok(Scan::Meta),
@@ -29,7 +29,8 @@ impl Scan {
         }
     }
 
-    /// Folds each row of the scan; [`RowFault::Refused`] if the database has other tables than ours.
+    /// Passes each row of the scan to a fold, or fails with [`RowFault::Refused`] if the database has other
+    /// tables.
     pub(crate) fn over<S: Alter, F: Fold>(
         self,
         conn: &mut IdleConnection<S>,

@@ -1,4 +1,4 @@
-//! The two files of a database, in memory, which stop after a number of calls.
+//! The two files of a database in memory, which stop after a number of calls.
 
 ghost use Rattle.std.specs.Prelude.{◌≡◌, false, IfOk};
 
@@ -11,13 +11,13 @@ use std::alloc::Global;
 use std::fmt;
 use test_kit::RowFault;
 
-// The seed of the salts in the log. No answer depends on it.
+// The seed of the salts in the log. No answer depends on the seed.
 const SEED: u64 = 7;
 
-/// The numbers of calls for files that never stop: more than a run makes.
+/// The numbers of calls for two files that never stop: more calls than any run makes.
 pub(crate) const NEVER: (u64, u64) = (u64::MAX, u64::MAX);
 
-/// Which of the two files stops.
+/// The file or files that stop.
 #[derive(Clone, Copy)]
 pub(crate) enum Which {
     /// The log stops.
@@ -28,25 +28,25 @@ pub(crate) enum Which {
     Both,
 }
 
-/// When a run stops, and what happens to the writes before the stop.
+/// The time of a stop, and what happens to the writes before it.
 #[derive(Clone, Copy)]
 pub(crate) struct Stop {
-    /// The file that stops, or both.
+    /// The log, the database file, or both.
     pub(crate) which: Which,
-    /// The number of calls before the stop; with [`Trouble::Fills`], the number of writes.
+    /// The number of calls before the stop, or with [`Trouble::Fills`] the number of writes.
     pub(crate) calls: u64,
-    /// Whether the connection is closed at the end; otherwise it is dropped.
+    /// True if the connection is closed at the end. If false, it is dropped.
     pub(crate) closes: bool,
-    /// Whether unsynchronised writes are lost; otherwise they are kept.
+    /// True if unsynchronised writes are lost. If false, they are kept.
     pub(crate) loses: bool,
-    /// The trouble of the files in a run of `csi_files`. If `None`, `csi_files` is not run: the tables are
-    /// adopted on a connection to files that stop.
+    /// The trouble of the files in a run of `csi_files`. If it is `None`, `csi_files` is not run: the tables
+    /// are adopted on a connection to files that stop.
     pub(crate) trouble: Option<Trouble>,
 }
 
 impl Stop {
-    /// Returns the numbers of calls after which the log and the database file stop; `u64::MAX` for a file
-    /// that never stops.
+    /// Returns the numbers of calls after which the log and the database file stop. A file that never stops
+    /// has the number `u64::MAX`.
     pub(crate) fn calls_of_each(self) -> (u64, u64) {
         match self.which {
             Which::Log => (self.calls, u64::MAX),
@@ -85,7 +85,7 @@ pub(crate) fn new_files(alloc: Global) -> Files<Memory> {
     }
 }
 
-// Makes disks over files; the log stops after `calls.0` calls, and the database file after `calls.1`.
+// Makes disks over files. The log stops after `calls.0` calls, and the database file after `calls.1` calls.
 fn fused<D: TestDisk>(files: Files<Memory>, calls: (u64, u64)) -> Files<D> {
     Files {
         log: D::over(files.log, calls.0, u64::MAX, None),
@@ -99,7 +99,7 @@ pub(crate) fn new_disks<D: TestDisk>(alloc: Global, calls: (u64, u64)) -> Files<
     fused(new_files(alloc), calls)
 }
 
-// Returns a copy of a file, all synchronised.
+// Returns a copy of a file, with all bytes synchronised.
 fn copied(alloc: Global, file: &Memory) -> Result<Memory, RowFault> {
     let mut copy = Memory::new(alloc);
     // A file in memory fails only if memory is refused.
@@ -109,7 +109,7 @@ fn copied(alloc: Global, file: &Memory) -> Result<Memory, RowFault> {
     Ok(copy)
 }
 
-/// Returns copies of a log and a database file, all synchronised.
+/// Returns copies of a log and a database file, with all bytes synchronised.
 pub(crate) fn copied_files(
     alloc: Global,
     log: &Memory,
@@ -122,8 +122,8 @@ pub(crate) fn copied_files(
     })
 }
 
-/// Returns copies of files, all synchronised. The copy of the log stops after `calls.0` calls, and the copy
-/// of the database file after `calls.1` calls.
+/// Returns copies of files, with all bytes synchronised. The copy of the log stops after `calls.0` calls, and
+/// the copy of the database file after `calls.1` calls.
 pub(crate) fn copies<D: TestDisk>(
     alloc: Global,
     files: &Files<Memory>,
@@ -132,17 +132,18 @@ pub(crate) fn copies<D: TestDisk>(
     Ok(fused(copied_files(alloc, &files.log, &files.db)?, calls))
 }
 
-/// Whether two pairs of files have the same bytes.
+/// Returns true if two pairs of files have the same bytes.
 pub(crate) fn are_same(one: &Files<Memory>, other: &Files<Memory>) -> bool {
     one.log.bytes() == other.log.bytes() && one.db.bytes() == other.db.bytes()
 }
 
-/// Whether one of the files has stopped.
+/// Returns true if one of the files has stopped.
 pub(crate) fn has_stopped<D: TestDisk>(disks: &mut Files<D>) -> bool {
     !disks.may_be_used() || disks.log.len().is_err() || disks.db.len().is_err()
 }
 
-/// Returns copies of the files that the next start finds, without the unsynchronised writes if `loses`.
+/// Returns copies of the files that the next start finds. If `loses` is true, they lack the unsynchronised
+/// writes.
 pub(crate) fn left_of<D: TestDisk>(
     alloc: Global,
     disks: &mut Files<D>,
@@ -176,7 +177,8 @@ pub(crate) fn make_older<S: Alter>(conn: &mut Connection<S>) -> Result<(), RowFa
     run(conn, "UPDATE meta SET format_no = 1")
 }
 
-// Ends a connection, and returns its files: closed if `closes`, otherwise as a stop leaves them.
+// Ends a connection and returns its files. If `closes` is true, the files are closed, otherwise they are as a
+// stop leaves them.
 fn end<D: Disk + Drop>(conn: Connection<FileStore<D>>, closes: bool) -> Files<D> {
     if !closes {
         return conn.into_store().close();
@@ -189,13 +191,15 @@ fn end<D: Disk + Drop>(conn: Connection<FileStore<D>>, closes: bool) -> Files<D>
 
 /// A task that runs on a connection to a database, on any disk.
 pub(crate) trait Task {
-    /// Runs the task on the connection, and returns the connection.
+    /// Runs the task on a connection that has no open transaction. Returns the connection, so that the
+    /// caller can close or drop it.
     fn run<S: Alter + Drop>(&mut self, conn: Connection<S>) -> Connection<S>
         requires { conn.in_transaction ≡ false };
 }
 
-/// Opens the database in the files and runs a task on it. Returns the files, closed if `closes` and otherwise
-/// as a stop leaves them, and the error if the database cannot be opened.
+/// Opens the database in the files and runs a task on it. Returns the files, and the error if the database
+/// cannot be opened. If `closes` is true, the files are closed. Otherwise they have the bytes that a stop of
+/// the program leaves.
 pub(crate) fn over<D: Disk + Drop, T: Task>(
     alloc: Global,
     files: Files<D>,

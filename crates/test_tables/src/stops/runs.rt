@@ -1,4 +1,4 @@
-//! One run over files that stop, and the State that the next start finds in the files.
+//! Makes one run over files that stop, and finds the State of the files at the next start.
 
 use super::disks::{Stop, copies, has_stopped, left_of};
 use super::serving::{Outcome, outcome_of, serve_files, unlike};
@@ -18,9 +18,9 @@ const INTERNAL: u8 = 13;
 pub(crate) struct Wanted<'a> {
     pub(crate) alloc: Global,
     pub(crate) config: &'a Config,
-    /// The files before the call.
+    /// The files as they are before the call.
     pub(crate) files: &'a Files<Memory>,
-    /// Whether a database was made in the files.
+    /// True if a database was made in the files.
     pub(crate) is_made: bool,
     pub(crate) call: &'a [u8],
     /// The reply to the call, and the States before and after the call, if no file stops.
@@ -30,27 +30,28 @@ pub(crate) struct Wanted<'a> {
 /// The reply and the files of a run with a stop.
 #[derive(Drop)]
 pub(crate) struct Left {
-    /// Whether the disk stopped in the run.
+    /// True if the disk stopped in the run.
     pub(crate) is_stopped: bool,
     pub(crate) reply: Vec<u8>,
     pub(crate) files: Files<Memory>,
 }
 
-/// The State that the next start finds in the files, and the reply to the same call made again.
+/// The State that the next start finds in the files, and the reply if the same call is made again after this
+/// start.
 #[derive(Drop)]
 pub(crate) struct Found {
     pub(crate) files: Files<Memory>,
     pub(crate) outcome: Outcome,
 }
 
-/// The outcome of a run with a stop, compared with a run without one.
+/// The outcome of a run with a stop, compared with a run without a stop.
 #[derive(Clone, Copy)]
 pub(crate) struct Came {
-    /// Whether the call got the same reply as without a stop, and the reply is not empty.
+    /// True if the call got the same reply as without a stop, and the reply is not empty.
     pub(crate) is_answered: bool,
-    /// Whether the next start found the State before the call.
+    /// True if the next start found the State that the files had before the call.
     pub(crate) is_before: bool,
-    /// Whether the next start found the State after the call.
+    /// True if the next start found the State that the call leaves if no file stops.
     pub(crate) is_after: bool,
 }
 
@@ -146,13 +147,13 @@ impl Wanted<'_> {
         if self.is_made {
             return outcome_of::<D>(self.alloc, self.config, files, self.call);
         }
-        // The first page may be torn, and only a run of `csi_files` makes it whole.
+        // A stop may have left a part of the first page, and only a run of `csi_files` completes it.
         let (_, opened) = self.serve::<D>(files, b"", &mut Vec::new(self.alloc))?;
         outcome_of::<D>(self.alloc, self.config, &opened, self.call)
     }
 
-    /// Starts again over the files that a stop left, and makes the same call. Returns the outcome;
-    /// [`RowFault::Differs`] if the files cannot be opened or adopted.
+    /// Starts again over the files that a stop left, and makes the same call. Returns the outcome, or fails
+    /// with [`RowFault::Differs`] if the files cannot be opened or their tables not adopted.
     pub(crate) fn find<D: TestDisk>(
         &self,
         stop: Stop,
@@ -168,7 +169,7 @@ impl Wanted<'_> {
         }
     }
 
-    /// Compares the reply and the State after a run with those of a run without a stop.
+    /// Compares the reply and the State after a run with the reply and the State of a run without a stop.
     ///
     /// # Errors
     ///
@@ -198,7 +199,7 @@ impl Wanted<'_> {
         Err(self.unlike(stop, reply, found)?)
     }
 
-    // Whether a reply is empty, the same as without a stop, or the error of a store that failed.
+    // Returns true if a reply is empty, the same as without a stop, or the error of a store that failed.
     fn is_reply(&self, reply: &[u8]) -> bool {
         reply.is_empty()
             || reply == self.whole.replies.as_slice()

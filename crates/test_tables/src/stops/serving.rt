@@ -1,4 +1,4 @@
-//! Calls over the tables in files.
+//! Serves calls over the tables in files.
 
 ghost use Rattle.std.specs.Prelude.{◌≡◌, false};
 
@@ -38,7 +38,7 @@ fn serve_calls<K: Keeper>(
     serve(alloc, config, keeper, &mut reader, replies);
 }
 
-// A task that serves calls, and appends the replies. If the tables cannot be adopted, it serves no call.
+// A task that serves calls and appends the replies. If the tables cannot be adopted, it serves no call.
 #[derive(Drop)]
 struct Serving<'a> {
     alloc: Global,
@@ -65,8 +65,8 @@ impl Task for Serving<'_> {
     }
 }
 
-/// Opens files, adopts the tables, answers the calls, and returns the files. If the files cannot be opened or
-/// the tables cannot be adopted, no call is answered.
+/// Opens files, adopts the tables, serves the calls, and returns the files. If the files cannot be opened or
+/// the tables cannot be adopted, no call is served.
 pub(crate) fn serve_files<D: Disk + Drop>(
     alloc: Global,
     config: &Config,

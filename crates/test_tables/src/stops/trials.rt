@@ -1,4 +1,4 @@
-//! Runs of a call that stop at each call of the disk.
+//! Makes the runs of a call in which the disk stops, at each call of the disk in turn.
 
 use super::disks::{Stop, Which, are_same};
 use super::runs::{Came, Found, Left, Wanted};
@@ -8,11 +8,11 @@ use sqlite_disk::{Files, Memory};
 use std::fmt;
 use test_kit::RowFault;
 
-// More calls of the disk than any row makes.
+// A number above the number of calls of the disk that any row makes.
 const MOST_CALLS: u64 = 1_000_000;
 
-/// Which outcomes at least one run of a row had: the State before the call was found, the State after the
-/// call was found, or the call was answered.
+/// The outcomes that at least one run of a row had. The next start found the State before the call, it found
+/// the State that the call leaves, or the call was answered.
 #[derive(Clone, Copy)]
 pub(crate) struct Seen {
     before: bool,
@@ -44,16 +44,17 @@ impl fmt::Display for Seen {
     }
 }
 
-/// When the disk stops in the runs of a row.
+/// The place of the stop in the runs of a row.
 #[derive(Clone, Copy)]
 pub(crate) enum Way {
-    /// The disk stops anywhere from the opening to the end of the call. The next start does not stop.
+    /// The disk stops at any time from the opening to the end of the call. The next start does not stop.
     Once,
-    /// Like `Once`, but the next start also stops, after the same number of calls.
+    /// The disk stops at any time from the opening to the end of the call. The next start also stops, after
+    /// the same number of calls of the disk.
     Twice,
-    /// The disk stops anywhere from the opening to the close of the connection after the call.
+    /// The disk stops at any time from the opening to the close of the connection after the call.
     Closing,
-    /// The disk has this trouble anywhere in a run of `csi_files`, from the opening to the close.
+    /// The disk has this trouble at any time in a run of `csi_files`, from the opening to the close.
     Running(Trouble),
 }
 
@@ -66,21 +67,21 @@ impl Way {
     }
 }
 
-/// The runs of a call with stops, and their outcomes so far.
+/// The runs of a call with stops, and the outcomes of the runs that were made.
 #[derive(Drop)]
 pub(crate) struct Trials<'a> {
     wanted: Wanted<'a>,
-    // The number of calls between the stops of two runs.
+    // The number of calls of the disk by which each run stops later than the run before.
     step: u64,
     way: Way,
-    // The last files that a run left, with their outcome. Most calls of a disk are reads, and files with the
-    // same bytes are not opened again.
+    // The last files that a run left, with their outcome. Files with the same bytes as the last files are not
+    // opened again. This is often so, since most calls of a disk are reads.
     found: Option<Found>,
     seen: Seen,
 }
 
 impl<'a> Trials<'a> {
-    /// Returns the trials of a row in the state before the first run.
+    /// Makes the trials of a row, before the first run.
     pub(crate) fn new(wanted: Wanted<'a>, step: u64, way: Way) -> Trials<'a> {
         Trials {
             wanted,
@@ -95,15 +96,15 @@ impl<'a> Trials<'a> {
         }
     }
 
-    /// Makes all runs, and returns which outcomes they had. The first run stops at the first call of the
-    /// disk, and each later run stops `step` calls later than the last, until a run does not stop. First the
-    /// log stops, then the database file, then both; each time unsynchronised writes are first kept and then
-    /// lost.
+    /// Makes all runs, and returns their outcomes. The first run stops at the first call of the disk. Each
+    /// later run stops `step` calls later than the run before it, until a run does not stop. First the log
+    /// stops, then the database file, then both. For each of these, unsynchronised writes are first kept and
+    /// then lost.
     ///
     /// # Errors
     ///
-    /// [`RowFault::Differs`] for the first stop after which the reply or the State is not allowed. Also if
-    /// memory is refused, or if the disk stops in each of a million runs.
+    /// Returns [`RowFault::Differs`] for the first stop after which the reply or the State is not allowed.
+    /// Fails too if memory is refused, or if the disk stops in each of a million runs.
     pub(crate) fn all<D: TestDisk>(mut self) -> Result<Seen, RowFault> {
         for which in [Which::Log, Which::Database, Which::Both] {
             self.stops_of::<D>(which, false)?;
@@ -112,7 +113,7 @@ impl<'a> Trials<'a> {
         Ok(self.seen)
     }
 
-    // Makes runs, each of which stops later than the last, until a run does not stop.
+    // Makes runs, each of which stops later than the run before, until a run does not stop.
     fn stops_of<D: TestDisk>(&mut self, which: Which, loses: bool) -> Result<(), RowFault> {
         let closes = matches!(self.way, Way::Closing);
         let mut calls: u64 = 0;
@@ -132,7 +133,7 @@ impl<'a> Trials<'a> {
         Err(RowFault::NotRow)
     }
 
-    // The files after a second start that stops, or the given files if the way has no such start.
+    // Returns the files after a second start that stops, or the given files if the way has no such start.
     fn left_again<D: TestDisk>(
         &self,
         files: Files<Memory>,
@@ -144,7 +145,7 @@ impl<'a> Trials<'a> {
         }
     }
 
-    // Makes one run. Returns whether the disk stopped in it.
+    // Makes one run. Returns true if the disk stopped in the run.
     fn stop<D: TestDisk>(&mut self, stop: Stop) -> Result<bool, RowFault> {
         let Left {
             is_stopped,
@@ -156,7 +157,8 @@ impl<'a> Trials<'a> {
         Ok(is_stopped)
     }
 
-    // Finds the outcome of the next start over files, unless the last files had the same bytes.
+    // Finds the outcome of the next start over files. If the last files had the same bytes, keeps their
+    // outcome.
     fn find<D: TestDisk>(&mut self, stop: Stop, files: Files<Memory>) -> Result<(), RowFault> {
         let files = self.left_again::<D>(files, stop)?;
         if !self.is_found(&files) {

@@ -1,5 +1,5 @@
-//! The two files of a database, in memory, with troubles: the files stop after a number of calls, are full
-//! after a number of writes, or lie.
+//! The two files of a database in memory, with troubles: the files stop after a number of calls, are full
+//! after a number of writes, or have a wrong byte.
 
 use super::disks::{Stop, copied_files};
 use crate::files::disks::{Lie, TestDisk};
@@ -7,16 +7,16 @@ use sqlite_disk::{Disk, Files, Memory};
 use std::alloc::Global;
 use test_kit::RowFault;
 
-/// A trouble of a disk; it begins after the number of calls or writes that a [`Stop`] gives.
+/// A trouble of a disk. It begins after a number of calls or writes, which a [`Stop`] gives.
 #[derive(Clone, Copy)]
 pub(crate) enum Trouble {
-    /// Each call fails after that number of calls.
+    /// After the number of calls in [`Stop::calls`], each call fails.
     Freezes,
-    /// Each write fails after that number of writes.
+    /// After the number of writes in [`Stop::calls`], each write fails.
     Fills,
 }
 
-/// Returns copies of files, all synchronised, that have this trouble from `stop` on.
+/// Returns copies of files, with all bytes synchronised, that have this trouble from `stop` on.
 pub(crate) fn troubled<D: TestDisk>(
     alloc: Global,
     files: &Files<Memory>,
@@ -36,7 +36,8 @@ pub(crate) fn troubled<D: TestDisk>(
     })
 }
 
-/// Returns copies of files, all synchronised. The copy of the database file lies if `lie` is given.
+/// Returns copies of files, with all bytes synchronised. If `lie` is given, the copy of the database file has
+/// the wrong byte that it describes.
 pub(crate) fn lying<D: TestDisk>(
     alloc: Global,
     files: &Files<Memory>,
@@ -49,12 +50,12 @@ pub(crate) fn lying<D: TestDisk>(
     })
 }
 
-// Whether a disk has failed a call or a write.
+// Returns true if a disk has failed a call or a write.
 fn has_failed<D: TestDisk>(disk: &mut D) -> bool {
     disk.is_full() || !disk.may_be_used() || disk.len().is_err()
 }
 
-/// Whether one of the files has stopped or has failed a write because it is full.
+/// Returns true if one of the files has stopped, or has failed a write because it is full.
 pub(crate) fn have_failed<D: TestDisk>(disks: &mut Files<D>) -> bool {
     has_failed(&mut disks.log) || has_failed(&mut disks.db)
 }

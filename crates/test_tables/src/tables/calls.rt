@@ -1,4 +1,4 @@
-//! Direct calls of a keeper, without the volume machine.
+//! Calls the methods of a keeper, without the volume machine.
 
 ghost use Rattle.std.specs.Prelude.{IfOk};
 ghost use Rattle.csi_keeper.specs.State.{IsBounded};
@@ -107,7 +107,7 @@ fn change(alloc: Global, words: &[&str]) -> Result<Change, RowFault>
     }
 }
 
-// Makes a change that sets the mutable parameters of a volume: to one key and its value, or to none.
+// Makes a change that sets the mutable parameters of a volume to one key with its value, or to no parameters.
 fn set(alloc: Global, words: &[&str]) -> Result<Change, RowFault>
     ensures { IfOk result IsBounded }
 {

@@ -1,4 +1,4 @@
-//! The answers of a keeper as texts.
+//! Writes the answers of a keeper as texts.
 
 use csi_keeper::{Attachment, CapKey, Kind, Volume};
 use csi_types::{Items, Map, Text};
@@ -76,7 +76,7 @@ fn put_nodes(text: &mut String, nodes: &Items<Text>) -> Result<(), RowFault> {
     Ok(())
 }
 
-/// Returns the nodes of each volume of a page as a text; the nodes of each volume follow a semicolon.
+/// Returns the nodes of each volume of a page as a text. A semicolon comes before the nodes of each volume.
 pub(crate) fn nodes_in_words(alloc: Global, nodes: &[Items<Text>]) -> Result<String, RowFault> {
     let mut text = String::from_str(alloc, "nodes")?;
     for nodes in nodes {

@@ -17,6 +17,9 @@ import (
 	"time"
 )
 
+// The lines of a program begin with its name, as where the journal keeps them.
+func init() { os.Setenv("JOURNAL_STREAM", "8:1") }
+
 // Patience is how long anything may take before a test gives it up.
 const Patience = time.Minute
 

@@ -1,4 +1,4 @@
-use Rattle.std.proofs.Common.{◌≡◌, ◌≤◌, ◌+◌, ◌-◌, ◌++◌, ◌∷◌, [], ◌∙◌, ap, ap₂, append-nil, arith, drop, length, length-append, rules, List, ℕ}
+use Rattle.std.proofs.Common.{◌≡◌, ◌+◌, ◌-◌, ◌++◌, ◌∷◌, [], ◌∙◌, ap, ap₂, append-nil, arith, drop, length, length-append, rules, List, ℕ}
 use Rattle.std.specs.Int.{cast_unsigned, w64}
 use Rattle.std.proofs.lemmas.List.{drop_all}
 use Rattle.csi_codec.specs.Listing.{id_field, size_bytes}

@@ -10,7 +10,7 @@ pub returns-in-Refused : goal.returns-in-Refused
 returns-in-Refused g c = record {
   source = tt;
   refused = (
-    record { last = c.in-Err.error.keeper; quiet = c.in-Err.ensures.uncopied.0; back_is = c.into_connection.ensures.value },
+    record { last = c.in-Err.error.keeper; quiet = c.in-Err.ensures.uncopied.0; back_is = c.give_back.ensures },
     elim c.in-Refused.is [
       | inl refused ↦ refused
       | inr down ↦ absurd (true≢false (sym (c.in-Err.ensures.uncopied.1.down.0 down) ∙ c.requires.fresh.1))

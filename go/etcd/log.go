@@ -1,0 +1,79 @@
+package main
+
+import (
+	"encoding/json"
+	"fmt"
+	"io"
+	"log"
+	"strings"
+	"time"
+
+	"fomaheti/logqueue"
+)
+
+// The formats of lines.
+const (
+	textLines = "text"
+	jsonLines = "json"
+)
+
+// prefix starts each line of text on standard error, after its time and level if it has them.
+const prefix = "csid-etcd: "
+
+// logger writes lines on standard error: as text, or as one JSON object a line.
+type logger struct {
+	out    io.Writer
+	isJSON bool
+	// Whether a line of text begins with its time and level.
+	isTimed bool
+}
+
+// jsonLine is a line in JSON.
+type jsonLine struct {
+	Time    time.Time `json:"time"`
+	Level   string    `json:"level"`
+	Message string    `json:"message"`
+}
+
+// line returns a line with its end.
+func (l *logger) line(level, text string) string {
+	now := time.Now().UTC()
+	if l.isJSON {
+		if object, err := json.Marshal(jsonLine{now, level, text}); err == nil {
+			return string(object) + "\n"
+		}
+	}
+	if l.isTimed {
+		return logqueue.Stamp(now, level) + prefix + text + "\n"
+	}
+	return prefix + text + "\n"
+}
+
+func (l *logger) write(level, format string, args []interface{}) {
+	io.WriteString(l.out, l.line(level, fmt.Sprintf(format, args...)))
+}
+
+func (l *logger) infof(format string, args ...interface{}) { l.write(logqueue.Info, format, args) }
+func (l *logger) warnf(format string, args ...interface{}) { l.write(logqueue.Warn, format, args) }
+
+// fails writes why the program ends.
+func (l *logger) fails(err error) { l.write(logqueue.Error, "%v", []interface{}{err}) }
+
+// Write takes a line that a package writes with Go's log.
+func (l *logger) Write(line []byte) (int, error) {
+	l.warnf("%s", strings.TrimSuffix(string(line), "\n"))
+	return len(line), nil
+}
+
+// newLogger returns the log of the program, and the queue of its lines. A slow reader of standard
+// error must not delay the renewal of the lock, so lines go through a queue. This includes lines
+// that packages write with Go's log. etcd's client turns gRPC's log off.
+func newLogger(out io.Writer, format string, isTimed bool) (*logger, *logqueue.Queue) {
+	l := &logger{isJSON: format == jsonLines, isTimed: isTimed}
+	queue := logqueue.New(out, func(count uint64) string { return l.line(logqueue.Warn, logqueue.Report(count)) })
+	l.out = queue
+	log.SetFlags(0)
+	log.SetPrefix("")
+	log.SetOutput(l)
+	return l, queue
+}
