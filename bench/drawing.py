@@ -1,25 +1,26 @@
-"""How bench/plots and bench/dashboard draw: by matplotlib, and the same bytes for the same figures."""
+"""Draws by matplotlib for bench/plots and bench/dashboard. The same figures give the same bytes."""
 import os
 import sys
 
 NEEDS = "%s: this needs matplotlib: apt-get install python3-matplotlib, and call /usr/bin/python3 %s"
 GREY = "#666666"
-# Of lines that are of no program: as different as many can be.
+# The colours of lines that belong to no program.
 COLOURS = ("#1f77b4 #ff7f0e #2ca02c #d62728 #9467bd #8c564b #e377c2 #17becf #bcbd22 #7f7f7f"
            " #0b3d66 #a34f00 #145214 #7a1212 #4b2a75 #4a2b25 #9c2d7c #0a6b76 #6b6c0e #3f3f3f").split()
 
 
 def pyplot(name):
-    """Returns matplotlib's pyplot for a script of bench/. Without matplotlib the script ends."""
+    """Returns matplotlib's pyplot, set up for a script of bench/. Ends the script if matplotlib is not
+    installed."""
     try:
         import matplotlib
     except ImportError:
         sys.exit(NEEDS % (name, "bench/" + name))
     matplotlib.use("svg")
     matplotlib.rcParams.update({
-                                   # The ids of an SVG are made from this, and not at random.
+                                   # The ids in the SVG are made from this text, and not at random.
                                    "svg.hashsalt": name,
-                                   # Letters stay letters, so a text can be searched and read aloud.
+                                   # Text stays text, so that a reader can search it.
                                    "svg.fonttype": "none",
                                    "font.sans-serif": ["DejaVu Sans", "Verdana", "sans-serif"],
                                    "font.size": 9,
@@ -42,6 +43,6 @@ def pyplot(name):
 
 
 def save(figure, path, **metadata):
-    """Writes a figure as SVG, with no date in it."""
+    """Writes a figure as SVG, without a date."""
     os.makedirs(os.path.dirname(path), exist_ok=True)
     figure.savefig(path, metadata={"Date": None, **metadata})

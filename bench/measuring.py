@@ -1,4 +1,4 @@
-"""What the benches share: where csid is, and runs that are measured by the system or by valgrind."""
+"""Finds csid, and runs programs that the operating system or valgrind measures, for the benches."""
 import collections
 import os
 import pathlib
@@ -10,7 +10,7 @@ import time
 
 TOP = os.path.dirname(os.path.dirname(os.path.abspath(__file__)))
 CSID = os.path.join(TOP, "crates", "csid", "out", "csid")
-# Seconds of the clock and of the processor, the most KiB that were in memory, and the output, if it is kept.
+# The result of a run: elapsed and processor seconds, peak memory in KiB, and the output if it is kept.
 Run = collections.namedtuple("Run", "clock processor peak out")
 
 
@@ -26,7 +26,7 @@ def write(folder, name, content):
 
 
 def run(command, given, keep=False):
-    """Runs a program over a file. It must end well."""
+    """Runs a program over a file. Ends the bench if the program fails."""
     with open(given, "rb") as stdin, tempfile.TemporaryFile() as kept, open(os.devnull, "wb") as nowhere:
         begin = time.perf_counter()
         process = subprocess.Popen(command, stdin=stdin, stdout=kept if keep else nowhere)
@@ -40,7 +40,7 @@ def run(command, given, keep=False):
 
 
 def compare(bench, command, given, replies):
-    """Ends the bench where the replies are not those that they must be."""
+    """Ends the bench if the replies differ from the expected replies."""
     with open(given, "rb") as stdin:
         ran = subprocess.run(command, stdin=stdin, stdout=subprocess.PIPE)
     if ran.returncode != 0 or ran.stdout != replies:
@@ -48,13 +48,13 @@ def compare(bench, command, given, replies):
         sys.exit(said % (bench, ran.returncode))
 
 
-# Tools of valgrind, and how each says its number.
+# The tools of valgrind, each with the pattern of its result.
 INSTRUCTIONS = "callgrind", rb"Collected : ([0-9]+)"
 ALLOCATIONS = "memcheck", rb"total heap usage: ([0-9,]+) allocs"
 
 
 def valgrind(tool, pattern, command, **how):
-    """The number that a tool of valgrind says of a run, and the run."""
+    """Runs a tool of valgrind. Returns its result and the completed process."""
     words = ["valgrind", "--tool=" + tool, *["--callgrind-out-file=/dev/null"] * (tool == "callgrind")]
     ran = subprocess.run([*words, *command], stderr=subprocess.PIPE, **how)
     return int(re.search(pattern, ran.stderr)[1].replace(b",", b"")), ran

@@ -1,6 +1,7 @@
-"""Streams of calls for the benches, with the replies that csid must give (docs/PROTOCOL.md, docs/MACHINE.md),
-which are worked out here: over one pool of 2^62 bytes without segments, with the volumes v1, v2 .. of 1 MiB
-in the order of their numbers, and the node n1.
+"""Makes streams of calls for the benches, with the expected replies (docs/PROTOCOL.md, docs/MACHINE.md).
+
+The configuration has one pool of 2^62 bytes without segments, and the node n1. The volumes are v1, v2 and so
+on, of 1 MiB each, in the order of their numbers.
 """
 import contextlib
 import sqlite3
@@ -35,7 +36,7 @@ def varint(number):
 
 
 def part(number, payload):
-    """A field that holds these bytes."""
+    """Returns the encoding of a field with this payload."""
     return varint(8 * number + 2) + varint(len(payload)) + payload
 
 
@@ -61,7 +62,7 @@ def volume_id(number):
 
 
 def volume(number):
-    """The volume of that number as it is answered: 1 MiB of the pool 'p', without topology."""
+    """Returns the encoding of the volume with this number: 1 MiB of the pool 'p', without a topology."""
     context = part(3, part(1, b"pool") + part(2, b"p"))
     return part(1, bytes.fromhex("08808040") + part(2, volume_id(number)) + context)
 
@@ -71,12 +72,12 @@ def short_name(number):
 
 
 def alike_name(number):
-    """12 bytes. The first ones are the same in every name."""
+    """Returns a name of 12 bytes. All names have the same first bytes."""
     return b"volume%06d" % number
 
 
 def claim_name(number):
-    """As csi-provisioner names the volume of a claim."""
+    """Returns a name as csi-provisioner makes it for a claim."""
     return b"pvc-%s" % str(uuid.uuid5(uuid.NAMESPACE_URL, str(number))).encode()
 
 
@@ -98,13 +99,14 @@ def delete(number):
 
 
 def capacity(standing):
-    """The free bytes while `standing` volumes exist."""
+    """Returns a GetCapacity call, with the free bytes while `standing` volumes exist."""
     free = b"\x08" + varint(POOL_BYTES - standing * MIB)
     return call(b"GetCapacity", b""), reply(free + part(2, b"\x08" + varint(GREATEST_BYTES)))
 
 
 def page(after, entries, last, published=()):
-    """A page of volumes that all exist, after the volume of that number, of `last` in all."""
+    """Returns a ListVolumes call for a page whose volumes all exist. It begins after the number `after`.
+    `last` is the number of the last volume."""
     token = part(2, b"%d" % after) if after else b""
     first, end = after + 1, min(after + entries, last)
     body = b"".join(part(1, volume(number) + part(2, part(1, b"n1") if number in published else b""))
@@ -122,15 +124,15 @@ def creates(count, standing=0, name=short_name):
 
 
 def pages(standing, count):
-    """Walks over all volumes, of as many pages together."""
+    """Returns the calls of some walks over all volumes, `count` pages in all."""
     walk = [page(after, 100, standing) for after in range(0, standing, 100)]
     return [walk[number % len(walk)] for number in range(count)]
 
 
 def mix(standing, rounds, with_capacity=True):
-    """Rounds of calls, each for a volume of its own, which is gone at the end of the round. In a round: a
-    create, a publish, a page of ten of which six exist, the free bytes (unless they are left out), an
-    unpublish and a delete."""
+    """Returns the calls of the mix. A round is for one volume, which is deleted at its end: a create, a
+    publish, a page of ten with six entries, the free bytes (unless they are left out), an unpublish and a
+    delete."""
     for number in range(standing + 1, standing + rounds + 1):
         after = standing - 5
         body = b"".join(part(1, volume(other) + part(2, b"")) for other in range(after + 1, standing + 1))
@@ -141,7 +143,7 @@ def mix(standing, rounds, with_capacity=True):
 
 
 def asked(calls):
-    """The stream of calls."""
+    """Returns the stream of calls as bytes."""
     return b"".join(frame for frame, _ in calls)
 
 
@@ -150,7 +152,7 @@ def answered(calls):
 
 
 def fill(csid, config, path, count):
-    """Makes a file of tables by csid, and puts `count` volumes into it by the C library of SQLite."""
+    """Makes a file of tables by csid, and adds `count` volumes by Python's sqlite3."""
     subprocess.run([csid, "pipe", "--config", config, "--tables", path], stdin=subprocess.DEVNULL, check=True)
     with contextlib.closing(sqlite3.connect(path)) as database, database:
         database.executemany("INSERT INTO volumes VALUES (?, ?, 1048576, 'p', ?, x'')",

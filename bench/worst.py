@@ -1,7 +1,7 @@
-"""The worst known messages of about 1 MiB: the rows of crates/test_bytes/stdin, and creates for the volume
-machine.
+"""The most expensive messages of about 1 MiB that are known: rows of crates/test_bytes/stdin, and creates for
+the volume machine.
 
-What the notation of a message means is explained at the head of the section codec of crates/test_bytes/stdin.
+The head of the section codec in crates/test_bytes/stdin describes the notation of a message.
 """
 import os
 import re
@@ -26,12 +26,12 @@ def method_and_message(row):
 
 
 def shrunk(notation, most):
-    """The notation with at most `most` repetitions of each part."""
+    """Returns the notation with at most `most` repetitions of each part."""
     return re.sub(r"\*(\d+)", lambda times: "*%d" % min(int(times[1]), most), notation)
 
 
 def closing(text, at):
-    """The place of the bracket that closes what begins at `at`."""
+    """Returns the index of the bracket that closes the bracket at index `at`."""
     depth, quoted = 0, False
     for place in range(at, len(text)):
         character = text[place]
@@ -77,8 +77,8 @@ def expand(text, count=0):
     return bytes(out)
 
 
-# Pools with the segments 'a' to 'g', which are empty, and 'h'. A term that has 'a' to 'g' and not 'h' is
-# looked through whole.
+# Each pool has the empty segments 'a' to 'g', and a segment 'h'. A term with 'a' to 'g' and without 'h' must
+# be compared to its end.
 CONFIG = """name = "hostile.example.org"
 vendor_version = "1"
 default_bytes = 1048576
@@ -101,7 +101,8 @@ MOUNTS = "[1a(12(0a(#3)) 1a(0801))]*80600"
 
 
 def shuffled(count):
-    """Keys of a letter and a sign, whose order by bytes is not the order of their folded letters."""
+    """Returns keys of a letter and a sign. Their order by bytes differs from the order of their folded
+    letters."""
     second = [it for it in map(chr, range(33, 127)) if it != '"' and not it.isupper()]
     keys = [one + other for other in second for one in "hijklmnopqrstuvwxyzabcdefg"][:count]
     for place, key in enumerate(keys):
@@ -114,15 +115,15 @@ FEW = SEVEN + '[0a(0a("z" #1))]*25'
 MARKED = SEVEN + '[0a(0a("z" #1))]*26'
 LARGE = SEVEN + "[0a(0a(#2))]*2035"
 
-# The reply: a volume of the pool p1, or a refusal.
+# The replies: a volume of the pool p1, or a refusal.
 VOLUME = ('0a(08808040 12("vol-%d") 1a(0a("pool") 12("p1")) 2a('
           + SEVEN.replace('"))', '") 1200)')
           + '0a(0a("h") 12("1"))))')
 NO_ROOM = (8, "no room in the topology")
 OTHER = (6, "volume exists and is not compatible")
 
-# Each row: what it shows, creates that come before, the create that is measured, its answer: the number of a
-# volume, or a refusal.
+# For each row: its name, the creates that come before, the measured create, and its answer, which is the
+# number of a volume or a refusal.
 CREATES = [
     ("116,000 preferred of one key", [], NAMED + BLOCK + "3a([12(0a(0a(#3)))]*116000)", 1),
     ("116,000 requisite of one key", [], NAMED + BLOCK + "3a([0a(0a(0a(#3)))]*116000)", NO_ROOM),
@@ -157,5 +158,5 @@ def create(notation):
 
 
 def replied(answer):
-    """The frame of an answer: the number of a volume, or a refusal."""
+    """Returns the reply frame of an answer, which is the number of a volume or a refusal."""
     return streams.reply(expand(VOLUME % answer)) if isinstance(answer, int) else streams.refusal(*answer)

@@ -1,9 +1,9 @@
-"""What the programs of a release use, as far as it is known here: the crates of the Rattle kit, and
-Debian's packages of Go's sources.
+"""Finds the parts of the programs of a release: the crates of the Rattle kit, and Debian's packages of Go's
+sources.
 
-A crate of the kit names in its README.md the Rust crate that it follows, and has the texts of its licences
-next to it. A Debian package has its version in dpkg's records and its licence in its file of copyright. A
-fact that neither gives is reported as unknown.
+The README.md of a crate of the kit names the Rust crate that it follows, and the licence texts are next to
+it. The version of a Debian package is from dpkg, and its licence from its file `copyright`. If a fact is in
+neither place, it is reported as unknown.
 """
 import os
 import re
@@ -13,13 +13,13 @@ import subprocess
 from sources import TOP, read
 
 UNKNOWN = "NOASSERTION"
-# How the texts of licences in the kit are known.
+# The phrases that identify a licence text of the kit.
 TEXTS = [
     ("MIT", "Permission is hereby granted, free of charge"),
     ("Apache-2.0", "Apache License"),
     ("Unicode-3.0", "UNICODE LICENSE V3"),
 ]
-# The short names of Debian's files of copyright that are other ones in SPDX.
+# The short names in Debian's copyright files that differ from the names of SPDX.
 SHORT = {
     "BSD-3-clause": "BSD-3-Clause",
     "BSD-3-clause~Google": "BSD-3-Clause",
@@ -29,12 +29,12 @@ SHORT = {
 
 
 class Failure(Exception):
-    """The parts of the programs are not known."""
+    """The parts of a program cannot be found."""
 
 
 class Part:
-    """One part that a program uses: its version and licence, its origin, the files with the licence's text,
-    and its own parts."""
+    """A part of a program: its version and licence, its origin, the files with the licence's text, and its
+    own parts."""
 
     def __init__(self, name, version, licence, source, files, needs=()):
         self.name, self.version, self.licence, self.source, self.files, self.needs = (name, version, licence,
@@ -45,7 +45,7 @@ class Part:
 
 
 def kit():
-    """The folder of the kit, whose rt is on the PATH."""
+    """Returns the folder of the kit, whose `rt` is on the PATH."""
     found = shutil.which("rt")
     if found is None:
         raise Failure(
@@ -55,18 +55,19 @@ def kit():
 
 
 def kit_name():
-    """The kit's name and version, as rattle-kit and 13f."""
+    """Returns the kit's name and version, such as rattle-kit and 13f."""
     return read(os.path.join(kit(), "KIT-ID")).split()[0].rpartition("-")[::2]
 
 
 def crates():
-    """The crates of this repository, by name, each with the crates that it uses."""
+    """Returns the crates of this repository by name, each with the crates that it uses."""
     lines = [it for it in read("crates.txt").split("\n") if ":" in it and not it.startswith("#")]
     return {it.partition(":")[0].split()[0]: it.partition(":")[2].split() for it in lines}
 
 
 def needs_of_crate(name, own):
-    """What a crate uses: one of this repository by crates.txt, one of the kit by what its library says."""
+    """Returns the crates that a crate uses. crates.txt names them for a crate of this repository, and the
+    crate's library for a crate of the kit."""
     if name in own:
         return own[name]
     return re.findall(r"^dep (\S+)$", read_head(os.path.join(kit(), "rlibs", name + ".rlib", "format")), re.M)
@@ -78,7 +79,7 @@ def read_head(path):
 
 
 def closure(name, needs):
-    """A name and all that it needs, in order."""
+    """Returns a name and all names that it needs, in order."""
     found, waiting = {}, [name]
     while waiting:
         it = waiting.pop()
@@ -93,7 +94,8 @@ def licence_files(folder):
 
 
 def licence_of(files):
-    """The licence of texts: one, or the choice that Rust crates give. Of other sets it is unknown."""
+    """Returns the licence of these texts: one licence, or the usual choice of Rust crates. Other sets are
+    unknown."""
     known = [next((short for short, words in TEXTS if words in read(it)), UNKNOWN) for it in files]
     if [os.path.basename(it) for it in files] == ["LICENSE-APACHE", "LICENSE-MIT"]:
         return " OR ".join(known)
@@ -101,7 +103,7 @@ def licence_of(files):
 
 
 def source_of(folder, name):
-    """What a crate of the kit says that it follows."""
+    """Returns the Rust crate that a crate of the kit follows, and its version."""
     path = os.path.join(folder, "README.md")
     found = (re.search(r"Rust crate `%s` (\d[\w.]*\d)" % re.escape(name), read(path))
              if os.path.isfile(path)
@@ -117,20 +119,21 @@ def kit_part(name, needs):
 
 
 def kit_parts(program):
-    """The crates of the kit under a program in Rattle, each with those that it needs."""
+    """Returns the crates of the kit that a program in Rattle uses, each with the crates that it needs."""
     own = crates()
     found = closure(program, lambda it: needs_of_crate(it, own))
     return [kit_part(name, needs) for name, needs in found.items() if name not in own]
 
 
 def kit_crates_used(program):
-    """The crates of the kit that a program in Rattle or a crate of this repository under it names."""
+    """Returns the crates of the kit that are named by a program in Rattle or by a crate of this repository
+    that it uses."""
     own = crates()
     found = closure(program, lambda it: own.get(it, []))
     return [name for name in found if name not in own]
 
 
-# Go.
+# The programs in Go.
 
 
 def said(*command, **how):
@@ -140,19 +143,20 @@ def said(*command, **how):
     return done.stdout
 
 
-# Where the sources of the programs in Go are.
+# The folder with the sources of each program in Go.
 GO = {"csid-front": "go/front", "csid-etcd": "go/etcd"}
 
 
 def go_folders(program):
-    """The folders of the packages that a program in Go is made of, its own left out."""
+    """Returns the folders of all packages that a program in Go imports."""
     listed = said(os.path.join(TOP, "go", "go"), "list", "-deps", "-f", "{{.Dir}}", ".",
                   cwd=os.path.join(TOP, GO[program]))
     return sorted({os.path.realpath(it) for it in listed.split("\n") if it and not it.startswith(TOP)})
 
 
 def debian_names(folders):
-    """The Debian packages of the sources in these folders. Those of a folder are in one package."""
+    """Returns the Debian packages that own the sources in these folders. All files of a folder are in one
+    package."""
     sources = [os.path.join(it, next(name for name in sorted(os.listdir(it)) if name.endswith((".go", ".s"))))
                for it in folders]
     return sorted(
@@ -171,5 +175,6 @@ def debian_part(name):
 
 
 def go_parts(program):
-    """Debian's packages of the sources of a program in Go: Go's own library, and those that it imports."""
+    """Returns the Debian packages of the sources of a program in Go: Go's own library, and the imported
+    packages."""
     return [debian_part(it) for it in debian_names(go_folders(program))]

@@ -1,4 +1,4 @@
-"""The files of the repository."""
+"""Reads the files of the repository."""
 import os
 import pathlib
 
@@ -6,7 +6,7 @@ TOP = os.path.dirname(os.path.dirname(os.path.realpath(__file__)))
 
 
 def read(*path):
-    """The text of a file, by its path from the top or from the root."""
+    """Returns the text of a file. The path is relative to the top of the repository, or absolute."""
     return pathlib.Path(TOP, *path).read_text(encoding="utf-8")
 
 

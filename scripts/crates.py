@@ -1,20 +1,20 @@
-"""The crates of the repository, and folders for work on one crate while others are checked.
+"""The crates of the repository, and folders in which crates are checked side by side.
 
-A run of rt keeps every other out of the folders that it reads. So where several are to run side by side, each
-gets a folder of its own with links to the files of the crates that it reads, and to the libraries that were
-built of them.
+A run of rt locks the folders that it reads. So each of several runs gets a folder of its own, with links to
+the files of the crates that it reads, and to their built libraries.
 """
 import os
 import pathlib
 import shutil
 
 PARTS = ("src", "specs", "proofs")
-# What a check of the largest crates was measured to take, in bytes.
+# The memory for a check of the largest crates, in bytes.
 CHECK_BYTES = 4_000_000_000
 
 
 def read_crates():
-    """Returns the lines of crates.txt by crate, and which crates of this repository each uses."""
+    """Returns the lines of crates.txt by crate, and for each crate the crates of this repository that it
+    uses."""
     with open("crates.txt", encoding="utf-8") as file:
         lines = [line.strip() for line in file if line.partition("#")[0].strip()]
     named = {line.partition(":")[0].split()[0]: line for line in lines}
@@ -31,7 +31,7 @@ def below(name, uses):
 
 
 def with_below(names, uses):
-    """Returns crates and all crates that they use, the lowest first."""
+    """Returns these crates and all crates that they use, the lowest first."""
     found = []
     for name in names:
         found += [it for it in [*below(name, uses), name] if it not in found]
@@ -39,7 +39,7 @@ def with_below(names, uses):
 
 
 def weight(name):
-    """Returns the lines of a crate's files: a guess of how long its proof takes."""
+    """Returns the number of lines in a crate's files, as an estimate of the time of its proof."""
     lines = 0
     for part in PARTS:
         for at, _, names in os.walk(f"crates/{name}/{part}"):
@@ -53,14 +53,15 @@ def is_program(name):
 
 
 def lanes_for():
-    """Returns how many checks to run side by side: one a processor, and no more than free memory holds."""
+    """Returns the number of checks to run side by side: one for each processor, but not more than fit into
+    free memory."""
     with open("/proc/meminfo", encoding="ascii") as file:
         free = next(int(line.split()[1]) * 1024 for line in file if line.startswith("MemAvailable:"))
     return max(1, min(len(os.sched_getaffinity(0)), free // CHECK_BYTES))
 
 
 def link(source, to):
-    """Makes a folder whose files are links to another folder's files, or copies if links are impossible."""
+    """Makes a folder with links to another folder's files, or with copies if links are impossible."""
     try:
         shutil.copytree(source, to, copy_function=os.link)
     except (OSError, shutil.Error):
@@ -69,7 +70,7 @@ def link(source, to):
 
 
 def make_stage(stage, name, lines, uses):
-    """Makes a folder with all that a crate uses, built. Returns where the crate itself belongs."""
+    """Makes a folder with all crates that a crate uses, built. Returns the path for the crate itself."""
     room = f"{stage}/crates/{name}"
     os.makedirs(room)
     with open(f"{stage}/crates.txt", "w", encoding="utf-8") as file:

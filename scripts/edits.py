@@ -1,5 +1,5 @@
-"""The functions of the crates, by the lines of their sources, and the wrong bodies that are kept:
-scripts/try-edits says what they are."""
+"""Finds the functions of the crates in their sources, and the wrong bodies of these functions
+(scripts/try-edits describes wrong bodies)."""
 import collections
 import os
 import pathlib
@@ -14,12 +14,12 @@ class Function(collections.namedtuple("Function", "module name path body")):
     """A function of a crate: its module, its name, its path below the crate, and its text."""
 
     def is_called(self, path):
-        """Returns whether the checker's name of a function means this function, or a closure in it."""
+        """Returns True if the checker's name of a function means this function or a closure in it."""
         within = f"{self.module}::" if self.module else ""
         return path == self.path or path.startswith(within) and f"::fn::{self.name}::" in f"::{path}"
 
     def has_proof(self, file):
-        """Returns whether a file is one of the function's own proof."""
+        """Returns True if a file belongs to the function's own proof."""
         return file.startswith(f"proofs/{self.path.replace('::', '/')}/")
 
 
@@ -29,7 +29,7 @@ def module_of(file):
 
 
 def function_at(file, text, number):
-    """Returns the function of a line of a file, counted from 1, with its attributes; or None."""
+    """Returns the function at a line of a file, counted from 1, with its attributes, or None."""
     lines = text.split("\n")
     while number < len(lines) and lines[number - 1].lstrip().startswith("#["):
         number += 1
@@ -49,7 +49,7 @@ def function_at(file, text, number):
 
 
 def type_at(lines, start, indent):
-    """Returns how the checker calls the impl or trait that a method is in, or nothing where it is in none."""
+    """Returns the checker's name of the impl or trait of a method, or '' if the function is in neither."""
     if not indent:
         return ""
     for it in range(start, -1, -1):
@@ -64,9 +64,9 @@ def type_at(lines, start, indent):
 
 
 def block_name(head):
-    """Returns the checker's name of the impl with a head, from the text after the word `impl`: the type, and
-    the trait with its arguments, as in `AdoptFaultFromSqlError`; or the type with its arguments, unless these
-    are only the impl's own parameters, as in `Through+MemKeeper+D`."""
+    """Returns the checker's name of an impl, from the text after the word `impl`: the type and the trait with
+    its arguments, such as `AdoptFaultFromSqlError`, or the type with its arguments, such as
+    `Through+MemKeeper+D`. Arguments that are only the impl's own parameters are left out."""
     given, rest = split_brackets(head.strip())
     own = {it.partition(":")[0].strip() for it in parts_of(given)}
     trait, is_of_trait, of = rest.strip().rpartition(" for ")
@@ -84,7 +84,7 @@ def block_name(head):
 
 
 def split_brackets(text):
-    """Returns what a text that begins with an angle bracket has up to the matching one, and what follows."""
+    """Splits a text that begins with an angle bracket after the matching bracket."""
     depth = 0
     for at, sign in enumerate(text if text.startswith("<") else ""):
         depth += (sign == "<") - (sign == ">" and text[at - 1] != "-")
@@ -94,7 +94,7 @@ def split_brackets(text):
 
 
 def parts_of(text):
-    """Returns the parts of a text between its commas that are in no bracket."""
+    """Returns the parts of a text between its commas. Commas in brackets do not count."""
     parts, depth = [""], 0
     for sign in text:
         depth += (sign in "<([") - (sign in ">)]")
@@ -111,7 +111,7 @@ def words_of(text):
 
 
 class Edit:
-    """A wrong body: the texts that it puts instead of others, by file."""
+    """A wrong body: for each file, the old texts and the new texts."""
 
     def __init__(self, crate, name, lines, is_in_gate=False):
         self.crate, self.name, self.is_in_gate = crate, name, is_in_gate
@@ -130,8 +130,8 @@ class Edit:
                 raise ValueError(f"{crate}/{name} has a line that begins with no known word: {line}")
 
     def apply(self, texts):
-        """Applies its texts to the crate's files, and returns whether each old text was in its file
-        exactly once. Files that are not in `texts` are read."""
+        """Applies the edit to the texts of the crate's files, and reads files that `texts` lacks. Returns
+        True if each old text was in its file exactly once."""
         changed = {}
         for file, old, new in self.pairs:
             text = changed.get(file) or texts.get(file) or read(f"crates/{self.crate}/{file}")
@@ -142,7 +142,7 @@ class Edit:
         return bool(changed)
 
     def function_of(self, file, old):
-        """Returns the function that a text of a file of the crate is in, or None where it is in none."""
+        """Returns the function that has a text in a file of the crate, or None."""
         text = read(f"crates/{self.crate}/{file}")
         before, is_there, _ = text.partition(old)
         if not is_there or not file.startswith("src/"):
@@ -150,8 +150,8 @@ class Edit:
         return function_at(file, text, before.count("\n") + 1)
 
     def functions(self):
-        """Returns the functions that it changes, by path, or none where it changes more than functions and
-        their own proofs."""
+        """Returns the functions that the edit changes, by path. Returns none if it changes more than
+        functions and their proofs."""
         found = {}
         for file, old, _ in self.pairs:
             if file.startswith("proofs/"):
@@ -169,7 +169,7 @@ def read(path):
 
 
 def edits_in(crate):
-    """Returns the edits of a crate: those that the gate tries, and the others."""
+    """Returns the edits of a crate: the edits that the gate tries, and the others."""
     folder, path = f"crates/{crate}/must-fail", f"tests/edits/{crate}.edits"
     names = [it for it in sorted(os.listdir(folder)) if it.endswith(".edit")] if os.path.isdir(folder) else []
     found = [Edit(crate, it.removesuffix(".edit"), read(f"{folder}/{it}").split("\n"), True) for it in names]

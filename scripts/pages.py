@@ -1,9 +1,9 @@
-"""Headings of Markdown pages, and the anchors that a link to them has."""
+"""Headings of Markdown pages, and their anchors in links."""
 import re
 
 
 def headings(text):
-    """Returns the headings of a page, each with its level. Code has none."""
+    """Returns the headings of a page with their levels. Lines of code are no headings."""
     prose = re.sub(r"^```.*?^```$", "", text, flags=re.S | re.M)
     return [(len(marks), heading) for marks, heading in re.findall(r"^(#+) (.*)", prose, re.M)]
 

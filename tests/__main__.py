@@ -1,9 +1,11 @@
-"""Runs the tests as `python3 -m unittest` does, but each class of tests in a process of its own, and as many
-of these at a time as there are processors. A test that fails is run once more alone: a busy machine can delay
-a process for longer than a test waits. The last lines name the tests that passed then (`second try: NAME`)
-and give the reasons for skipped tests (`left out: REASON (N tests)`).
+"""Runs the tests as `python3 -m unittest` does, but side by side.
 
-usage: python3 -m tests [what python3 -m unittest takes]
+usage: python3 -m tests [arguments of python3 -m unittest]
+
+Each class of tests runs in a process of its own, at most one for each processor at a time. A failed test is
+run once more alone, since a busy machine can delay a process for longer than a test waits. The last lines
+name the tests that passed then (`second try: NAME`) and give the reasons for skipped tests (`left out: REASON
+(N tests)`).
 """
 
 import collections
@@ -14,18 +16,19 @@ from tests.support.runner import Runner
 
 
 def name_of(test):
-    """The name of a test that failed, or None for a failure outside tests, such as a class's setup."""
+    """Returns the name of a test that failed, or None for a failure outside tests, such as in a class's
+    setup."""
     return test.id() if isinstance(test, unittest.TestCase) else test.name
 
 
 def failed(result):
-    """The names of the tests that failed; empty for a failure outside tests, as of a class's setup."""
+    """Returns the names of the tests that failed, or none if there was a failure outside tests."""
     names = {name_of(test) for test, _ in result.failures + result.errors}
     return [] if None in names else sorted(names)
 
 
 def passes_again(names):
-    """Whether tests pass when they are run once more."""
+    """Runs tests once more. Returns True if they pass."""
     if not names:
         return False
     suite = unittest.defaultTestLoader.loadTestsFromNames(names)

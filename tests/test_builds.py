@@ -1,4 +1,4 @@
-"""./build and ./run with an rt that is played, over crates that have nothing in them."""
+"""./build and ./run with a replacement for rt, over empty crates."""
 
 import contextlib
 import os
@@ -12,10 +12,10 @@ from tests.support.processes import TOP, fixture, wait
 from tests.support.rows import RowTest
 
 
-# The longest time of a build that proves nothing.
+# The longest time of a build that proves nothing, in seconds.
 SECONDS = 60
 CRATES, RT, SERVER = [fixture("builds/" + name).decode() for name in ("crates.txt.txt", "rt", "server")]
-# A Probe, and csid's reply to it, worked out from docs/PROTOCOL.md.
+# A Probe, and csid's reply, worked out from docs/PROTOCOL.md.
 PROBE = b"\x00\x16/csi.v1.Identity/Probe\x00\x00\x00\x00\x00"
 SENT = "sent 00162f6373692e76312e4964656e746974792f50726f62650000000000: /csi.v1.Identity/Probe\n"
 REPLIES = [
@@ -60,7 +60,7 @@ class Place:
         }
 
     def build(self, program):
-        """Puts a program where ./build puts csid, newer than all that it is made of."""
+        """Writes a program where ./build writes csid, newer than all its sources."""
         self.write("crates/csid/out/csid", program, 0o755)
         date = os.stat(self.path("crates/csid/out/csid")).st_mtime - 10
         for at, _, names in os.walk(self.path("crates")):
@@ -69,7 +69,7 @@ class Place:
         os.utime(self.path("crates.txt"), (date, date))
 
     def run(self, *words, rt="bin", faulty="", typed=""):
-        """What a script ends with, and the calls of rt."""
+        """Returns the exit status of a script, and its calls of rt."""
         self.write("calls", "")
         done = subprocess.run([sys.executable, *words] if words[0] == "./build" else words, cwd=self.folder,
                               env=self.variables(rt, faulty), input=typed, capture_output=True, text=True,
@@ -78,7 +78,7 @@ class Place:
             return done.returncode, done.stdout, done.stderr, file.read().splitlines()
 
     def left(self):
-        """What a build has left next to the crates' files."""
+        """Returns the files that a build has left besides the sources."""
         return sorted("%s/%s" % (os.path.relpath(at, self.folder), it)
                       for at, _, names in os.walk(self.path("crates"))
                       for it in names
@@ -86,7 +86,7 @@ class Place:
 
 
 def take_sigint():
-    """SIGINT is taken as a terminal's processes take it: what runs the tests may ignore it."""
+    """Lets SIGINT end the process, as in a terminal. The process that runs the tests may ignore it."""
     signal.signal(signal.SIGINT, signal.SIG_DFL)
 
 
@@ -96,7 +96,7 @@ def end_group(pid):
 
 
 def runs(pid):
-    """Whether a process is there that has not ended."""
+    """Returns True if a process exists and has not ended."""
     try:
         return pathlib.Path("/proc/%d/stat" % pid).read_text().rsplit(") ", 1)[1][0] != "Z"
     except FileNotFoundError:
@@ -108,8 +108,8 @@ class BuildsTest(RowTest):
         super().setUp()
         self.place = Place(self.folder)
 
-    # Calls of rt: a crate, its kind, the crates in its crates.txt, the crates below it, its files, the built
-    # ones of these, and the words of the call.
+    # Calls of rt: the crate, its kind, the crates in its crates.txt, the crates below it, its files, the
+    # built files of the crates below, and the arguments.
     LOW = "low|lib |low||lib.rt||"
     UPPER = "upper|lib |left low right upper|left low right|lib.rt||"
     CSID = "csid|run |csid left low right upper|left low right upper|main.rt||a call"

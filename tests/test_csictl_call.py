@@ -1,4 +1,4 @@
-"""`csictl call` over csid, and over peers that are played."""
+"""`csictl call` over csid, and over servers that a test plays."""
 
 import contextlib
 import os
@@ -18,7 +18,7 @@ from tests.support.processes import SECONDS, copy_for_nobody
 from tests.support.rows import CsictlTest, each
 
 
-# Begins a call, says so, and waits.
+# Begins a call, prints a line, and waits.
 HOLDER = """
 import socket
 import sys
@@ -43,7 +43,7 @@ ROWS = tables("csictl_call", globals())
 
 
 def waits(path):
-    """The line of a try that has no reply after 3 seconds."""
+    """Returns the line of a try that has no reply after 3 seconds."""
     return (
         "csictl: %s: no reply for 3 s, still waiting: csid serves one connection at a time, and a front keeps"
         " it until it had no call for a second (use its control socket); --timeout bounds the wait\n" % path
@@ -55,7 +55,7 @@ PROBE = call(IDENTITY + "Probe", "")
 
 class CallTest(CsictlTest):
     def call(self, path, *words, **how):
-        """What csictl shows of a call to a socket."""
+        """Returns the output of csictl for a call to a socket."""
         return text(run([self.csictl, "call", "--socket", path, "--method", *words], input=b"", **how))
 
     def serve(self, *words):
@@ -65,7 +65,7 @@ class CallTest(CsictlTest):
         return server
 
     def listen(self, backlog):
-        """A socket that accepts no connection, and its path."""
+        """Returns a socket that accepts no connection, and its path."""
         path = os.path.join(self.folder, "peer.sock")
         listener = self.enterContext(socket.socket(socket.AF_UNIX))
         listener.bind(path)
@@ -74,7 +74,7 @@ class CallTest(CsictlTest):
 
 
 class CsidCallsTest(CallTest):
-    """Calls to csid."""
+    """Calls of csid."""
 
     def setUp(self):
         super().setUp()
@@ -126,14 +126,14 @@ class CsidCallsTest(CallTest):
 
 
 class SpoiledConnectionTest(CallTest):
-    """Clients that break their streams end nothing but their connection."""
+    """A client that breaks its stream ends only its own connection."""
 
     def setUp(self):
         super().setUp()
         self.server = self.serve()
 
     def check_served(self, *lines):
-        """Two more calls are answered. csid has said these lines."""
+        """Two more calls are answered. csid has written these lines."""
         for _ in range(2):
             self.assertEqual(self.call(self.server.path, "Probe"), (SHOWN, "", 0))
         self.assertEqual(self.server.kill()[0], "".join("csid: %s\n" % line for line in lines))
@@ -163,7 +163,8 @@ class SpoiledConnectionTest(CallTest):
         self.check_served("a read of a connection failed")
 
     def test_next_peer_waits_while_one_reads_no_reply(self):
-        """It sends calls until csid can write no more. The next one is answered when it has gone."""
+        """A peer sends calls until csid can write no more replies. The next peer is answered when the first
+        one has gone."""
         with self.server.connect() as peer:
             peer.settimeout(0.5)
             with contextlib.suppress(TimeoutError):
@@ -185,10 +186,11 @@ class SpoiledConnectionTest(CallTest):
 
 
 class PeerTest(CallTest):
-    """What csictl makes of servers that answer otherwise."""
+    """Servers that answer in another way than csid."""
 
     def ask(self, serve):
-        """What csictl shows of a reply by a function, which is given the connection. PATH is the socket."""
+        """Returns the output of csictl for a call that a function answers. The function gets the connection.
+        PATH is the socket."""
         listener, path = self.listen(1)
 
         def answer():
@@ -272,10 +274,10 @@ IN_RUN = 'mount -t tmpfs none /run && mkdir /run/csid && %s && exec %s "$@"'
 
 
 class PlaceTest(CallTest):
-    """Without --socket the environment names it, and without that it is where the units have it."""
+    """Without --socket the environment names the socket, and otherwise it is at the path of the units."""
 
     def probe(self, *before, program=None, **variables):
-        """What csictl shows of a Probe, where another command may start it."""
+        """Returns the output of csictl for a Probe, possibly started by another command."""
         rest = {name: value for name, value in os.environ.items() if name != "CSID_SOCKET"}
         words = [*before, program or self.csictl, "call", "--method", "Probe"]
         return text(run(words, input=b"", env={**rest, **variables}))
@@ -313,7 +315,7 @@ class PlaceTest(CallTest):
                 self.assertEqual(self.probe(*self.in_run(made), CSID_SOCKET=variable), wanted)
 
     def test_place_that_may_not_be_looked_into_is_taken(self):
-        """This user may not see whether it exists, and connecting says why."""
+        """This user cannot see if it exists, so connecting reports why it fails."""
         if os.geteuid() != 0 or not shutil.which("setpriv"):
             self.skipTest("the user nobody cannot be taken here")
         program, _ = copy_for_nobody(self.csictl, self.folder)
@@ -323,7 +325,7 @@ class PlaceTest(CallTest):
         self.assertEqual(self.probe(*before, program=program), ("", line, 5))
 
 
-# More than a socket holds: the rest waits until it is read, or the time is over.
+# More bytes than the buffer of a socket. The rest waits until it is read, or the time is over.
 LARGE = [
     *(CREATE, "--name", "a" * 100_000),
     *("--parameters", "k=" + "v" * 100_000, "--topology", "zone=" + "z" * 100_000),

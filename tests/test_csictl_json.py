@@ -15,12 +15,12 @@ def entry_in_json(number):
 
 
 def numbered(names, form):
-    """A text for each number of a list of names, with the number in hexadecimal and the name in it."""
+    """Returns a text for each number of a list of names, with the number in hexadecimal and the name."""
     return [form.replace("NN", "%02x" % number).replace("NAME", name) for number, name in enumerate(names)]
 
 
 def asked_of(connections):
-    """The calls of a walk over pages of one entry; a page that is not answered is asked for again."""
+    """Returns the calls of a walk over pages of one entry. A page without a reply is asked for again."""
     tokens, wanted = iter(["", "120131", "120132"]), []
     token = next(tokens)
     for deeds in connections:
@@ -37,7 +37,7 @@ ROWS = tables("csictl_json", globals())
 
 class JsonTest(CsictlTest):
     def call_json(self, method, reply, **streams):
-        """What csictl shows of the reply of a server."""
+        """Returns the output of csictl for this reply."""
         peer = Peer(self.folder, [reply])
         words = ["call", "--json", "--socket", peer.path, "--method", method]
         came = run([self.csictl, *words], input=b"", **streams)
@@ -64,7 +64,7 @@ class JsonTest(CsictlTest):
 
 class WalkTest(CsictlTest):
     def walk(self, connections, *words):
-        """What csictl shows, with PATH for the socket, and the calls of each connection."""
+        """Returns the output of csictl, with PATH for the socket, and the calls of each connection."""
         pages = Pages(self.folder, connections)
         words = ["call", "--all", "--socket", pages.path, "--method", "ListVolumes", *words]
         out, error, status = text(run([self.csictl, *words], input=b""))

@@ -1,4 +1,4 @@
-"""The commands of csictl for people, over csid, and over peers that are played."""
+"""The commands of csictl for people, over csid, and over servers that a test plays."""
 
 import json
 import os
@@ -21,7 +21,7 @@ def varint(number):
 
 
 def part(number, payload):
-    """A field of wire type 2."""
+    """Returns a field of wire type 2."""
     return varint(8 * number + 2) + varint(len(payload)) + payload
 
 
@@ -30,7 +30,8 @@ def pairs(number, of):
 
 
 def entry(name, size, topologies=(), nodes=(), **context):
-    """An entry of ListVolumes in hexadecimal digits (docs/PROTOCOL.md, "Messages"). A topology is pairs."""
+    """Returns an entry of ListVolumes in hexadecimal (docs/PROTOCOL.md, "Messages"). A topology is a list of
+    pairs."""
     volume = b"\x08" + varint(size % (1 << 64)) + part(2, name.encode()) + pairs(3, context)
     volume += b"".join(part(5, pairs(1, segments)) for segments in topologies)
     return part(1, part(1, volume) + part(2, b"".join(part(1, it.encode()) for it in nodes))).hex()
@@ -49,18 +50,18 @@ VOLUMES = ("ID      SIZE    TOPOLOGY       NODES  POOL\n"
            "vol-22  5 MiB   rack=7,zone=b  n1,n2  p22\n"
            "vol-3   1000 B  -              -      -\n")
 
-# The call for the configuration, and what a server answers that does not know it, as csid.
+# The call for the configuration, and the reply of a server that does not know it, such as csid.
 CONFIGURATION = call("/fomaheti.v1.Front/GetConfiguration", "")
 NOT_KNOWN = refusal(12, "unknown method")
 
 
 def asks_configuration(line):
-    """Whether a command asks for the configuration before it lists volumes."""
+    """Returns True if a command asks for the configuration before it lists volumes."""
     words = shlex.split(line)
     return words[0] in ("nodes", "pools") or not {"--node", "--pool"}.isdisjoint(words)
 
 
-# A configuration as a front answers it (docs/DEPLOY.md, "The control socket").
+# A configuration in the form of the front (docs/DEPLOY.md, "The control socket").
 ROOM = ok(json.dumps({
     "pools": [{"name": "p1", "bytes": 3 * GIB, "segments": {"zone": "a"}},
               {"name": "p22", "bytes": 10 * MIB, "segments": {"zone": "b", "rack": "7"}},
@@ -78,8 +79,8 @@ PLUGIN = ok((part(1, b"demo") + part(2, b"1.2")).hex())
 OUTDATED = refusal(10, "bad starting token")
 NO_RESPONSE = "csictl: the body is no response of the method\n"
 
-# Each row: what it shows, words, what the configuration and the pages are answered, the tokens of the pages,
-# standard output, standard error, status.
+# For each row: its name, the words, the replies with the configuration and the pages, the tokens of the
+# pages, standard output, standard error, and the status.
 CONFIGURED = [
     ("pools, also empty ones", "pools", [ROOM, ok(THREE[0] + THREE[1])], [""], POOLS_IN_ROOM, "", 0),
     ("a volume of no pool of the configuration", "pools", [ROOM, ok("".join(THREE))], [""],
@@ -118,13 +119,13 @@ CONFIGURED = [
      NO_RESPONSE, 3),
 ]
 
-# Bytes, and how they are shown: in the greatest unit that is exact to one decimal.
+# Sizes in bytes, and their texts in the greatest unit that is exact to one decimal.
 SIZES = {0: "0 B", 1: "1 B", 1023: "1023 B", 1024: "1 KiB", 1280: "1280 B", 1536: "1.5 KiB", 1537: "1537 B",
          MIB - 1: "1048575 B", MIB: "1 MiB", MIB + 512: "1024.5 KiB", 1025 * MIB: "1025 MiB",
          3 * GIB // 2: "1.5 GiB", 1 << 40: "1 TiB", 1 << 50: "1 PiB", 1 << 60: "1 EiB", 7 << 60: "7 EiB",
          (1 << 63) - 1: "9223372036854775807 B", -1: "-1 B"}
 
-# Sizes as they are written, and their bytes.
+# Sizes as a user writes them, and their bytes.
 WRITTEN = {"0": 0, "1": 1, "1B": 1, "1Ki": 1 << 10, "1Mi": 1 << 20, "1Gi": 1 << 30, "1Ti": 1 << 40,
            "1Pi": 1 << 50, "7Ei": 7 << 60, "1k": 10**3, "1K": 10**3, "1M": 10**6, "500M": 500 * 10**6,
            "1G": 10**9, "1T": 10**12, "1P": 10**15, "9E": 9 * 10**18, "0010Ki": 10240,
@@ -148,25 +149,25 @@ BLOCK = "1a060a001a020801"
 CONTEXT = ok("0a110a08726561646f6e6c79120566616c7365")
 
 
-# The calls of removals, and of the page that begins with the volume.
+# The calls of a removal, and of the page that begins with the volume.
 DELETE = call(CONTROLLER + "DeleteVolume", ID)
 AT_N1 = ok(entry("vol-1", GIB, [], ["n1"]))
 
 
 def look(token=""):
-    """The call for the page of one entry after a token."""
+    """Returns the call for the page of one entry after a token."""
     return call(CONTROLLER + "ListVolumes", "0801" + (part(2, token.encode()).hex() if token else ""))
 
 
 NO_ID = "no volume has this id\n"
-# (a line that also says how ids look)
+# The line that also shows the form of ids.
 NO_FORM = ("no volume has this id; ids look like vol-1, and csid --list-tables or csid-etcd --list shows the"
            " name of each\n")
 ROWS = tables("csictl_people", globals())
 
 
 class SlowPages(Pages):
-    """A server that takes a while for each page."""
+    """A server that needs a while for each page."""
 
     def play(self, peer, part):
         with peer, peer.makefile("rb") as calls:
@@ -179,7 +180,7 @@ class SlowPages(Pages):
 
 
 class AskTest(CsictlTest):
-    """A test that runs csictl over a socket. A line has its words, as a shell splits them."""
+    """A test that runs csictl over a socket. A shell splits the line into words."""
 
     def ask(self, path, line):
         return text(run([self.csictl, *shlex.split(line), "--socket", path], input=b""))
@@ -211,7 +212,7 @@ class PeopleTest(AskTest):
         self.compare(name, line, Pages(self.folder, [replies]), [asked], *wanted)
 
     def test_reader_that_goes_away(self):
-        """Nothing is reported, and the status is 0, of which a shell with pipefail takes no notice."""
+        """Nothing is reported. The status is 0, so a shell with pipefail does not fail."""
         server = Server(self.csid, os.path.join(self.folder, "p.sock"))
         listed = ["call", "--method", "ListVolumes"]
         for words in [["volumes"], ["pools", "--json"], ["status"], listed, [*listed, "--all"]]:
@@ -235,7 +236,7 @@ class PeopleTest(AskTest):
         self.compare("%d bytes" % size, "pools", pages, asked, out, "", 0)
 
     def test_each_page_has_the_time_of_the_option(self):
-        """Also over a connection that is kept."""
+        """This also holds over a connection that is kept."""
         pages = SlowPages(self.folder, [[ok(THREE[0] + NEXT), ok(THREE[1] + THREE[2])]])
         self.check("two slow pages", self.ask(pages.path, "volumes --timeout 3"), (VOLUMES, "", 0))
         self.check("what was asked", len(pages.end()[0]), 2)
@@ -261,7 +262,7 @@ class PeopleTest(AskTest):
 
     @each([*ROWS["REFUSED"], *[("create a '--size=%s'" % size, "--size") for size in NO_SIZES]])
     def test_words_that_are_refused(self, line, said):
-        """Nothing is sent where the words are not understood."""
+        """Nothing is sent if the words are not understood."""
         self.check("refused: " + line, self.ask("s", line), ("", Line("csictl: ", said), 2))
 
     def test_over_csid(self):
@@ -325,10 +326,10 @@ class StatusTest(AskTest):
 
 
 class RemovalTest(AskTest):
-    """`csictl unpublish` and `csictl delete` look first whether there is something to remove."""
+    """`csictl unpublish` and `csictl delete` check first if there is something to remove."""
 
     def removed(self, name, line, connections, *wanted):
-        """Compares a removal over a played server, which has calls and their replies for each connection."""
+        """Compares a removal over a played server, with the calls and replies of each connection."""
         pages = Pages(self.folder, [[answer for _, answer in part] for part in connections])
         self.compare(name, line, pages, [[asked for asked, _ in part] for part in connections], *wanted)
 
@@ -342,14 +343,14 @@ class RemovalTest(AskTest):
         self.removed(line, line, [[(look(token), page)]], *wanted)
 
     @each([
-        # The calls and their answers of each connection, and the number of second tries.
+        # The calls and replies of each connection, and the number of second tries.
         ("the page is tried again", [[(look(), CLOSED)], [(look(), AT_N1), (DELETE, ok(""))]], 1),
         ("the removal is tried again", [[(look(), AT_N1), (DELETE, CLOSED)], [(DELETE, ok(""))]], 1),
         ("each of the two calls has its tries",
          [[(look(), CLOSED)], [(look(), AT_N1), (DELETE, CLOSED)], [(DELETE, ok(""))]], 2),
     ])
     def test_repeated_removal_is_not_looked_up_again(self, name, connections, tries):
-        """The try before may have removed it."""
+        """The first try may have removed it."""
         said = "csictl: PATH: closed without a reply: try 2 of 2\n" * tries
         self.removed(name, "delete vol-1 --tries 2", connections, "deleted vol-1\n", said, 0)
 
@@ -375,10 +376,10 @@ class RemovalTest(AskTest):
         self.over_volumes(*said, ("volumes", both, "", 0))
 
     def test_call_does_not_look_first(self):
-        """`csictl call` shows what the server answers: OK."""
+        """`csictl call` shows the server's answer, which is OK."""
         self.over_volumes(("call --method DeleteVolume --volume vol-77", "0 OK -\n", "", 0),
                           ("call --method ControllerUnpublishVolume --volume vol-2", "0 OK -\n", "", 0))
 
     def test_volume_that_is_looked_for_by_its_name(self):
-        """`csictl volume` says how ids look."""
+        """`csictl volume` shows the form of ids."""
         self.over_volumes(("volume pvc-7", "", "csictl: pvc-7: " + NO_FORM, 1))

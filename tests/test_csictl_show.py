@@ -1,4 +1,4 @@
-"""csictl alone: `show`, `frame` and its words."""
+"""csictl without a server: `show`, `frame` and its arguments."""
 
 import os
 import pty
@@ -18,7 +18,7 @@ ROWS = tables("csictl_show", globals())
 
 
 def left_open(words, given):
-    """What comes of an input that stays open after these bytes."""
+    """Returns the output for an input that stays open after these bytes."""
     reading, writing = os.pipe()
     try:
         os.write(writing, given)

@@ -7,7 +7,7 @@ from tests.support.processes import write
 from tests.support.rows import CsictlTest, each
 
 PROBE, ANSWER = call(IDENTITY + "Probe", "").hex(), READY.hex()
-# Each row: what it shows, the file, standard output, the line that is no vector, the status.
+# For each row: its name, the file, standard output, the number of the line that is no vector, and the status.
 ROWS = [
     ("one", "probe %s %s\n" % (PROBE, ANSWER), "ok probe\n", None, 0),
     ("no last end of line, upper case", "probe %s %s" % (PROBE.upper(), ANSWER), "ok probe\n", None, 0),

@@ -1,4 +1,4 @@
-"""Tables that are adopted or refused: rows by hand, and files of earlier releases."""
+"""Tables that are adopted or refused: rows written by hand, and files of earlier releases."""
 
 import os
 import shutil
@@ -15,8 +15,8 @@ from tests.support.tables import (A, BESIDE, BLOCK_CAPS, BYTES, CAP, CAPS, FIRST
 from tests.vectors.rows import Plain
 
 
-# All rules are broken at once, and fixed in order from the first: what breaks each, what fixes
-# it, and the line before it is fixed.
+# All rules are broken at once, and fixed in order. For each rule: how to break it, how to fix it, and the
+# line before it is fixed.
 GOOD = volume(1) + volume(2, "'b'") + volume(3, "'c'")
 TURNS = [
     (volume(10, "'k'", caps="'caps'"), "DELETE FROM volumes WHERE number = 10", volume_fault(10, KIND)),
@@ -50,13 +50,13 @@ EXPLAINED = dict(ROWS["EXPLAINED"])
 
 
 def explained(name, line):
-    """The lines before the line of a row. May be empty."""
+    """Returns the lines before the line of a row, if any."""
     is_of_a = line.startswith("volume 1") and KIND not in line
     return EXPLAINED.get(name, BROKEN_A if is_of_a else None)
 
 
 class AdoptionTest(CsidTest):
-    """Rows by hand, which are adopted or refused."""
+    """Rows written by hand."""
 
     def check_refused(self, name, line, config=None):
         """`csid --check-tables` explains a refused row, then prints the line of the refusal."""
@@ -100,12 +100,13 @@ class AdoptionTest(CsidTest):
         self.assertEqual(self.tables.run(frame(PROBE), self.config), self.tables.says(line))
 
     def fill(self, count):
-        """Tables with this many volumes, whose next number is 200000."""
+        """Makes tables with this many volumes and the next number 200000."""
         self.configure(sample((b"10485760", b"%d" % (200000 * MIB))))
         self.tables.new().script(MANY % (count, BLOCK_CAPS) + next_is(200000))
 
     def test_limit_of_volumes_is_100000(self):
-        """A new name is refused, an existing one answered, and after a delete there is room for one."""
+        """A new name is refused, an existing name is answered, and after a delete there is room for one more.
+        """
         self.fill(100000)
         names = b"\x0a\x01z", b"\x0a\x02v1", b"\x0a\x01a"
         new, first, another = [controller("CreateVolume", CREATE_A.replace(names[2], it)) for it in names]
@@ -130,7 +131,7 @@ BLOCK_MODE, EXT4_MODE = "1a060a001a0208%02x", "1a0c12060a04657874341a0208%02x"
 
 
 class StoredTest(CsidTest):
-    """Files of earlier releases are adopted: they have format 2 then, and no row of a volume changes."""
+    """Files of earlier releases are adopted. They then have format 2, and no row of a volume changes."""
 
     def open_stored(self, name):
         self.tables = Tables(self.csid, self.folder, name)
@@ -143,10 +144,9 @@ class StoredTest(CsidTest):
 
 
 class ModesTest(StoredTest):
-    """A file that csid wrote before it knew the modes 6 and 7: its volumes of mode 1 are published with them.
-
-    tests/stored/modes-1-to-5.db has volumes of 1 MiB in p1, and two that are attached: 'readers' with mode 3
-    and 'attached' with mode 1."""
+    """A file of a csid without the modes 6 and 7: its volumes with mode 1 can be published with them.
+    tests/stored/modes-1-to-5.db has volumes of 1 MiB in p1, and two attached ones: 'readers' with mode 3 and
+    'attached' with mode 1."""
 
     CAPS = [
         ("block", BLOCK_MODE % 1),
@@ -192,25 +192,23 @@ class ModesTest(StoredTest):
 
 
 def part(number, content):
-    """A field of less than 128 bytes."""
+    """Returns a field of less than 128 bytes."""
     return bytes([number * 8 + 2, len(content)]) + content
 
 
 def entry(number):
-    """A volume of 1 MiB in p1 that is attached nowhere, as ListVolumes has it."""
+    """Returns an entry of ListVolumes: a volume of 1 MiB in p1 without attachments."""
     pool = bytes.fromhex("1a0a 0a04706f6f6c 12027031 2a0b 0a09 0a047a6f6e65 120161")
     volume = bytes.fromhex("08808040") + part(2, b"vol-%d" % number) + pool
     return part(1, part(1, volume) + part(2, b""))
 
 
 class FormatTest(StoredTest):
-    """Files that csid wrote before it knew mutable parameters.
-
-    tests/stored/format-1-0.db has no volume, format-1-1.db one with a parameter, and format-1-1000.db a
-    thousand: all of 1 MiB in p1, as block with mode 1."""
+    """Files of a csid without mutable parameters. tests/stored/format-1-0.db has no volume, format-1-1.db one
+    with a parameter, and format-1-1000.db a thousand, all of 1 MiB in p1, as block with mode 1."""
 
     def pages(self, count):
-        """The calls that list the volumes, and the replies."""
+        """Returns the calls that list the volumes, and the replies."""
         calls, replies = b"", b""
         for first in range(0, max(count, 1), 100):
             last = min(first + 100, count)

@@ -1,8 +1,7 @@
-"""`csid serve --log` over a change store that is played here: what it asks for, what it replies, and what it
-says.
+"""`csid serve --log` over a change store that a test plays: its calls, its replies and its lines.
 
-A played store keeps no rows: it has its replies from the row of the test, and notes each frame. What a change
-is asked for as was worked out by hand from docs/PROTOCOL.md, "The change store", and docs/TABLES.md, and so
+A played store has no rows: it answers with the replies in the row of the test, and records each frame. The
+expected calls were worked out by hand from docs/PROTOCOL.md, "The change store", and docs/TABLES.md, and so
 were the replies of csid, with the sample configuration of docs/OPERATING.md.
 """
 
@@ -26,14 +25,14 @@ from tests.vectors import messages as v
 
 
 MIB = 1 << 20
-# A reply that is not sent: the connection is closed instead.
+# In place of a reply: the connection is closed.
 CLOSED = "closed"
 BLOCK = v.unhex("1a060a001a020801")
 MOUNT = v.unhex("1a0c12060a04657874341a020801")
 
 
 class PlayedStore(change_stores.ChangeStore):
-    """A log that has a reply for each frame, and notes the frames."""
+    """A change store with a reply for each frame. It records the frames."""
 
     def __init__(self, path):
         self.asked, self.replies, self.turns = [], [], []
@@ -41,7 +40,7 @@ class PlayedStore(change_stores.ChangeStore):
 
     @property
     def leads(self):
-        """Whether it leads: one turn each time that it is asked, and after them as it was answered last."""
+        """Returns True if it leads: the next value of the list each time, and then the last one again."""
         return self.turns.pop(0) if self.turns else self.is_leading
 
     @leads.setter
@@ -54,7 +53,7 @@ class PlayedStore(change_stores.ChangeStore):
         return None if reply == CLOSED else reply
 
     def take(self):
-        """The frames until now. They are then forgotten."""
+        """Returns the frames so far, and forgets them."""
         asked, self.asked = self.asked, []
         return asked
 
@@ -76,7 +75,7 @@ def commit(*parts):
 
 
 class Server(Served):
-    """csid on a socket over a played log."""
+    """csid at a socket, over a played store."""
 
     def __init__(self, csid, folder, *replies, words=(), log=PlayedStore):
         self.path, self.log_path = os.path.join(folder, "csid.sock"), os.path.join(folder, "log.sock")
@@ -111,8 +110,7 @@ MADE = v.CREATED
 NO_STORE, DOWN = v.refusal(13, "store refused"), v.refusal(13, "store is down")
 RICH_ROW = [v.num(1, 2), v.txt(2, "rich"), v.num(3, 3 * MIB), v.txt(4, "p1"), v.msg(5, BLOCK, MOUNT),
             v.msg(6, v.unhex("22060a016b120176 42060a016d120177"))]
-# A create longer than the buffer of a socket that is not read. It is given up after a piece that was sent in
-# part, and a piece that was not sent.
+# A create that does not fit into the buffer of a socket. csid gives it up after a part of it was sent.
 LARGE = v.create(v.txt(1, "large"),
                  *[v.msg(3, v.msg(2, v.txt(1, "%06d" % it)), v.msg(3, MODE)) for it in range(20_000)])
 UNKNOWN = ("csid: LOG: a change was refused by the change store, or nobody knows of it, or there was no"
@@ -123,8 +121,8 @@ NOT_HELD = ("csid: LOG: there was no memory for a change that was made; from the
 
 
 class DeafStore(PlayedStore):
-    """A log that answers a read of its rows and whether it leads, and then reads nothing: a short change goes
-    out, and has no reply."""
+    """A change store that answers a read of its rows and Lead, and then reads nothing. A short change is
+    sent, but has no reply."""
 
     def __init__(self, path):
         self.over = threading.Event()
@@ -142,7 +140,7 @@ class DeafStore(PlayedStore):
 
 
 class DrippingStore(DeafStore):
-    """A log that answers the same, and then sends a reply that takes minutes, a byte each half second."""
+    """A change store that answers the same, and then sends a reply at one byte each half second."""
 
     def end_silently(self, peer):
         for byte in page(*[volume(it, "v%d" % it) for it in range(1, 20)]):
@@ -152,7 +150,7 @@ class DrippingStore(DeafStore):
 
 
 def stalled(csid, folder, log, call):
-    """What comes of a call whose change a log does not answer, and how long that takes."""
+    """Makes a call whose change a store does not answer. Returns the result, and the time that it takes."""
     os.mkdir(folder)
     server = Server(csid, folder, page(meta(1)), log=log)
     begin = time.monotonic()
@@ -167,7 +165,7 @@ def stalled(csid, folder, log, call):
 
 
 def nobody(csid, folder):
-    """csid over a socket that does not exist: it goes on, and answers no call."""
+    """csid over a socket that does not exist: it continues, and answers no call."""
     path = os.path.join(folder, "csid.sock")
     process = subprocess.Popen([csid, "serve", "--socket", path, "--log", os.path.join(folder, "none"),
                                 "--connections", "1"], stdin=subprocess.DEVNULL, stdout=subprocess.DEVNULL,
@@ -246,8 +244,8 @@ class StartTest(PlayedTest):
 
 
 class RefusedStartTest(PlayedTest):
-    """A change store that is missing or refuses its rows: csid closes the connection without a reply, and
-    tries again for the next one."""
+    """The change store is missing or refuses its rows. csid closes the connection without a reply, and tries
+    again for the next connection."""
 
     def waiting(self, holder):
         text = "waiting for the lock, which %s holds" % holder
@@ -312,7 +310,7 @@ class ChangeTest(PlayedTest):
                 self.assertEqual(server.end(), has(0, 0, 1) + line + UNKNOWN + has(1, 0, 2))
 
     def test_store_that_stalls_has_30_seconds(self):
-        """It takes a change and answers nothing, or a byte each half second."""
+        """The store takes a change and does not answer, or sends one byte each half second."""
         changes = [
             ("a short change", DeafStore, CREATE),
             ("a long change", DeafStore, LARGE),
@@ -327,14 +325,14 @@ class ChangeTest(PlayedTest):
 
 
 class LeadTest(PlayedTest):
-    """A change store that does not lead any more, or has gone: no later call is answered from memory."""
+    """A change store that does not lead any more, or has gone. csid answers no later call from memory."""
 
     def serve_two(self):
-        """csid over a store whose volume is another one when it is read again."""
+        """Starts csid over a store that has another volume when it is read again."""
         return self.serve(page(meta(2), volume(1, "a")), page(meta(3), volume(2, "b")))
 
     def ask_after(self, server, event, *calls):
-        """The reply to a Probe, and what comes for each call after an event."""
+        """Returns the reply to a Probe, and the result of each call after an event."""
         with server.connect() as peer:
             peer.sendall(v.probe())
             self.assertEqual(peer.recv(1 << 16), v.READY)
@@ -361,7 +359,7 @@ class LeadTest(PlayedTest):
         self.assertEqual([*came], [MADE, b""])
 
     def test_store_is_asked_before_each_reply(self):
-        """It is asked once more when a connection begins."""
+        """It is asked once more at the start of a connection."""
         server = self.serve(page(meta(2), volume(1, "a")))
         server.log.turns, server.log.leads = [True, True, False], True
         self.assertEqual(server.ask(v.probe(), v.listing(), v.probe()), v.READY)
@@ -369,7 +367,7 @@ class LeadTest(PlayedTest):
         self.assertEqual(server.end(), has(1, 0, 2) + NO_LEAD)
 
     def test_call_after_the_end_of_the_connection_is_not_answered(self):
-        """The next connection has the rows of the store at its time."""
+        """The next connection has the rows that the store has then."""
         server = self.serve_two()
         self.assertEqual([*self.ask_after(server, server.log.hang_up, v.listing())], [b""])
         self.assertEqual(server.ask(v.listing()), v.page(v.listed(2, MIB, v.P1)))
@@ -377,11 +375,11 @@ class LeadTest(PlayedTest):
 
 
 class SlowReaderTest(CsidTest):
-    """A client of `csid serve --log` that reads late: csid waits in the middle of a reply."""
+    """A client of `csid serve --log` that reads late, so csid waits in the middle of a reply."""
 
     # They fit on one page.
     VOLUMES = range(1, 101)
-    # This many pages of 4,300 bytes do not fit into the buffer of a socket.
+    # This many pages of 4,300 bytes are more than the buffer of a socket.
     LISTINGS = 200
 
     def setUp(self):
@@ -394,14 +392,14 @@ class SlowReaderTest(CsidTest):
         self.calls, self.pages = v.listing() * self.LISTINGS, page * self.LISTINGS
 
     def change_store(self, path):
-        """A change store with volumes, fifty a page."""
+        """Returns a change store with the volumes, fifty on a page."""
         store = KeptChangeStore(path, page_rows=50)
         store.volumes = {it: ("v%d" % it, MIB, "p1", BLOCK, b"") for it in self.VOLUMES}
         store.next = len(self.VOLUMES) + 1
         return store
 
     def read_late(self, calls, count):
-        """The first bytes of the replies to calls, read only after three seconds."""
+        """Makes calls, and reads the first bytes of the replies only after three seconds."""
         with self.server.connect() as peer:
             threading.Thread(target=peer.sendall, args=(calls,), daemon=True).start()
             time.sleep(3)
@@ -425,7 +423,7 @@ class SlowReaderTest(CsidTest):
 
 
 class StarvingStore(KeptChangeStore):
-    """A change store that limits the memory of csid to what it has, before it answers a change."""
+    """A change store that limits the memory of csid to the memory in use, before it answers a change."""
 
     csid = None
 
@@ -437,7 +435,7 @@ class StarvingStore(KeptChangeStore):
 
 
 def status_of(csid, key):
-    """The first word of a line of /proc/PID/status."""
+    """Returns the first word of a line of /proc/PID/status."""
     with open("/proc/%d/status" % csid) as lines:
         return next(line.split()[1] for line in lines if line.startswith(key + ":"))
 
@@ -447,21 +445,21 @@ def limit_memory(csid, size):
 
 
 class ShortMemoryTest(CsidTest):
-    """The change store makes a change, and `csid serve --log` has no memory to keep it."""
+    """The change store makes a change, and `csid serve --log` has no memory for it."""
 
-    # As many entries of four bytes as a map can have. In memory they take some 90 KiB.
+    # The greatest number of entries in a map. In memory they take about 90 KiB.
     ENTRIES = [("%03x" % it, "v") for it in range(1024)]
 
     def setUp(self):
         super().setUp()
-        # The C library returns freed buffers to the system, and takes no memory in advance (mallopt(3)).
+        # The C library returns freed buffers to the system, and reserves no memory (mallopt(3)).
         self.enterContext(mock.patch.dict(os.environ, MALLOC_MMAP_THRESHOLD_="65536", MALLOC_TOP_PAD_="0"))
         config = self.configure(LARGE_POOL)
         self.server = Server(self.csid, self.folder, words=["--config", config], log=self.change_store)
         self.addCleanup(self.server.end)
 
     def change_store(self, path):
-        """A change store with one volume."""
+        """Returns a change store with one volume."""
         store = StarvingStore(path, page_rows=1000)
         store.volumes, store.next = {1: ("a", MIB, "p1", BLOCK, b"")}, 2
         return store
@@ -471,7 +469,7 @@ class ShortMemoryTest(CsidTest):
         return peer.recv(1 << 16)
 
     def fill(self, peer):
-        """Creates volumes until csid needs more memory for one, so it has none left that is free."""
+        """Creates volumes until csid needs more memory for one. So it has no free memory left."""
         csid = self.server.process.pid
         entries = [v.mutable(*it) for it in self.ENTRIES[:100]]
         taken = status_of(csid, "VmData")

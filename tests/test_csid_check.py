@@ -49,19 +49,19 @@ class CheckConfigTest(CsidTest):
 
 
 class CheckTablesTest(CsidTest):
-    """`csid --check-tables`: it changes nothing."""
+    """`csid --check-tables` changes nothing."""
 
-    # What the calls of ASKED leave.
+    # The line about the tables that the calls of ASKED leave.
     SUMMARY = (b"volumes 1, attachments 0, next number 3, format 2\n", "", 0)
 
     def fill(self):
-        """Tables with a volume, and a link to them."""
+        """Makes tables with a volume, and a link to them."""
         self.tables.run(ASKED)
         self.linked = Tables(self.csid, self.folder, "linked.db")
         os.symlink(self.tables.path, self.linked.path)
 
     def check_kept(self, tables, *words, **how):
-        """What a check says of tables that it must leave as they are."""
+        """Checks tables, which must not change. Returns the output."""
         kept = self.tables.files()
         came = tables.check(*words, **how)
         self.assertEqual(self.tables.files(), kept)
@@ -121,7 +121,7 @@ class CheckTablesTest(CsidTest):
         self.assertEqual(self.check_kept(self.tables), self.SUMMARY)
 
     def test_tables_are_checked_while_they_are_served(self):
-        """A volume is in the WAL alone. The server goes on."""
+        """A volume is only in the WAL. The server continues."""
         self.fill()
         made = reply(VOLUME_1.replace(b"vol-1", b"vol-3"))
         streams = dict.fromkeys(("stdin", "stdout", "stderr"), subprocess.PIPE)
@@ -147,8 +147,8 @@ class CheckTablesTest(CsidTest):
 
 
 def feed(path, contents, copies):
-    """Gives pipes the bytes that csid reads of them: the head and the journal, and for each copy the file,
-    the WAL, the file again, and the header of the WAL. Each is opened after the end of another."""
+    """Gives the pipes the bytes that csid reads: the head and the journal, and for each copy the file, the
+    WAL, the file again, and the header of the WAL. Each is opened after the one before has ended."""
     reads = [("", contents[0][:105]), ("-journal", b"")]
     for before, after in copies:
         reads += [("", contents[before]), ("-wal", b""), ("", contents[after]), ("-wal", b"")]
@@ -157,10 +157,11 @@ def feed(path, contents, copies):
 
 
 class ChangingFileTest(CsidTest):
-    """`csid --check-tables` over a file that changes while it is copied."""
+    """A file changes while `csid --check-tables` copies it."""
 
     def check_changing(self, copies):
-        """The tables, and what a check says where each copy finds one content first, and then another one."""
+        """Returns the tables, and the output of a check whose copies each find first one content and then
+        another."""
         contents = []
         for rows in A, A + volume(2, "'b'"):
             contents.append(pathlib.Path(self.tables.new().script(rows).path).read_bytes())

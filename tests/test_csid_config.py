@@ -40,7 +40,7 @@ class ConfigTest(CsidTest):
         self.assertEqual(self.run_pipe(content), (b"", self.line(line), 3))
 
     def test_want_of_memory_is_reported(self):
-        """The file can be read, and there is no memory for its values."""
+        """The file can be read, but there is no memory for its values."""
         came = self.run_pipe(SAMPLE + nodes(40_000), preexec_fn=little_memory)
         self.assertEqual(came, (b"", NO_MEMORY, 6))
 
@@ -52,7 +52,7 @@ class ConfigTest(CsidTest):
 
 
 class UnknownKeysTest(CsidTest):
-    """Keys of a configuration that are not known."""
+    """A configuration with unknown keys."""
 
     CONTENT = sample((b"[[pool]]", b'segment = 1\n\n[[nodes]]\nid = "n3"\n\n[[pool]]'),
                      (b"bytes = 4194304", b'bytes = 4194304\nsegment = 3\n"a\\nb" = 1'),

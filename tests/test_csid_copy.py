@@ -15,7 +15,7 @@ HEADER = 32
 
 
 class Moment:
-    """What a file, its WAL and the tables in them have at one moment."""
+    """The bytes of a file, of its WAL, and the tables in them, at one moment."""
 
     def __init__(self, path, volumes):
         self.database = pathlib.Path(path).read_bytes()
@@ -24,8 +24,9 @@ class Moment:
 
 
 def moments(path):
-    """A writer's moments in order, and how long its WAL was after the first of two commits. Both commits are
-    in the WAL alone; they are in the file too; the WAL has begun again with a third commit."""
+    """Returns the moments of a writer in order, and the length of the WAL after the first of two commits.
+    First both commits are only in the WAL, then also in the file, and then the WAL begins again with a third
+    commit."""
     writer = sqlite3.connect(path, isolation_level=None)
     writer.execute("PRAGMA wal_autocheckpoint = 0")
 
@@ -52,16 +53,17 @@ class CopyTest(CsidTest):
         self.moments, self.cut = moments(Tables(self.csid, self.folder, "made.db").new().path)
 
     def feed(self, path, reads):
-        """Gives csid what it reads of pipes, each opened after the end of another: first the head of the file
-        and its journal."""
+        """Gives csid the bytes that it reads from pipes: first the head of the file and its journal. Each
+        pipe is opened after the one before has ended."""
         reads = [("", self.moments[0].database[:105]), ("-journal", b"")] + reads
-        # (what csid does not read any more is left when the folder goes)
+        # csid may not read all of it.
         with contextlib.suppress(OSError):
             for ending, content in reads:
                 pathlib.Path(path + ending).write_bytes(content)
 
     def reads(self, file, low, high, again, header):
-        """The reads of one copy: the file, the WAL in two pieces, the file, and the head of the WAL."""
+        """Returns the reads of one copy: the file, the WAL in two pieces, the file, and the head of the WAL.
+        """
         return [
             ("", file.database),
             ("-wal", low.wal[: self.cut] + high.wal[self.cut :]),
@@ -70,7 +72,7 @@ class CopyTest(CsidTest):
         ]
 
     def count(self, name, *copies):
-        """How many volumes csid finds in the first of these copies that it takes."""
+        """Returns the number of volumes in the first of these copies that csid accepts."""
         tables = Tables(self.csid, self.folder, name + ".db")
         for ending in "", "-journal", "-wal":
             os.mkfifo(tables.path + ending)
@@ -93,8 +95,8 @@ class CopyTest(CsidTest):
                 self.assertEqual(self.count("order%d%d%d%d%d" % order, copy, last), wanted)
 
     def test_wal_that_begins_again_behind_its_first_piece_is_read_again(self):
-        """The piece that was read has the first commit alone, and the file has both already: a copy joined of
-        them would lack a volume."""
+        """The first piece of the WAL has only the first commit, and the file has both. A copy made of these
+        would lack a volume."""
         _, copied, begun = self.moments
         self.assertEqual(self.count("joined", (copied, copied, begun, begun, begun), [begun] * 5),
                          self.found(3))

@@ -83,7 +83,7 @@ class CopyTablesTest(CsidTest):
         writer = sqlite3.connect(self.tables.path, isolation_level=None)
         writer.execute("PRAGMA wal_autocheckpoint = 0")
         writer.executescript("BEGIN; %s COMMIT;" % A)
-        # (begun and not committed)
+        # The transaction is open.
         writer.executescript("BEGIN; %s %s" % (volume(2, "'b'"), next_is(10)))
         self.assertEqual(self.copy(), (ONE, "", 0))
         writer.close()
@@ -117,7 +117,7 @@ class CopyTablesTest(CsidTest):
         self.assertEqual(names(self.place), ["copy.db"])
 
     def test_name_that_comes_to_be_during_the_copy_is_not_replaced(self):
-        """A link to nothing is no file that exists, and it has the name."""
+        """A dangling link is not an existing file, but it has the name."""
         self.tables.new()
         os.symlink("nowhere", self.copied.path)
         self.assertEqual(self.copy(), self.refused(self.copied.path, FILE_EXISTS))

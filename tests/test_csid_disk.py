@@ -1,4 +1,4 @@
-"""Files that are locked, replaced or killed over, and disks that are full."""
+"""Files that are locked or replaced, kills, and full disks."""
 
 import contextlib
 import os
@@ -20,7 +20,7 @@ from tests.support.tables import (BLOCK_CAPS, DAMAGED, FULL, IO_FAILED, LOCKED, 
 
 
 def mounts(count):
-    """As many capabilities of a create, each a mount of a file system with a name of 120 letters."""
+    """Returns `count` capabilities of a create, each a mount with a file system of 120 letters."""
     names = [b"%0120d" % number for number in range(count)]
     return b"".join(bytes.fromhex("1a 80 01 12 7a 0a 78") + name + bytes.fromhex("1a 02 08 01")
                     for name in names)
@@ -35,7 +35,7 @@ class DiskTest(CsidTest):
     """csid over tables in the folder of the test."""
 
     def begin(self, tables, call, answer):
-        """csid that has answered a call, and waits for another one."""
+        """Starts csid, and makes one call. csid then waits for another one."""
         streams = dict.fromkeys(("stdin", "stdout", "stderr"), subprocess.PIPE)
         process = subprocess.Popen(tables.command, bufsize=0, **streams)
         process.stdin.write(call)
@@ -43,17 +43,17 @@ class DiskTest(CsidTest):
         return process
 
     def finish(self, process, calls):
-        """What csid makes of further calls."""
+        """Makes further calls and ends csid. Returns the result."""
         out, error = process.communicate(calls, timeout=SECONDS)
         return out, error.decode(), process.returncode
 
     def configure_much(self):
-        """A configuration with a large pool."""
+        """Writes a configuration with a large pool."""
         return self.configure(sample((b"10485760", b"%d" % (20000 * MIB))))
 
 
 class LockTest(DiskTest):
-    """One csid has the file, or one sqlite3."""
+    """Either one csid or one sqlite3 has the file."""
 
     def test_file_of_csid_is_locked(self):
         """For another csid, and for sqlite3."""
@@ -75,7 +75,7 @@ class LockTest(DiskTest):
 
 
 class KillTest(DiskTest):
-    """csid is killed after it has answered a create, so that the log has it."""
+    """csid is killed after it has answered a create, so only the WAL has the change."""
 
     def kill_after_create(self, tables):
         process = self.begin(tables, CREATE, reply(VOLUME_1))
@@ -83,7 +83,7 @@ class KillTest(DiskTest):
         process.communicate()
 
     def test_answered_change_is_in_the_log(self):
-        """The log is of the file: a copy of the file alone is older."""
+        """The WAL belongs to the file: a copy of the file alone is older."""
         self.kill_after_create(self.tables)
         both, alone = Tables(self.csid, self.folder, "both.db"), Tables(self.csid, self.folder, "alone.db")
         for copy in both, alone:
@@ -106,7 +106,7 @@ class KillTest(DiskTest):
 
 
 class ReplacementTest(DiskTest):
-    """The file is deleted or replaced while csid has it open: it goes on over the old one."""
+    """The file is deleted or replaced while csid has it open. csid continues with the old file."""
 
     def setUp(self):
         super().setUp()
@@ -201,20 +201,20 @@ class FullDiskTest(DiskTest):
         """The calls of one run: a create, after which the disk is full, and a create that is refused."""
         process = self.begin(tables, controller("CreateVolume", first), reply(VOLUME_1))
         filler = fill(self.disk)
-        # The log has 256 KiB of zeros ahead, into which 3,000 file systems do not fit.
+        # The WAL has 256 KiB of zeros in advance, which is too little for 3,000 file systems.
         more = controller("CreateVolume", CREATE_B + mounts(3000))
         self.assertEqual(self.finish(process, more), (REFUSED, "", 0))
         os.unlink(filler)
 
     def listed(self, tables):
-        """The ids that a listing of tables has; none, where the tables are refused."""
+        """Returns the ids in a listing of tables, or none if the tables are refused."""
         out = run([self.csid, "--list-tables", tables.path])[0]
         return re.findall(rb"^vol-\d+", out, re.M)
 
     @each([("small", CREATE_A, [b"vol-1"]), ("large", CREATE_A + mounts(100), [])])
     def test_both_files_have_what_was_committed_after_a_refusal(self, name, first, alone):
-        """The file alone has it unless the disk has no room for the pages that it lacks; then it may have
-        some of them, and is refused."""
+        """The file alone has it, unless the disk has no room for the pages that it lacks. Then it may have
+        some of the pages, and is refused."""
         tables = Tables(self.csid, self.disk, name + ".db").new()
         self.refuse_on_full_disk(tables, first)
         for kind, ends, wanted in [("both", ["", "-wal"], [b"vol-1"]), ("alone", [""], alone)]:
@@ -225,7 +225,7 @@ class FullDiskTest(DiskTest):
                 self.assertEqual(self.listed(copy), wanted)
 
     def test_server_goes_on_and_serves_changes_once_there_is_room(self):
-        """No restart, and a line for each connection that was refused."""
+        """csid needs no restart, and writes a line for each refused connection."""
         server = self.serve(tables=self.tables.path)
         begun = server.line(NEW) + server.has(0, 0, 1)
         down = server.line("the database refused a call: " + FULL) + server.line(DOWN)
@@ -256,10 +256,10 @@ class FullDiskTest(DiskTest):
 
 
 class RefusedCommitTest(DiskTest):
-    """A limit on the length of files: the disk takes no commit."""
+    """A limit on the length of files prevents commits."""
 
     def run_limited(self, limit, calls, *words):
-        # Python ignores the signal that a write beyond the limit sends, and its child does too.
+        # Python ignores SIGXFSZ, and so does its child.
         return self.tables.run(calls, *words, preexec_fn=limit, restore_signals=False)
 
     def test_change_is_refused_and_nothing_is_answered_until_the_next_opening(self):
@@ -270,12 +270,12 @@ class RefusedCommitTest(DiskTest):
         self.assertEqual(came, (reply(b"") + reply(VOLUME_1) + ONE, "", 0))
 
     def test_new_file_that_may_have_no_byte_is_refused(self):
-        """The limit is no want of room."""
+        """The limit is not reported as a full disk."""
         self.assertEqual(self.run_limited(no_byte, frame(PROBE)), self.tables.says(IO_FAILED))
         self.assertEqual(self.tables.run(LISTING), (reply(b""), "", 0))
 
     def test_change_is_kept_where_the_log_cannot_be_copied(self):
-        """The file has more bytes than there is room for. The commit is in the log."""
+        """The file needs more bytes than there is room for. The commit is in the WAL."""
         config = self.configure_much()
         self.tables.new().script(MANY % (10000, BLOCK_CAPS) + next_is(10001))
         out, error, status = self.run_limited(little_room, MORE, config)
@@ -287,10 +287,10 @@ class RefusedCommitTest(DiskTest):
 
 
 class RefusedReadTest(DiskTest):
-    """A file whose pages are overwritten while a connection has it open."""
+    """Pages of a file are overwritten while a connection has it open."""
 
     def check_reads(self, wanted, said, *words):
-        """Reads of a volume beyond the page that are answered so, and what csid says then."""
+        """Reads of a volume behind the overwritten page have these replies, and csid writes these lines."""
         config = self.configure_much()
         listing = controller("ListVolumes", bytes.fromhex("0801 1204") + b"2000")
         params = "UPDATE volumes SET params = %s;" % cell(pairs(4, b"k", 4090))
@@ -320,10 +320,10 @@ class RefusedReadTest(DiskTest):
 
 
 class RefusedCopyTest(DiskTest):
-    """A read that fails while the volumes of a connection are copied into memory."""
+    """A read fails while the volumes are copied into memory for a connection."""
 
     def serve_once(self, *injected):
-        """The reads of a csid that serves one connection, what the connection is answered, and the lines."""
+        """Runs a csid that serves one connection. Returns its reads, its replies and its lines."""
         trace, traced = (os.path.join(self.folder, name) for name in ("trace", "traced"))
         command = ["strace", "-f", "-o", trace, "-e", "trace=pread64", *injected, self.csid]
         write(traced, b'#!/bin/sh\nexec %s "$@"\n' % shlex.join(command).encode())
@@ -362,11 +362,12 @@ class SyncTest(DiskTest):
         self.tables.new()
 
     def steps(self):
-        """Triples of a call, the number of its file, and its path."""
+        """Returns triples of a call, the number of its file, and its path."""
         return re.findall(r"(\w+)\((\d+)<([^>]*)>", read(self.trace).decode())
 
     def test_reply_is_written_after_a_sync_of_its_commit(self):
-        """The last step of the log before a reply is a sync after a write, and later the only sync."""
+        """The last step of the WAL before a reply is a sync after a write. Later replies need only the sync.
+        """
         creates = [CREATE_A.replace(b"\x0a\x01a", b"\x0a\x01" + name) for name in (b"a", b"b", b"c")]
         answers = [reply(VOLUME_1.replace(b"vol-1", b"vol-%d" % number)) for number in (1, 2, 3)]
         calls = b"".join(controller("CreateVolume", it) for it in creates)
@@ -392,7 +393,7 @@ class SyncTest(DiskTest):
 
 
 class ClosedStreamsTest(DiskTest):
-    """Standard streams that are closed or full: nothing that is meant for them goes into the tables."""
+    """Standard streams that are closed or full. No output goes into the tables."""
 
     def run_redirected(self, redirection, calls):
         return run(["sh", "-c", 'exec "$0" "$@" ' + redirection] + self.tables.command, input=calls)

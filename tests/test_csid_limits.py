@@ -1,5 +1,5 @@
-"""csid under limits of its memory: a control group, whose limit makes Linux end a process, and an address
-space."""
+"""csid with limited memory: in a control group, where Linux kills a process above the limit, and in a limited
+address space."""
 
 import contextlib
 import os
@@ -15,7 +15,8 @@ from tests.support.tables import BLOCK_CAPS, MANY, MIB, SHORT_ENTRIES, next_is
 
 
 def own_group():
-    """The folder of this process's control group for memory, and the name of the file of a limit in it."""
+    """Returns the folder of this process's control group for memory, and the name of its file with the limit.
+    """
     with open("/proc/self/cgroup", encoding="ascii") as lines:
         groups = dict(line.rstrip("\n").split(":", 2)[1:] for line in lines)
     for root, controllers, name in (("/sys/fs/cgroup/memory", "memory", "memory.limit_in_bytes"),
@@ -35,7 +36,8 @@ def write_limit(path, limit):
 
 @contextlib.contextmanager
 def memory_group(limit):
-    """A new control group with a limit: what makes a process its member, or a skipped test."""
+    """Makes a control group with a limit. Returns the function that moves a process into it, or skips the
+    test."""
     parent, name = own_group()
     folder = os.path.join(parent, "csid-test-%d" % os.getpid())
     try:
@@ -54,7 +56,7 @@ def name_of(number):
 
 
 class LimitedTest(CsidTest):
-    """csid over tables of its own, with a limit that `self.enter` sets."""
+    """csid with a limit that `self.enter` sets."""
 
     def setUp(self):
         super().setUp()
@@ -100,7 +102,7 @@ class GroupTest(LimitedTest):
         self.enter = enter.enter_context(memory_group(96 * MIB))
 
     def fill(self, count):
-        """New tables with this many volumes."""
+        """Makes new tables with this many volumes."""
         self.tables.new().script(MANY % (count, BLOCK_CAPS)
                                  + "UPDATE volumes SET params = x'%s';" % SHORT_ENTRIES.hex()
                                  + next_is(count + 1))

@@ -15,11 +15,11 @@ from tests.support.server import MISSING, WITHOUT
 from tests.support.tables import (A, BLOCK_CAPS, LARGE_CAPS, MANY, MIB, NO_DATABASE, NO_FILE, Tables,
                                   attachment, block, cell, next_is, volume)
 
-# Capabilities as cells have them: a mount of any file system with mode 1, and one of ext4 with mode 5.
+# Cells of capabilities: a mount of any file system with mode 1, and a mount of ext4 with mode 5.
 MOUNT = "1a0612001a020801"
 EXT4 = "1a0c12060a04" + b"ext4".hex() + "1a020805"
 
-# Parameters k=v and l=a b, and the mutable parameter m= of no bytes.
+# Parameters k=v and l=a b, and the mutable parameter m with an empty value.
 PARAMS = "22060a016b120176" + "22080a016c12036120 62".replace(" ", "") + "42050a016d1200"
 
 ROWS = "".join([volume(1, "'pvc-1'", 3 << 30, "'ssd'"),
@@ -37,13 +37,13 @@ ODD = "1a0b 1205 0a03 612062 1a020801".replace(" ", "")
 # The key 'a b' with the value 'c d', and the key ' ' with an empty one.
 ODD_MAPS = "220a 0a03612062 1203632064 4205 0a0120 1200".replace(" ", "")
 
-# Each text that a row has, with a space in it: of a name, a pool, a file system, a key, a value and a node.
+# Each text of a row has a space: the name, the pool, the file system, a key, a value and a node.
 SPACES = (volume(1, "'a b'", MIB, "'p 1'", cell(ODD), cell(ODD_MAPS))
           + attachment(1, "'n 1'", cell(ODD))
           + next_is(2))
 TABLE, ESCAPED, EMPTY = [fixture("listing/%s.txt" % name) for name in ("table", "escaped", "empty")]
 DOCUMENT = json.loads(fixture("listing/document.json"))
-# Where a listing cannot be read that has no row yet.
+# The place if a listing fails before its first row.
 FIRST = "from the first volume on"
 
 
@@ -64,7 +64,8 @@ class ListTest(ListedTest):
     """The listing, in columns and in JSON."""
 
     def test_table(self):
-        """Each volume is a row, in the order of numbers, and each pool and node that has some another."""
+        """There is a row for each volume, in the order of their numbers, and a row for each pool and node
+        that has a volume."""
         tables = self.tables.new().script(ROWS)
         kept = tables.files()
         self.check("all", self.listed(tables), (TABLE, "", 0))
@@ -73,7 +74,7 @@ class ListTest(ListedTest):
         self.check("to the byte as it was", tables.files(), kept)
 
     def test_escaped_words(self):
-        """A space ends no word of a row, whichever column it is in."""
+        """A space does not end a word of a row, in any column."""
         tables = self.tables.new().script(SPACES)
         self.check("a space in each text", self.listed(tables), (ESCAPED, "", 0))
 
@@ -90,7 +91,7 @@ class ListTest(ListedTest):
         self.check("in JSON", self.document(tables)["volumes"][0]["capabilities"], wanted)
 
     def test_greatest_numbers(self):
-        """Numbers up to the greatest that a column has, and sums of bytes up to the greatest of 64 bits."""
+        """Numbers up to the greatest of each column, and sums of bytes up to the greatest 64-bit number."""
         tables = self.tables.new()
         numbers = [1 << 61, (1 << 62) - 1, 1 << 62, (1 << 63) - 1]
         tables.script("".join(volume(number, "'v%d'" % number, 1 << 62) + attachment(number)
@@ -101,14 +102,14 @@ class ListTest(ListedTest):
         self.check("of the pool", found["pools"], [{"name": "p1", "volumes": 4, "bytes": most}])
         self.check("of the node", found["nodes"], [{"id": "n1", "volumes": 4, "bytes": most}])
         self.check("in columns", self.listed(tables)[0].count(b"4        %d B\n" % most), 2)
-        # More than a page of them.
+        # This is more than one page.
         tables.new().script(MANY % (1001, BLOCK_CAPS) + "UPDATE volumes SET number = number + %d" % (1 << 62))
         wanted = ["vol-%d" % ((1 << 62) + number) for number in range(1, 1002)]
         self.check("1,001 ids", self.ids(tables), wanted)
 
     @each([(80, 80), (81, 4)])
     def test_long_names(self, length, width):
-        """A name of 80 bytes makes its column wider; a longer one moves the rest of its own row alone."""
+        """A name of 80 bytes makes its column wider. A longer name only moves the rest of its own row."""
         tables = Tables(self.csid, self.folder, "long-%d.db" % length).new()
         tables.script(volume(1, "'a'") + volume(2, "'%s'" % ("x" * length)) + next_is(3))
         out, line, status = self.listed(tables)
@@ -118,7 +119,7 @@ class ListTest(ListedTest):
         self.check("%d bytes" % length, long[:length + 11], "vol-2  " + "x" * length + "  p1")
 
     def test_json(self):
-        """The document has the values of the rows, and a volume is a line of it."""
+        """The document has the values of the rows. A volume is a line."""
         tables = self.tables.new().script(ROWS)
         self.check("all", self.document(tables), DOCUMENT)
         out, _, _ = self.listed(tables, "--json")
@@ -127,7 +128,7 @@ class ListTest(ListedTest):
         self.check("none", self.document(Tables(self.csid, self.folder, "new.db").new()), empty)
 
     def test_chosen(self):
-        """A name, a pool and a node choose; a volume fits each given one. Sums count the listed volumes."""
+        """A volume is listed if it has the given name, pool and node. The sums count only listed volumes."""
         tables = self.tables.new().script(ROWS)
         for name, options, ids in [
             ("a name", ["--name", "a b"], ["vol-2"]),
@@ -155,7 +156,7 @@ class ListTest(ListedTest):
     def test_reader_that_goes_away(self):
         """Nothing is reported, and the status is 0."""
         tables = Tables(self.csid, self.folder).new()
-        # (more than is written at once)
+        # This is more than is written at once.
         tables.script(MANY % (2000, BLOCK_CAPS) + next_is(2001))
         for words in [], ["--json"]:
             read, write_end = os.pipe()
@@ -166,7 +167,7 @@ class ListTest(ListedTest):
             self.check("a list %s" % words, (came.stderr, came.returncode), (b"", 0))
 
     def test_many(self):
-        """A listing goes on over pages: 1,000 volumes are one."""
+        """A page has 1,000 volumes."""
         for count in 999, 1000, 1001, 2500:
             tables = Tables(self.csid, self.folder, "many-%d.db" % count).new()
             tables.script(MANY % (count, BLOCK_CAPS) + next_is(count + 1))
@@ -174,7 +175,7 @@ class ListTest(ListedTest):
             self.check("the sum of %d" % count, self.document(tables)["pools"][0]["bytes"], count * MIB)
 
     def test_older_format(self):
-        """Tables of format 1 are listed as they are."""
+        """Tables of format 1 are listed unchanged."""
         for count in 0, 1, 1000:
             older = Tables(self.csid, self.folder, "format-1-%d.db" % count)
             shutil.copy(os.path.join(TOP, "tests", "stored", "format-1-%d.db" % count), older.path)
@@ -221,8 +222,8 @@ class RefusedListTest(ListedTest):
         self.check_refused(NO_FILE)
 
     def test_want_of_memory_for_a_volume_is_reported(self):
-        """Both files can be opened. The first has capabilities that take memory, and the second as many bytes
-        that are no capabilities."""
+        """Both files can be opened. The first has capabilities that need memory, and the second as many bytes
+        that are not capabilities."""
         for name, caps, wanted in [
             ("capabilities", LARGE_CAPS, (b"", NO_MEMORY, 6)),
             ("no capabilities", "zeroblob(%d)" % MIB, self.tables.says(UNREAD % FIRST)),
@@ -262,8 +263,8 @@ class ServedListTest(ListedTest):
         self.addCleanup(self.has_ended.set)
 
     def change(self):
-        """One volume after the other is made, published at n1, unpublished and deleted, but for each tenth,
-        which stays. So there is at most one volume that is not a tenth, and it is the last one."""
+        """Volumes are made, published at n1, unpublished and deleted, one by one. Each tenth volume stays. So
+        at most one other volume exists, and it is the last one."""
         for number in itertools.count(1):
             volume_id = text(1, b"vol-%d" % number)
             calls = [("CreateVolume", text(1, b"v%d" % number) + BLOCK)]
@@ -279,7 +280,7 @@ class ServedListTest(ListedTest):
                 self.server.stdout.read(int.from_bytes(head[4:8], "big"))
 
     def check_moment(self, found):
-        """A listing is of one moment. Returns what it has of volumes that go."""
+        """A listing shows one moment. Returns the temporary volume in it, if any."""
         numbers = [int(one["id"][4:]) for one in found["volumes"]]
         last = max(numbers, default=0)
         others = [n for n in numbers if n % 10]

@@ -1,4 +1,4 @@
-"""csid where memory is short."""
+"""csid with little memory."""
 
 
 from tests.vectors import messages as v
@@ -12,10 +12,10 @@ from tests.support.tables import (BLOCK_CAPS, IO_FAILED, LARGE_CAPS, MANY, MIB, 
 
 
 class LowMemoryTest(CsidTest):
-    """csid with --low-memory, and without memory for a copy of the volumes."""
+    """csid with --low-memory, and without enough memory for a copy of the volumes."""
 
     PROBE = controller("GetCapacity")
-    # 1,048 MiB, and 8 MiB for one volume.
+    # 1,048 MiB are free, and a volume may have 8 MiB.
     ROOM = reply(bytes.fromhex("08 8080808c04 1205 0880808004"))
 
     def setUp(self):
@@ -23,7 +23,7 @@ class LowMemoryTest(CsidTest):
         self.low = self.tables.command + ["--low-memory"]
 
     def fill(self):
-        """Tables with 1,000 volumes, and a configuration that has room for them."""
+        """Makes tables with 1,000 volumes, and a configuration with room for them."""
         self.configure(LARGE_POOL)
         params = "UPDATE volumes SET params = x'%s';" % SHORT_ENTRIES.hex()
         self.tables.new().script(MANY % (1000, BLOCK_CAPS) + params + next_is(1001))
@@ -43,7 +43,7 @@ class LowMemoryTest(CsidTest):
         self.assertEqual(server.end()[:2], (server.has(1, 0, 3), 0))
 
     def test_volumes_take_no_memory(self):
-        """Without the option too, the file is read if there is no memory for a copy."""
+        """Without the option, the file is also read directly if there is no memory for a copy."""
         self.fill()
         came = run(self.low + ["--config", self.config], input=self.PROBE, preexec_fn=some_memory)
         self.assertEqual(came, (self.ROOM, "", 0))
@@ -67,7 +67,7 @@ class LowMemoryTest(CsidTest):
 
 class MemoryTest(CsidTest):
     def test_want_of_memory_for_a_copy_is_no_failed_disk(self):
-        """The files of the copy of the tables."""
+        """The copy of the tables has its own files."""
         tables = self.tables.new()
         tables.script(volume(1, "printf('%.*c', 200000, 'x')") + next_is(2))
         for option in "--check-tables", "--list-tables":
@@ -77,7 +77,7 @@ class MemoryTest(CsidTest):
                 self.assertEqual([line for line in lines if IO_FAILED in line], [])
                 self.assertIn(NO_MEMORY, lines)
 
-    # A volume of 4,095 bytes of parameters, by a name of six bytes.
+    # A create with 4,095 bytes of parameters and a name of six bytes.
     PARAMETERS = bytes.fromhex("22 8420 0a01 6b 12fe1f") + b"v" * 4094
 
     def creates(self, first, count):
@@ -89,7 +89,7 @@ class MemoryTest(CsidTest):
         return [controller("DeleteVolume", b"\x0a" + bytes([len(name)]) + name) for name in names]
 
     def test_creates_are_refused_before_the_next_opening_has_no_memory(self):
-        """Deletes are not. The pages that they leave are free: the next connection has room for creates."""
+        """Deletes are allowed. They leave free pages, so the next connection has room for creates."""
         config, most = self.configure(LARGE_POOL.replace(b"2147483648", b"%d" % (20_000 * MIB))), 6000
         for name, words in ("of the file", ["--low-memory"]), ("of memory", []):
             with self.subTest(reads=name):
@@ -121,8 +121,8 @@ class ReserveTest(CsidTest):
         return self.serve("--config", config, "--low-memory", preexec_fn=memory_of(size))
 
     def fill(self, server, calls, least):
-        """Makes calls over one connection. At least this many succeed, then memory is refused, and the next
-        connection is answered."""
+        """Makes calls over one connection. At least `least` calls succeed, then memory is refused, and the
+        next connection is answered."""
         came = server.answers(calls)
         self.assertEqual(server.ask(v.listing(v.max_entries(1)))[:1], b"\0")
         made = came.count(0)

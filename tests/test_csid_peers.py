@@ -1,4 +1,4 @@
-"""Peers of `csid serve` that keep others waiting, and how long they may."""
+"""Peers of `csid serve` that keep others waiting, and the time that they have."""
 
 import contextlib
 import os
@@ -15,7 +15,7 @@ from tests.support.rows import CsidTest
 from tests.support.server import IDLE, SLOW, Server
 from tests.support.tables import BLOCK_CAPS, MANY, Tables, next_is
 
-# Sends the same calls over a socket that it has by its number.
+# Sends the same calls over the socket with this descriptor, without end.
 SENDER = """
 import socket, sys
 peer, calls = socket.socket(fileno=int(sys.argv[1])), bytes.fromhex(sys.argv[2]) * 1000
@@ -26,7 +26,7 @@ while True:
 
 PREEMPTED = "csid: a connection that kept another one waiting was closed\n"
 
-# More of a call than a connection must have sent to be served.
+# More bytes of a call than a connection must send before it is served.
 PART = frame(PROBE, LONGEST)[:5000]
 
 # A call to send in two parts: its message is an unknown field of 6,003 bytes.
@@ -34,7 +34,7 @@ LATE = frame(PROBE, bytes.fromhex("7a f02e") + b"x" * 6000)
 
 
 def drip(peer, seconds):
-    """Sends a byte each quarter of a second, until the connection is closed or `seconds` are over."""
+    """Sends a byte each quarter of a second, until the connection is closed or `seconds` have passed."""
     with contextlib.suppress(OSError):
         for _ in range(4 * seconds):
             peer.sendall(b"\0")
@@ -42,13 +42,13 @@ def drip(peer, seconds):
 
 
 def processor_seconds(pid):
-    """The time that a process has taken of a processor."""
+    """Returns the processor seconds of a process."""
     user, system = pathlib.Path("/proc/%d/stat" % pid).read_text().rpartition(")")[2].split()[11:13]
     return (int(user) + int(system)) / os.sysconf("SC_CLK_TCK")
 
 
 class PeersTest(CsidTest):
-    """Peers of `csid serve` that keep others waiting, and how long they may."""
+    """Peers that keep other peers waiting, and the time that they have."""
 
     def setUp(self):
         super().setUp()
@@ -56,7 +56,7 @@ class PeersTest(CsidTest):
         self.peers = self.enterContext(contextlib.ExitStack())
 
     def connect(self, given=b""):
-        """A connection that stays, and has sent this."""
+        """Returns a connection that stays open, after it has sent these bytes."""
         peer = self.peers.enter_context(self.server.connect())
         peer.sendall(given)
         return peer
@@ -67,7 +67,7 @@ class PeersTest(CsidTest):
         return time.monotonic() - begin
 
     def test_second_is_shared_by_all_that_wait(self):
-        """Eight peers send part of a call and stop. A second for each would be eight."""
+        """Eight peers send a part of a call and stop. With a second for each it would take eight seconds."""
         held = [self.connect(PART) for _ in range(8)]
         self.assertLess(self.seconds_of(lambda: self.server.ask(frame(PROBE))), 5)
         self.assertEqual([peer.recv(4096) for peer in held], [b""] * 8)
@@ -102,11 +102,12 @@ class PeersTest(CsidTest):
         return came.count(READY)
 
     def test_each_call_may_be_late_by_a_moment_where_others_wait(self):
-        """By up to 100 ms. This machine may be slow itself, so one of ten tries must succeed."""
+        """The call may be up to 100 ms late. The machine may be slow, so one of ten tries must succeed."""
         self.assertTrue(any(self.count_late(5) == 5 for _ in range(10)))
 
     def test_peer_with_nothing_new_is_closed_at_once_where_others_wait(self):
-        """The first one blocks for its second; those after it have none, and each is answered before."""
+        """The first peer keeps the others waiting for a second. The peers after it have no time left, and are
+        closed before each next call."""
         first, begin = self.connect(frame(PROBE)), time.monotonic()
         others = [self.connect(frame(PROBE)) for _ in range(20)]
         self.assertEqual([peer.recv(4096) for peer in [first] + others], [READY] * 21)
@@ -116,7 +117,8 @@ class PeersTest(CsidTest):
         self.assertNotIn(PREEMPTED, said)
 
     def test_call_that_comes_byte_by_byte_keeps_others_for_a_second_in_all(self):
-        """Three peers send a part of a call and then a byte now and then: alone each may for ten seconds."""
+        """Three peers send a part of a call and then a byte now and then. Alone, each would have ten seconds.
+        """
         for _ in range(3):
             peer = self.connect(PART)
             threading.Thread(target=drip, args=(peer, 40), daemon=True).start()
@@ -143,7 +145,7 @@ class PeersTest(CsidTest):
         self.assertEqual(peer.recv(4096), READY)
 
     def connect_alone(self):
-        """The only connection of another server."""
+        """Starts another server, and makes the only connection to it."""
         folder = os.path.join(self.folder, "alone")
         os.mkdir(folder)
         server = Server(self.csid, folder)
@@ -151,8 +153,8 @@ class PeersTest(CsidTest):
         return self.peers.enter_context(server.connect())
 
     def send_always(self, peer):
-        """Sends calls without a pause, from a process of its own: the test itself would hold up a thread.
-        Returns after the first replies wait to be read, so that csid always has a call to answer."""
+        """Sends calls without a pause, from another process, since the test itself would delay a thread.
+        Returns once replies wait to be read, so that csid always has a call to answer."""
         words = [sys.executable, "-c", SENDER, str(peer.fileno()), frame(PROBE).hex()]
         sender = subprocess.Popen(words, pass_fds=[peer.fileno()], stderr=subprocess.DEVNULL)
         self.addCleanup(sender.wait, SECONDS)
@@ -161,7 +163,8 @@ class PeersTest(CsidTest):
         time.sleep(0.2)
 
     def test_busy_peer_is_closed_between_two_calls_after_a_minute(self):
-        """It always sends calls, and each reply is whole. A peer without others that wait is not closed."""
+        """The peer always sends calls, and each reply is complete. Without other waiting peers it is not
+        closed."""
         alone, busy = self.connect_alone(), self.connect()
         alone.sendall(frame(PROBE))
         self.send_always(busy)
@@ -189,10 +192,10 @@ class PeersTest(CsidTest):
 
 
 class SlowPeerTest(CsidTest):
-    """Peers that are slow while no other one waits."""
+    """Slow peers while no other peer waits."""
 
     def test_pages_are_whole_for_a_reader_that_begins_late(self):
-        """The replies fill the socket's buffer, and csid waits in the middle of one."""
+        """The replies fill the socket's buffer, and csid waits in the middle of a reply."""
         tables = self.tables.new()
         tables.script(MANY % (10, BLOCK_CAPS) + next_is(11))
         listing = controller("ListVolumes")
@@ -232,7 +235,7 @@ class SlowPeerTest(CsidTest):
             self.assertEqual(peer.recv(4096), reply(VOLUME_1))
 
     def test_connection_may_last_longer_than_a_call(self):
-        """A call each second: the time of a call ends with its reply."""
+        """The peer makes a call each second. The time of a call ends with its reply."""
         server = self.serve()
         with server.connect() as peer:
             for _ in range(12):
@@ -253,7 +256,7 @@ class SlowPeerTest(CsidTest):
             self.assertTrue(9 < time.monotonic() - begin < 16)
 
     def test_each_silent_peer_has_its_own_time(self):
-        """The second one comes when half of the first one's time is over."""
+        """The second peer comes when half of the first peer's time has passed."""
         server = self.serve("--idle", "6")
         with server.connect() as first:
             begin = time.monotonic()
@@ -274,7 +277,7 @@ class SlowPeerTest(CsidTest):
             self.assertTrue(has_ended(peer, (2, 12)))
 
     def test_waiting_takes_no_time_of_a_processor(self):
-        """Each peer sends this much, and then neither sends nor reads any more."""
+        """Each peer sends these bytes, and then neither sends nor reads."""
         server = self.serve()
         for name, given in [
             ("nothing", b""),
@@ -293,7 +296,7 @@ class SlowPeerTest(CsidTest):
                 self.assertLess(processor_seconds(server.process.pid) - begin, 0.1)
 
     def test_first_call_above_4096_bytes_is_in_the_tables(self):
-        """A connection with this many bytes of a call is served before the call is whole."""
+        """A connection with 4,096 bytes of a call is served before the call is complete."""
         parameters = bytes.fromhex("22 8420 0a01 6b 12fe1f") + b"v" * 4094
         server = Server(self.csid, self.folder)
         self.assertEqual(server.ask(controller("CreateVolume", CREATE_A + parameters)), reply(VOLUME_1))

@@ -1,4 +1,4 @@
-"""csid over standard input and output: streams, words, and inputs and outputs that are closed or full."""
+"""csid over standard input and output: streams, arguments, and streams that are closed or full."""
 
 import os
 import subprocess
@@ -17,7 +17,7 @@ ROWS = tables("csid_pipe", globals())
 
 
 def by_turns(csid, pieces, expected):
-    """Sends the pieces one by one; after each it reads the bytes expected before the next."""
+    """Sends pieces one by one. Reads the expected bytes after each piece."""
     process = subprocess.Popen([csid], stdin=subprocess.PIPE, stdout=subprocess.PIPE, stderr=subprocess.PIPE,
                                bufsize=0)
     out = b""
@@ -32,7 +32,7 @@ def by_turns(csid, pieces, expected):
 
 
 def without_waiting(csid, given):
-    """An input that says that it has nothing, where another would wait, though its writer is there."""
+    """Gives csid an input that has no bytes yet and does not block, though its writer exists."""
     read, write = os.pipe()
     os.set_blocking(read, False)
     os.write(write, given)

@@ -1,4 +1,5 @@
-"""Who may use the files and the socket of `csid serve` at each moment while they are made, under umask 0."""
+"""The permissions of the files and the socket of `csid serve` at each moment while they are made, under umask
+0."""
 
 import os
 import re
@@ -10,16 +11,16 @@ from tests.support.processes import SECONDS, run, write
 from tests.support.rows import CsidTest
 from tests.support.server import Server
 
-# Some of these calls are not there on each processor.
+# Some of these calls do not exist on each processor.
 CALLS = "trace=?open,openat,?creat,?chmod,fchmod,fchmodat,?fchmodat2,?chown,fchownat,bind,accept,accept4"
 
-# A file that is made, and one whose mode is set: its path and its mode in octal digits.
+# A file that is made, or whose mode is set: its path and its mode in octal.
 MADE = re.compile(r'(?:open|openat|creat)\(.*?"([^"]*)", (?:\S*O_CREAT\S*, )?0([0-7]+)\) = \d')
 CHANGED = re.compile(r'chmod\w*\(.*?[<"](/[^">]*)[">], 0([0-7]+).* = 0')
 
 
 class RightsTest(CsidTest):
-    """`csid serve` under umask 0, with its system calls."""
+    """The system calls of `csid serve` under umask 0."""
 
     def setUp(self):
         super().setUp()
@@ -33,7 +34,7 @@ class RightsTest(CsidTest):
             self.skipTest("strace cannot be run here")
 
     def calls(self, *words):
-        """The system calls of a server that makes one volume and ends."""
+        """Returns the system calls of a server that makes one volume and ends."""
         server = Server(self.traced, self.folder, "--connections", "1", *words,
                         preexec_fn=lambda: os.umask(0) and None)
         self.addCleanup(server.end)
@@ -43,7 +44,7 @@ class RightsTest(CsidTest):
             return list(lines)
 
     def modes(self, lines, path):
-        """The modes that a file or a socket was given one after another."""
+        """Returns the modes of a file or a socket, in order."""
         steps = [found for line in lines if (found := MADE.search(line) or CHANGED.search(line))]
         modes = [int(step[2], 8) for step in steps if step[1] == path]
         self.assertNotEqual(modes, [], path)
@@ -58,7 +59,7 @@ class RightsTest(CsidTest):
                 self.assertEqual(oct(modes[-1]), "0o600")
 
     def test_no_other_file_is_made(self):
-        """A temporary one would need rights of its own."""
+        """A temporary file would need permissions, too."""
         made = [found[1] for line in self.calls() if (found := MADE.search(line))]
         self.assertEqual(sorted(made), [self.tables.path, self.tables.path + "-wal"])
 

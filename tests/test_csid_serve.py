@@ -1,4 +1,4 @@
-"""`csid serve`: its lines, its files, and peers that say nothing or have gone."""
+"""`csid serve`: its lines, its files, and peers that send nothing or have gone."""
 
 import contextlib
 import fcntl
@@ -28,8 +28,8 @@ def access(path):
     return oct(os.stat(path).st_mode & 0o7777)
 
 
-# Names that are numbers, one group of two lines, one without its number, and the number that represents no
-# group.
+# Groups whose names are numbers, a group on two lines, a group without its number, and a group with the
+# number that means no group.
 GROUPS = b"7:x:8:\n8:x:9:root\nstaff:x:12:\nstaff:x:13:\nshort:x\nnone:x:4294967295:\n"
 
 
@@ -45,14 +45,14 @@ class ServeTest(CsidTest):
     """`csid serve` over tables in the folder of the test."""
 
     def connect(self, server, given=b""):
-        """A connection that stays until the test ends, and has sent this."""
+        """Returns a connection that stays open until the test ends, after it has sent these bytes."""
         peer = self.enterContext(server.connect())
         peer.sendall(given)
         return peer
 
 
 class SurveyTest(ServeTest):
-    """What csid says of its file at the start and for each connection."""
+    """The lines about the file at the start and for each connection."""
 
     def test_new_file_is_reported_once(self):
         server = self.serve()
@@ -62,7 +62,7 @@ class SurveyTest(ServeTest):
         self.assertEqual(server.end(), (begun, KILLED, True))
 
     def fill(self):
-        """Tables with two volumes, one of them attached."""
+        """Makes tables with two volumes. The first is attached."""
         publish = controller("ControllerPublishVolume", VOL_1 + bytes.fromhex("12026e31") + BLOCK)
         tables = self.tables
         tables.run(controller("CreateVolume", CREATE_A) + publish + controller("CreateVolume", CREATE_B))
@@ -74,7 +74,7 @@ class SurveyTest(ServeTest):
         self.assertEqual(server.end(), (server.has(2, 1, 3), KILLED, True))
 
     def test_broken_row_is_reported_until_it_is_fixed(self):
-        """At the start, and for each connection over it."""
+        """The row is reported at the start and for each connection."""
         tables, listing = self.fill(), controller("ListVolumes")
         tables.script("UPDATE volumes SET pool = 'p3' WHERE number = 2")
         server = self.serve()
@@ -100,7 +100,7 @@ class SurveyTest(ServeTest):
         self.assertEqual(server.end(), (server.line(NO_DATABASE), KILLED, True))
 
     def test_no_tables_are_made_where_the_socket_is_taken(self):
-        """So a second server leaves the file of the first alone."""
+        """So a second server does not touch the file of the first."""
         path = os.path.join(self.folder, "csid.sock")
         write(path, b"")
         self.assertEqual(self.serve().end(), (line_of(path + ": a file exists there already"), 7, True))
@@ -108,7 +108,7 @@ class SurveyTest(ServeTest):
 
 
 class AccessTest(ServeTest):
-    """Who may use the socket and the files that are made."""
+    """The permissions of the socket and of new files."""
 
     def modes(self):
         return [access(os.path.join(self.folder, "volumes.db" + ending)) for ending in ("", "-wal")]
@@ -132,8 +132,8 @@ class AccessTest(ServeTest):
         self.assertEqual(self.modes(), ["0o640"] * 2)
 
     def groups(self):
-        """Words for groups that this user may give a file to, and their numbers: a group that root names or
-        that the user is in, and its own group."""
+        """Returns words for groups that this user may give a file to, and their numbers: a group of the user
+        (for root any group), and its own group."""
         with open("/etc/group") as file:
             names = {int(line.split(":")[2]): line.split(":")[0] for line in file if line.count(":") == 3}
         own = [it for it in (names if os.geteuid() == 0 else os.getgroups()) if it in names]
@@ -164,7 +164,7 @@ class AccessTest(ServeTest):
         self.assertEqual(server.end(), (line, 7, False))
 
     def test_group_is_sought_by_name_and_then_by_number(self):
-        """/etc/group is replaced by another one, for csid alone."""
+        """/etc/group is replaced for csid."""
         groups, program = os.path.join(self.folder, "groups"), os.path.join(self.folder, "csid-with-groups")
         write(groups, GROUPS)
         bind = 'exec unshare --mount sh -c \'mount --bind "$0" /etc/group && exec "$@"\' %s %s "$@"\n'
@@ -187,7 +187,7 @@ class AccessTest(ServeTest):
 
 
 class IdleTest(ServeTest):
-    """With --idle a peer that sends or takes nothing is closed."""
+    """With --idle, a peer that sends or reads nothing is closed."""
 
     def setUp(self):
         super().setUp()
@@ -238,12 +238,13 @@ class IdleTest(ServeTest):
 
 
 class StayingPeersTest(ServeTest):
-    """Silent peers, and peers that send garbage, keep no other peer waiting."""
+    """Peers that send nothing or garbage keep no other peer waiting."""
 
     PARTS = [frame(PROBE)[:size] for size in (0, 1, 2, 20, 28)]
 
     def hold(self, count):
-        """A server with this many connections, which have sent parts of a call in turn."""
+        """Starts a server with this many connections. They have sent parts of a call, of different lengths.
+        """
         server = self.serve()
         return server, [self.connect(server, self.PARTS[it % len(self.PARTS)]) for it in range(count)]
 
@@ -266,7 +267,7 @@ class StayingPeersTest(ServeTest):
         self.assertEqual(server.ask(frame(PROBE)), READY)
         more[6].sendall(frame(PROBE))
         self.assertEqual(more[6].recv(4096), READY)
-        # 256 waited, and 8 came.
+        # 256 waited, and 8 more came.
         counts = ended(server.lines()[len(begun) :], CROWDED)
         self.assertEqual(set(counts) - {"of a line", "made room for others"}, set())
         self.assertEqual(sum(counts.values()), 8)
@@ -282,7 +283,7 @@ class StayingPeersTest(ServeTest):
         self.assertTrue(has_ended(held[2], (0, 10)))
         more[9].sendall(frame(PROBE))
         self.assertEqual(more[9].recv(4096), READY)
-        # 252 waited, and 10 came: 6 made room.
+        # 252 waited, and 10 more came: 6 of the others were closed.
         counts = ended(server.lines()[len(begun) :], CROWDED)
         self.assertEqual(sum(counts.values()), 6)
 
@@ -304,7 +305,7 @@ class StayingPeersTest(ServeTest):
 
 
 class UnreadErrorTest(CsidTest):
-    """The standard error of csid is not read: calls are answered all the same."""
+    """The standard error of csid is not read. Calls are answered."""
 
     def setUp(self):
         super().setUp()
@@ -334,7 +335,8 @@ class UnreadErrorTest(CsidTest):
                 return b""
 
     def test_lines_that_cannot_be_written_are_counted(self):
-        """A line for each unanswered call, and for garbage. The count comes once the pipe is read again."""
+        """There is a line for each unanswered call, and for garbage. The count comes once the pipe is read
+        again."""
         refused = fault("bad path length at byte 0")[0]
         self.assertEqual({self.ask(frame(PROBE)) for _ in range(300)}, {b""})
         self.assertEqual(self.ask(b"garbage"), refused)
@@ -352,7 +354,7 @@ class UnreadErrorTest(CsidTest):
 
 
 class EndsTest(ServeTest):
-    """The end of each connection has a line of its own, or is in a count if many end in a second."""
+    """The end of each connection has its own line, or is in a count if many end in a second."""
 
     def setUp(self):
         super().setUp()
@@ -368,8 +370,8 @@ class EndsTest(ServeTest):
         self.assertEqual(dict(ended(self.new_lines(), line)), counts)
 
     def send_and_go(self, pieces):
-        """Each piece is sent by a peer that goes before csid looks at it."""
-        # Stopped, csid takes no connection: the system keeps them for it.
+        """Each piece is sent by a peer that has gone before csid reads it."""
+        # A stopped csid accepts no connection. The system keeps the connections for it.
         os.kill(self.server.process.pid, signal.SIGSTOP)
         for piece in pieces:
             with self.server.connect() as peer:
@@ -380,11 +382,11 @@ class EndsTest(ServeTest):
         for _ in range(200):
             self.connect(self.server)
         self.check_counts(IDLE, {"of a line": 10, "sent nothing in time": 190})
-        # Ten, and one each second.
+        # Ten lines, and one for each second.
         self.assertLessEqual(self.new_lines().count("\n"), 13)
 
     def test_peers_that_have_gone_have_ten_lines_and_a_count(self):
-        """Of those that sent nothing nothing is reported."""
+        """For peers that sent nothing there is no line."""
         self.send_and_go([frame(PROBE)[:7]] * 30 + [frame(PROBE)] * 30 + [b""] * 30)
         self.check_counts(GONE, {"of a line": 10, "had gone": 50})
 
@@ -411,10 +413,10 @@ class EndsTest(ServeTest):
 
 
 class WaitingPeersTest(ServeTest):
-    """While others wait idle peers have a second in all, and a call has a time from its first byte."""
+    """Idle peers share a second while others wait. A call has its time from its first byte."""
 
     def test_idle_peers_are_given_a_second_in_all(self):
-        """A second for each would be eight."""
+        """With a second for each it would take eight seconds."""
         server = self.serve("--idle", "60")
         begun, begin = server.lines(), time.monotonic()
         held = [self.connect(server, frame(PROBE)) for _ in range(8)]
@@ -424,7 +426,7 @@ class WaitingPeersTest(ServeTest):
         self.assertTrue(wait(lambda: server.lines() == begun + IDLE * 8))
 
     def test_peer_that_nobody_waits_for_stays(self):
-        """A connection that has sent a part of a call does not wait."""
+        """A connection that has sent only a part of a call is not waiting."""
         server = self.serve("--idle", "60")
         peer = self.connect(server, frame(PROBE))
         self.assertEqual(peer.recv(4096), READY)
@@ -435,7 +437,7 @@ class WaitingPeersTest(ServeTest):
             self.assertEqual(peer.recv(4096), READY)
 
     def test_byte_now_and_then_does_not_make_the_time_of_a_call_longer(self):
-        """Neither for a long call that is served, nor for a call that is not served yet."""
+        """This holds for a long call that is being served, and for a call that is not served yet."""
         server = self.serve()
         begun = server.lines()
         slow, part = self.connect(server), self.connect(server)
@@ -464,7 +466,7 @@ class WaitingPeersTest(ServeTest):
         self.assertLess(time.monotonic() - begin, 5)
 
     def test_peers_without_a_call_make_room_where_descriptors_are_scarce(self):
-        """There is room for about 40, and 200 come: they make room many at a time."""
+        """There is room for about 40 connections, and 200 come. The others are closed, several at a time."""
         server = self.serve(preexec_fn=few_files)
         begun = server.lines()
         for _ in range(200):
@@ -478,10 +480,10 @@ class WaitingPeersTest(ServeTest):
 
 
 class GonePeersTest(ServeTest):
-    """A peer that has gone costs no opening of the tables."""
+    """The tables are not opened for a peer that has gone."""
 
     def send_and_go(self, server, given):
-        """Connections that send and go while csid is stopped: the system keeps them for it."""
+        """Connections send and close while csid is stopped. The system keeps them for it."""
         os.kill(server.process.pid, signal.SIGSTOP)
         for it in given:
             with server.connect() as peer:
@@ -499,7 +501,7 @@ class GonePeersTest(ServeTest):
         self.assertEqual(server.end(), (refused + GONE * 3 + refused, KILLED, True))
 
     def test_call_after_1000_that_have_gone_waits_less_than_5_seconds(self):
-        """The file takes a while to open. No call of theirs is made, and each is counted."""
+        """The file takes a while to open. None of the calls is made, and each connection is counted."""
         config = self.configure(sample((b"10485760", b"%d" % (20000 * MIB))))
         self.tables.new().script(MANY % (20000, BLOCK_CAPS) + next_is(20001))
         server = self.serve("--config", config)

@@ -15,7 +15,7 @@ from tests.support.processes import read, small_memory, write
 from tests.support.rows import CsictlTest, each
 
 
-# Why a socket cannot be made, or a connection cannot be taken.
+# The reason if a socket cannot be made.
 TAKEN = "a file exists there already"
 TOO_LONG = "path must be shorter than SUN_LEN"
 
@@ -28,12 +28,13 @@ def handles(count):
 
 
 def done(peer):
-    """The end of a connection whose calls were all answered: csid closes the file before it."""
+    """Reads the rest of a connection whose calls were all answered. csid closes the file before the
+    connection."""
     peer.shutdown(socket.SHUT_WR)
     return peer.recv(4096)
 
 
-# Creates a volume on a connection, says so, and keeps the connection.
+# Creates a volume on a connection, prints a line, and keeps the connection open.
 KEEPER = """
 import socket
 import sys
@@ -54,7 +55,7 @@ PROBED = "0 OK 0a020801\nready true\n", "", 0
 
 
 class SocketTest(CsictlTest):
-    """csid on a socket of its own."""
+    """csid at a socket."""
 
     def path(self, name):
         return os.path.join(self.folder, name)
@@ -67,15 +68,15 @@ class SocketTest(CsictlTest):
 
 
 class TakenSocketTest(SocketTest):
-    """Sockets that cannot be made: status 7, the name of the path and why."""
+    """Sockets that cannot be made: the status is 7, and the line has the path and the reason."""
 
     def refuse(self, path, *words):
-        """What `csid serve` says at its end."""
+        """Returns the lines and the status of `csid serve`."""
         command = [self.csid, "serve", "--socket", path, "--tables", self.path("taken.db"), *words]
         return text(run(command, input=b""))
 
     def path_of(self, size):
-        """A path of this many bytes."""
+        """Returns a path of this many bytes."""
         return self.path("l" * (size - len(self.folder) - 1))
 
     def test_path_without_room_for_a_socket_is_refused(self):
@@ -111,7 +112,7 @@ class TakenSocketTest(SocketTest):
         self.assertEqual(server.end(), ("", 0))
 
     def test_no_tables_are_made_without_a_configuration(self):
-        """The configuration is judged before the socket, whose path is taken."""
+        """The configuration is judged before the socket is made, whose path is taken."""
         config = self.path("no.toml")
         write(self.path("a.sock"), b"mine")
         came = self.refuse(self.path("a.sock"), "--config", config)
@@ -120,17 +121,18 @@ class TakenSocketTest(SocketTest):
 
 
 class ScarceTest(SocketTest):
-    """Servers without descriptors, without memory, without a path of tables."""
+    """Servers with too few descriptors, with too little memory, or without a path for the tables."""
 
     def serve_two(self, limit):
-        """A server of two connections with a limit, and its line where the tables cannot be opened."""
+        """Starts a server of two connections with a limit. Returns the line if the tables cannot be opened.
+        """
         server = self.serve("a.sock", "--connections", "2", preexec_fn=limit)
         return server, "csid: %s: %s\n" % (server.tables, NO_FILE)
 
     @each([(4, False), (5, True)])
     def test_server_without_descriptors_for_its_socket_ends(self, count, is_made):
-        """Standard input, output and error, the socket, and what waits for connections. A fifth descriptor
-        makes the file and not its log."""
+        """A server needs standard input, output and error, the socket, and the set of waiting connections. A
+        further descriptor is enough for the file, but not for its WAL."""
         server, no_file = self.serve_two(handles(count))
         self.assertEqual(server.end(), (no_file + "csid: %s: %s\n" % (server.path, NO_HANDLE), 7))
         self.assertEqual(os.path.exists(server.tables), is_made)
@@ -159,7 +161,7 @@ class ScarceTest(SocketTest):
 
 
 class StandardErrorTest(SocketTest):
-    """A standard error that is closed or full: the server goes on, and no line goes elsewhere."""
+    """Standard error is closed or full. The server continues, and no line goes elsewhere."""
 
     def test_no_line_goes_to_a_file_or_a_socket(self):
         bad = refusal(3, "bad path length at byte 0")
@@ -179,7 +181,7 @@ class StandardErrorTest(SocketTest):
 
 
 class SharedFileTest(SocketTest):
-    """Servers over one file: a server has it while it has a connection."""
+    """Servers over one file. A server has the file while it has a connection."""
 
     def setUp(self):
         super().setUp()
@@ -204,7 +206,8 @@ class SharedFileTest(SocketTest):
 
 
 class ExchangedFileTest(SocketTest):
-    """The file of an open connection is replaced: the connection goes on, and the next has the new file."""
+    """The file is replaced during a connection. The connection continues with the old file, and the next one
+    has the new file."""
 
     # A volume of 2 MiB.
     LARGER = "0a25 0880808001" + VOL_1[12:]
@@ -245,7 +248,7 @@ class ExchangedFileTest(SocketTest):
 
 
 class KeptTest(SocketTest):
-    """Volumes outlive connections, SIGKILL, and files that are broken for a while."""
+    """Volumes survive the end of connections, SIGKILL, and a broken file that is repaired."""
 
     LISTED = "0 OK 0a280a24%s1200\nvolume vol-1 1048576 -\n" % VOL_1[4:], "", 0
 
@@ -266,11 +269,12 @@ class KeptTest(SocketTest):
         return self.ask(CREATE, "--name", name, "--mode", "1")
 
     def check_closed(self, method="Probe"):
-        """A call has no reply. It may be on the way or unread when csid closes: sending fails, or reading."""
+        """A call has no reply. csid may close before or after it has read the call, so sending or reading
+        fails."""
         self.assertEqual(self.ask(method), ("", Line("csictl: " + self.server.path + ": "), 5))
 
     def connect(self):
-        """A connection of SQLite to the file, which csid closes after its reply."""
+        """Opens the file in sqlite3, once csid has closed it after its reply."""
         connection = sqlite3.connect(self.file, isolation_level=None)
         self.addCleanup(connection.close)
         return connection
@@ -285,7 +289,7 @@ class KeptTest(SocketTest):
         self.assertEqual(self.create("a"), created)
 
     def kill_within_a_connection(self, create):
-        """csid is killed while it serves the connection that made a volume, and started again."""
+        """Kills csid during the connection that made a volume, and starts it again."""
         words = [sys.executable, "-c", KEEPER, self.server.path, create.hex()]
         with subprocess.Popen(words, stdout=subprocess.PIPE) as holder:
             self.assertEqual(holder.stdout.readline(), b"created\n")

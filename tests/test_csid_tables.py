@@ -1,4 +1,4 @@
-"""Volumes in a file: what outlives a process, and files that are no tables of csid."""
+"""Volumes in a file: changes outlive the process, and files without tables of csid are refused."""
 
 import os
 import shutil
@@ -16,8 +16,8 @@ from tests.support.tables import A, DAMAGED, LOCKED, MIB, NO_DATABASE, NO_FILE, 
 
 
 def first_page():
-    """A database of one page without tables ("Database File Format" of SQLite, 1.3 and 1.6), whose changes
-    are in a log first."""
+    """Returns a database of one page without tables ("Database File Format" of SQLite, 1.3 and 1.6), in WAL
+    mode."""
     page = bytearray(1024)
     for at, text in [
         (0, b"SQLite format 3\0".hex()),
@@ -40,7 +40,7 @@ VOLUME_2 = VOLUME_1.replace(b"vol-1", b"vol-2")
 
 
 def page_of(volume):
-    """The reply to ListVolumes of one volume without attachments."""
+    """Returns the reply to ListVolumes with one volume without attachments."""
     return reply(bytes.fromhex("0a28") + volume + bytes.fromhex("1200"))
 
 
@@ -77,7 +77,7 @@ class DurabilityTest(CsidTest):
         self.assertEqual(self.tables.run(CREATE + LISTING), (reply(VOLUME_2) + page_of(VOLUME_2), "", 0))
 
     def test_file_has_all_changes_after_an_end(self):
-        """The WAL has no frame then, and the file is a database for SQLite."""
+        """The WAL then has no frame, and SQLite can read the file."""
         self.tables.run(CREATE)
         self.assertEqual(sorted(os.listdir(self.folder)), ["volumes.db", "volumes.db-wal"])
         self.assertLess(os.path.getsize(self.tables.path + "-wal"), 100)
@@ -106,7 +106,7 @@ class DurabilityTest(CsidTest):
 
 
 class FirstPageTest(CsidTest):
-    """An empty file gets pages of 1,024 bytes. In any other file no byte is written before it is opened."""
+    """An empty file gets pages of 1,024 bytes. In any other file no byte is written before it is accepted."""
 
     def check_made(self):
         self.assertEqual(self.tables.run(frame(PROBE)), (READY, "", 0))
@@ -159,7 +159,7 @@ class FirstPageTest(CsidTest):
 
 class OtherFilesTest(CsidTest):
     def probe(self, path, *words):
-        """What `csid pipe` says over the file of a path."""
+        """Returns the output of `csid pipe` over the file at a path."""
         command = [self.csid, "pipe", "--tables", path, *words]
         return run(command, input=frame(PROBE), cwd=self.folder)
 
@@ -224,7 +224,7 @@ class OtherFilesTest(CsidTest):
         self.assertEqual(os.listdir(self.folder), ["dangling.db"])
 
     def test_path_that_sqlite_takes_for_no_file_is_refused(self):
-        """A name for a database in memory, and a URI. No file is made."""
+        """The name of a database in memory, and a URI. No file is made."""
         for path in ":memory:", "file:x.db":
             line = "csid: %s: csid needs the path of a file, and this is none for SQLite\n" % path
             for words in (["pipe", "--tables", path], ["pipe", "--tables", path, "--existing"],
@@ -264,7 +264,7 @@ class PermissionsTest(CsidTest):
         self.tables = Tables(self.program, self.held)
 
     def fill(self):
-        """Tables with a volume that anyone may read and write."""
+        """Makes tables with a volume, in files that anyone may read and write."""
         self.tables.new().run(CREATE)
         for ending in "", "-wal":
             os.chmod(self.tables.path + ending, 0o666)
@@ -287,7 +287,7 @@ class PermissionsTest(CsidTest):
         ("not to be entered", 0o666, ["", "-wal"], False),
     ])
     def test_folder_without_permission_needs_no_new_file(self, name, mode, endings, is_served):
-        """In a folder that is not writable a file that has its log is served, and nothing is made."""
+        """In a folder that is not writable, a file with its WAL is served, and no file is made."""
         self.fill()
         for ending in {"", "-wal"}.difference(endings):
             os.unlink(self.tables.path + ending)
@@ -314,7 +314,7 @@ class PermissionsTest(CsidTest):
 
 
 class OrderOfFaultsTest(CsidTest):
-    """Words are judged before the configuration, that before the tables."""
+    """Arguments are judged first, then the configuration, and then the tables."""
 
     def setUp(self):
         super().setUp()
@@ -346,7 +346,7 @@ class ExistingTest(CsidTest):
         self.command = self.tables.command + ["--existing"]
 
     def check_refused(self, why):
-        """csid refuses the tables, and leaves the folder as it is."""
+        """csid refuses the tables, and does not change the folder."""
         kept = self.tables.files()
         for words in [], ["--low-memory"]:
             self.assertEqual(run(self.command + words, input=frame(PROBE)), self.tables.says(why))
@@ -419,7 +419,7 @@ class ExistingTest(CsidTest):
         self.assertEqual(server.ask(LISTING).count(b"vol-"), 2)
 
     def test_file_that_is_away_for_a_while_is_served_again(self):
-        """As on a disk that is not mounted. No file is made in the meantime."""
+        """For example, a disk is not mounted. No file is made in the meantime."""
         self.tables.new().script(A)
         server = Server(self.csid, self.held, "--existing")
         self.assertEqual(server.ask(LISTING), ONE)
@@ -436,7 +436,7 @@ class ExistingTest(CsidTest):
 
 
 class EmptiedTest(CsidTest):
-    """A file without a byte whose log has changes: nothing is made or changed, so it can be put back."""
+    """A file is empty, but its WAL has changes. Nothing is made or changed, so the file can be put back."""
 
     def setUp(self):
         super().setUp()
@@ -447,11 +447,11 @@ class EmptiedTest(CsidTest):
                 peer.recv(1 << 16)
             server.end()
         self.file, self.log = [self.tables.files()["volumes.db" + ending] for ending in ("", "-wal")]
-        # The header of the log, and the first change.
+        # The header of the WAL, and the first change.
         self.assertGreater(len(self.log), 568)
 
     def put(self, file, log):
-        """Writes the file and its log. None means no file."""
+        """Writes the file and its WAL. None means no file."""
         self.tables.clear()
         for ending, content in ("", file), ("-wal", log):
             if content is not None:
@@ -459,7 +459,7 @@ class EmptiedTest(CsidTest):
         return self.tables.files()
 
     def check_each(self, check):
-        """Makes a check for each state of the file and its log, which must stay as they are."""
+        """Runs a check for each state of the file and its WAL, which must not change."""
         for name, file, log in [
             ("no byte", b"", self.log),
             ("no file", None, self.log),

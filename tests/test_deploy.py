@@ -1,5 +1,5 @@
 """The files of deploy/: they can be read, agree on names, sockets, ports and images, confine their programs,
-and end them."""
+and let them end in time."""
 
 import json
 import os
@@ -16,8 +16,8 @@ from tests.support.deploy import (DEFAULTS, DIFFERENCES, ETCD_MANIFEST, ETCD_PRO
 from tests.support.processes import TOP
 from tests.support.rows import RowTest, each
 
-# Each unit that serves: the name in its lines, and the statuses that are an intended end, or no reason for a
-# restart.
+# For each unit that serves: the name in its lines, and the statuses that are a planned end, or must not lead
+# to a restart.
 STATUSES = [
     ("csid.service", "csid", [], ["2 3"]),
     ("csid-front.service", "csid-front", ["1"], ["2"]),
@@ -26,7 +26,7 @@ STATUSES = [
 
 
 def said(script, **variables):
-    """What a shell's status is, and its line on standard error."""
+    """Returns the status of a shell, and its line on standard error."""
     done = subprocess.run(["sh", "-c", script], env={"PATH": os.environ["PATH"], **variables},
                           capture_output=True, text=True)
     return done.returncode, done.stderr
@@ -37,7 +37,7 @@ def manifests():
 
 
 class ManifestTest(RowTest):
-    """Names within a manifest, and how its containers are confined."""
+    """The names within a manifest, and how its containers are confined."""
 
     def test_selectors_are_the_labels_of_the_pod(self):
         for manifest in manifests():
@@ -115,7 +115,7 @@ class CapacityTest(RowTest):
 
 
 class CheckTest(RowTest):
-    """A configuration or a file that csid refuses: the pod does not start, or is not ready."""
+    """If csid refuses the configuration or the file, the pod does not start, or is not ready."""
 
     def setUp(self):
         super().setUp()
@@ -139,13 +139,13 @@ class CheckTest(RowTest):
         self.assertEqual(probe["httpGet"], {"path": "/healthz", "port": int(port)})
 
     def test_readiness_waits_longer_than_the_front_does_for_csid(self):
-        """That is five seconds."""
+        """The front waits five seconds."""
         for manifest in manifests():
             self.assertGreater(manifest.containers["front"]["readinessProbe"]["timeoutSeconds"], 5)
 
 
 class TablesPodTest(RowTest):
-    """The pod that holds the claim while csid does not run."""
+    """The pod that mounts the claim while csid does not run."""
 
     def setUp(self):
         super().setUp()
@@ -185,7 +185,7 @@ class TablesPodTest(RowTest):
 
 
 class EtcdCommandsTest(RowTest):
-    """What runs over etcd differs from what runs over a file in that alone."""
+    """The commands over etcd differ from the commands over a file only in the options for etcd."""
 
     def test_csid_and_the_front_differ_in_the_rows_and_the_standby(self):
         for where, _, csid, front, (old_csid, old_front) in etcd_commands():
@@ -210,7 +210,7 @@ class EtcdCommandsTest(RowTest):
                 self.assertEqual({os.path.dirname(value(etcd, it)) for it in TLS}, {"/etc/csid-etcd"})
 
     def test_csid_etcd_wants_rows_and_has_the_name_of_the_plugin(self):
-        """No csid-etcd makes the first row on its own."""
+        """csid-etcd never makes the first row on its own."""
         for where, etcd, _, _, _ in etcd_commands():
             with self.subTest(where=where):
                 self.assertIn("--existing", etcd)
@@ -316,7 +316,7 @@ class EtcdManifestTest(RowTest):
         self.assertEqual(affinity["requiredDuringSchedulingIgnoredDuringExecution"], [apart])
 
     def test_pod_is_ready_without_an_answer(self):
-        """Its front alone is asked, by what it answers while it stands by."""
+        """Only its front is asked, and it answers while it stands by."""
         for name, container in self.manifest.containers.items():
             asked = {"readinessProbe", "startupProbe"} & set(container)
             self.assertEqual(asked, {"readinessProbe"} if name == "front" else set(), name)
@@ -331,7 +331,7 @@ class EtcdManifestTest(RowTest):
         self.assertEqual(mounts(check), {os.path.dirname(config): "config"})
 
     def test_probes_wait_longer_than_the_front_does_for_csid(self):
-        """That is five seconds."""
+        """The front waits five seconds."""
         port = int(value(self.manifest.containers["front"]["command"], "--metrics").lstrip(":"))
         for name in ETCD_PROGRAMS:
             probe = self.manifest.containers[name]["livenessProbe"]
@@ -349,7 +349,7 @@ class EtcdManifestTest(RowTest):
 
 
 class NamesTest(RowTest):
-    """The name of the plugin, the image and what begins a container are the same everywhere."""
+    """The name of the plugin, the image and the entry command of a container are the same in all files."""
 
     def setUp(self):
         super().setUp()
@@ -400,8 +400,8 @@ class DeployTest(RowTest):
                        probe["timeoutSeconds"] > seconds(words["probe-timeout"]), True)
 
     def test_nodes(self):
-        """Each configuration has a pool and a node, as volumes are created and attached with it as it is; and
-        the Nomad job says where it may run, which Nomad before 1.5 requires."""
+        """Each configuration has a pool and a node, so volumes can be created and attached without a change.
+        The Nomad job has `datacenters`, which Nomad before 1.5 requires."""
         nomad = Nomad()
         for where, text in [
             ("the manifest", Kubernetes().config()),
@@ -418,7 +418,7 @@ class DeployTest(RowTest):
         self.check("where the job may run", len(named), 1)
 
     def test_sockets(self):
-        """Each front is given the socket of its csid, and each sidecar the socket of its front."""
+        """Each front gets the socket of its csid, and each sidecar the socket of its front."""
         for where, self.csid, self.front in commands():
             self.check("the socket of csid in " + where, value(self.front, "--csid"),
                        value(self.csid, "--socket"))
@@ -443,7 +443,7 @@ class DeployTest(RowTest):
                    endpoint)
 
     def check_controls(self):
-        """Each front has a control socket in a folder that is there, and the image has csictl for it."""
+        """Each front has a control socket in an existing folder, and the image has csictl for it."""
         unit = Unit(UNITS[1])
         self.check("the folder of the unit's control socket",
                    os.path.dirname(value(unit.words(), "--control")),
@@ -466,7 +466,7 @@ class DeployTest(RowTest):
         self.check("the client is in the image", "csictl" in files, True)
 
     def test_ends(self):
-        """What ends the programs waits longer than the front; what starts them again never gives up."""
+        """The time to end a program is longer than the front needs, and a program is always started again."""
         manifest, nomad, self.front = Kubernetes(), Nomad(), Unit(UNITS[1])
         waits = {
             "the manifest": manifest.pod["terminationGracePeriodSeconds"],
@@ -482,7 +482,7 @@ class DeployTest(RowTest):
 
     @each(STATUSES)
     def test_statuses(self, name, program, done, refused):
-        """A program that was refused is not started again, and systemd's words for a status are corrected."""
+        """A refused program is not started again, and the unit has its own words for the status."""
         unit = Unit(name)
         self.check("the statuses of " + name,
                    (unit.all("SuccessExitStatus"), unit.all("RestartPreventExitStatus")), (done, refused))
@@ -499,7 +499,7 @@ class DeployTest(RowTest):
 
     @each(STATUSES)
     def test_reload(self, name, program, done, _):
-        """A reload is refused, with what helps instead, by a status that no end as asked for has."""
+        """A reload fails with a hint, and with a status that no planned end has."""
         unit = Unit(name)
         (command,) = unit.all("ExecReload")
         status, line = said(unit.script(command))
@@ -509,7 +509,7 @@ class DeployTest(RowTest):
                    (False, 69, True, True))
 
     def test_pages(self):
-        """The units name pages of manual that are made."""
+        """The units name manual pages that exist."""
         with open(os.path.join(TOP, "packaging", "manual")) as file:
             made = set(re.findall(r'Page\(\s*"([\w-]+)",\s+(\d),', file.read()))
         for name in [*UNITS, FIRST, ETCD_UNIT]:
@@ -517,7 +517,7 @@ class DeployTest(RowTest):
             self.check("the pages that %s names" % name, (bool(named), set(named) - made), (True, set()))
 
     def test_defaults(self):
-        """The file of options shows what the units have without it."""
+        """The file of options has the default values of the units."""
         units = [Unit(name) for name in UNITS]
         self.check("where it is", [it.all("EnvironmentFile") for it in units],
                    [["-/etc/default/csid"]] * len(units))
@@ -528,7 +528,7 @@ class DeployTest(RowTest):
         self.check("what it shows", shown, given)
 
     def test_metrics(self):
-        """Each front serves metrics where they are looked for; the dashboard and the alerts can be read."""
+        """Each front serves metrics at the port that is scraped. The dashboard and the alerts can be read."""
         unit, nomad = Unit(UNITS[1]), Nomad()
         host, port = value(unit.words(), "--metrics").rsplit(":", 1)
         self.check("the unit tells metrics to its own machine",
@@ -569,7 +569,7 @@ class DeployTest(RowTest):
             self.check("its severity", rule["labels"]["severity"] in ("critical", "warning"), True)
 
     def test_memory_of_the_front(self):
-        """The front has the same limit of memory by its unit, the job and the manifests, and Go knows it."""
+        """The front has the same memory limit in its unit, the job and the manifests, and Go knows it."""
         unit, task = Unit(UNITS[1]), Nomad().tasks()["front"]
         mebibytes = int(re.fullmatch(r"(\d+)M", unit.all("MemoryMax")[0]).group(1))
         self.check("the limit of the Nomad job", re.findall(r"memory_max = (\d+)", task), [str(mebibytes)])
@@ -582,7 +582,7 @@ class DeployTest(RowTest):
             self.check("what Go knows in " + name, told, [unit.variables()["GOMEMLIMIT"]])
 
     def test_memory_of_csid(self):
-        """csid may have as much memory by its unit and by the Nomad job as by the manifests."""
+        """csid has the same memory limit in its unit, the Nomad job and the manifests."""
         limit = Unit(UNITS[0]).all("MemoryMax")[0]
         self.check("the limit of the unit", limit, "1G")
         task = Nomad().tasks()["csid"]
@@ -593,8 +593,8 @@ class DeployTest(RowTest):
 
     @each([*UNITS, FIRST])
     def test_chown(self, name):
-        """csid and the front may give their sockets to a group (--group, --control-group), and csid the WAL
-        the owner of its file: that call is the last that their units allow."""
+        """csid and the front may give their sockets to a group (--group, --control-group), and csid may give
+        the WAL the owner of its file. Their units allow no other such call."""
         self.check("what %s allows last" % name, Unit(name).all("SystemCallFilter")[1:],
                    ["~@privileged @resources", "@chown"])
 
@@ -605,8 +605,8 @@ class DeployTest(RowTest):
         ("csid-front.service", "0007"),
     ])
     def test_privacy(self, name, mask):
-        """Of what the programs keep and of their sockets nothing is for users next to their own, but the
-        socket of the front for its group."""
+        """Other users have no access to the files and sockets of the programs, except the group of the
+        front's socket."""
         unit = Unit(name)
         kept = [it for it in ["RuntimeDirectory", "StateDirectory"] if unit.all(it)]
         self.check("who may read what %s makes" % name,
@@ -614,7 +614,7 @@ class DeployTest(RowTest):
                    ([mask], [["0750"]] * len(kept)))
 
     def test_units(self):
-        """systemd takes the units, and finds little that they leave open. No program need be installed."""
+        """systemd accepts the units, and reports little exposure. No program needs to be installed."""
         said = subprocess.run([need("systemd-analyze"), "--version"], capture_output=True, text=True).stdout
         if int(said.split()[1]) < 250:
             self.skipTest("systemd-analyze is older than 250")
@@ -622,7 +622,7 @@ class DeployTest(RowTest):
         self.check_verified(UNITS + [ETCD_UNIT], DIFFERENCES)
 
     def check_verified(self, names, differences):
-        """Units in a folder of their own, some with a file of what differs."""
+        """Checks units in a folder, some with a drop-in."""
         with tempfile.TemporaryDirectory() as folder:
             for name, place in [(it, it) for it in names] + [(file, unit + ".d/etcd.conf")
                                                              for unit, file in differences.items()]:

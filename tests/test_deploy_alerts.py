@@ -1,5 +1,5 @@
-"""The alerts and the dashboard as Prometheus reads them: promtool takes their expressions, and the alerts of
-how full it is come at their shares, and after their times."""
+"""The alerts and the dashboard in Prometheus: promtool accepts the expressions, and the alerts of full pools
+and nodes fire at their shares, after their times."""
 
 import json
 import os
@@ -10,9 +10,10 @@ from tests.support.deploy import DEPLOY, need, read
 from tests.support.rows import RowTest, each
 
 ALERTS = os.path.join(DEPLOY, "alerts.yaml")
-# The alerts that must come for a used share, in hundredths: exactly 80 % gives no alert yet.
+# For each used share in percent, the alerts that must fire. At exactly 80 % no alert fires.
 SHARES = [(79, []), (80, []), (81, [80]), (90, [80]), (91, [80, 90])]
-# The alerts, and the series of the used and the greatest value, with the label that names one of several.
+# The alerts, each with the series of the used and the greatest value, and the label that distinguishes
+# several.
 FULL = [
     ("Pool", "csid_front_pool_used_bytes", "csid_front_pool_size_bytes", ', pool="p1"'),
     ("Node", "csid_front_node_attachments", "csid_front_node_max_volumes", ', node="n1"'),
@@ -27,7 +28,7 @@ def constant(name, labels, value):
 
 
 def firing(pattern, minutes, names):
-    """Checks that after `minutes` the alerts of these names fire, and no other one of the pattern."""
+    """Checks that after `minutes` exactly these alerts of the pattern fire."""
     return {
         "expr": 'count by (alertname) (ALERTS{alertstate="firing", alertname=~"%s"})' % pattern,
         "eval_time": "%dm" % minutes,
@@ -55,7 +56,7 @@ class AlertsTest(RowTest):
         self.check("alerts.yaml", self.promtool("check", "rules", ALERTS), (0, ""))
 
     def test_queries_are_queries(self):
-        """Each query of the dashboard is taken as the expression of a rule."""
+        """promtool accepts each query of the dashboard as the expression of a rule."""
         panels = json.loads(read("dashboard.json"))["panels"]
         queries = [target["expr"] for panel in panels for target in panel["targets"]]
         self.assertTrue(queries)
@@ -68,7 +69,7 @@ class AlertsTest(RowTest):
 
     @each(FULL)
     def test_shares(self, what, used, most, labels):
-        """Each alert of a share comes above its share, after a quarter of an hour."""
+        """An alert fires above its share, after 15 minutes."""
         for share, alerts in SHARES:
             names = ["Csid%sAbove%d" % (what, alert) for alert in alerts]
             self.check_rules("%s at %d %%" % (what, share),
@@ -76,7 +77,7 @@ class AlertsTest(RowTest):
                              [firing("Csid.+Above.+", 14, []), firing("Csid.+Above.+", 16, names)])
 
     def test_old_listing(self):
-        """A listing that ended at 0 seconds is old after 15 minutes, and the alert comes 5 minutes later."""
+        """A listing that ended at 0 seconds is old after 15 minutes. The alert fires 5 minutes later."""
         self.check_rules("a listing that is not repeated",
                          [constant("csid_front_listing_timestamp_seconds", "", 0)],
                          [firing("CsidListingOld", 20, []), firing("CsidListingOld", 22, ["CsidListingOld"])])

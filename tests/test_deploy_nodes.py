@@ -1,5 +1,5 @@
-"""The example of a node plugin in deploy/: its sockets, folders, names and images are those of the other
-manifests; and the claim to try it with."""
+"""The example of a node plugin in deploy/: it has the sockets, folders, names and images of the other
+manifests. The example claim can be applied."""
 
 import os
 import re
@@ -28,7 +28,7 @@ class NodeTest(RowTest):
         self.config = toml(self.controller.config())
 
     def host(self, container, path):
-        """The path at the node of a path in a container."""
+        """Returns the path on the node of a path in a container."""
         folder, name = os.path.split(path)
         return os.path.join(self.hosts[mounts(container)[folder]], name)
 
@@ -47,7 +47,7 @@ class NodeSocketsTest(NodeTest):
         self.assertEqual(self.host(self.registrar, "/registration/x"), KUBELET + "/plugins_registry/x")
 
     def test_controller_is_the_socket_of_the_front(self):
-        """The patch puts it into the folder of the node that the node plugin sees."""
+        """The patch puts the socket into the folder that the node plugin sees."""
         front = self.controller.containers["front"]
         endpoint = front["env"][0]["value"][len("unix://") :]
         (volume,) = self.patch["spec"]["template"]["spec"]["volumes"]
@@ -143,7 +143,7 @@ class NodeRightsTest(NodeTest):
 
 
 class ExampleTest(RowTest):
-    """What is applied, or given to Nomad, to see a volume."""
+    """The files that are applied, or given to Nomad, to try a volume."""
 
     def test_pod_uses_the_claim_of_the_class(self):
         claim, pod = documents(EXAMPLE)

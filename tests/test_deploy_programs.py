@@ -1,4 +1,4 @@
-"""What deploy/ starts, with the built programs."""
+"""Runs the commands of deploy/ with the built programs."""
 
 import contextlib
 import os
@@ -16,10 +16,10 @@ from tests.support.rows import ProgramTest
 
 
 class ProgramsTest(ProgramTest):
-    """What deploy/ starts, with the built programs."""
+    """The commands of deploy/ and the built programs."""
 
     def test_options(self):
-        """The built programs know the options that they are given, and csid reads the configurations."""
+        """The built programs know the options in deploy/, and csid can read the configurations."""
         helps = [help_of(self.csid, "serve"), help_of(self.front)]
         for where, *both in commands():
             for text, words in zip(helps, both):
@@ -48,8 +48,8 @@ class ProgramsTest(ProgramTest):
 
 
 class FirstStepTest(ProgramTest):
-    """csid never makes a file on its own. The preparing step makes the file that csid wants, at the given
-    path, and keeps an existing one."""
+    """csid makes no file without being asked. The first step makes the file that csid expects, at the given
+    path, and keeps an existing file."""
 
     def test_csid_wants_a_file(self):
         for where, words, _ in commands():
@@ -58,7 +58,7 @@ class FirstStepTest(ProgramTest):
                 self.assertEqual(value(words, "--idle"), "60")
 
     def test_unit_makes_the_file_that_csid_wants(self):
-        """No condition keeps it from a file whose making was cut short."""
+        """No condition of the unit skips a file that was made only in part."""
         unit = Unit(FIRST)
         tables = value(Unit(UNITS[0]).words(), "--tables")
         self.assertEqual(value(unit.words(), "--tables"), tables)
@@ -72,8 +72,8 @@ class FirstStepTest(ProgramTest):
                 self.assertNotIn(FIRST, str(Unit(name).all(key)))
 
     def steps(self):
-        """Yields each step as a function that returns its status, standard error and the content of the file,
-        with the path of the file and whether the step must be given it."""
+        """Yields each first step as a function that returns its status, standard error and the content of the
+        file, with the path of the file, and True if the step needs the path as an argument."""
         if not os.access(self.csid, os.X_OK):
             self.skipTest("%s is not built" % self.csid)
         os.symlink(self.csid, os.path.join(self.folder, "csid"))
@@ -134,7 +134,7 @@ class FirstStepTest(ProgramTest):
 
 
 class CheckBeforeStartTest(ProgramTest):
-    """What csid.service looks at before a start."""
+    """The checks of csid.service before a start."""
 
     def setUp(self):
         super().setUp()
@@ -147,7 +147,7 @@ class CheckBeforeStartTest(ProgramTest):
         write(os.path.join(self.folder, name), text.encode())
 
     def end(self, command):
-        """How a command of the unit ends, over files in the folder of the test."""
+        """Returns the result of a command of the unit, over files in the folder of the test."""
         unit = Unit(UNITS[0])
         script = unit.script(command)
         for option, name in ("--tables", "/volumes.db"), ("--config", "/config"):
@@ -192,7 +192,8 @@ class CheckBeforeStartTest(ProgramTest):
 
 
 class CheckInPodTest(ProgramTest):
-    """The init container of the manifest that keeps a pod from a start with what csid refuses."""
+    """The init container of the manifest prevents a start with a configuration or a file that csid refuses.
+    """
 
     def setUp(self):
         super().setUp()
@@ -246,8 +247,8 @@ class ProcessesTest(ProgramTest):
                 self.check(name + " ends by SIGTERM", pod.ends(name), True)
 
     def test_processes_over_etcd(self):
-        """The commands of a pod over etcd: csid-etcd without one, and csid and the front over a log that is
-        played. The front's time is shorter here."""
+        """The commands of a pod over etcd: csid-etcd without etcd, and csid and the front over a played
+        change store. The front waits for less time here."""
         need_namespaces()
         manifest = Kubernetes(ETCD_MANIFEST)
         with tempfile.TemporaryDirectory() as folder, Pod(
@@ -264,7 +265,7 @@ class ProcessesTest(ProgramTest):
             self.check_takeover(pod, folder + value(plain(manifest.containers["csid"]["command"]), "--log"))
 
     def check_takeover(self, pod, path):
-        """The front's socket is there while csid serves, and csid serves while it has its log."""
+        """The front's socket exists while csid serves, and csid serves while it has its change store."""
         backend, endpoint = pod.folder + "/run/csid/csid.sock", pod.folder + "/csi/csi.sock"
         shorter = {value(pod.manifest.containers["front"]["command"], "--standby"): "1s"}
         pod.start("csid")

@@ -1,6 +1,5 @@
-"""The sessions of README.md, docs/CLI.md, "For people", and docs/OPERATING.md, "Look into tables": what each
-shows is what bash prints where it is pasted. examples/session prints what the first one of README.md shows.
-"""
+"""The sessions of README.md, of docs/CLI.md, "For people", and of docs/OPERATING.md, "Look into tables": bash
+prints the lines on the pages. examples/session prints the first session of README.md."""
 
 import os
 import pathlib
@@ -19,7 +18,7 @@ def read(*path):
     return pathlib.Path(TOP, *path).read_text(encoding="utf-8")
 
 
-# After a program that was started in the background: the socket that the next command needs.
+# Waits for the socket of a program that was started in the background, as the next command needs it.
 AWAIT = "for i in $(seq 300); do if [ -S control.sock ]; then break; fi; sleep 0.1; done"
 
 
@@ -32,14 +31,14 @@ class SessionTest(CsictlTest):
             os.symlink(program, os.path.join(self.folder, name))
 
     def session(self, heading):
-        """The lines below a heading, the commands among them, and what they print."""
+        """Returns the lines below a heading, the commands among them, and their output."""
         part = re.split(r"\n#+ ", read("README.md").split("\n%s\n" % heading)[1])[0]
         lines = re.findall(r"^ {4}(.*)$", part, re.M)
         commands = [it for it in lines if not it.startswith("# ")]
         return lines, commands, "".join(it[2:] + "\n" for it in lines if it.startswith("# "))
 
     def bash(self, *words, typed=""):
-        """What bash prints where the built programs are the first of the PATH."""
+        """Returns the output of bash, with the built programs first on the PATH."""
         path = "%s:%s" % (self.folder, os.environ["PATH"])
         done = subprocess.run(["bash", *words], input=typed,
                               env={**os.environ, "PATH": path, "TMPDIR": self.folder}, capture_output=True,
@@ -47,7 +46,7 @@ class SessionTest(CsictlTest):
         return done.stdout, done.stderr, done.returncode
 
     def shown(self, blocks):
-        """What bash prints for the commands of blocks, each of which is shown before its lines."""
+        """Returns the output of bash for the commands in blocks, each after its command."""
         script = ["exec 2>&1", "cd " + self.folder]
         for line in "\n".join(blocks).splitlines():
             if line.startswith("$ "):
@@ -95,7 +94,7 @@ class ExampleTest(SessionTest):
         self.check("its last lines", lines[-len(self.commands) :], self.commands)
 
     def test_example_without_programs_says_what_makes_them(self):
-        """Where nothing is built, and the PATH has what the script itself needs alone."""
+        """Nothing is built, and the PATH has only the tools that the script itself needs."""
         copy = shutil.copy(os.path.join(TOP, "examples", "session"), os.path.join(self.folder, "session"))
         path = os.path.join(self.folder, "path")
         os.mkdir(path)
@@ -107,7 +106,7 @@ class ExampleTest(SessionTest):
 
 
 def session_blocks(heading, *path):
-    """The blocks of a section of a page that begin with a command, which has '$ ' before it."""
+    """Returns the blocks of a section whose first line is a command after '$ '."""
     text = re.split(r"\n#+ ", read(*path).split("\n%s\n" % heading)[1])[0]
     blocks = re.findall(r"(?:^ {4}.*\n|^\n(?= {4}))+", text, re.M)
     blocks = [re.sub(r"^ {4}", "", it, flags=re.M).strip("\n") for it in blocks]
@@ -116,8 +115,7 @@ def session_blocks(heading, *path):
 
 class PeopleSessionTest(SessionTest):
     """The sessions of docs/CLI.md with the commands for people: over csid, and then over a front. A command
-    has '$ ' before it, and below it are its lines, also those on standard error.
-    """
+    is after '$ ', and its output, with standard error, is below it."""
 
     def setUp(self):
         super().setUp()
@@ -135,7 +133,7 @@ class PeopleSessionTest(SessionTest):
         self.assertEqual("\n".join(lines), "\n".join(self.blocks))
 
 
-# A configuration with room for the volumes of the session, and the calls that make them.
+# A configuration with room for the volumes of the session, and the calls that make the volumes.
 ROOM = b"""
 name = "pools.example.org"
 vendor_version = "1.0.0"

@@ -1,5 +1,5 @@
 """Calls of several clients at the same time are linearizable, also while csid is killed, and while another
-csid over the same etcd takes over. The search for an order of calls finds one exactly if there is one."""
+csid over the same etcd takes over. The search for an order finds one if and only if there is one."""
 
 import os
 import shutil
@@ -69,12 +69,12 @@ class ClientsTest(RowTest):
         super().setUp()
         if not os.access(place("front"), os.X_OK):
             self.skipTest("there is no front")
-        # A file in memory takes no waiting for a disk.
+        # A file in memory needs no waiting for a disk.
         memory = "/dev/shm" if os.path.isdir("/dev/shm") else None
         self.files = self.enterContext(tempfile.TemporaryDirectory(dir=memory))
 
     def orders(self, fronts, count):
-        """The orders that are found of histories; None for one without an order."""
+        """Returns the orders of histories, with None for a history without an order."""
         self.addCleanup(fronts.end)
         return [order for _, _, order in histories(fronts, count)]
 

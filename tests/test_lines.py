@@ -1,5 +1,5 @@
-"""How long lines are: 110 columns for text, 160 for a definition; in Go 100 for a comment and 120 for a
-line, with a tab as 4."""
+"""The length of lines: 110 columns, 160 for a definition. In Go 100 columns for a comment and 120 for a line,
+with a tab as 4 columns."""
 
 import glob
 import os
@@ -11,7 +11,7 @@ from tests.support.rows import RowTest, each
 
 COMMENT = re.compile(r"\s*(?://|--)")
 CLAUSE = re.compile(r"\s*(?:requires|ensures)\b")
-# Code whose lines have a length of their own: names that are used, attributes, and texts.
+# Lines of code without a limit: imports, attributes, and texts.
 OWN_LENGTH = re.compile(r"\s*(?:(?:ghost |pub )?use |#)|.*\"")
 SOURCES = ["crates/*/src/**/*.rt", "crates/*/specs/**/*.antt", "crates/*/proofs/**/*.antt"]
 GO = ["go/**/*.go"]
@@ -22,7 +22,7 @@ SCRIPTS = ["build", "bench/**/*", "packaging/**/*", "scripts/*", "tests/*", "tes
 
 
 def files_of(patterns):
-    """The files of the repository that are named so."""
+    """Returns the files of the repository with these names."""
     found = (it for pattern in patterns for it in sorted(glob.glob(pattern, root_dir=TOP, recursive=True)))
     return [it for it in found if os.path.isfile(os.path.join(TOP, it))]
 
@@ -32,19 +32,19 @@ def lines_of(path):
 
 
 def without_text(token):
-    """Returns a token of Go unchanged, but of a text with several lines only the line ends."""
+    """Returns a token of Go unchanged, but only the line ends of a text with several lines."""
     text = token.group(1) or ""
     return "\n" * text.count("\n") if "\n" in text else token.group()
 
 
 def go_lines(path):
-    """The lines of a Go file. Those of texts with several lines are empty."""
+    """Returns the lines of a Go file. Lines in texts with several lines are empty."""
     text = GO_TOKEN.sub(without_text, "\n".join(lines_of(path)))
     return text.expandtabs(4).split("\n")
 
 
 def is_go_code(line):
-    """Whether a line can be broken: one with the tag of a field cannot."""
+    """Returns True if the line can be broken, which a line with a field's tag cannot."""
     return not GO_TAG.search(line)
 
 
@@ -53,7 +53,7 @@ def is_python(path):
 
 
 def is_code(line):
-    """Whether a line is one of a clause, or other code without a length of its own."""
+    """Returns True if the line is code with a limit, such as a clause."""
     return CLAUSE.match(line) or not OWN_LENGTH.match(line)
 
 

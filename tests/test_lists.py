@@ -1,4 +1,4 @@
-"""scripts/lists: the lists of docs/ agree with their sources, and a source without a list is refused."""
+"""scripts/lists: the lists of docs/ agree with their sources, and a source without its list is reported."""
 
 import os
 import shutil
@@ -11,7 +11,7 @@ FIXTURES = os.path.join(TOP, "tests", "fixtures")
 
 
 def listed(name):
-    """A page of tests/fixtures/lists with its lists."""
+    """Returns a page of tests/fixtures/lists with its lists."""
     return read(os.path.join(FIXTURES, "listed", name)).decode()
 
 
@@ -57,7 +57,7 @@ class ListsTest(FilesTest):
         self.check("--check", self.lists("--check"), (0, "", ""))
 
     def test_contents_are_the_headings_of_a_page(self):
-        """Its title and lines of code are left out."""
+        """The title of the page and lines of code are left out."""
         page = "# Page\n\n%s\n## A part\n\n```\n## code\n```\n\n### A `b`, and 2\n\n## Rest\n"
         place = "<!-- scripts/lists: contents -->\n%s<!-- end -->\n"
         items = "\n- [A part](#a-part)\n  - [A `b`, and 2](#a-b-and-2)\n- [Rest](#rest)\n\n"

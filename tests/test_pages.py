@@ -1,4 +1,4 @@
-"""scripts/check-pages and scripts/theorems, over a repository of a few files."""
+"""scripts/check-pages and scripts/theorems, over a repository with a few files."""
 
 import os
 import shutil
@@ -8,12 +8,12 @@ from tests.support.processes import SECONDS, TOP, read
 from tests.support.rows import FilesTest
 
 FIXTURES = os.path.join(TOP, "tests", "fixtures")
-# What scripts/theorems prints of the crate of tests/fixtures/pages, and files of that repository.
+# The output of scripts/theorems for the crate of tests/fixtures/pages, and files of that repository.
 PAGE, INDEX, TESTING, EDITS, LAWS = [
     read(os.path.join(FIXTURES, name)).decode()
     for name in ("low.md", "pages/docs/theorems/README.md", "pages/docs/TESTING.md",
                  "pages/tests/edits/low.edits", "pages/crates/low/src/laws.rt.txt")]
-# The table of the index of these sources.
+# The table in the index of these sources.
 TABLE = """<!-- scripts/theorems -->
 
 |crate|public functions|laws|wrong bodies|of these in the merge gate|
@@ -41,7 +41,7 @@ class ScriptTest(FilesTest):
             shutil.copy(os.path.join(TOP, "scripts", name), os.path.join(self.folder, "scripts"))
 
     def ended(self, name, *words):
-        """The status of a script, and its lines."""
+        """Returns the status of a script, and its lines."""
         done = subprocess.run([os.path.join(self.folder, "scripts", name), *words], cwd=self.folder,
                               stdout=subprocess.PIPE, stderr=subprocess.STDOUT, text=True,
                               timeout=10 * SECONDS)
@@ -50,7 +50,8 @@ class ScriptTest(FilesTest):
 
 class CheckPagesTest(ScriptTest):
     def places(self, rows, *words):
-        """The status of check-pages over a page of rows, each a paragraph, and what it says of each."""
+        """Runs check-pages over a page with a paragraph for each row. Returns the status, and the lines about
+        each row."""
         self.write("docs/PAGE.md", "\n\n".join(text for _, text, _ in rows))
         status, lines = self.ended("check-pages", *words, "docs/PAGE.md")
         said = {}
@@ -100,7 +101,7 @@ class CheckPagesTest(ScriptTest):
         self.check("the line in which it begins", self.ended("check-pages", "docs/PAGE.md"), (1, wanted))
 
     def test_style(self):
-        """Sentences and lines are places only with --style."""
+        """Long sentences and lines are reported only with --style."""
         words = "word " * 35
         rows = [
             ("code", "It is `else`.", []),
@@ -129,7 +130,7 @@ class CheckPagesTest(ScriptTest):
 
 class TheoremsTest(ScriptTest):
     def test_page_of_a_crate(self):
-        """It has the public functions, laws and wrong bodies of the crate, and nothing hidden."""
+        """The page has the public functions, laws and wrong bodies of the crate, and nothing private."""
         self.check("printed", self.ended("theorems", "low"), (0, PAGE.splitlines()))
         self.check("the index", self.read("docs/theorems/README.md"), INDEX)
 
@@ -204,7 +205,7 @@ class TheoremsTest(ScriptTest):
         self.check("each is named", self.ended("theorems", "--check"), (1, wanted))
 
     def test_name_in_the_reason_of_a_wrong_body_exists(self):
-        """It is a word of the crate, or of one that the crate uses."""
+        """The name is a word of the crate, or of a crate that it uses."""
         self.write("crates.txt", "low:\nhigh: low\n")
         self.write("crates/high/src/lib.rt", "//! Sums.\n")
         self.write("crates/high/specs/Sums.antt", "IsSum : ℕ → Type 0\n")
@@ -221,7 +222,7 @@ class TheoremsTest(ScriptTest):
         self.check("it", "Of no one function: `no_laws`." in self.ended("theorems", "low")[1], True)
 
     def test_head_of_a_function_is_no_call(self):
-        """A method of a trait that has the name of a private function does not call it."""
+        """The head of a trait's method with the name of a private function does not call that function."""
         trait = "/// Shifts.\npub trait Shift {\n    fn shifted(n: u64);\n}\n"
         self.write("crates/low/src/laws.rt", trait + LAWS)
         row = "|[`Shift::shifted`](crates/low/src/laws.rt)||-|(no body)|"

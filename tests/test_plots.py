@@ -1,4 +1,4 @@
-"""bench/plots: the plots of docs/PERFORMANCE.md match its tables, and a missing table is named."""
+"""bench/plots: the plots of docs/PERFORMANCE.md match its tables, and a missing table is reported."""
 
 import os
 import pathlib
@@ -41,12 +41,13 @@ class PlotsTest(RowTest):
         return done.returncode, done.stdout, done.stderr
 
     def cell(self, begin, number):
-        """A cell of the first row of the page that begins so: 1 is the first one."""
+        """Returns a cell of the first row of the page that begins with `begin`. The first cell has the number
+        1."""
         line = next(line for line in self.page.splitlines() if line.startswith(begin))
         return line.split("|")[number].strip()
 
     def other(self, begin, number):
-        """That row up to the cell, and the same with another first number in the cell."""
+        """Returns this row up to the cell, and the same text with another first number in the cell."""
         cell = self.cell(begin, number)
         changed = re.sub(r"\d(?![\d,.])", lambda digit: str((int(digit[0]) + 1) % 10), cell, count=1)
         line = next(line for line in self.page.splitlines() if line.startswith(begin))
@@ -54,13 +55,13 @@ class PlotsTest(RowTest):
         return old, old.replace("| %s |" % cell, "| %s |" % changed)
 
     def after(self, old, new):
-        """What --check says of the page with a text replaced that it has."""
+        """Returns the lines of --check for the page with a replaced text."""
         self.assertIn(old, self.page)
         pathlib.Path(self.folder, PAGE).write_text(self.page.replace(old, new), encoding="utf-8")
         return self.checked("--check")
 
     def test_changed_numbers_are_reported(self):
-        """A plot is out of date where a number or a label of its own table is another one."""
+        """A plot is out of date if a number or a label of its table has changed."""
         rows = [
             ("a time of a create", *self.other("| a create, from none to 1,000; 10,000;", 2), ["creates"]),
             ("a time of a start", *self.other("| a start over 1,000;", 3), ["start"]),
@@ -75,7 +76,7 @@ class PlotsTest(RowTest):
             self.check(name, self.after(old, new), wanted)
 
     def test_missing_tables_are_reported(self):
-        """Each plot whose table, row or numbers are not there is named, and the others are compared."""
+        """Each plot whose table, row or numbers are missing is reported, and the others are compared."""
         hostile = NO_TABLE % ("hostile", "Hostile messages", "request, ms, MiB")
         self.check("a table", self.after("| request | ms | MiB |", "| what | ms | MiB |"), (1, "", hostile))
         self.check("a section", self.after("## Hostile messages", "## Messages"), (1, "", hostile))

@@ -1,4 +1,4 @@
-"""scripts/progress: what it says of a gate, by the lines of the gate and the table of docs/TESTING.md."""
+"""scripts/progress: its reports about a gate, from the lines of the gate and the table of docs/TESTING.md."""
 
 import os
 import re
@@ -21,7 +21,7 @@ TABLE = """| crate | proof | wrong bodies | programs |
 
 
 class ProgressTest(FilesTest):
-    """A gate of three crates, each above the one before, whose lines are written here."""
+    """A gate of three crates. Each uses the one before. The test writes the lines."""
 
     def setUp(self):
         super().setUp()
@@ -32,7 +32,7 @@ class ProgressTest(FilesTest):
             shutil.copy(os.path.join(TOP, "scripts", name), os.path.join(self.folder, "scripts"))
 
     def heard(self, *lines, jobs="2", wait=0.0):
-        """What it passes on of these lines, with a wait before the last one, and what it says."""
+        """Returns the lines that are passed on, with a wait before the last one, and the reports."""
         run = subprocess.Popen([sys.executable, "-B", "scripts/progress", "1"], cwd=self.folder,
                                env={**os.environ, "RT_JOBS": jobs}, stdin=subprocess.PIPE,
                                stdout=subprocess.PIPE, stderr=subprocess.PIPE, text=True)
@@ -44,7 +44,7 @@ class ProgressTest(FilesTest):
         return passed.splitlines(), [line.removeprefix("gate: ") for line in said.splitlines()]
 
     def test_start(self):
-        """The rest is divided by the lanes, and is never less than the longest chain."""
+        """The remaining steps are divided by the lanes, but are at least the longest chain."""
         kept = "rt: %s is kept: an earlier run on this machine proved the same files"
         lines = ["rt: low proved", "3 passed, 0 failed"]
         passed, said = self.heard(*lines)
@@ -57,7 +57,7 @@ class ProgressTest(FilesTest):
         self.check("none is left", said, [start])
 
     def test_how_far(self):
-        """A line counts proved and tried crates, and leaves out kept ones."""
+        """A report counts proved and tried crates, and leaves out kept crates."""
         lines = ["rt: low is kept: an earlier run", "rt: middle proved"]
         lines.append("rt: middle: trying its must-fail edits (2)")
         _, said = self.heard(*lines, "3 passed, 0 failed", wait=4.0)

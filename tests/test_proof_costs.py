@@ -1,4 +1,4 @@
-"""scripts/proof-costs: which kept declarations it counts, in files as the checker writes them."""
+"""scripts/proof-costs: the declarations that count, in files in the checker's format."""
 
 import os
 import pathlib
@@ -14,13 +14,14 @@ MODULE = "Rattle-low-proofs.thing.make.Proof"
 
 
 def declaration(name, search, kernel, used):
-    """The record of a declaration: its key, the number of the check that used it last, and the steps."""
+    """Returns the record of a declaration: its key, the number of the check that used it last, and the steps.
+    """
     steps = b'[{"aux":[],"name":"%s","notes":[],"spent":null,"steps":[%d,%d,0],"toil":[1,2]}]'
     return b"k" * 32 + bytes([used]) + b"\x08A" + steps % (name.encode(), search, kernel)
 
 
 class ProofCostsTest(FilesTest):
-    """A crate with one function, with records of two checks."""
+    """A crate with one function, and the records of two checks."""
 
     def put(self, name, data):
         path = os.path.join(self.folder, name)
@@ -28,7 +29,7 @@ class ProofCostsTest(FilesTest):
         pathlib.Path(path).write_bytes(data)
 
     def told(self, *declarations, names):
-        """The lines about a module that has these names now, with these kept declarations."""
+        """Returns the lines about a module with these names and these kept declarations."""
         scripts = os.path.join(self.folder, "scripts")
         os.makedirs(scripts, exist_ok=True)
         shutil.copy(os.path.join(TOP, "scripts", "proof-costs"), scripts)
@@ -39,7 +40,7 @@ class ProofCostsTest(FilesTest):
         return ran.returncode, ran.stdout.splitlines()
 
     def test_last_form_counts(self):
-        """Of two forms of a declaration the last used one counts, in any order."""
+        """Of two forms of a declaration the form that was used last counts, in any order."""
         first = declaration("other", 1_000_000, 0, 0)
         old, new = declaration("it", 5_000_000, 1_000_000, 0), declaration("it", 2_000_000, 1_000_000, 1)
         wanted = 0, ["4 in all: Proof 4", "    4.0  thing.make (Proof 4.0)"]
@@ -47,7 +48,7 @@ class ProofCostsTest(FilesTest):
         self.check("the later one first", self.told(first, new, old, names=["it", "other"]), wanted)
 
     def test_what_is_gone(self):
-        """A declaration that the module does not have any more counts for nothing."""
+        """A declaration that the module no longer has does not count."""
         gone, now = declaration("gone", 5_000_000, 0, 0), declaration("it", 1_000_000, 2_000_000, 0)
         wanted = 0, ["3 in all: Proof 3", "    3.0  thing.make (Proof 3.0)"]
         self.check("one is gone", self.told(gone, now, names=["it"]), wanted)

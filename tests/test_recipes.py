@@ -1,4 +1,4 @@
-"""The commands of the recipes of docs/OPERATING.md and docs/DEVICES.md, run as they are there."""
+"""The commands in the recipes of docs/OPERATING.md and docs/DEVICES.md, unchanged."""
 
 import functools
 import glob
@@ -20,10 +20,10 @@ ATTACHMENTS = "### Attachments that the copy does not have"
 
 
 class RecipesTest(RecipeTest):
-    """The commands of the recipes of docs/OPERATING.md, run as they are there."""
+    """The commands in the recipes of docs/OPERATING.md."""
 
     def test_ways_of_a_copy(self):
-        """The ways of a copy."""
+        """The ways to copy a file."""
         backup, vacuum = 'sqlite3 volumes.db ".backup COPY"', "sqlite3 volumes.db \"VACUUM INTO 'COPY'\""
         with Place(self.csictl, self.csid) as place:
             place.call(*create("a"))
@@ -59,7 +59,7 @@ class RecipesTest(RecipeTest):
             self.check("the front is back", place.control.runs("csid-front") is not None, True)
 
     def test_daily_copies(self):
-        """Fifteen copies of earlier days: with a new one the last 14 stay."""
+        """There are fifteen copies of earlier days. With a new copy the last 14 stay."""
         days = ["2026-01-%02d-000000.db" % day for day in range(1, 16)]
         with Place(self.csictl, self.csid) as place:
             place.call(*create("a"))
@@ -74,7 +74,7 @@ class RecipesTest(RecipeTest):
             self.check("the new copy", place.rows(daily + left[-1]), ({1: "a"}, 2))
 
     def test_copy_while_stopped(self):
-        """The last change is in the log alone."""
+        """Only the WAL has the last change."""
         with Place(self.csictl, self.csid) as place:
             place.front_calls(create("a"))
             place.must("systemctl start csid-front")
@@ -84,8 +84,8 @@ class RecipesTest(RecipeTest):
             self.check("what both have", place.rows(place.copies() + "/volumes.db"), ({1: "a"}, 2))
 
     def test_restore_of_attachments(self):
-        """After the copy vol-1 went from n1 to n2, vol-2 was detached and deleted, vol-3 attached at n1, and
-        vol-40 created and attached read-only at n2. vol-4 is as it was."""
+        """After the copy, vol-1 moved from n1 to n2, vol-2 was detached and deleted, vol-3 was attached at
+        n1, and vol-40 was created and attached read-only at n2. vol-4 did not change."""
         detached, attached = "vol-1 rw n1\nvol-2 rw n1\n", "vol-1 rw n2\nvol-3 rw n1\nvol-40 ro n2\n"
         with Place(self.csictl, self.csid) as place:
             copies = self.begin_restore(place)
@@ -108,7 +108,7 @@ class RecipesTest(RecipeTest):
             self.check("the one that is left", place.call("DeleteVolume", "--volume", "vol-2"), "0 OK\n")
 
     def begin_restore(self, place):
-        """Four volumes, the first two attached at n1, a copy, and step 1 of a restore of it."""
+        """Makes four volumes, the first two attached at n1, a copy, and step 1 of restoring it."""
         for name in ["a", "b", "c", "d"]:
             place.call(*create(name))
         for volume in ["vol-1", "vol-2"]:
@@ -120,7 +120,7 @@ class RecipesTest(RecipeTest):
         return copies
 
     def test_attachments_of_kubernetes(self):
-        """The block that writes `attached`, over what kubectl prints of two volumes and three attachments."""
+        """The block that writes `attached` gets kubectl's lines about two volumes and three attachments."""
         (_, block) = blocks("### Volume ids in Kubernetes", "DEPLOY.md")
         with tempfile.TemporaryDirectory() as folder:
             kubectl = os.path.join(folder, "kubectl")
@@ -138,13 +138,13 @@ class RecipesTest(RecipeTest):
                 self.check("attached", file.read(), "vol-1 rw n2\nvol-2 ro n1\nvol-2 ro n2\n")
 
     def shows(self, name, came, wanted):
-        """What csictl shows of replies, but for their first lines."""
+        """Compares csictl's output for replies, without the first line of each."""
         out, errors, status = came
         shown = [line for line in out.split("\n") if line and not line.startswith("0 OK")]
         self.check(name, (shown, errors, status), (wanted, "", 0))
 
     def test_lines(self):
-        """A log that stays next to a restored file brings back what the restore was to leave after."""
+        """A WAL next to a restored file would bring back the changes after the copy."""
         with Place(self.csictl, self.csid) as place:
             place.call(*create("a"))
             place.recipe("### A copy of a file that is served")
@@ -201,7 +201,7 @@ class RecipesTest(RecipeTest):
             self.check("nothing runs there", [old.control.runs(unit) for unit in ("csid", "csid-front")],
                        [None, None])
             shutil.copytree(old.copies(), new.top + "/root/csid-move")
-            # On the way they may have lost their modes.
+            # The files may lose their modes when they are moved to another machine.
             for path in glob.glob(new.top + "/root/csid-move/*"):
                 os.chmod(path, 0o644)
             self.check("the file on the new machine", new.recipe(move, 1), (has(1, 0, 2), "", 0))
@@ -210,7 +210,7 @@ class RecipesTest(RecipeTest):
             self.check("the next volume there", new.call(*create("b")), "0 OK\nvolume vol-2 1048576\n")
 
     def test_upgrade(self):
-        """The programs are the same before and after; the file is of format 1 before."""
+        """The programs are the same before and after. The file has format 1 before."""
         with Place(self.csictl, self.csid) as place:
             place.must("systemctl stop csid; rm /var/lib/csid/*")
             shutil.copy(os.path.join(TOP, "tests", "stored", "format-1-1.db"), place.folder + "volumes.db")
@@ -226,7 +226,7 @@ class RecipesTest(RecipeTest):
                        (has(1, 0, 2, format=1), "", 0))
 
     def test_pages(self):
-        """A file that an earlier release made, taken over, and with pages of its size."""
+        """A file of an earlier release is adopted, and keeps the size of its pages."""
         with Place(self.csictl, self.csid) as place:
             size = "PRAGMA page_size"
             self.check("the pages of a file that is made", place.in_folder('sqlite3 volumes.db "%s"' % size),
@@ -256,7 +256,7 @@ LOW = "volume 40: its number is not from 1 to below the next number"
 
 
 class RestoreTest(RecipeTest):
-    """The copy has one of the orchestrator's three volumes, and one that was deleted since."""
+    """The copy has one of the orchestrator's three volumes, and a volume that was deleted after the copy."""
 
     def setUp(self):
         super().setUp()
@@ -274,7 +274,7 @@ class RestoreTest(RecipeTest):
         self.place.orchestrator("vol-40\nvol-2\nvol-3\n", "vol-40 rw n1\n")
 
     def test_rows_of_the_copy_are_back(self):
-        """The old files are put aside."""
+        """The old files are moved away."""
         self.assertEqual((self.place.owners(), self.place.modes()), ({OWNER}, {"0o600"}))
         self.assertEqual(self.place.rows(), ({1: "a", 2: "b"}, 3))
         self.assertEqual(self.place.rows(self.copies + "/old/volumes.db"), ({2: "b", 3: "c"}, 4))
@@ -284,7 +284,8 @@ class RestoreTest(RecipeTest):
         self.assertEqual(came, ("vol-3\nvol-40\nvol-1\nvol-40 rw n1\n", "", 0))
 
     def make_again(self):
-        """Makes the missing volume again, and attaches it. Returns what csictl shows, but for the replies."""
+        """Makes the missing volume again, and attaches it. Returns the output of csictl without the replies.
+        """
         self.place.recipe("### A restore", 1, copies=self.copies)
         came = [self.place.recipe("### A volume that the copy does not have"),
                 self.place.recipe(ATTACHMENTS, 1, copies=self.copies)]
@@ -310,7 +311,7 @@ class RestoreTest(RecipeTest):
 POOL_OF_NONE = "volume 1: its pool is not one of the configuration"
 NODE_OF_NONE = "volume 1 at node n1: its node is not one of the configuration"
 VOL_1 = "volume 1: it is vol-1 (a), 1 MiB in pool p1"
-# Each row: what changes, pools, nodes, the line that refuses it, and the one before that.
+# For each row: the change, the pools, the nodes, the line that refuses it, and the line before.
 CHANGES = [
     ("a further pool", {**POOLS, "p3": (1, "c")}, NODES, None, None),
     ("a further node", POOLS, {**NODES, "n3": 1}, None, None),
@@ -375,7 +376,7 @@ class ChangedConfigurationTest(RecipeTest):
 
 class DevicesTest(RecipeTest):
     def test_size(self):
-        """The size of a volume."""
+        """The size of a volume can be read."""
         with Place(self.csictl, self.csid) as place:
             for number in range(1, 8):
                 place.call("CreateVolume", "--name", "pvc-%d" % number, "--mode", "1")
@@ -389,7 +390,7 @@ class DevicesTest(RecipeTest):
             self.check("none after it is deleted", (out, errors, status), refused)
 
     def test_data_without_volume(self):
-        """Data on a device is shown if its volume is not listed, and never without a listing."""
+        """Data on a device is reported if its volume is not listed, but never without a listing."""
         heading = "## When they are swept"
         with Place(self.csictl, self.csid) as place:
             data = os.path.join(place.top, "data")
@@ -408,7 +409,7 @@ class DevicesTest(RecipeTest):
 
 
 class KubernetesChangeTest(RecipeTest):
-    """The commands of docs/DEPLOY.md that change the configuration of a pod, and show its volumes."""
+    """The commands of docs/DEPLOY.md that change the configuration of a pod, and list its volumes."""
 
     def setUp(self):
         super().setUp()
@@ -425,7 +426,8 @@ class KubernetesChangeTest(RecipeTest):
         self.before = self.place.control.runs("csid")
 
     def changes(self, gibibytes):
-        """What the commands say after the pool of 10 TiB, which has 2 GiB in use, got another size."""
+        """Returns the output of the commands after the pool of 10 TiB, with 2 GiB in use, got another size.
+        """
         text = pathlib.Path(self.manifest).read_text()
         self.assertEqual(text.count("bytes = %d\n" % (10 << 40)), 1)
         with open(self.manifest, "w") as file:
@@ -466,7 +468,7 @@ class KubernetesTest(RecipeTest):
         place.must("kubectl apply --filename /root/deploy/kubernetes.yaml")
         place.front_calls(["Probe"])
         first, out, again = blocks("### A copy of the file in Kubernetes", "DEPLOY.md")
-        # A pod makes one more volume while it ends, which is in the log alone.
+        # A pod makes one more volume while it ends. Only the WAL has it.
         whole = "volumes.db: OK\nvolumes.db-wal: OK\n" + has(3, 0, 4)
         self.assertEqual(place.shell(first + out + again), (whole, "", 0))
         self.volume = volume
@@ -478,7 +480,7 @@ class KubernetesTest(RecipeTest):
         self.assertEqual(since, "0 OK\nvolume vol-4 1073741824\n")
 
     def restore(self):
-        """Restores the copy, after a further volume was made. Returns what the steps say."""
+        """Restores the copy, after a further volume was made. Returns the output of the steps."""
         place = self.place
         begin, end, start = blocks("### A restore of the file in Kubernetes", "DEPLOY.md")
         into = blocks("### In Kubernetes, from etcd to a file", "ETCD.md")[2]
@@ -491,7 +493,7 @@ class KubernetesTest(RecipeTest):
         return place.shell(begin + end + raised + into + start, copies=copies)
 
     def test_volumes_of_the_copy_are_restored(self):
-        """The volume made since the copy is gone, and its number is not given again."""
+        """The volume that was made after the copy is gone, and its number is not used again."""
         served = "csid: /var/lib/csid/volumes.db: " + has(3, 0, 41)
         self.assertEqual(self.restore(), ("41\n" + has(3, 0, 41) + "volumes.db: OK\n" + served, "", 0))
         self.place.must("systemctl stop csid-front")

@@ -1,4 +1,4 @@
-"""The commands of the recipes of docs/ETCD.md, run as they are there."""
+"""The commands in the recipes of docs/ETCD.md, unchanged."""
 
 import contextlib
 import functools
@@ -16,7 +16,7 @@ from tests.support.recipes import (Cluster, Etcd, ME, MIB, NODE, OWNER, PLUGIN, 
                                    blocks, create, has, publish, read)
 
 
-# The parts of names that are hard to write in JSON, in SQL or in lines.
+# Parts of names that are hard to write in JSON, in SQL or in lines.
 HARD = ["plain", "it's", 'a "quoted" one', "back\\slash", "\\b \\u0008 \\", "a\ttab", "a line\nand one",
         "and\r\n", "é日本𝄞", "\u2028\ufeff", "<&>", "%s %020d", "-- ;", "' || x'", ".quit", "\n.quit\n", "/",
         " ", "{}", "a" * 120]
@@ -24,7 +24,7 @@ HARD = ["plain", "it's", 'a "quoted" one', "back\\slash", "\\b \\u0008 \\", "a\t
 
 @functools.cache
 def many_frames(csictl):
-    """Calls that make 300 volumes of all kinds, and attach, change and delete some of them."""
+    """Returns calls that make 300 volumes of all kinds, and attach, change and delete some of them."""
     return b"".join(subprocess.run([csictl, "frame", "--method", *words], capture_output=True,
                                    check=True).stdout
                     for number in range(1, 301)
@@ -32,7 +32,7 @@ def many_frames(csictl):
 
 
 def calls_of(i):
-    """The words of the calls of one volume."""
+    """Returns the words of the calls for one volume."""
     volume, mode = ["--volume", "vol-%d" % i], ["--mode", "3" if i % 2 else "5"]
     create = ["CreateVolume", "--name=%s %d" % (HARD[i % len(HARD)], i), "--required", str((1 + i % 8) * MIB)]
     create += [*mode, "--topology", "zone=" + "ab"[i % 2]]
@@ -53,7 +53,7 @@ def calls_of(i):
 
 
 def all_rows(path):
-    """All rows of a file, with the kinds of their values."""
+    """Returns all rows of a file, with the types of their values."""
     with contextlib.closing(sqlite3.connect(path, timeout=SECONDS)) as file:
         return {table: [[(type(it), it) for it in row]
                         for row in file.execute("SELECT * FROM %s ORDER BY 1, 2" % table)]
@@ -64,9 +64,9 @@ MANIFESTS = ["kubernetes.yaml", "kubernetes-etcd.yaml", "kubernetes-tables.yaml"
 
 
 class EtcdRecipeTest(RecipeTest):
-    """The commands of the recipes of docs/ETCD.md, run as they are there, over an etcd."""
+    """The commands in the recipes of docs/ETCD.md, over an etcd."""
 
-    # More programs of the place.
+    # More programs for the place.
     programs = {}
 
     def setUp(self):
@@ -78,7 +78,7 @@ class EtcdRecipeTest(RecipeTest):
         self.place.variables.update(ENDPOINTS=self.etcd.endpoint, ETCDCTL_API="3")
 
     def recipe(self, heading, *numbers, **variables):
-        """What blocks of a recipe say, after the block that all begin with."""
+        """Returns the output of the blocks of a recipe, after the block with which all begin."""
         first, members = blocks("## From a file to etcd, and back", "ETCD.md")[0], "10.0.0.%d:2379"
         members = ",".join(members % it for it in (1, 2, 3))
         self.assertIn(members, first)
@@ -87,7 +87,7 @@ class EtcdRecipeTest(RecipeTest):
         return self.place.shell(first.replace(members, self.etcd.endpoint) + text, **variables)
 
 
-# What csid-etcd lists after the trial.
+# The listing of csid-etcd after the trial.
 LISTED = """\
 ID     NAME   POOL  SIZE   CAPABILITIES              PARAMETERS  MUTABLE  NODES
 vol-1  pvc-7  p1    1 MiB  block:SINGLE_NODE_WRITER  -           -        -
@@ -100,7 +100,7 @@ NODE  VOLUMES  SIZE
 
 
 class TrialTest(EtcdRecipeTest):
-    """The commands of "A trial", with the endpoint of an etcd of the test's own."""
+    """The commands of "A trial", with the endpoint of the test's etcd."""
 
     def setUp(self):
         super().setUp()
@@ -121,7 +121,7 @@ OVER, BACK = "### From a file to etcd", "### From etcd to a file"
 
 
 class FileAndEtcdTest(EtcdRecipeTest):
-    """Volumes of all kinds go from a file to etcd and back."""
+    """Volumes of all kinds move from a file to etcd, and back."""
 
     def setUp(self):
         super().setUp()
@@ -144,7 +144,7 @@ class FileAndEtcdTest(EtcdRecipeTest):
         return self.place.call("ListVolumes", "--all")
 
     def said(self):
-        """What csid has said since its start."""
+        """Returns the lines of csid since its start."""
         return read(self.place.control.lines("csid")).replace(self.place.top, "")
 
     def check_nothing_runs(self):
@@ -152,7 +152,7 @@ class FileAndEtcdTest(EtcdRecipeTest):
             self.assertIsNone(self.place.control.runs(unit), unit)
 
     def go_over(self):
-        """The steps of the way to etcd. Returns the folder of the copies."""
+        """Does the steps from the file to etcd. Returns the folder of the copies."""
         self.place.must("systemctl stop csid-etcd")
         self.assertEqual(self.recipe(OVER, 0, 1), (self.counts * 2, "", 0))
         copies = self.place.copies()
@@ -196,7 +196,7 @@ class FileAndEtcdTest(EtcdRecipeTest):
         self.assertIn(row, read(self.place.top + "/exported"))
 
     def go_back(self, copies, counts):
-        """The steps of the way back to a file, which then has these counts."""
+        """Does the steps back to a file, which then has these counts."""
         self.place.must("systemctl start csid-front; mv %s aside" % copies)
         self.assertEqual(self.recipe(BACK, 0), ("", "", 0))
         self.check_nothing_runs()
@@ -241,7 +241,8 @@ class Format1Test(EtcdRecipeTest):
 
 
 class KubernetesEtcdTest(EtcdRecipeTest):
-    """Volumes go from the file in a claim to etcd, and back. Each pod makes one more while it ends."""
+    """Volumes move from the file in a claim to etcd, and back. Each pod makes one more volume while it ends.
+    """
 
     programs = {"kubectl": ME}
 
@@ -261,7 +262,7 @@ class KubernetesEtcdTest(EtcdRecipeTest):
         self.later = volume("later")
 
     def walk(self, *steps):
-        """What a whole way says, its revision left out."""
+        """Returns the output of all steps, without the revision."""
         first = blocks("### In Kubernetes", "ETCD.md")[0]
         first = re.sub(r'etcd=".*"', 'etcd="--endpoints %s"' % self.etcd.endpoint, first)
         out, error, status = self.place.shell(first + "".join(steps))
@@ -298,7 +299,7 @@ class KubernetesEtcdTest(EtcdRecipeTest):
         self.assertEqual(self.list_volumes(), ["vol-1", "vol-3", "vol-4"])
 
     def test_file_of_the_claim_is_put_aside(self):
-        """csid serves no file instead."""
+        """Otherwise csid would serve the file."""
         self.go_over()
         self.assertEqual(self.place.rows(self.aside), ({1: "a", 3: "c", 4: "late"}, 5))
         came = self.place.shell(

@@ -1,6 +1,6 @@
 """A call that is repeated after a call of another client (docs/MACHINE.md, "Repeats among other clients"). If
-the other call leaves its object alone, the repeat is answered by the same bytes and changes nothing. Each
-line of the table has a history whose other call does not, and the repeat differs."""
+the other call does not change its object, the repeat has the same reply and changes nothing. Each line of the
+table has a history whose other call changes the object, and the repeat has another reply."""
 
 import collections
 
@@ -10,18 +10,18 @@ from tests.support.processes import run
 from tests.support.rows import CsidTest, each
 
 # A history of a new csid: the calls before, each with its reply; the call with its reply; the call of another
-# client with its reply; and the reply to the repeat. The question is a call that is made right before the
-# repeat and right after it, and has these two replies.
+# client with its reply; and the reply to the repeat. The question is a call right before and right after the
+# repeat, with its two replies.
 History = collections.namedtuple("History", "name before call other again question")
 
 
 def a_volume(number, *nodes):
-    """A volume of the default size in the first pool, and the nodes that it is at, in a page."""
+    """Returns the entry of a volume of the default size in the first pool, with its nodes."""
     return v.listed(number, v.MIB, v.P1, *nodes)
 
 
 def listing(before, after):
-    """The question of all volumes and their nodes."""
+    """Returns the question for all volumes and their nodes."""
     return v.listing(), v.page(*before), v.page(*after)
 
 
@@ -41,19 +41,19 @@ MODIFY_I_1, MODIFY_I_2, MODIFY_J_1 = [(v.modify(v.VOL_1, v.sets(*it)), v.DONE)
 VALIDATE = v.validate(v.VOL_1, v.BLOCK), v.confirmed([v.block(1)])
 LIST_NONE, LIST_1, LIST_1_AT_N1 = [(v.listing(), v.page(*it))
                                    for it in ([], [a_volume(1)], [a_volume(1, "n1")])]
-# Of 14 MiB a volume takes one; no volume has more than 8.
+# Of 14 MiB a volume takes one. A volume has at most 8 MiB.
 CAPACITY_14, CAPACITY_13 = [(v.capacity(), v.free(it * v.MIB, 8 * v.MIB)) for it in (14, 13)]
 
 
 def alone(name, before, call, other, *volumes):
-    """A history whose repeat has the reply of the call, and leaves these volumes unchanged."""
+    """Returns a history whose repeat has the reply of the call, and does not change these volumes."""
     return History(name, before, call, other, call[1], listing(volumes, volumes))
 
 
-# Whether the volume has both parameters.
+# Shows if the volume has both parameters.
 HAS_BOTH = v.create(v.A, v.BLOCK, I_1, J_1), v.CREATED, v.CREATED
 TWO = [CREATE_A, CREATE_B]
-# Volumes that leave 2 MiB of the first pool, and nothing of the second one.
+# Volumes that leave 2 MiB in the first pool, and nothing in the second.
 CREATE_8_MIB, CREATE_4_MIB = [
     (v.create(v.name(name), v.size(v.required(bytes_)), v.BLOCK), v.created(number, bytes_, pool))
     for number, name, bytes_, pool in [(1, "c", 8 * v.MIB, v.P1), (2, "d", 4 * v.MIB, v.P2)]
@@ -64,15 +64,15 @@ ALONE = [alone(*row) for row in ROWS["ALONE"]] + [History(*row) for row in ROWS[
 
 
 class RepeatsTest(CsidTest):
-    """Calls to a `csid pipe`, one stream for each history."""
+    """Calls of a `csid pipe`, with a stream for each history."""
 
     def stream(self, name, *steps):
-        """Compares the replies to calls with the replies in their steps."""
+        """Compares the replies to the calls of a stream."""
         calls, replies = (b"".join(side) for side in zip(*steps))
         self.check(name, run([self.csid, "pipe"], input=calls), (replies, "", 0))
 
     def repeat(self, it):
-        """The stream of a history, with its question right before the repeat and right after it."""
+        """Returns the stream of a history, with its question right before and right after the repeat."""
         asked, before, after = it.question
         steps = it.call, it.other, (asked, before), (it.call[0], it.again), (asked, after)
         self.stream(it.name, *it.before, *steps)

@@ -1,4 +1,4 @@
-"""`python3 -m tests` and the comparisons of the tests: what fails is reported as failed."""
+"""`python3 -m tests` and the comparisons of the tests report each failure."""
 
 import os
 import shutil
@@ -11,7 +11,7 @@ from tests.support.csictl import Line
 from tests.support.processes import SECONDS, TOP, Shown, has_ended
 from tests.support.rows import FilesTest, RowTest, each
 
-# Tests of two rows, of which one fails in the first run or in both, and of a process that ends.
+# A module with two tests, one of which fails in the first run or in both, and a test whose process ends.
 MODULE = """import os
 import unittest
 
@@ -31,7 +31,7 @@ class SomeTest(unittest.TestCase):
 
 class RunnerTest(FilesTest):
     def run_tests(self, last):
-        """The status, standard output and standard error of `python3 -m tests` over one module."""
+        """Runs `python3 -m tests` over one module. Returns the status, standard output and standard error."""
         shutil.copytree(os.path.join(TOP, "tests", "support"), os.path.join(self.folder, "tests", "support"))
         for name in ["__init__.py", "__main__.py"]:
             shutil.copy(os.path.join(TOP, "tests", name), os.path.join(self.folder, "tests"))
@@ -57,7 +57,7 @@ class RunnerTest(FilesTest):
 
 class ComparisonTest(RowTest):
     def faults_of(self, pair):
-        """How many rows of a test that compares this pair fail."""
+        """Returns the number of failed rows in a test that compares this pair."""
 
         class OneRow(RowTest):
             def runTest(self):

@@ -1,4 +1,4 @@
-"""The vectors of tests/vectors: their names, and the files of rows."""
+"""The names of the vectors in tests/vectors, and the files of rows."""
 
 import os
 from unittest import mock
@@ -10,7 +10,7 @@ from tests.vectors.rows import STEPS, Plain, Words
 
 class VectorsTest(FilesTest):
     def groups_of(self, text, reader=Plain, **words):
-        """The groups of a file with this text, or its fault."""
+        """Returns the groups of a file with this text, or its fault."""
         self.write("rows.txt", text)
         try:
             return reader(os.path.join(self.folder, "rows.txt"), **words).groups

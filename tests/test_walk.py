@@ -1,13 +1,13 @@
-"""Requests at random to csid: each reply must be a model's.
+"""Random requests to csid: each reply must be the reply of a model.
 
-Requests are put to csid over volumes in memory, over a file of tables and over a log, and to a model: each
-reply must be the model's, byte for byte, and so must the listing after each request.
+Requests go to csid over volumes in memory, over a file of tables and over a change store, and to a model.
+Each reply must equal the model's reply, and so must the listing after each request.
 
-The requests are over few names, sizes and nodes, so that they meet. Over a file csid is started again and
-again: after its input ended, where the rows must be the model's, and after SIGKILL, or with the file made
-one of format 1. Over a log, which keeps its rows in this process, changes fail: they are refused, or their
-outcome is unknown; the call is then made again on a new connection, and has the model's reply. Between the
-pages of a listing there are further requests. Each kind of outcome must happen often.
+The requests use few names, sizes and nodes, so that they affect each other. Over a file, csid is started
+again and again: after the end of its input, where the rows must be the model's, after SIGKILL, and with the
+file changed to format 1. Over a change store in this process, changes fail: they are refused, or their
+outcome is unknown. The call is then made again on a new connection, and has the model's reply. Between the
+pages of a listing there are further requests. Each kind of outcome must occur often.
 """
 
 import collections
@@ -27,7 +27,7 @@ from tests.support.rows import RowTest
 
 SEEDS, STEPS, WALKS, OFTEN, SECONDS = range(1, 5), 2000, 100, 30, 300
 
-# The outcomes that must happen often: each kind of change, and each refusal.
+# The outcomes that must occur often: each kind of change, and each refusal.
 EXPECTED = ["created", "created again", "deleted", "nothing to delete", "published",
             "published with a part of its mode", "published again", "unpublished", "nothing to unpublish",
             "confirmed", "not confirmed", "page", "last page", "capacity", "no capacity",
@@ -38,7 +38,7 @@ EXPECTED = ["created", "created again", "deleted", "nothing to delete", "publish
             "mutable parameters are too large", "a file of format 1 taken over",
             "a change that the log refused", "a change that the log did not make",
             "a change that the log made, but did not answer", "a connection that the log ended"]
-# Whether a log makes a change, by its report.
+# For each report of a change store, True if it makes the change.
 FAULTS = {
     change_stores.KeptChangeStore.REFUSES: "a change that the log refused",
     change_stores.KeptChangeStore.ENDS: "a change that the log did not make",
@@ -47,7 +47,7 @@ FAULTS = {
 
 
 class Server:
-    """csid as a process that answers calls, over a file of tables if there is one."""
+    """A csid process that answers calls, over a file of tables if there is one."""
 
     def __init__(self, csid, tables):
         self.command, self.tables = [csid, "pipe"] + (["--tables", tables] if tables else []), tables
@@ -57,7 +57,7 @@ class Server:
         self.process = subprocess.Popen(self.command, stdin=subprocess.PIPE, stdout=subprocess.PIPE)
 
     def ask(self, call):
-        """The reply to a call (docs/PROTOCOL.md, 'Envelope')."""
+        """Returns the reply to a call (docs/PROTOCOL.md, 'Envelope')."""
         self.process.stdin.write(call)
         self.process.stdin.flush()
         read = self.process.stdout.read
@@ -66,7 +66,7 @@ class Server:
         return head + text + read(int.from_bytes(text[-4:], "big"))
 
     def end(self):
-        """Its unread output, and its status."""
+        """Ends csid. Returns its unread output, and its status."""
         return self.process.communicate()[0], self.process.returncode
 
     def kill(self):
@@ -75,7 +75,7 @@ class Server:
 
 
 class LogServer:
-    """csid as a process over a log, asked over one connection after another."""
+    """A csid process over a change store. It gets one connection after another."""
 
     tables = None
 
@@ -99,7 +99,7 @@ class LogServer:
         self.stream = self.peer.makefile("rb")
 
     def exchange(self, call):
-        """The reply to a call, as far as one comes."""
+        """Returns the reply to a call, or the part of it that comes."""
         try:
             self.peer.sendall(call)
             read = self.stream.read
@@ -110,7 +110,8 @@ class LogServer:
             return b""
 
     def ask(self, call):
-        """The reply to a call, which is put again, once, where the store refused it or no reply came."""
+        """Returns the reply to a call. If the store refused it or no reply came, the call is made once more.
+        """
         reply = self.exchange(call)
         if reply in (b"", v.refusal(13, "store refused")):
             self.refused += 1
@@ -133,7 +134,7 @@ class LogServer:
 
 
 def rows(model):
-    """The rows of the model (docs/TABLES.md)."""
+    """Returns the rows of the model (docs/TABLES.md)."""
     volumes = [(it.number, it.name, it.bytes, it.pool.name, capabilities(it.keys),
                 entries(v.parameter, it.parameters) + entries(v.mutable, it.mutable))
                for it in model.volumes]
@@ -167,7 +168,7 @@ class Walk:
         return came == reply
 
     def step(self):
-        """A request, and the listing after it."""
+        """Makes a request, and lists the volumes."""
         listed = self.asks(*self.requests.next()) and self.asks(v.listing(), *self.model.listing(0, "")[:2])
         rule = self.model.breaks()
         if rule:
@@ -175,7 +176,8 @@ class Walk:
         return listed and not rule
 
     def pages(self):
-        """Page after page, with requests between: no volume comes twice, and a lasting one comes."""
+        """Lists page after page, with requests between them. No volume comes twice, and a volume that is
+        never deleted comes."""
         throughout, listed, token = {it.number for it in self.model.volumes}, [], None
         while token != "":
             most = self.requests.one_of(1, 2, 3)
@@ -196,7 +198,7 @@ class Walk:
         return True
 
     def makes_older(self):
-        """Makes the file one of format 1, which has no mutable parameters."""
+        """Changes the file to format 1, which has no mutable parameters."""
         connection = sqlite3.connect(self.server.tables)
         with connection:
             for it in self.model.volumes:
@@ -208,8 +210,8 @@ class Walk:
         self.seen["a file of format 1 taken over"] += 1
 
     def upsets_log(self):
-        """The next change of the log fails, the log ends its connection, or csid is killed and started again.
-        What rows it has by then is looked at."""
+        """Makes the next change of the store fail, ends the connection of the store, or kills csid and starts
+        it again. Then checks the rows."""
         if (self.server.log.fault is None
             and self.server.log.rows() != rows(self.model)
             and self.model.next > 1):
@@ -226,7 +228,7 @@ class Walk:
             self.seen[FAULTS[how]] += 1
 
     def starts_anew(self):
-        """Another start of csid over its file."""
+        """Starts csid again over its file."""
         how = self.requests.one_of("ends", "is killed", "is older", "is older")
         if how != "ends":
             self.server.kill()
@@ -237,7 +239,7 @@ class Walk:
         self.server.start()
 
     def run(self):
-        # The report for pools without volumes.
+        # The reports for pools without volumes.
         if not all(self.asks(*self.requests.capacity()) for _ in range(8)):
             return self
         for at in range(STEPS):
@@ -270,7 +272,7 @@ class WalkTest(RowTest):
 
     def test_walks(self):
         seen = collections.Counter()
-        # A file in memory takes no waiting for a disk.
+        # A file in memory needs no waiting for a disk.
         with tempfile.TemporaryDirectory(dir="/dev/shm" if os.path.isdir("/dev/shm") else None) as folder:
             for seed in SEEDS:
                 for place in "memory", "tables", "a log":

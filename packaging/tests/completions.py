@@ -1,4 +1,4 @@
-"""The completions: what bash offers after some words, and that the options are those that the programs list.
+"""Tests the completions: what bash offers after some words, and that all options of the programs are offered.
 """
 import os
 import re
@@ -8,7 +8,7 @@ import tempfile
 from sources import TOP, read
 from tests.helps import COMMON, options_of, values_of
 
-# Completes the last of the words that it is given after the file of completions.
+# Loads the file of completions, and completes the last of the words after it.
 COMPLETE = """
 source "$1"
 shift
@@ -47,7 +47,8 @@ def option_rows(programs):
 
 
 def value_rows(programs):
-    """After an option with a value no option is offered; after one of a file or a socket, files are."""
+    """After an option with a value no option is offered, and after an option with a file or a socket files
+    are offered."""
     with tempfile.TemporaryDirectory() as folder:
         open(os.path.join(folder, "volumes.db"), "x").close()
         for name, program in programs.items():
@@ -61,7 +62,7 @@ def value_rows(programs):
                 }
 
 
-# A value that csictl takes for each option of a message; the options of a capability need its mode.
+# A value that csictl takes for each option of a message. The options of a capability need its mode.
 VALUES = {
     "--name": ["a"],
     "--required": ["1"],
@@ -81,7 +82,7 @@ VALUES = {
 
 
 def field_rows(csictl):
-    """Of each method those options are offered, and no other, that csictl takes for it."""
+    """For each method exactly those options are offered that csictl takes for it."""
     for method in methods():
         taken = [option
                  for option, value in VALUES.items()

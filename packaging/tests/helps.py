@@ -1,10 +1,10 @@
-"""The options that programs list in their help."""
+"""Reads the options of programs in their help."""
 import re
 import subprocess
 
-# How long a program may take to show its help.
+# The seconds that a program may take to print its help.
 SECONDS = 20
-# Of every command of clap, and shown by Go without being listed.
+# Options that each command of clap has, and that programs in Go have but do not list.
 COMMON = {"--help", "--version"}
 SUBCOMMANDS = {
     "csid": ["pipe", "serve"],
@@ -23,19 +23,20 @@ def help_of(program, words):
 
 
 def listed(program, words):
-    """The options that a program lists: clap's as --name, Go's as -name."""
+    """Returns the options in the help of a program: --name of clap, -name of Go."""
     return {"--" + it
             for it in re.findall(r"^ +(?:-\w, )?--?([a-z][a-z-]+)\b", help_of(program, words), re.M)}
 
 
 def options_of(name, program):
-    """The options of a program by its subcommands, and '' for none, but for the common ones."""
+    """Returns the options of a program by subcommand ('' for the program itself), without the common options.
+    """
     return {it: listed(program, [it] if it else []) - COMMON for it in ["", *SUBCOMMANDS[name]]}
 
 
 def values_of(name, program):
-    """The options that have a value, by subcommands, each with the name of the value: clap's as --name
-    <VALUE>, Go's as -name VALUE."""
+    """Returns the options with a value by subcommand, each with the name of its value: --name <VALUE> of
+    clap, -name VALUE of Go."""
     found = {it: help_of(program, [it] if it else []) for it in ["", *SUBCOMMANDS[name]]}
     return {it: {"--" + option: value
                  for option, value in re.findall(r"^ +--?([a-z][a-z-]+) <?([A-Z][^ >\n]*)", text, re.M)}

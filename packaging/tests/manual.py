@@ -1,5 +1,5 @@
-"""The manual pages: their parts and options, what is refused, and that man and groff give no warning if they
-are installed."""
+"""Tests the manual pages: their sections and options, refused sources, and that man and groff (if installed)
+give no warning."""
 import os
 import pathlib
 import re
@@ -12,7 +12,7 @@ from tests.helps import options_of
 from tests.rows import LeftOut
 
 MANUAL = os.path.join(TOP, "packaging", "manual")
-# The sections of each page that the others do not have by chance.
+# Sections of each page. They belong to no other page by chance.
 SECTIONS = {
     "csid.1": ["NAME", "SYNOPSIS", "DESCRIPTION", "OPTIONS", "ARGUMENTS THAT ARE REFUSED", "LIMITS",
                "A NEWER CSID", "WHAT IS LEFT OUT", "SECRETS", "EXIT STATUS", "DIAGNOSTICS", "FILES",
@@ -33,7 +33,7 @@ SECTIONS = {
                         "CALLS ANSWERED", "THE CHANGE STORE", "FILES", "SEE ALSO"],
     "csid-new.8": ["NAME", "DESCRIPTION", "FILES", "SEE ALSO"],
 }
-# The contents of a page as roff, worked out by hand from docs/ and deploy/.
+# Texts of pages as roff, worked out by hand from docs/ and deploy/.
 TEXTS = [
     ("csid.1", '.TH CSID 1 2001-09-09 "csid VERSION" "User Commands"\n'),
     ("csid.1", ".SH NAME\ncsid \\- storage-plugin controller for the Container Storage Interface\n"),
@@ -77,7 +77,7 @@ TEXTS = [
     ("csid-protocol.7", ".TP\npath length\nbytes: 2, big-endian\n.br\nvalue: 1 to 128\n"),
     ("csid-protocol.7", ".TP\n\\fB/csi.v1.Identity/M\\fR\nGetPluginInfo, "),
 ]
-# Pieces of Markdown, and the roff that is made of them.
+# Pieces of Markdown, each with its roff.
 PIECES = [
     ("a `b-c` d", ".PP\na \\fBb\\-c\\fR d\n"),
     ("*a* and **b**", ".PP\n\\fIa\\fR and \\fBb\\fR\n"),
@@ -115,7 +115,8 @@ def run(manual, *words):
 
 
 def copied(folder, source, old, new):
-    """A copy of what the pages are made of, with another text in one file of docs/."""
+    """Copies the sources of the pages, and replaces a text in one file of docs/. Returns the copied script.
+    """
     for name in ("docs", "deploy", "packaging", "scripts"):
         shutil.copytree(os.path.join(TOP, name), os.path.join(folder, name))
     shutil.copy(os.path.join(TOP, "VERSION"), folder)
@@ -136,7 +137,7 @@ def page_rows(pages):
 
 
 def reference_rows(pages):
-    """Where a page names a section of a page of manual, that page has it."""
+    """Each reference of a page to a section of a manual page leads to an existing section."""
     texts = {name: re.sub(r"\\f.|\\(?=-)", "", text) for name, text in pages.items()}
     headings = {name: {it.strip('"').upper() for it in re.findall(r"^\.S[HS] (.*)$", text, re.M)}
                 for name, text in texts.items()}
@@ -147,7 +148,7 @@ def reference_rows(pages):
 
 
 def option_rows(pages, programs):
-    """The options of a page are those that the program lists."""
+    """The options of a page are the options in the help of the program."""
     for name, program in programs.items():
         part = re.search(r"^\.SH OPTIONS\n(.*?)^\.SH ", pages[name + ".1"], re.M | re.S).group(1)
         tags = "".join(re.findall(r"^\.TP\n(.*)\n", part, re.M)).replace("\\-", "-")
@@ -158,7 +159,7 @@ def option_rows(pages, programs):
 
 
 def piece_rows():
-    """Each piece as the page of the protocol has it after its first heading."""
+    """Each piece is converted as a paragraph of the page of the protocol."""
     for piece, wanted in PIECES:
         with tempfile.TemporaryDirectory() as folder:
             manual = copied(folder, "PROTOCOL.md", "## Calls answered\n",
@@ -170,8 +171,7 @@ def piece_rows():
 
 
 def synopsis_rows():
-    """A form of the command line that goes on in a line that is set in, and the name of the program in a
-    package."""
+    """A form of the command line with an indented second line, and the name of the program in a package."""
     with tempfile.TemporaryDirectory() as folder:
         manual = copied(folder, "DEPLOY.md", "    front --version\n",
                         "    front --version\n          [--a B] c\n    front d\n")
@@ -208,7 +208,7 @@ def dead_link_rows():
 
 
 def without_rows():
-    """Where csid-etcd is not in a release no page names its page."""
+    """If a release has no csid-etcd, no page refers to its page."""
     with tempfile.TemporaryDirectory() as folder:
         yield "the pages without that of csid-etcd", run(MANUAL, "--without-etcd", folder), (0, "")
         yield "what there is", sorted(os.listdir(folder)), sorted(set(SECTIONS) - {"csid-etcd.1"})
@@ -235,7 +235,7 @@ def made_rows(programs, folder):
 
 
 def parts(programs, folder):
-    """The rows. The later ones read the pages that the first ones make in a folder."""
+    """Yields the rows. The later rows read the pages that the first rows make in a folder."""
     warnings = [
         warning_rows(folder, "groff", "-man", "-ww", "-z"),
         warning_rows(folder, "man", "--warnings", "-l", "-Tutf8"),

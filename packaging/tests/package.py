@@ -1,9 +1,8 @@
-"""The Debian package: what it holds, what lintian says, and that it can be installed, used, upgraded, removed
-and purged.
+"""Tests the Debian package: its files, what lintian reports, and that it can be installed, used, upgraded,
+removed and purged.
 
-It is installed into a temporary folder with a system that is no more than the maintainer scripts need; the
-programs of systemd there write down
-how they were called.
+It is installed into a temporary folder, with a system that has only the tools of the maintainer scripts. The
+programs of systemd in this system record how they were called.
 """
 import contextlib
 import gzip
@@ -21,10 +20,10 @@ from email.utils import parsedate_to_datetime
 from sources import read, version
 from tests.rows import LeftOut
 
-# How long a program may take to make its socket, or to answer.
+# The seconds that a program may take to make its socket, or to answer.
 SECONDS = 20
-# What the maintainer scripts call in the system (rm, so that one which removes too much can), and what they
-# call of systemd.
+# The tools of the system that the maintainer scripts call (`rm` is there, so that a script which removes too
+# much can do so), and the tools of systemd.
 TOOLS = ["sh", "rm", "rmdir", "systemd-sysusers"]
 CALLED = ["deb-systemd-helper", "deb-systemd-invoke", "systemctl"]
 TABLES = "var/lib/csid/volumes.db"
@@ -41,7 +40,7 @@ STOPPED_ETCD = ["deb-systemd-invoke stop csid-front.service csid.service",
 RESTARTED_ETCD = ["deb-systemd-invoke try-restart csid-etcd.service",
                   "deb-systemd-invoke try-restart csid.service csid-front.service"]
 ETCD_UNIT = "etc/systemd/system/csid-etcd.service"
-# The files that only the package with csid-etcd has.
+# Files that only the package with csid-etcd has.
 OF_ETCD = ["./usr/bin/csid-etcd", "./usr/share/bash-completion/completions/csid-etcd",
            "./usr/share/man/man1/csid-etcd.1.gz"]
 PURGED = ["deb-systemd-helper purge csid.service csid-front.service"]
@@ -100,7 +99,7 @@ class System:
                 shutil.copy(library, self.path(library))
 
     def dpkg(self, *words):
-        """What dpkg ends with and how the scripts called systemd."""
+        """Runs dpkg. Returns its exit status, and how the scripts called systemd."""
         self.write("calls", "", 0o644)
         status, _, error = run("dpkg", "--root=" + self.root, "--log=" + self.path("dpkg.log"),
                                "--force-depends", "--force-confold", *words)
@@ -111,7 +110,8 @@ class System:
         return run("chroot", self.root, *words)
 
     def command(self, unit):
-        """The words that a unit starts, and the variables that it sets. A variable may be such a word."""
+        """Returns the command that a unit starts, and the variables that it sets. A variable may be a word of
+        the command."""
         text = re.sub(r"\\\n\s*", "", read(self.path("lib/systemd/system/" + unit)))
         variables = dict(word.split("=", 1)
                          for line in re.findall(r"^Environment=(.*)$", text, re.M)
@@ -123,7 +123,8 @@ class System:
 
     @contextlib.contextmanager
     def started(self, unit, socket):
-        """Runs what a unit starts, once its socket is there. An old socket is taken away, as by systemd."""
+        """Runs the command of a unit, and waits for its socket. An old socket is removed first, as systemd
+        does."""
         if os.path.exists(self.path(socket)):
             os.unlink(self.path(socket))
         words, variables = self.command(unit)
@@ -139,7 +140,7 @@ class System:
             process.wait()
 
     def tables(self):
-        """The record of volumes and the WAL next to it, by their checksums."""
+        """Returns the checksums of the file of volumes and of its WAL."""
         return {name: checksum(self.path(name))
                 for name in (TABLES, TABLES + "-wal")
                 if os.path.exists(self.path(name))}
@@ -151,7 +152,8 @@ def ended(process):
 
 
 def content_rows(programs, package):
-    """The paths and modes; of the licences, which depend on the parts of the programs, only the modes."""
+    """The paths and modes of the files. For licences, which depend on the parts of the programs, only the
+    modes."""
     held = [re.sub(r" +\d+ \d{4}-\d\d-\d\d \d\d:\d\d ", " ", it)
             for it in run("dpkg-deb", "--contents", package)[1].splitlines()]
     listed = [it for it in held if LICENCES not in it]
@@ -166,12 +168,12 @@ def content_rows(programs, package):
 
 
 def control_rows(programs, package):
-    """What the package needs: the libraries that the programs are linked to, and the programs that the
-    maintainer scripts call. Its checksums match its files."""
+    """The package depends on the packages of the linked libraries and of the programs that the maintainer
+    scripts call. Its checksums match its files."""
     linked = {os.path.realpath(it)
               for name in ("csid", "csictl")
               for it in re.findall(r"(/\S+) \(0x", run("ldd", programs[name])[1])}
-    # Where /lib is a link to /usr/lib, dpkg knows a library by the one name or the other.
+    # If /lib is a link to /usr/lib, dpkg knows a library by either name.
     named = linked | {it.removeprefix("/usr") for it in linked}
     libraries = {line.split(":")[0] for line in run("dpkg-query", "--search", *named)[1].splitlines()}
     needed = run("dpkg-deb", "--field", package, "Depends")[1].strip().split(", ")
@@ -201,7 +203,7 @@ def control_rows(programs, package):
             os.path.join(tree, "DEBIAN", "control")
         )
         yield "examples that name one", [it for it in examples if "/usr/local" in read(tree, it)], []
-        # As Debian counts: each file in whole KiB, and one for each folder.
+        # Debian counts whole KiB for each file, and 1 KiB for each folder.
         folders = [at for at, _, _ in os.walk(tree) if not os.path.relpath(at, tree).startswith("DEBIAN")]
         sizes = [-(-os.path.getsize(os.path.join(tree, it)) // 1024) for it in listed]
         yield "its size", run("dpkg-deb", "--field", package, "Installed-Size")[1].strip(), str(
@@ -216,14 +218,14 @@ def lintian_rows(package):
 
 
 def called(system, *words):
-    """What csictl shows of a call after its first line."""
+    """Returns the output of csictl for a call, after its first line."""
     status, out, error = system.inside("/usr/bin/csictl", "call", "--socket", "/" + CSID_SOCKET, "--method",
                                        *words)
     return status, out.partition("\n")[2].strip(), error
 
 
 def use_rows(programs, system):
-    """The programs, and what the units start with the configuration of the package."""
+    """Runs the programs, and the commands of the units with the configuration of the package."""
     for name in programs:
         system.put_libraries(system.path("usr/bin/" + name))
         yield name + " --version", system.inside("/usr/bin/" + name, "--version"), (
@@ -234,7 +236,7 @@ def use_rows(programs, system):
     yield "csid-new makes the file of volumes", system.inside(*system.command("csid-new.service")[0]), (0, "",
                                                                                                         "")
     with system.started("csid.service", CSID_SOCKET) as csid:
-        # Before the front is started, which keeps a connection to csid.
+        # This comes before the front is started, since the front keeps a connection to csid.
         yield "csid answers", called(system, "CreateVolume", "--name", "a", "--mode", "1"), (0, VOLUME, "")
         with system.started("csid-front.service", FRONT_SOCKET) as front:
             yield "the front is there", os.path.exists(system.path(FRONT_SOCKET)), True
@@ -246,7 +248,7 @@ def use_rows(programs, system):
 
 
 def later(package, folder):
-    """The package with a later version."""
+    """Returns the path of a package with a later version."""
     tree, made = os.path.join(folder, "later"), os.path.join(folder, "later.deb")
     run("dpkg-deb", "--raw-extract", package, tree)
     control = os.path.join(tree, "DEBIAN", "control")
@@ -257,7 +259,7 @@ def later(package, folder):
 
 
 def upgrade_rows(system, package, folder):
-    """What the operator has stays over an upgrade, and what runs is stopped and started."""
+    """An upgrade keeps the operator's files, and stops and starts the running units."""
     before, config = system.tables(), read(system.path(CONFIG)) + "# mine\n"
     system.write(CONFIG, config, 0o644)
     yield "an upgrade", system.dpkg("--install", later(package, folder)), (0, "", UPDATED + RESTARTED)
@@ -268,7 +270,7 @@ def upgrade_rows(system, package, folder):
 
 
 def remove_rows(system, package):
-    """A remove leaves the tables and the configuration, and a purge the tables."""
+    """A remove keeps the tables and the configuration, and a purge keeps the tables."""
     before = system.tables()
     yield "a remove", system.dpkg("--remove", "csid"), (0, "", STOPPED)
     yield "what it leaves", (system.tables(), os.path.exists(system.path(CONFIG)),
@@ -283,7 +285,8 @@ def remove_rows(system, package):
 
 
 def etcd_rows(system, package, folder):
-    """The operator's copy of the unit of csid-etcd is stopped and started where it is there, and stays."""
+    """An upgrade stops and starts the operator's copy of the unit of csid-etcd, if it exists. A purge keeps
+    it."""
     os.makedirs(os.path.dirname(system.path(ETCD_UNIT)), exist_ok=True)
     example = read(system.path("usr/share/doc/csid/examples/csid-etcd.service"))
     yield "the program of the example", re.findall(r"^ExecStart=(\S+)", example, re.M), ["/usr/bin/csid-etcd"]

@@ -1,4 +1,4 @@
-"""A release: its folder, its tar.gz and its list of parts, and the states in which ./release refuses to
+"""Tests a release: its folder, its tar.gz and its parts list, and the states in which ./release refuses to
 begin."""
 import hashlib
 import json
@@ -18,7 +18,7 @@ CSID, CSICTL, FRONT, ETCD = ("crates/csid/out/csid", "crates/csictl/out/csictl",
                              "go/etcd/out/csid-etcd")
 USAGE = "release: usage: ./release [--out FOLDER | --check]\n"
 NO_KIT = "%s: 'rt' is not on the PATH: the Rattle toolchain is needed (README.md, 'Build, run, test')\n"
-# The programs that exist, the files that are newer, and the line of ./release.
+# For each row: the programs that exist, the files that are newer, and the line that ./release prints.
 REFUSED = [
     ([], None, BUILD % (CSID, "./build")),
     ([CSID, FRONT], None, BUILD % (CSICTL, "./build")),
@@ -69,7 +69,7 @@ def folder_rows(folder, name, package):
 
 
 def files_of(programs):
-    """The contents of a release apart from licences: the programs, their manual pages and completions, and
+    """Returns the files of a release without licences: the programs, their manual pages and completions, and
     the committed files of README.md, docs/ and deploy/."""
     parts = ["README.md", "VERSION", "docs", "deploy"]
     committed = output("git", "-C", TOP, "ls-files", *parts).split("\n")
@@ -108,7 +108,7 @@ def archive_rows(path, name, programs):
 
 
 def licence_rows(folder, name):
-    """Of each part whose licence is known its text is there."""
+    """Each part with a known licence has the text of the licence."""
     with open(os.path.join(folder, name + ".spdx.json"), encoding="utf-8") as file:
         parts = [it["name"]
                  for it in json.load(file)["packages"]
@@ -121,7 +121,7 @@ def licence_rows(folder, name):
 
 
 def list_rows(path, programs):
-    """The list of parts: its programs, some parts whose versions are known otherwise, and its relations."""
+    """The parts list: its programs, some parts whose versions are known from elsewhere, and its relations."""
     with open(path, encoding="utf-8") as file:
         made = json.load(file)
     packages = {it["name"]: it for it in made["packages"]}
@@ -168,13 +168,13 @@ def list_rows(path, programs):
 
 
 def clone(folder):
-    """The repository as it is committed, with this ./release."""
+    """Clones the committed repository, with the ./release of the working tree."""
     subprocess.run(["git", "clone", "--quiet", "--shared", TOP, folder], check=True)
     shutil.copy(os.path.join(TOP, "release"), folder)
 
 
 def touch(path, seconds):
-    """Makes a file unless it exists, and dates it `seconds` after the clone."""
+    """Makes a file unless it exists, and sets its date to `seconds` after the clone."""
     os.makedirs(os.path.dirname(path), exist_ok=True)
     with open(path, "a"):
         pass
@@ -210,7 +210,8 @@ def refusal_rows(is_etcd):
 
 
 def refused(top, programs, newer, again):
-    """What ./release ends with: these programs are built, a source is newer, and some were built again."""
+    """Returns the exit status and the line of ./release, with these programs built, a newer source, and some
+    programs built again."""
     for path in programs:
         touch(os.path.join(top, path), (1 << 30) + (2 if path in again else 0))
     if newer:
@@ -221,7 +222,7 @@ def refused(top, programs, newer, again):
     return done
 
 
-# Stand-ins for the programs of packaging/ in a clone: their work does not matter here.
+# Replacements for the programs of packaging/ in a clone, whose own work does not matter here.
 PLAYED = {
     "licences": "mkdir -p ${*: -1}",
     "deb": 'echo >"$2/csid_$(cat VERSION)_$(dpkg --print-architecture).deb"',
@@ -230,7 +231,7 @@ PLAYED = {
 
 
 def difference_rows(is_etcd):
-    """A check makes two releases, and reports where they differ by place, time zone or mask."""
+    """A check makes two releases, and reports if they differ by folder, time zone or umask."""
     said = "release: two releases of the same programs differ\n"
     with tempfile.TemporaryDirectory() as folder:
         top = os.path.join(folder, "csid")
@@ -248,7 +249,7 @@ def difference_rows(is_etcd):
                 with open(os.path.join(top, "packaging", name), "w", encoding="utf-8") as file:
                     file.write('#!/usr/bin/env bash\nset -eu\ncd "$(dirname "$0")/.."\n%s\n' % text)
             status, _, error = run("./release", "--check", cwd=top)
-            # Without the sources of etcd's client there is a line on that.
+            # Without the sources of etcd's client there is an additional line.
             yield "a check of releases that have what %r gives" % what, (
                 status, "".join(it for it in error.splitlines(True) if "NOT in it" not in it)
             ), wanted

@@ -1,4 +1,4 @@
-"""Rows of tests, counted."""
+"""Compares and counts the rows of tests."""
 
 
 class LeftOut(Exception):
@@ -6,7 +6,7 @@ class LeftOut(Exception):
 
 
 def count(parts):
-    """Compares the results of the rows of each part, reports differences, and returns the exit status."""
+    """Compares the rows of each part, reports differences, and returns the exit status."""
     passed = failed = 0
     for part in parts:
         try:

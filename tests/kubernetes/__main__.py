@@ -1,4 +1,4 @@
-"""Runs the rows over the programs that are given."""
+"""Runs the rows over the programs in the arguments."""
 
 import importlib.util
 import os
@@ -20,7 +20,7 @@ from tests.kubernetes.rights import rights_rows
 
 
 def run(part):
-    """Prints each row of a part; how many passed, and how many failed."""
+    """Prints each row of a part. Returns the numbers of passed and of failed rows."""
     passed = failed = 0
     try:
         for name, found, wanted in part:

@@ -1,4 +1,4 @@
-"""The manifest: tried, applied in earnest, and again."""
+"""Applies the manifest: as a dry run, in earnest, and again."""
 
 import json
 import re
@@ -8,7 +8,7 @@ from tests.kubernetes.refused import refused_rows
 
 
 def try_rows(cluster, others, number, replaced):
-    """Tries of the manifest without its namespace, which has this number of objects."""
+    """Dry runs of the manifest, which has this number of objects besides its namespace."""
     status, lines, why = cluster.kubectl("apply", "--dry-run=server", "--validate=true", text=others)
     wanted = 0, ["created (server dry run)"] * number, ""
     yield "a try of the manifest", (status, said(lines), why), wanted
@@ -25,7 +25,8 @@ def try_rows(cluster, others, number, replaced):
 
 
 def read_back_rows(cluster, text, meant, found):
-    """The object read back: each leaf, and the fields that a server drops in silence."""
+    """The object has each value of the manifest when it is read back, and the fields that a server drops
+    silently."""
     kinds = [[one["kind"] for one in objects] for objects in (found, meant)]
     yield "what is read back are its objects", *kinds
     for want, one in zip(meant, found):
@@ -39,7 +40,8 @@ def read_back_rows(cluster, text, meant, found):
 
 
 def again_rows(cluster, text, found):
-    # kubectl calls a StatefulSet with claims configured each time, since the server fills them up.
+    # kubectl reports a StatefulSet with claims as configured each time, since the server adds defaults to the
+    # claims.
     again = cluster.kubectl("apply", text=text)[0], cluster.kubectl("diff", text=text)[:2]
     yield "applied again", again, (0, (0, ""))
     objects = [[bare(one) for one in objects] for objects in (cluster.read_back(text), found)]
@@ -53,7 +55,7 @@ def again_rows(cluster, text, found):
 def applied_rows(cluster, text, replaced):
     namespace, others = text.split("\n---\n", 1)
     meant = list(by_kind(text).values())
-    # The others cannot be tried without it.
+    # The other objects need the namespace even in a dry run.
     yield "the namespace is made", said(cluster.kubectl("apply", text=namespace)[1]), ["created"]
     yield from refused_rows(cluster, text)
     yield from try_rows(cluster, others, len(meant) - 1, replaced)

@@ -6,10 +6,10 @@ import shlex
 from tests.kubernetes.cluster import need_pods, wait
 from tests.kubernetes.manifest import ACCOUNT, DRIVER, TOP, ZONE, condition, missing, said
 
-# What docs/OPERATING.md has for the volumes that the orchestrator knows.
+# The command of docs/OPERATING.md for the volumes that the orchestrator knows.
 LISTING = ("kubectl get persistentvolumes -o jsonpath="
            """'{range .items[?(@.spec.csi.driver=="%s")]}{.spec.csi.volumeHandle}{"\\n"}{end}'""") % DRIVER
-# A claim of the manifest's class, and a pod that has it mounted.
+# A claim of the manifest's class, and a pod that mounts it.
 CLAIM = """
 apiVersion: v1
 kind: PersistentVolumeClaim
@@ -38,7 +38,7 @@ CLAIM_PATH = "/api/v1/namespaces/default/persistentvolumeclaims/data"
 
 
 def capacity(cluster, zone, room):
-    """What csi-provisioner keeps of a zone, as far as the server's version of it goes."""
+    """Returns the CSIStorageCapacity that csi-provisioner writes for a zone, in the server's version."""
     owner = cluster.get("/apis/apps/v1/namespaces/csid/statefulsets/csid")["metadata"]["uid"]
     known = "/apis/storage.k8s.io/%s/csistoragecapacities"
     group = next(it for it in ["v1", "v1beta1", "v1alpha1"] if cluster.get(known % it))
@@ -57,14 +57,14 @@ def capacity(cluster, zone, room):
 
 
 def reference(claim):
-    """How other objects name the claim."""
+    """Returns the reference by which other objects name the claim."""
     uid = claim["metadata"]["uid"]
     kind = {"apiVersion": "v1", "kind": "PersistentVolumeClaim"}
     return {**kind, "namespace": "default", "name": "data", "uid": uid}
 
 
 def volume_of(claim):
-    """The persistent volume that csi-provisioner makes for a claim, in zone b."""
+    """Returns the persistent volume that csi-provisioner makes for a claim, in zone b."""
     terms = [{"matchExpressions": [{"key": ZONE, "operator": "In", "values": ["b"]}]}]
     attributes = {"volumeAttributes": {"pool": "p1"}}
     spec = {
@@ -83,7 +83,7 @@ def volume_of(claim):
 
 
 def event_of(claim):
-    """The event that csi-provisioner reports then."""
+    """Returns the event that csi-provisioner reports for the claim."""
     return {
         "apiVersion": "v1",
         "kind": "Event",
@@ -97,7 +97,7 @@ def event_of(claim):
 
 
 def finalize(cluster, path, is_there):
-    """Puts the finalizer of csi-attacher on an object, or takes it away, as the account; the status."""
+    """Adds the finalizer of csi-attacher to an object, or removes it, as the account. Returns the status."""
     own = "external-attacher/" + DRIVER.replace(".", "-")
     kept = [one for one in cluster.get(path)["metadata"].get("finalizers", []) if one != own]
     return cluster.ask("PATCH", path, {"metadata": {"finalizers": kept + [own] if is_there else kept}},
@@ -105,7 +105,8 @@ def finalize(cluster, path, is_there):
 
 
 def notes(cluster):
-    """What scheduler and controllers write on the claim for csi-provisioner."""
+    """Returns the annotations that the scheduler and the controllers write on the claim for csi-provisioner.
+    """
     annotations = cluster.get(CLAIM_PATH)["metadata"].get("annotations", {})
     return [annotations.get("volume.kubernetes.io/selected-node"),
             annotations.get("volume.beta.kubernetes.io/storage-provisioner")]
@@ -136,7 +137,7 @@ def room_rows(cluster):
     lines = said(cluster.kubectl("create", text=CLAIM + "---" + USER)[1])
     yield "a claim and its pod are made", lines, ["created", "created"]
     yield "the pod waits for room", wait(lambda: waits_for_room(cluster)), True
-    # Zone a has too little, and zone b enough.
+    # Zone a has too little room, and zone b has enough.
     yield "the account tells the capacity of zone a", capacity(cluster, "a", "1Gi"), 201
     yield "and of zone b", capacity(cluster, "b", "10Ti"), 201
     found = wait(lambda: None not in notes(cluster) and notes(cluster)) or notes(cluster)

@@ -1,4 +1,4 @@
-"""etcd, an API server and what comes before it, in a folder."""
+"""Starts etcd, an API server and the controllers, in a folder."""
 
 import http.client
 import json
@@ -11,13 +11,12 @@ import subprocess
 import sys
 import time
 
-# How long what must come may take: a scheduler looks again at a pod that found no room after 60 to 90
-# seconds.
+# The seconds to wait for an event. A scheduler tries a pod that found no room again after 60 to 90 seconds.
 SECONDS = 120
-# Before this version capacity must be switched on, and before that one a second port, open to all, switched
-# off.
+# Before the first version, storage capacity must be enabled. Before the second version, a second port without
+# authentication must be disabled.
 CAPACITY, ONE_PORT = (1, 21), (1, 23)
-# Without those that would judge a node by what a kubelet says.
+# The controllers, without those that judge a node by the reports of a kubelet.
 CONTROLLERS = """
     statefulset disruption serviceaccount serviceaccount-token root-ca-cert-publisher garbagecollector
     persistentvolume-binder attachdetach pvc-protection pv-protection
@@ -35,7 +34,7 @@ def free_port():
 
 
 def wait(happens):
-    """What happens gives once it is true, or what it gives at the end."""
+    """Calls `happens` until its result is true, or the time is over. Returns the last result."""
     end = time.monotonic() + SECONDS
     while True:
         found = happens()
@@ -55,7 +54,7 @@ def need_pods(cluster):
 
 
 class Cluster:
-    """The servers, and what the administrator and others ask of them."""
+    """The servers, and the requests of the administrator and of other users."""
 
     def __init__(self, folder, programs):
         self.folder, self.programs, self.processes = folder, programs, []
@@ -125,7 +124,7 @@ class Cluster:
         subprocess.run(command, cwd=self.folder, check=True, capture_output=True)
 
     def certify(self):
-        """Makes certificates, keys and configurations of kubectl: one has no credentials."""
+        """Makes certificates, keys and configurations of kubectl. One configuration has no credentials."""
         self.openssl("req -x509 -newkey rsa:2048 -nodes -days 2 -subj /CN=ca -keyout ca.key -out ca.crt")
         self.sign("server", "/CN=kube-apiserver", "subjectAltName=IP:127.0.0.1")
         self.sign("admin", "/O=system:masters/CN=admin", "extendedKeyUsage=clientAuth")
@@ -138,7 +137,7 @@ class Cluster:
         self.tls.load_cert_chain(certificate, key)
 
     def sign(self, name, subject, extension):
-        """Makes a key, and a certificate for it."""
+        """Makes a key and its certificate."""
         pathlib.Path(self.path("extension")).write_text(extension)
         files = "-keyout %s.key -out %s.csr" % (name, name)
         self.openssl("req -newkey rsa:2048 -nodes -subj %s %s" % (subject, files))
@@ -146,7 +145,7 @@ class Cluster:
         self.openssl("x509 -req -days 2 -CA ca.crt -CAkey ca.key -CAcreateserial " + files)
 
     def configure(self, name, user):
-        """Writes a configuration of kubectl."""
+        """Writes a configuration of kubectl for a user."""
         cluster = {"server": self.address, "certificate-authority": self.path("ca.crt")}
         config = {
             "apiVersion": "v1",
@@ -160,7 +159,8 @@ class Cluster:
             json.dump(config, file)
 
     def ask(self, method, path, body=None, user=None):
-        """The status and the object that the server answers to the administrator, or to another user."""
+        """Sends a request as the administrator, or as another user. Returns the status and the object of the
+        answer."""
         options = {"context": self.tls, "timeout": SECONDS}
         connection = http.client.HTTPSConnection("127.0.0.1", self.port, **options)
         kind = "application/merge-patch+json" if method == "PATCH" else "application/json"
@@ -174,7 +174,7 @@ class Cluster:
         return answer.status, json.loads(text) if text.startswith("{") else text
 
     def get(self, path):
-        """The object at a path, or None."""
+        """Returns the object at a path, or None."""
         status, answer = self.ask("GET", path)
         return answer if status == 200 else None
 
@@ -185,7 +185,7 @@ class Cluster:
             return False
 
     def kubectl(self, *words, text=None, config="config"):
-        """Runs kubectl, which is given a text as its file, and gives its status, output and errors."""
+        """Runs kubectl, with a text as its input file. Returns its status, output and errors."""
         variables = {**os.environ, "KUBECONFIG": self.path(config), "HOME": self.folder}
         words += ("-f", "-") if text is not None else ()
         options = {"env": variables, "capture_output": True, "text": True, "timeout": SECONDS}
@@ -196,6 +196,6 @@ class Cluster:
         return json.loads(self.kubectl("get", "-o", "json", text=text)[1])["items"]
 
     def try_create(self, document, validate):
-        """What kubectl says of an object that the server is to create, as a try."""
+        """Returns the answer of kubectl to the creation of an object in a dry run."""
         words = ["create", "--dry-run=server", "--validate=" + validate]
         return self.kubectl(*words, text=json.dumps(document))

@@ -1,4 +1,4 @@
-"""The pod may be taken away, and no other pod is made before it has ended."""
+"""The pod may be evicted, and no other pod is made before it has ended."""
 
 import time
 
@@ -9,13 +9,13 @@ PATH = "/api/v1/namespaces/csid/pods/csid-0"
 
 
 def budget(cluster):
-    """The group of the budget, and its path."""
+    """Returns the group and the path of the PodDisruptionBudget."""
     group = "policy/v1beta1" if cluster.version < POLICY else "policy/v1"
     return group, "/apis/%s/namespaces/csid/poddisruptionbudgets/csid" % group
 
 
 def run(cluster, ready):
-    """Says what the kubelet does, and waits until the budget counts it."""
+    """Reports the pod as running or ready, as a kubelet does, and waits until the budget counts it."""
     conditions = [{"type": "Ready", "status": str(ready)}]
     status = {"phase": "Running", "conditions": conditions}
     cluster.ask("PATCH", PATH + "/status", {"status": status})
@@ -44,6 +44,6 @@ def drain_rows(cluster):
     time.sleep(5)
     found = uid(cluster), "deletionTimestamp" in cluster.get(PATH)["metadata"]
     yield "while it ends no other is made", found, (before, True)
-    # The kubelet has ended it.
+    # The kubelet reports that the pod has ended.
     cluster.ask("DELETE", PATH + "?gracePeriodSeconds=0")
     yield "then it is made anew", wait(lambda: uid(cluster) not in (None, before)), True

@@ -1,4 +1,4 @@
-"""The manifest, and its objects: as a server gets them, and as they are read back."""
+"""The objects of the manifest, in the form for a server, and as they are read back."""
 
 import copy
 import os
@@ -10,17 +10,18 @@ TOP = os.path.dirname(os.path.dirname(os.path.dirname(os.path.abspath(__file__))
 MANIFEST = os.path.join(TOP, "deploy", "kubernetes.yaml")
 ACCOUNT, OTHER = "system:serviceaccount:csid:csid", "system:serviceaccount:csid:other"
 DRIVER, ZONE = "pools.example.org", "topology.pools.example.org/zone"
-# The first version of a server that knows each part of the manifest, and the replacement for an older server.
+# For each part of the manifest that older servers do not know: the first version that knows it, and its
+# replacement.
 LATER = [
     ((1, 21), "apiVersion: policy/v1\n", "apiVersion: policy/v1beta1\n"),
     ((1, 27), "  unhealthyPodEvictionPolicy: AlwaysAllow\n", ""),
     ((1, 27), "accessModes: [ReadWriteOncePod]\n", "accessModes: [ReadWriteOnce]\n"),
 ]
 POLICY, UNHEALTHY = LATER[0][0], LATER[1][0]
-# The line of the manifest that is taken away after the first start, and its image and another one.
+# A line of the manifest that is removed after the first start, its image, and another image.
 NEW = '  new: "yes"\n'
 IMAGE, NEWER = "registry.example.org/csid:1", "registry.example.org/csid:2"
-# A value that leaves its field out.
+# In place of a value, this leaves the field out.
 GONE = object()
 
 
@@ -29,7 +30,7 @@ def original():
 
 
 def manifest(version):
-    """The manifest for a server of a version, and the list of its replacements."""
+    """Returns the manifest for a server of this version, and the list of its replacements."""
     text, replaced = original(), []
     for since, own, instead in LATER:
         assert text.count(own) == 1, own
@@ -46,7 +47,7 @@ def by_kind(text):
 
 
 def pod_alone(whole):
-    """The pod of a StatefulSet alone, with its claims as volumes."""
+    """Returns the pod of a StatefulSet alone, with its claims as volumes."""
     template = copy.deepcopy(whole["spec"]["template"])
     claims = [claim["metadata"]["name"] for claim in whole["spec"]["volumeClaimTemplates"]]
     template["spec"]["volumes"] += [{"name": name, "persistentVolumeClaim": {"claimName": name}}
@@ -56,7 +57,7 @@ def pod_alone(whole):
 
 
 def place(document, path):
-    """What holds the last word of a path, and that word."""
+    """Returns the object that has the last key of a path, and this key."""
     words = [int(word) if word.isdigit() else word for word in path.split(".")]
     for word in words[:-1]:
         document = document[word]
@@ -64,7 +65,7 @@ def place(document, path):
 
 
 def misspelt(document, path, wrong):
-    """An object with a field under a wrong name. Its name stays, since kubectl wants one."""
+    """Returns an object with a misspelt field. Its name stays, since kubectl needs one."""
     document = copy.deepcopy(document)
     holder, name = place(document, path)
     holder[wrong] = holder[name] if path == "metadata.name" else holder.pop(name)
@@ -72,7 +73,7 @@ def misspelt(document, path, wrong):
 
 
 def changed(document, path, value):
-    """An object with another value of a field, or without it."""
+    """Returns an object with another value of a field, or without the field."""
     document = copy.deepcopy(document)
     holder, name = place(document, path)
     if value is GONE:
@@ -83,14 +84,14 @@ def changed(document, path, value):
 
 
 def leaves(meant):
-    """How many leaves an object has; an empty list or object is one."""
+    """Returns the number of values in an object. An empty list or object is one value."""
     if isinstance(meant, (dict, list)) and meant:
         return sum(map(leaves, meant.values() if isinstance(meant, dict) else meant))
     return 1
 
 
 def missing(meant, found, path=""):
-    """The paths at which a value differs from the manifest. Additional values are the server's."""
+    """Returns the paths at which an object differs from the manifest. The server may add values."""
     if isinstance(meant, dict) and isinstance(found, dict):
         parts = [(key, meant[key], found.get(key, GONE)) for key in meant]
     elif isinstance(meant, list) and isinstance(found, list) and len(meant) == len(found):
@@ -101,13 +102,13 @@ def missing(meant, found, path=""):
 
 
 def bare(one):
-    """An object without what the server writes down about it, and how often it was changed."""
+    """Returns an object without the fields that the server writes, such as its version."""
     own = {key: value for key, value in one.items() if key not in ("metadata", "status")}
     return own, one["metadata"].get("generation")
 
 
 def said(lines):
-    """What kubectl says of each object, without its name."""
+    """Returns kubectl's word for each object, such as 'created', without the object's name."""
     return [line.split(" ", 1)[1] for line in lines.strip().split("\n") if " " in line]
 
 

@@ -1,4 +1,4 @@
-"""The pod of the StatefulSet, and its claim."""
+"""Checks the pod of the StatefulSet, and its claim."""
 
 import copy
 
@@ -10,7 +10,7 @@ CLAIM_PATH = "/api/v1/namespaces/csid/persistentvolumeclaims/tables-csid-0"
 
 
 def node(name, zone):
-    """A node that is ready, as kubelet and node plugin report it."""
+    """Makes a node that is ready, as the kubelet and the node plugin report it."""
     labels = {"kubernetes.io/hostname": name, ZONE: zone}
     metadata = {
         "name": name,
@@ -31,7 +31,8 @@ def node(name, zone):
 
 
 def without_tokens(pod):
-    """Takes the mounts of the account's token from a pod; returns how many each container had."""
+    """Removes the mounts of the account's token from a pod. Returns the number of mounts in each container.
+    """
     tokens = {}
     for container in pod["spec"]["initContainers"] + pod["spec"]["containers"]:
         mounts = container["volumeMounts"]
@@ -57,7 +58,7 @@ def made_rows(cluster, whole):
 
 
 def state(cluster):
-    """The pod and its images, or None."""
+    """Returns the pod and its images, or None."""
     one = cluster.get(PATH)
     images = one and [container["image"] for container in one["spec"]["containers"]][:2]
     return one and (one["metadata"]["uid"], images)

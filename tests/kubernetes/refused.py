@@ -1,4 +1,4 @@
-"""Objects with a misspelt field or a wrong value, which the server refuses."""
+"""The server refuses objects with a misspelt field or a wrong value."""
 
 import json
 import re
@@ -7,16 +7,17 @@ from tests.kubernetes.claim import CLAIM
 from tests.kubernetes.manifest import GONE, by_kind, changed, misspelt, pod_alone, said
 from tests.support.data import tables
 
-# What the server says of a misspelt field.
+# The server's words about a misspelt field.
 UNKNOWN = "unknown field"
 ROWS = tables("kubernetes", globals())
 
 
 def tries_of(kinds):
-    """Each try: its kind, its description, the object, whether the client checks it, and the message."""
+    """Yields each dry run: its kind, its description, the object, whether kubectl checks it, and the message.
+    """
     tries = [(kind, "%s for %s" % (wrong, path), misspelt(kinds[kind], path, wrong), "true", UNKNOWN)
              for kind, path, wrong in ROWS["MISSPELT"]]
-    # Without the client's own look at types, so that it is the server that refuses.
+    # kubectl does not check types here, so the server must refuse the object.
     for kind, path, value, pattern in ROWS["WRONG"]:
         what = "no " + path if value is GONE else "%s: %s" % (path, json.dumps(value))
         tries.append((kind, what, changed(kinds[kind], path, value), "false", pattern))

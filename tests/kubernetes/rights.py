@@ -1,10 +1,10 @@
-"""What the account of the pod may do."""
+"""Checks the rights of the pod's account."""
 
 from tests.kubernetes.manifest import ACCOUNT, OTHER
 from tests.support.data import tables
 
 ROWS = tables("kubernetes-rights", {})
-# What the token of the account may get.
+# What the account may read with its token.
 GETS = [
     ("persistentvolumes", True),
     ("csistoragecapacities -n csid", True),
@@ -14,7 +14,7 @@ GETS = [
 
 
 def rules(cluster, user, namespace):
-    """All that a user may do in a namespace, as group, resource and verb."""
+    """Returns all rights of a user in a namespace, each as a group, a resource and a verb."""
     body = {
         "apiVersion": "authorization.k8s.io/v1",
         "kind": "SelfSubjectRulesReview",
@@ -30,7 +30,7 @@ def rules(cluster, user, namespace):
 
 
 def can(cluster, group, resource, verb, namespace):
-    """What kubectl says: yes or no."""
+    """Returns kubectl's answer, yes or no."""
     name, _, part = resource.partition("/")
     kind = name + ("." + group if group else "")
     subresource = ["--subresource=" + part] if part else []
@@ -39,7 +39,7 @@ def can(cluster, group, resource, verb, namespace):
 
 
 def said_rows(cluster, may):
-    """What kubectl says of each right, alone."""
+    """Asks kubectl for each right alone."""
     for role, namespace in [("ClusterRole", "default"), ("Role", "csid")]:
         for group, resource, verb in sorted(may[role]):
             found = can(cluster, group, resource, verb, namespace)
@@ -58,7 +58,7 @@ def rights_rows(cluster):
            for role in ("ClusterRole", "Role")}
     yield from said_rows(cluster, may)
     for namespace, rights in [("csid", may["ClusterRole"] | may["Role"]), ("default", may["ClusterRole"])]:
-        # What each account may do is not the manifest's.
+        # Rights that each account has are not from the manifest.
         has = rules(cluster, ACCOUNT, namespace) - rules(cluster, OTHER, namespace)
         differences = sorted(has - rights), sorted(rights - has)
         yield "has in %s no further right, and lacks none" % namespace, differences, ([], [])

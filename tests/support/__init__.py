@@ -1,1 +1,1 @@
-"""What the tests of processes share."""
+"""Modules that the tests of processes share."""

@@ -1,4 +1,4 @@
-"""Broken frames, messages and HTTP/2, made of right ones by a source of chance; and how right ones are read
+"""Makes broken frames, messages and HTTP/2 from correct ones at random, and reads correct ones
 (docs/PROTOCOL.md)."""
 import io
 
@@ -9,7 +9,7 @@ MIB = 1 << 20
 
 
 class Breaker:
-    """Breaks right frames and messages."""
+    """Breaks correct frames and messages."""
 
     def __init__(self, source, corpus):
         self.source, self.corpus = source, corpus
@@ -47,7 +47,7 @@ class Breaker:
                 + text[to:])
 
     def nested(self, message):
-        """A message within a message within a message."""
+        """Returns three nested messages."""
         number, heads, length = self.source.randrange(1, 10), [], len(message)
         for _ in range(self.one_of(2, 10, 100, 1000, self.source.choice((5000, 5000, 5000, 200000)))):
             heads.append(v.tag(number, 2) + v.varint(length))
@@ -69,7 +69,7 @@ class Breaker:
         return self.bytes(message) if how < 9 else message
 
     def stream(self):
-        """Frames in order, with messages that are broken, and then the whole."""
+        """Returns a stream of frames with broken messages. The stream as a whole may be broken, too."""
         frames = []
         for _ in range(self.one_of(1, 1, 2, 5)):
             path, message = self.one_of(*self.corpus)
@@ -82,7 +82,7 @@ class Breaker:
         return whole
 
     def pieces(self, whole):
-        """The whole in pieces, of one byte each or of any length."""
+        """Returns the stream in pieces, of one byte each or of random lengths."""
         if len(whole) < 200 and self.source.randrange(4) == 0:
             return [whole[at : at + 1] for at in range(len(whole))]
         cuts = sorted(self.source.randrange(len(whole) + 1) for _ in range(self.one_of(0, 1, 5, 40)))
@@ -90,7 +90,7 @@ class Breaker:
 
 
 def calls_of_vectors():
-    """The calls of tests/vectors."""
+    """Returns the calls of tests/vectors."""
     calls = []
     for line in corpus.lines():
         digits = line.split(" ")[1] if line and line[0] != "#" else "-"
@@ -101,7 +101,8 @@ def calls_of_vectors():
 
 
 def reading(stream):
-    """How many calls a stream has, and the text of the fault that ends it (docs/PROTOCOL.md, "Streams")."""
+    """Returns the number of calls in a stream, and the text of the fault that ends it (docs/PROTOCOL.md,
+    "Streams")."""
     at = count = 0
     cut = "end of input at byte %d" % len(stream)
     while at < len(stream):
@@ -125,7 +126,8 @@ def reading(stream):
 
 
 def replies_in(stream):
-    """The replies of a stream: status, text, body. None where it is none."""
+    """Returns the replies in a stream, each with status, text and body, or None if the stream is malformed.
+    """
     found, at = [], 0
     while at < len(stream):
         size = int.from_bytes(stream[at + 1 : at + 3], "big")
@@ -139,18 +141,18 @@ def replies_in(stream):
 
 
 def is_ok(reply):
-    """Whether bytes are one reply that says OK; None where more follows one."""
+    """Returns True if the bytes are one OK reply. Returns None if more bytes follow one."""
     size = 8 + int.from_bytes(reply[4:8], "big")
     if len(reply) < 8 or reply[:4] != bytes(4) or not size <= min(len(reply), 8 + 4 * MIB):
         return False
     return True if len(reply) == size else None
 
 
-# HTTP/2 and gRPC, as far as a client must write them: no header is compressed.
+# HTTP/2 and gRPC as a client writes them, without compressed headers.
 
 
 def h2(kind, flags, stream, payload=b""):
-    """A frame of HTTP/2 (RFC 9113, section 4.1)."""
+    """Returns a frame of HTTP/2 (RFC 9113, section 4.1)."""
     return (len(payload).to_bytes(3, "big")
             + bytes([kind, flags])
             + (stream & 0xFFFFFFFF).to_bytes(4, "big")
@@ -163,7 +165,7 @@ END, WHOLE, MOST = 1, 4, 16384
 
 
 def string(text):
-    """A text of a header (RFC 7541, section 5.2)."""
+    """Returns the text of a header (RFC 7541, section 5.2)."""
     return (bytes([len(text)]) if len(text) < 127 else b"\x7f" + v.varint(len(text) - 127)) + text
 
 
@@ -180,7 +182,7 @@ def headers(path, *more):
 
 
 def head(stream, path, *more):
-    """The frames of the headers of a call."""
+    """Returns the frames with the headers of a call."""
     block = headers(path, *more)
     rest = [block[at : at + MOST] for at in range(MOST, len(block), MOST)]
     parts = [(HEADERS, block[:MOST])] + [(CONTINUATION, it) for it in rest]
@@ -197,7 +199,7 @@ def enveloped(message):
     return b"\0" + len(message).to_bytes(4, "big") + message
 
 
-# Inputs for the front, each a function of its kind.
+# Inputs for the front. Each function makes one kind.
 
 PROBE = b"/csi.v1.Identity/Probe"
 
@@ -225,7 +227,7 @@ def reset_calls(source, _):
 
 
 def silent_calls(source, _):
-    """Calls whose messages do not come, or in part."""
+    """Calls whose messages are missing or incomplete."""
     parts = b"", b"\0\0", b"\0\0\x10\0\0"
     return b"".join(head(2 * at + 1, PROBE) + h2(DATA, 0, 2 * at + 1, source.choice(parts))
                     for at in range(source.choice((1, 1, 20, 20, 20, 20, 20, 300))))
@@ -237,7 +239,7 @@ def pings_and_settings(source, _):
 
 
 def calls(source, corpus):
-    """Calls with broken messages, some of them in broken envelopes or frames."""
+    """Calls with broken messages, some of them in broken length prefixes or frames."""
     breaker, whole = Breaker(source, corpus), b""
     for at in range(source.choice((1, 1, 3, 20))):
         path, message = source.choice(corpus)
@@ -250,12 +252,12 @@ def calls(source, corpus):
     return breaker.bytes(whole) if source.randrange(2) else whole
 
 
-# How often each kind comes.
+# The weight of each kind.
 KINDS = {raw_bytes: 10, any_frames: 10, long_headers: 1, reset_calls: 10, silent_calls: 10,
          pings_and_settings: 10, calls: 50}
 
 
 def broken_http(source, corpus):
-    """An input for the front, and what kind it is."""
+    """Returns an input for the front, and its kind."""
     [kind] = source.choices(list(KINDS), list(KINDS.values()))
     return kind.__name__, (b"" if kind is raw_bytes else HELLO) + kind(source, corpus)

@@ -1,4 +1,4 @@
-"""csid and a front as processes, and clients that call fronts at the same time. Their calls are recorded as
+"""Runs csid and a front, and clients that call fronts at the same time. Their calls are recorded as
 operations of a history. csid may be killed between two of its writes."""
 
 import concurrent.futures
@@ -21,7 +21,7 @@ KEYS = [(0, "", SINGLE), (0, "", SHARED), (0, "", ONE_WRITER)]
 
 
 def connection(path, patience):
-    """A connection to a control socket whose front serves: Probe was answered. None if it was not."""
+    """Returns a connection to a control socket whose front answers Probe, or None."""
     peer = socket.socket(socket.AF_UNIX)
     peer.settimeout(patience)
     try:
@@ -38,15 +38,15 @@ def connection(path, patience):
 class Fronts:
     """Fronts on whose control sockets clients call."""
 
-    # The paths of the control sockets, first the one where a client was answered the last time.
+    # The paths of the control sockets. The first one is the last one that answered the client.
     paths = []
-    # How many seconds a client waits for a reply, and the statuses that count as no reply.
+    # The seconds for which a client waits for a reply, and the statuses that count as no reply.
     patience, unheard = SECONDS, ()
-    # The histories, of twenty, in which a program is killed.
+    # The histories, of each twenty, in which a program is killed.
     killed = (4, 11)
 
     def connect(self):
-        """A connection to a front that serves. Without one it is None, and some time has passed."""
+        """Returns a connection to a front that serves. Otherwise waits a moment and returns None."""
         for path in self.paths:
             peer = connection(path, self.patience)
             if peer:
@@ -57,7 +57,7 @@ class Fronts:
 
 
 class Plugin(Fronts):
-    """csid over a file, and a front. With `forgets` the file is removed whenever csid is killed."""
+    """csid over a file, and a front. With `forgets`, the file is removed each time csid is killed."""
 
     def __init__(self, csid, front, folder, forgets=False):
         control = os.path.join(folder, "control.sock")
@@ -97,20 +97,20 @@ class Plugin(Fronts):
 
 
 def acts(method, words, model):
-    """Calls a method of a model, and returns the reply."""
+    """Returns a function that calls a method of a model, and returns the model's reply."""
     return getattr(model, method)(*words)[0]
 
 
 class Caller:
-    """A client that calls a front that serves. With `repeats` an operation is a call that is repeated until
-    its reply is heard; otherwise each try is an operation, and no try is repeated."""
+    """A client of the fronts. With `repeats`, an operation is a call that is repeated until a reply comes.
+    Otherwise each try is an operation, and no try is repeated."""
 
     def __init__(self, fronts, number, operations, repeats, source):
         self.fronts, self.number, self.operations = fronts, number, operations
         self.repeats, self.source, self.peer = repeats, source, None
 
     def connect(self):
-        """Connects to a front that serves, unless this is done already."""
+        """Connects to a front that serves, unless the client is connected."""
         until = time.monotonic() + SECONDS
         while not self.peer:
             if time.monotonic() > until:
@@ -118,7 +118,7 @@ class Caller:
             self.peer = self.fronts.connect()
 
     def receive(self, size):
-        """Receives as many bytes; fewer if the connection ends."""
+        """Receives `size` bytes, or fewer if the connection ends."""
         got = b""
         while len(got) < size and (piece := self.peer.recv(size - len(got))):
             got += piece
@@ -139,7 +139,8 @@ class Caller:
         self.peer = None
 
     def tries(self, call):
-        """Makes a call once. Returns its reply, or None if none comes, or if it counts as none or as lost."""
+        """Makes a call once. Returns its reply, or None if no reply comes, or if its status counts as no
+        reply."""
         try:
             self.peer.sendall(call)
             reply = self.reply()
@@ -151,8 +152,8 @@ class Caller:
         return None if self.source.random() < 0.1 else reply
 
     def calls(self, call, method, *words):
-        """Makes a call, and records what it does to a model: this method with these words. Returns its reply,
-        or None if none was heard."""
+        """Makes a call, and records its effect on a model: this method with these arguments. Returns the
+        reply, or None."""
         self.connect()
         begun, until, reply = time.monotonic(), time.monotonic() + SECONDS, self.tries(call)
         while reply is None and self.repeats and time.monotonic() < until:
@@ -189,13 +190,13 @@ class Caller:
 
 
 def id_in(reply):
-    """The id of the first volume that a reply names, or an id that is never given."""
+    """Returns the id of the first volume in a reply, or an id that no volume gets."""
     found = re.search(rb"vol-\d+", reply or b"")
     return found[0].decode() if found else "vol-0"
 
 
 def works_on(caller, text, name):
-    """A random call that works on a volume."""
+    """Makes a random call for a volume."""
     source = caller.source
     node, mutable = source.choice(("n1", "n2")), {source.choice("ij"): source.choice("12")}
     source.choice((lambda: caller.creates(name, source.choice(({}, mutable))),
@@ -206,7 +207,7 @@ def works_on(caller, text, name):
 
 
 def works_alone(caller, name):
-    """A client whose volume no other client works on: it creates the volume, and works on it."""
+    """A client with a volume of its own: it creates the volume, and makes random calls for it."""
     text = id_in(caller.creates(name, {}))
     for _ in range(3):
         works_on(caller, text, name)
@@ -223,7 +224,7 @@ def reads(caller):
 
 
 def clears(caller):
-    """Removes all volumes, and creates one more, so that the next number is known."""
+    """Deletes all volumes, and creates one more, so that the next number is known."""
     for text in sorted(set(re.findall(rb"vol-\d+", caller.lists()))):
         caller.unpublishes(text.decode(), "")
         caller.deletes(text.decode())
@@ -231,9 +232,9 @@ def clears(caller):
 
 
 def record(fronts, seed, is_shared, is_killed):
-    """Records a history of three clients: at most twelve calls at the same time, then one client removes all
-    volumes. If the history is shared, the clients work on one volume, and each try is an operation. Otherwise
-    two clients work on a volume each, the third one reads, and each call with its repeats is an operation."""
+    """Records a history of three clients: at most twelve calls at the same time, then one client deletes all
+    volumes. In a shared history all clients use one volume, and each try is an operation. Otherwise two
+    clients use a volume each, the third client reads, and a call with its repeats is an operation."""
     operations, source = [], random.Random(seed)
     own = Caller(fronts, 3, operations, True, random.Random("%s own" % seed))
     callers = [Caller(fronts, number, operations, not is_shared, random.Random("%s %d" % (seed, number)))
@@ -259,9 +260,9 @@ def record(fronts, seed, is_shared, is_killed):
 
 
 def histories(fronts, count, seed=0):
-    """Records this number of histories in turn, and looks for an order of each. Yields the number of the
-    history, its operations, and the order or None. Every other history is shared, and during some a program
-    is killed. A history without an order is the last one, because the State after it is not known."""
+    """Records `count` histories in turn, and searches for an order of each. Yields the number of the history,
+    its operations, and the order or None. Every other history is shared, and during some of them a program is
+    killed. A history without an order is the last one, because the State after it is not known."""
     model = Model()
     for number in range(count):
         operations = record(fronts, "%s %d" % (seed, number), number % 2 == 0, number % 20 in fronts.killed)

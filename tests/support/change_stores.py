@@ -1,5 +1,5 @@
-"""Change stores at a socket, as `csid serve --log` asks them (docs/PROTOCOL.md, "The change store"): the part
-that all share, and one that keeps rows."""
+"""Change stores at a socket, for `csid serve --log` (docs/PROTOCOL.md, "The change store"): a common part,
+and a change store that keeps rows."""
 import os
 import socket
 import threading
@@ -11,7 +11,7 @@ OK = v.reply()
 
 
 class ChangeStore:
-    """A log on a socket, which leads until it is set otherwise. Each connection has a thread."""
+    """A change store at a socket. It leads until a test says otherwise. Each connection has a thread."""
 
     def __init__(self, path):
         self.path, self.peers, self.leads = path, [], True
@@ -30,7 +30,7 @@ class ChangeStore:
             threading.Thread(target=self.serve, args=(peer,), daemon=True).start()
 
     def serve(self, peer):
-        """Answers each call, until there is no reply to one."""
+        """Answers calls until a call has no reply."""
         with peer, peer.makefile("rb") as stream:
             while frame := next_frame(stream):
                 reply = (self.answer(*frame)
@@ -44,7 +44,7 @@ class ChangeStore:
                 peer.sendall(reply)
 
     def hang_up(self):
-        """Ends each connection."""
+        """Ends all connections."""
         peers, self.peers = self.peers, []
         for peer in peers:
             try:
@@ -59,7 +59,7 @@ class ChangeStore:
 
 
 def next_frame(stream):
-    """The path and the message of the next call, or None at the end."""
+    """Returns the path and the message of the next call, or None at the end."""
     try:
         length = stream.read(2)
         if len(length) < 2:
@@ -71,7 +71,7 @@ def next_frame(stream):
         return None
 
 
-# Rows, as a log writes them and is sent them.
+# Rows in the encoding of the change store.
 
 
 def meta(number, format_no=2):
@@ -92,7 +92,7 @@ def page(*rows, token=b""):
 
 
 def fields(message):
-    """The fields of a message that csid wrote: pairs of a number, and what it holds."""
+    """Returns the fields of a message of csid, each as its number and its value."""
     found, at = [], 0
 
     def varint():
@@ -114,9 +114,8 @@ def fields(message):
 
 
 class KeptChangeStore(ChangeStore):
-    """A log that keeps rows, as csid-etcd does in etcd, but in this process. The next change fails as `fault`
-    says: it is refused, the connection
-    ends before it is made, or it ends after it."""
+    """A change store that keeps rows in this process. The next change fails in the way of `fault`: it is
+    refused, or the connection ends before or after it is made."""
 
     REFUSES, ENDS, LOSES = "refuses", "ends", "loses"
 
@@ -125,7 +124,7 @@ class KeptChangeStore(ChangeStore):
         super().__init__(path)
 
     def rows(self):
-        """The rows of volumes, of attachments and of meta, in order (docs/TABLES.md)."""
+        """Returns the rows of volumes, of attachments and of meta, in order (docs/TABLES.md)."""
         return ([(number, *it) for number, it in sorted(self.volumes.items())],
                 [(*place, *it) for place, it in sorted(self.attachments.items())], [(1, 2, self.next)])
 
@@ -147,7 +146,7 @@ class KeptChangeStore(ChangeStore):
         return None if fault == self.LOSES else OK if made else v.refusal(9, "not as the change supposes")
 
     def read(self, token):
-        """A page of rows. The token of the next page is the number of rows given so far."""
+        """Returns a page of rows. The token of the next page is the number of rows so far."""
         told = int(token or b"0")
         rows = [volume(number, *it) for number, it in sorted(self.volumes.items())] + [
             attachment(*place, *it) for place, it in sorted(self.attachments.items())
@@ -157,7 +156,7 @@ class KeptChangeStore(ChangeStore):
         return page(*first, *rows[told:then], token=b"%d" % then if then < len(rows) else b"")
 
     def make(self, number, values):
-        """Makes a change, if the rows are as it supposes."""
+        """Makes a change, if the rows meet its condition."""
         at = values[0]
         if number == 1:
             name, size, pool, caps, params = values[1:]
@@ -186,5 +185,5 @@ class KeptChangeStore(ChangeStore):
 
 
 def own(params):
-    """The parameters of a column without the mutable ones: its fields 4."""
+    """Returns the parameters of a column without the mutable parameters, which are its fields 4."""
     return b"".join(v.msg(4, value) for number, value in fields(params) if number == 4)

@@ -1,4 +1,4 @@
-"""Configurations."""
+"""Configurations of csid."""
 
 from tests.support.data import tables
 from tests.support.processes import fixture
@@ -10,7 +10,7 @@ LARGE_POOL = fixture("large-pool.toml")
 
 
 def sample(*changes):
-    """The sample, with the first occurrence of each text replaced by another."""
+    """Returns the sample configuration, with the first occurrence of each text replaced."""
     text = SAMPLE
     for old, new in changes:
         if old not in text:
@@ -24,7 +24,7 @@ NODES = SAMPLE[SAMPLE.index(b"[[node]]") :]
 SEGMENTS = b'segments = { zone = "a" }'
 
 
-# Further pools and nodes, after the sample's.
+# More pools and nodes, after those of the sample.
 def pools(count):
     return b"".join(b'[[pool]]\nname = "q%d"\nbytes = 1048576\n' % number for number in range(count))
 

@@ -1,4 +1,4 @@
-"""What the tests of csictl share: frames in hexadecimal, and csid on a socket of its own."""
+"""Frames in hexadecimal, and csid at a socket, for the tests of csictl."""
 
 import os
 import pathlib
@@ -15,7 +15,7 @@ VERSION = pathlib.Path(TOP, "VERSION").read_text(encoding="utf-8").strip()
 
 
 class Line:
-    """A text of one line that begins so, and has each of these parts after that."""
+    """Equals a text of one line that begins with `begin`, and has each of these parts after it."""
 
     def __init__(self, begin, *parts):
         self.begin, self.parts = begin, parts
@@ -31,7 +31,7 @@ class Line:
 
 
 class Shown:
-    """A text that ends a line, and has each of these parts."""
+    """Equals a text with a line end that has each of these parts."""
 
     def __init__(self, *parts):
         self.parts = parts
@@ -44,7 +44,7 @@ class Shown:
 
 
 def ok(body):
-    """The frame of a reply with status 0."""
+    """Returns the frame of a reply with status 0."""
     return reply(bytes.fromhex(body))
 
 
@@ -67,29 +67,29 @@ def run(words, stdout=subprocess.PIPE, **how):
 
 
 def text(came):
-    """The same with standard output as a text."""
+    """Returns the same result with standard output as a text."""
     return came[0].decode(), came[1], came[2]
 
 
 class Server(Served):
-    """csid on a socket of its own, over a file next to it."""
+    """csid at a socket, with its file in the same folder."""
 
     def __init__(self, csid, path, *words, tables=None, shell=None, **how):
         self.path, self.tables = path, path + ".db" if tables is None else tables
         command = [csid, "serve", "--socket", path, "--tables", self.tables, *words]
         self.begin(["sh", "-c", 'exec "$0" "$@" ' + shell, *command] if shell else command, **how)
-        # Its first line is of what the file has, or why that cannot be had.
+        # Its first line has the contents of the file, or why csid cannot read it.
         begun = "(?m)^csid: (%s: volumes .*|out of memory|.*%s)\n" % (re.escape(self.tables), NO_FILE)
         wait(lambda: (os.path.exists(path) if shell else re.search(begun, self.lines()))
              or self.process.poll() is not None)
 
     def kill(self):
-        """What it said until it was killed, and its status."""
+        """Kills csid. Returns its lines and its status."""
         self.process.kill()
         return self.end()
 
     def end(self):
-        """What it said, but for what the file had at the start, and its status."""
+        """Ends csid. Returns its lines, without the line about the contents of the file, and its status."""
         self.process.wait(timeout=SECONDS)
         os.unlink(self.path)
         held = "(?m)^csid: %s: (%s|volumes .*)\n" % (re.escape(self.tables), NEW)
@@ -98,11 +98,11 @@ class Server(Served):
 
 NOT_THERE = "No such file or directory (os error 2)"
 
-# Why a file of tables cannot be opened (docs/TABLES.md).
+# The reason if a file of tables cannot be opened (docs/TABLES.md).
 NO_FILE = "unable to open database file"
 NO_DATABASE = "file is not a database that obeys its schema"
 
 
-# An entry of 'vol-N' of 1 MiB, which is published nowhere; and what JSON says of it.
+# An entry of 'vol-N' of 1 MiB without attachments, in bytes and in JSON.
 def entry(number):
     return "0a28" + VOL_1.replace("766f6c2d31", "766f6c2d3%d" % number) + "1200"

@@ -9,7 +9,7 @@ WORD = re.compile(r"([A-Z]\w*) = (.*)")
 
 
 def numbered(file):
-    """The rows of a file, each after the number of its first line."""
+    """Yields the rows of a file, each after the number of its first line."""
     rows = []
     for number, line in enumerate(file, 1):
         if line.startswith("    "):
@@ -20,8 +20,8 @@ def numbered(file):
 
 
 def tables(name, words):
-    """The tables of a file of tests/rows by their titles; a title is a line that begins with `= `. A row is a
-    tuple. Its first column is a text; each other column is an expression of Python over `words`, which gives
+    """Returns the tables of a file of tests/rows by title. A line that begins with `= ` is a title. A row is
+    a tuple. Its first column is a text. Each other column is an expression of Python over `words`: it gives
     one value, or with `*` before it several values. A line `WORD = ..` adds a word."""
     found, words, path = {}, dict(words), os.path.join(FOLDER, name + ".txt")
     with open(path, encoding="utf-8") as file:

@@ -1,5 +1,5 @@
-"""The files of deploy/, read: units, the Nomad job and manifests. The job is read by patterns, since nothing
-here parses HCL."""
+"""Reads the files of deploy/: units, the Nomad job and manifests. The job is read by patterns, since no
+parser of HCL is installed."""
 
 import os
 import pathlib
@@ -15,24 +15,24 @@ from tests.support.processes import SECONDS, TOP, wait
 
 DEPLOY = os.path.join(TOP, "deploy")
 UNITS = ["csid.service", "csid-front.service"]
-# Started by hand, once.
+# The unit that an operator starts once, by hand.
 FIRST = "csid-new.service"
-# What the operator changes of the options.
+# The file with options that an operator may change.
 DEFAULTS = "csid.default"
-# Two replicas over etcd: the unit next to these, what differs in them, and the manifest.
+# For two replicas over etcd: the unit, the drop-ins of the other units, and the manifest.
 ETCD_UNIT = "csid-etcd.service"
 DIFFERENCES = {"csid.service": "etcd.d/csid.conf", "csid-front.service": "etcd.d/csid-front.conf"}
 MANIFEST, ETCD_MANIFEST = "kubernetes.yaml", "kubernetes-etcd.yaml"
-# The pod that holds the claim of the first, on the way from the one to the other.
+# The pod that mounts the claim of csid-0, for the move between a file and etcd.
 TABLES_POD = "kubernetes-tables.yaml"
-# The example of a node plugin, what changes in the StatefulSet for it, and a claim with its pod.
+# The example of a node plugin, its patch of the StatefulSet, and a claim with its pod.
 NODE_MANIFEST, NODE_PATCH = "kubernetes-node.yaml", "kubernetes-node-patch.yaml"
 EXAMPLE = "kubernetes-example.yaml"
 PROGRAMS, ETCD_PROGRAMS = ["csid", "front"], ["csid-etcd", "csid", "front"]
 TLS = ["--cacert", "--cert", "--key"]
-# The greatest exposure by systemd-analyze security, in tenths.
+# The greatest exposure that systemd-analyze security may report, in tenths.
 EXPOSURE = 30
-# Runs a program as the first process of a namespace, with a network of its own where each port is free.
+# Runs a program as the first process of a new PID namespace, with a new network in which each port is free.
 UNSHARE = ["unshare", "--pid", "--net", "--fork"]
 
 
@@ -55,7 +55,7 @@ def toml(text):
 
 
 def documents(name):
-    """The objects of a manifest, in order."""
+    """Returns the objects of a manifest, in order."""
     try:
         import yaml
     except ImportError:
@@ -64,8 +64,8 @@ def documents(name):
 
 
 class Unit:
-    """A unit of systemd, maybe with a file of what differs: the values of its keys. An empty value takes
-    those before it away."""
+    """A unit of systemd, possibly with a drop-in, as the values of its keys. An empty value removes the
+    earlier values."""
 
     def __init__(self, name, *differences):
         text = "\n".join(re.sub(r"\\\n\s*", "", read(it)) for it in [name, *differences])
@@ -81,26 +81,26 @@ class Unit:
         return found
 
     def variables(self):
-        """What the unit itself says of variables; the last word counts."""
+        """Returns the variables that the unit sets. The last value counts."""
         words = [word for line in self.all("Environment") for word in shlex.split(line)]
         return dict(word.split("=", 1) for word in words)
 
     def words(self):
-        """The words that it starts; a variable that is a word gives as many as its value has."""
+        """Returns the words of the command. A variable that is a whole word is split at spaces."""
         given, words = self.variables(), []
         for word in shlex.split(self.all("ExecStart")[0]):
             words += given[word[1:]].split() if word.startswith("$") else [word]
         return words
 
     def script(self, command):
-        """What a shell is given by a command of the unit."""
+        """Returns the script that a command of the unit gives to a shell."""
         shell, option, text = shlex.split(command)
         assert (shell, option) == ("/bin/sh", "-c"), command
         return text.replace("$$", "$")
 
 
 class Nomad:
-    """The Nomad job, as far as patterns find it."""
+    """The parts of the Nomad job that patterns can find."""
 
     def __init__(self):
         self.text = read("nomad.hcl")
@@ -125,12 +125,12 @@ class Nomad:
 
 
 def over_etcd(name):
-    """A unit as it is over etcd."""
+    """Returns a unit with its drop-in for etcd."""
     return Unit(name, DIFFERENCES[name])
 
 
 class Kubernetes:
-    """The objects of a manifest, by kind."""
+    """The objects of a manifest by kind."""
 
     def __init__(self, name=MANIFEST):
         found = documents(name)
@@ -147,12 +147,12 @@ class Kubernetes:
 
 
 def mounts(container):
-    """The names of the volumes of a container, by the folders where they are mounted."""
+    """Returns the names of the volumes of a container, by mount path."""
     return {it["mountPath"]: it["name"] for it in container["volumeMounts"]}
 
 
 def plain(command):
-    """The words of a program that is started by tini, and maybe a shell after that."""
+    """Returns the words of a program that tini starts, possibly through a shell."""
     words = command[command.index("--") + 1 :] if command[0] == "tini" else command
     if words[:2] == ["sh", "-c"]:
         words = shlex.split(words[2].rsplit("exec ", 1)[1])
@@ -168,7 +168,7 @@ def seconds(text):
 
 
 def commands():
-    """The words of csid and of the front in each place that starts them."""
+    """Returns the commands of csid and of the front, for each file of deploy/ that starts them."""
     units = [Unit(name).words() for name in UNITS]
     nomad = Nomad()
     yield "the units", units[0], units[1]
@@ -181,13 +181,13 @@ def commands():
 
 
 def shell(command):
-    """The words that a shell is given after tini."""
+    """Returns the script that tini starts in a shell."""
     return command[command.index("sh") + 2]
 
 
 def etcd_commands():
-    """The words of csid-etcd, csid and the front in each place that starts them over etcd, and of csid and
-    the front over a file there."""
+    """Returns the commands of csid-etcd, csid and the front over etcd, for each file of deploy/ that starts
+    them, and the commands of csid and the front over a file."""
     plainly = [Unit(name).words() for name in UNITS]
     yield "the units over etcd", Unit(ETCD_UNIT).words(), *[over_etcd(name).words()
                                                             for name in UNITS], plainly
@@ -201,13 +201,13 @@ def etcd_commands():
 
 
 def without(words, option, count=2):
-    """The words without an option and what belongs to it."""
+    """Returns the words without an option and its values."""
     at = words.index(option)
     return words[:at] + words[at + count :]
 
 
 def first_steps():
-    """Where the file of volumes is made: the script or command that does it, and the path of csid serve."""
+    """Returns the scripts or commands that make the file of volumes, each with the path of csid serve."""
     unit, nomad = Unit(FIRST), Nomad()
     yield "the units", " ".join(unit.words()).replace("/usr/local/bin/", ""), value(
         Unit(UNITS[0]).words(), "--tables"
@@ -231,7 +231,7 @@ def help_of(program, *words):
 
 
 def over_log(csid):
-    """The help of a csid whose rows another program keeps."""
+    """Returns the options of a csid over a change store."""
     text = help_of(csid, "serve")
     if "--log" not in text:
         raise unittest.SkipTest("%s has no --log" % csid)
@@ -246,8 +246,8 @@ def need_namespaces():
 
 
 class Pod:
-    """The containers of a manifest, each as the first process of a namespace of its own, with their folders
-    below another one."""
+    """Runs the containers of a manifest, each as the first process of a namespace, with their mounts below a
+    folder."""
 
     FOLDERS = r"(?<![\w/])/(?=(run/csid|var/lib/csid|etc/csid|csi)\b)"
 
@@ -282,7 +282,7 @@ class Pod:
                        timeout=SECONDS)
 
     def start(self, name, others={}):
-        """Starts the command of a container, some of whose words are others here."""
+        """Starts the command of a container, with some of its words replaced."""
         container = self.manifest.containers[name]
         words = [others.get(word) or self.below(word) for word in container["command"]]
         given = {e["name"]: e["value"].replace("unix:///", "unix://" + self.folder + "/")
@@ -292,10 +292,10 @@ class Pod:
                                                 env=self.variables(**given), stderr=subprocess.DEVNULL)
 
     def ends(self, name):
-        """Whether SIGTERM to the first process ends a container."""
+        """Returns True if SIGTERM to the first process ends a container."""
         process = self.processes[name]
         with open("/proc/%d/task/%d/children" % (process.pid, process.pid)) as children:
             first = int(children.read().split()[0])
         os.kill(first, signal.SIGTERM)
-        # Less than the grace of the front, 20 s, which is for calls on their way.
+        # The front takes at most 20 s to end, for unfinished calls.
         return wait(lambda: process.poll() is not None, seconds=15)

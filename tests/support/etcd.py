@@ -1,4 +1,4 @@
-"""An etcd of one member on loopback."""
+"""Runs a member of etcd on loopback."""
 
 import os
 import socket
@@ -8,7 +8,7 @@ from tests.support.processes import free_ports, wait
 
 
 class Etcd:
-    """One member of etcd, with its data in a folder under a name. It may have further words."""
+    """A cluster of etcd with one member, whose data is in a folder. `words` are further arguments."""
 
     def __init__(self, folder, name="etcd", *words):
         self.endpoint, peer = ["127.0.0.1:%d" % port for port in free_ports(2)]

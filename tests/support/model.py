@@ -1,7 +1,7 @@
-"""The volume machine, as plain as it can be, and requests at random to it.
+"""A simple model of the volume machine, and random requests for it.
 
-It is docs/MACHINE.md with the sample configuration of docs/OPERATING.md, everything looked through again for
-each request; its bytes are made by tests/vectors.
+The model follows docs/MACHINE.md with the sample configuration of docs/OPERATING.md, and looks through all
+volumes for each request. tests/vectors makes the bytes of its replies.
 """
 
 import collections
@@ -16,12 +16,12 @@ Pool = collections.namedtuple("Pool", "name bytes zone")
 POOLS = [Pool("p1", 10 * MIB, "a"), Pool("p2", 4 * MIB, "b")]
 NODES = {"n1": 2, "n2": 2}
 Volume = collections.namedtuple("Volume", "number name bytes pool keys parameters mutable")
-# A key is (0, "", mode) of a block device, and (1, the type of the file system, mode) of a mount.
+# A capability key is (0, "", mode) of a block device, or (1, file system, mode) of a mount.
 SINGLE, SHARED, ONE_WRITER, WRITERS, SINGLE_WRITER, MULTI_WRITER = 1, 3, 4, 5, 6, 7
 
 
 def capability(key):
-    """A capability of a key, as the parts of its message."""
+    """Returns the parts of the message of a capability with this key."""
     kind, fs, mode = key
     return v.mount(mode, *[v.fs_type(fs)] * bool(fs)) if kind else v.block(mode)
 
@@ -31,18 +31,18 @@ def capabilities(keys):
 
 
 def entries(field, pairs):
-    """The entries of a map, as the fields that they are."""
+    """Returns the fields for the entries of a map."""
     return b"".join(field(key, value) for key, value in sorted(pairs.items()))
 
 
 def serves(pool, term):
-    """Whether one of the two contains the other, with the letters of keys folded."""
+    """Returns True if one of the two contains the other, if the case of letters in keys is ignored."""
     segments, term = {("zone", pool.zone)}, {(key.lower(), value) for key, value in term.items()}
     return segments <= term or term <= segments
 
 
 def has(volume, key):
-    """Whether a volume has a key: its own, or SINGLE for a key with SINGLE_WRITER or MULTI_WRITER."""
+    """Returns True if a volume has this key, or has SINGLE and the key has SINGLE_WRITER or MULTI_WRITER."""
     kind, fs, mode = key
     return key in volume.keys or mode in (SINGLE_WRITER, MULTI_WRITER) and (kind, fs, SINGLE) in volume.keys
 
@@ -55,7 +55,7 @@ def coexist(one, other):
 
 
 def size_of(required, limit):
-    """The size that is made, or None where it is out of range."""
+    """Returns the size of a new volume, or None if the sizes are out of range."""
     if required:
         size = -(-required // MIB) * MIB
     else:
@@ -64,20 +64,20 @@ def size_of(required, limit):
 
 
 class Model:
-    """The volumes in the order of their numbers, and the attachments: a key and whether it is only read,
-    under a number and a node."""
+    """The volumes in the order of their numbers, and the attachments: a key and the read-only flag, by number
+    and node."""
 
     def __init__(self):
         self.next, self.volumes, self.attachments = 1, [], {}
 
     def copy(self):
-        """Another model of the same volumes. A volume is replaced when it changes, so both may have it."""
+        """Returns a copy of the model. Volumes are never changed in place, so both models may share them."""
         other = Model()
         other.next, other.volumes, other.attachments = self.next, list(self.volumes), dict(self.attachments)
         return other
 
     def state(self):
-        """All that the model has, as a text."""
+        """Returns the complete State as a text."""
         return repr((self.next, self.volumes, sorted(self.attachments.items())))
 
     def of_id(self, text):
@@ -174,7 +174,8 @@ class Model:
         return v.confirmed(map(capability, keys), dict(sorted(given.items()))), "confirmed"
 
     def listing(self, most, token):
-        """The page, what happened, the numbers that it lists and the token of the next."""
+        """Returns the reply for a page, a description, the numbers of its volumes, and the token of the next
+        page."""
         if token and (not token.isdigit() or token != str(int(token)) or not 0 < int(token) < self.next):
             return v.BAD_TOKEN, "bad starting token", [], ""
         beyond = [it for it in self.volumes if it.number > int(token or 0)]
@@ -192,7 +193,7 @@ class Model:
         return v.free(sum(parts), min(max(parts, default=0), GREATEST)), "capacity"
 
     def breaks(self):
-        """The first rule that the volumes break."""
+        """Returns the first rule that the volumes break, or None."""
         names, at = [it.name for it in self.volumes], collections.Counter(
             node for _, node in self.attachments
         )
@@ -210,7 +211,7 @@ class Model:
 
 
 class Requests:
-    """Requests at random, each a call and what the model answers to it."""
+    """Random requests, each with a call and the model's answer."""
 
     def __init__(self, seed, model):
         self.random, self.model = random.Random(seed), model
@@ -219,7 +220,8 @@ class Requests:
         return self.random.choice(values)
 
     def id(self):
-        """The id of a volume that exists, mostly, or of another, or a text that is none."""
+        """Returns the id of a volume: mostly of an existing volume, otherwise of another one, or a text that
+        is not an id."""
         number = self.one_of(*[it.number for it in self.model.volumes] or [self.model.next])
         return self.one_of("vol-0%d" % number, str(number),
                            "vol-%d" % self.random.randrange(self.model.next + 2), *["vol-%d" % number] * 13)
@@ -238,7 +240,8 @@ class Requests:
         return {} if self.one_of(*range(6)) else {"k": self.one_of("1", "2")}
 
     def mutable(self):
-        """Few keys, mostly with short values; two of the long ones are more than a volume has."""
+        """Returns mutable parameters: few keys, mostly with short values. Two of the long values are too long
+        for one volume."""
         value = self.one_of("1", "1", "2", *["x" * (MAP_BYTES // 2)] * 3)
         return self.one_of({}, {"i": value}, {"j": value}, {"i": "1", "j": value})
 
@@ -254,8 +257,8 @@ class Requests:
                            (0, 0))
 
     def topology(self):
-        """The requisite and the preferred terms: one term of one kind, or a preferred term that is the first
-        of two requisite ones."""
+        """Returns topology requirements: one requisite or one preferred term, or two requisite terms of which
+        the first is preferred."""
         one, other = self.term(), self.term()
         return self.one_of(([one], []), ([], [one]), ([one, other], [one]), *[([], [])] * 6)
 

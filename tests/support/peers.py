@@ -1,4 +1,4 @@
-"""Servers that are played: csictl's calls are answered as a test says."""
+"""Servers that answer csictl's calls as a test says."""
 
 import os
 import select
@@ -8,13 +8,14 @@ import time
 
 from tests.support.processes import SECONDS
 
-# What a peer does instead of answering with bytes: it closes the connection, with the call taken or not, or
-# is silent until the connection is closed.
+# What a server does in place of a reply: it closes the connection after or before it has read the call, or
+# sends nothing until csictl closes the connection.
 CLOSED, RESET, SILENT = b"", "reset", "silent"
 
 
 class PlayedServer:
-    """A socket, and a thread that takes a connection for each part of a script. It keeps the calls."""
+    """A server at a socket, with a thread that takes a connection for each part of a script. It keeps the
+    calls."""
 
     def __init__(self, folder, script):
         self.path, self.script, self.calls, self.moments = os.path.join(folder, "played.sock"), script, [], []
@@ -30,7 +31,7 @@ class PlayedServer:
             try:
                 peer, _ = self.listener.accept()
             except TimeoutError:
-                # Who was to try again has ended.
+                # csictl has ended, and makes no further connection.
                 break
             self.moments.append(time.monotonic())
             self.play(peer, part)
@@ -40,7 +41,7 @@ class PlayedServer:
         raise NotImplementedError
 
     def end(self):
-        """The calls, and of one connection more than there was to be."""
+        """Returns the calls, and the calls of any connection after the last part."""
         self.thread.join()
         self.listener.setblocking(False)
         try:
@@ -53,7 +54,7 @@ class PlayedServer:
         return self.calls
 
     def pauses(self):
-        """The seconds between the connections."""
+        """Returns the seconds between the connections."""
         return [later - earlier for earlier, later in zip(self.moments, self.moments[1:])]
 
 
@@ -74,7 +75,7 @@ class Peer(PlayedServer):
 
     def play(self, peer, part):
         if part is RESET:
-            # A call that is not taken resets the connection when it is closed.
+            # If unread bytes remain, closing the connection resets it.
             ended = select.poll()
             ended.register(peer, select.POLLRDHUP)
             ended.poll(SECONDS * 1000)
@@ -93,14 +94,14 @@ class Peer(PlayedServer):
 
 
 def next_call(calls):
-    """The next call of a stream, or what there is of it."""
+    """Returns the next call of a stream, or the bytes up to the end."""
     size = calls.read(2)
     head = calls.read(int.from_bytes(size, "big") + 5)
     return size + head + calls.read(int.from_bytes(head[-4:], "big"))
 
 
 class Pages(PlayedServer):
-    """A server that answers the calls of each connection in order; at CLOSED it closes the connection."""
+    """A server that answers the calls of a connection in order. At CLOSED it closes the connection."""
 
     def play(self, peer, part):
         with peer, peer.makefile("rb") as calls:
@@ -113,6 +114,6 @@ class Pages(PlayedServer):
                     break
                 peer.sendall(answer)
             else:
-                # It ends its writing, or goes away.
+                # csictl closes its side, or ends.
                 if more := calls.read():
                     self.calls[-1].append(more)

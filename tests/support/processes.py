@@ -1,4 +1,4 @@
-"""Programs as processes, and what they are given."""
+"""Runs programs, and makes their files."""
 
 import contextlib
 import os
@@ -15,12 +15,12 @@ TOP = os.path.dirname(os.path.dirname(os.path.dirname(os.path.abspath(__file__))
 
 SECONDS = 30
 
-# The lines of the programs in Go begin with their names, as where the journal keeps them.
+# Programs in Go begin their lines with their names here, without a time, as under systemd.
 os.environ["JOURNAL_STREAM"] = "8:1"
 
 
-# Where the built programs are. An environment variable of the same name in capitals, "_" for "-", names
-# another one.
+# The paths of the built programs. An environment variable with the name in capitals ("_" for "-") gives
+# another path.
 PROGRAMS = {
     "csid": "crates/csid/out/csid",
     "csictl": "crates/csictl/out/csictl",
@@ -31,13 +31,13 @@ PROGRAMS = {
 
 
 def place(name):
-    """Where a built program is, or would be."""
+    """Returns the path of a program, which may not exist."""
     path = os.environ.get(name.upper().replace("-", "_")) or os.path.join(TOP, PROGRAMS[name])
     return os.path.abspath(path)
 
 
 def program(name):
-    """The path of a built program."""
+    """Returns the path of a built program."""
     path = place(name)
     if not os.access(path, os.X_OK):
         raise FileNotFoundError("no program at %s: ./build makes it" % path)
@@ -45,12 +45,12 @@ def program(name):
 
 
 def fixture(name):
-    """The bytes of a file of tests/fixtures."""
+    """Returns the bytes of a file of tests/fixtures."""
     return read(os.path.join(TOP, "tests", "fixtures", name))
 
 
 class Shown:
-    """What goes to standard output where it is asked for: it ends a line, and has each of these parts."""
+    """Equals a text with a line end that has each of these parts."""
 
     def __init__(self, *parts):
         self.parts = parts
@@ -90,8 +90,8 @@ def with_shell(csid, redirection, given):
     return run(["sh", "-c", 'exec "$0" ' + redirection, csid], input=given)
 
 
-# More than csid needs over the file below without a copy of it: 1,000 volumes with parameters of 4,096
-# bytes in 1,024 entries.
+# Enough memory for csid over the file below, but not for a copy of the file: 1,000 volumes with parameters of
+# 4,096 bytes in 1,024 entries.
 def some_memory():
     resource.setrlimit(resource.RLIMIT_DATA, (48 << 20, 48 << 20))
 
@@ -110,7 +110,7 @@ def memory_of(size):
 
 
 def statuses(peer, count):
-    """The statuses of the next `count` replies of a connection; fewer if it ends."""
+    """Returns the statuses of the next `count` replies on a connection, or fewer if it ends."""
     held, came = b"", []
     while len(came) < count:
         piece = peer.recv(1 << 16)
@@ -136,7 +136,7 @@ def as_nobody():
 
 
 def fill(folder):
-    """Fills the disk of a folder to the last byte. Removing the file makes room again."""
+    """Fills the disk of a folder to the last byte. The file that this writes can be removed to make room."""
     path = os.path.join(folder, "filler")
     try:
         with open(path, "wb", buffering=0) as file:
@@ -156,12 +156,12 @@ def no_byte():
 
 
 def little_room():
-    """Room for the log and not for the file."""
+    """Limits the length of files, so that there is room for the WAL but not for the file."""
     resource.setrlimit(resource.RLIMIT_FSIZE, (400_000, 400_000))
 
 
 def wait(happens, seconds=SECONDS, pause=0.01):
-    """Whether something happens in time."""
+    """Returns True if something happens in time."""
     end = time.monotonic() + seconds
     while not happens():
         if time.monotonic() > end:
@@ -171,14 +171,14 @@ def wait(happens, seconds=SECONDS, pause=0.01):
 
 
 def free_ports(count):
-    """Ports of loopback that are free now."""
+    """Returns ports of loopback that are free."""
     with contextlib.ExitStack() as stack:
         sockets = [stack.enter_context(socket.create_server(("127.0.0.1", 0))) for _ in range(count)]
         return [it.getsockname()[1] for it in sockets]
 
 
 def has_ended(peer, within):
-    """Whether a connection is closed by csid, and in this time."""
+    """Returns True if csid closes a connection in time."""
     begin = time.monotonic()
     try:
         last = peer.recv(1)
@@ -197,7 +197,8 @@ def read(path):
 
 @contextlib.contextmanager
 def small_disk(folder):
-    """A file system of 1 MiB in memory, in a new folder. Where none can be mounted, the test is skipped."""
+    """Makes a file system of 1 MiB in memory, in a new folder. If mounting is not possible, the test is
+    skipped."""
     disk = os.path.join(folder, "disk")
     os.mkdir(disk)
     try:
@@ -213,8 +214,8 @@ def small_disk(folder):
 
 
 def copy_for_nobody(csid, folder):
-    """A copy of csid that the user `nobody` can run, and how to run it: root has every right, so it becomes
-    `nobody`. If that is impossible, the test is skipped."""
+    """Copies csid for the user `nobody`, since root may read every file. Returns the path, and the function
+    that changes the user. If that is not possible, the test is skipped."""
     os.chmod(folder, 0o777)
     copy = shutil.copy(csid, os.path.join(folder, "csid"))
     os.chmod(copy, 0o755)

@@ -1,4 +1,4 @@
-"""The built programs as processes for tests/faults, an etcd, and connections to them; and the findings."""
+"""Runs the built programs and etcd for tests/faults, connects to them, and records findings."""
 import base64
 import collections
 import http.client
@@ -42,7 +42,7 @@ def program(name, place):
 
 
 class Run:
-    """One run of a part: its inputs, and its findings."""
+    """A run of one part of the test: its inputs, and its findings."""
 
     passed = failed = 0
     lock = threading.Lock()
@@ -54,7 +54,7 @@ class Run:
         self.seen, self.peaks = collections.Counter(), collections.Counter()
 
     def inputs(self):
-        """The source of each input, until the time is over."""
+        """Yields a random source for each input, until the time is over."""
         self.until = time.monotonic() + self.asked.seconds
         while time.monotonic() < self.until:
             self.number += 1
@@ -86,7 +86,7 @@ class Run:
 
 
 class Program:
-    """A program with a socket, which is started again where it ended."""
+    """A program with a socket. It is started again after it has ended."""
 
     def __init__(self, run, socket_name, *words, clocks=None, **how):
         self.run, self.socket, self.words, self.clocks, self.how = (run, run.path(socket_name), words, clocks,
@@ -99,7 +99,7 @@ class Program:
             os.unlink(self.socket)
         if self.clocks:
             self.clocks()
-        # With a function before its beginning it is forked, and so comes into the namespace of clocks.
+        # With a function before the start Python forks, so that the program is in the namespace of clocks.
         forked = {"preexec_fn": lambda: None} if self.clocks else {}
         self.process = subprocess.Popen(self.words, stdin=subprocess.DEVNULL, stdout=subprocess.DEVNULL,
                                         stderr=self.said, **forked, **self.how)
@@ -126,17 +126,17 @@ class Program:
         self.process.wait(SECONDS)
 
     def peak(self):
-        """The most memory that it had, in MiB."""
+        """Returns its peak memory in MiB."""
         with open("/proc/%d/status" % self.process.pid) as file:
             return int(re.search(r"VmHWM:\s*(\d+)", file.read() or "VmHWM: 0")[1]) >> 10
 
     def lines(self):
         self.said.seek(0)
-        # (splitlines would end a line at letters that are no ends of lines, too)
+        # splitlines would also split at other characters than line ends.
         return [line.decode(errors="replace") for line in self.said.read().split(b"\n")[:-1]]
 
     def is_well(self, most, shown):
-        """Whether it runs, within its memory."""
+        """Returns True if the program runs, and used at most `most` MiB."""
         if not self.run.check("%s ended, and said %r" % (self.words[0], self.lines()[-1:]),
                               not self.has_ended(), shown):
             return self.start()
@@ -149,7 +149,7 @@ class Program:
 
 
 class Etcd(etcd.Etcd):
-    """One member of etcd, and its rows over its gateway."""
+    """A member of etcd, and its rows, which are read through its JSON gateway."""
 
     def __init__(self, run):
         run.programs.append(self)
@@ -167,7 +167,7 @@ class Etcd(etcd.Etcd):
             self.start()
 
     def ask(self, what, begin, end=None, **how):
-        """The keys of a range, or those that are removed there, with their values and revisions."""
+        """Reads or removes a range of keys. Returns the keys with their values and revisions."""
         body, told = {
             "key": base64.b64encode(begin).decode(),
             "range_end": base64.b64encode(end or begin[:-1] + bytes([begin[-1] + 1])).decode(),
@@ -190,14 +190,14 @@ class Etcd(etcd.Etcd):
                 for it in told.get("kvs", [])}
 
     def rows(self, **how):
-        """Each row, with its revision."""
+        """Returns each row, with its revision."""
         return {key: it
                 for key, it in self.ask("range", NAME.encode() + b"/", **how).items()
                 if not key.startswith(NAME + "/lock/")}
 
     def revisions(self):
-        """The revision of each row, which each write raises. Rows may be some MiB each, and are not asked
-        for."""
+        """Returns the revision of each row, without the rows, which may have some MiB each. Each write raises
+        the revision."""
         return {key: revision for key, (_, revision) in self.rows(keys_only=True).items()}
 
     def locks(self):
@@ -219,7 +219,8 @@ def connected(path, seconds=SECONDS):
 
 
 def exchange(peer, pieces, seconds=SECONDS):
-    """All that comes back for pieces, to the end of the connection; None where that does not come."""
+    """Sends pieces, and returns all bytes up to the end of the connection, or None if it does not end in
+    time."""
     came, pieces, end = [], collections.deque(it for it in pieces if it), time.monotonic() + seconds
     while time.monotonic() < end:
         readable, writable, _ = select.select([peer], [peer] if pieces else [], [], 1)
@@ -245,7 +246,7 @@ def exchange(peer, pieces, seconds=SECONDS):
 
 
 def asked(path, *calls, seconds=SECONDS):
-    """The replies to calls on a connection of their own; None where they do not come."""
+    """Makes calls on a new connection. Returns the replies, or None if they do not come."""
     peer = connected(path, seconds)
     if peer is None:
         return None
@@ -279,8 +280,8 @@ class Frames:
 
 
 class Grpc:
-    """A client of gRPC, with one call after the other: a body, or None where the call is refused. It knows no
-    compressed headers, and so no status."""
+    """A client of gRPC that makes one call at a time. A reply is a body, or None if the call is refused. It
+    does not read compressed headers, so it does not know the status."""
 
     def __init__(self, path, seconds):
         self.peer, self.stream = connected(path, seconds), -1
@@ -316,7 +317,7 @@ class Grpc:
 
 
 def once(path, method, message, seconds):
-    """What a call on a connection of its own is answered; None where it is not, too."""
+    """Makes a call on a new connection. Returns the body, or None."""
     try:
         client = Grpc(path, seconds)
         try:

@@ -1,5 +1,5 @@
 #!/usr/bin/env python3
-"""The folder of a run of recipes, and the stand-ins there for systemctl, kubectl and the front."""
+"""Runs recipes of docs/ in a folder, with replacements for systemctl, kubectl and the front."""
 
 import contextlib
 import functools
@@ -25,7 +25,7 @@ from tests.support import etcd
 from tests.support.processes import TOP, place, program
 from tests.support.rows import RowTest
 
-# Under the names of other programs this script is run instead of them.
+# This script runs under the names of the replaced programs.
 ME = os.path.realpath(__file__)
 
 FOLDERS = ["/var/lib/csid", "/etc/csid", "/run/csid", "/run/csid-etcd", "/root", "/usr/local/bin"]
@@ -33,7 +33,7 @@ POOLS, NODES = {"p1": (10, "a"), "p2": (4, "b")}, {"n1": 2, "n2": 2}
 SECONDS = 20
 MIB = 1 << 20
 LOCKED = "Error: database is locked\n"
-# The folder of the file is another user's than who runs a recipe, where that is root.
+# As root, the folder of the file belongs to another user than the user who runs the recipe.
 OWNER = (4711, 4712) if os.geteuid() == 0 else (os.geteuid(), os.getegid())
 
 
@@ -43,19 +43,19 @@ def page(name="OPERATING.md"):
 
 
 def blocks(heading, name="OPERATING.md"):
-    """The blocks of commands under a heading of a page, to the next one."""
+    """Returns the blocks of commands under a heading of a page, up to the next heading."""
     under = page(name).split("\n" + heading + "\n")[1].split("\n#")[0]
     return [textwrap.dedent(block) for block in re.findall(r"(?<=\n\n)(?: {4}.*\n)+", "\n%s\n" % under)]
 
 
 def stands(text):
-    """A text, which must be in the page word for word."""
+    """Returns a text, which must be in the page word for word."""
     assert text in page(), "it does not stand in the page: " + text
     return text
 
 
 def config(pools, nodes):
-    """A configuration of pools, with their MiB and zones, and nodes, with their numbers of volumes."""
+    """Returns a configuration with pools (MiB and zones) and nodes (numbers of volumes)."""
     text = (
         'name = "pools.example.org"\nvendor_version = "1.0.0"\ndefault_bytes = %d\ngreatest_bytes = %d\n'
         % (MIB, 8 * MIB)
@@ -68,13 +68,13 @@ def config(pools, nodes):
 
 
 class Control:
-    """The systemctl of the recipes, over the folder that the variable PLACE names."""
+    """The systemctl of the recipes, over the folder in the variable PLACE."""
 
     def __init__(self, top):
         self.top = top
         self.socket, self.tables, self.log = (top + "/run/csid/csid.sock", top + "/var/lib/csid/volumes.db",
                                               top + "/run/csid-etcd/log.sock")
-        # If it exists, csid has the option of deploy/etcd.d/csid.conf.
+        # If this file exists, csid has the option of deploy/etcd.d/csid.conf.
         self.over_etcd = top + "/over-etcd"
 
     def pid_file(self, unit):
@@ -118,7 +118,7 @@ class Control:
             wait(lambda: "csid-etcd: leads, " in read(self.lines(unit)) or process.poll() is not None)
 
     def lines(self, unit):
-        """What a unit says, which is in the journal elsewhere."""
+        """Returns the lines of a unit, as the journal would have them."""
         return os.path.join(self.top, unit + ".errors")
 
     def stop(self, unit):
@@ -143,9 +143,9 @@ class Control:
 
 
 class Cluster(Control):
-    """The kubectl of the recipes, for one pod of a StatefulSet or Deployment: for a Deployment's two pods it
-    is the leader. The claim is /var/lib/csid, and any pod may have it next to another, as with ReadWriteOnce
-    on one machine: only the recipe keeps them apart."""
+    """The kubectl of the recipes, for one pod of a StatefulSet or a Deployment. Of the two pods of a
+    Deployment it is the leader. The claim is /var/lib/csid. Any pod may mount it next to another pod, as with
+    ReadWriteOnce on one machine, so only the recipe prevents this."""
 
     def __init__(self, top):
         super().__init__(top)
@@ -168,7 +168,7 @@ class Cluster(Control):
             with open(self.objects + it["kind"].lower(), "w") as file:
                 json.dump(it, file)
         (kind,) = {it["kind"] for it in documents} & {"StatefulSet", "Deployment", "Pod"}
-        # A pod that is there keeps the configuration with which it began.
+        # A running pod keeps the configuration of its start.
         if kind == "Pod" or not os.path.exists(self.pods + "csid-0"):
             getattr(self, "begin_" + kind.lower())()
 
@@ -179,7 +179,7 @@ class Cluster(Control):
         open(self.pods + "csid-tables", "x").close()
 
     def begin_statefulset(self):
-        """The file is made where the ConfigMap and the first step say so."""
+        """The ConfigMap and the first step make the file."""
         self.configure()
         for first in self.object("statefulset")["spec"]["template"]["spec"]["initContainers"]:
             below = [re.sub("/var/lib/csid|/etc/csid", lambda it: self.top + it.group(), word)
@@ -190,7 +190,7 @@ class Cluster(Control):
         self.begin_units("csid", "csid-front")
 
     def begin_deployment(self):
-        """Rows are imported, so no first one is made."""
+        """Rows are imported, so no file is made."""
         assert "new" not in self.object("configmap")["data"]
         self.configure()
         open(self.over_etcd, "x").close()
@@ -201,14 +201,16 @@ class Cluster(Control):
             file.write(self.object("configmap")["data"]["config.toml"])
 
     def begin_units(self, *units):
-        """No two may serve at once, and none next to the pod that holds the claim."""
+        """Two csid must not serve at the same time, and none may serve next to the pod that mounts the claim.
+        """
         assert not os.listdir(self.pods), "a pod is there: %s" % os.listdir(self.pods)
         open(self.pods + "csid-0", "x").close()
         for unit in units:
             self.start(unit)
 
     def scale(self, *words):
-        """The pod ends after this call, and answers calls until then. A further call starts it again."""
+        """Changes the number of pods. The pod ends after this call, and answers calls until then. A further
+        call starts it again."""
         if words == ("statefulset", "csid", "--replicas", "1"):
             return self.begin_statefulset()
         assert words[1:] == ("csid", "--replicas", "0") and os.path.exists(self.objects + words[0]), words
@@ -216,7 +218,7 @@ class Cluster(Control):
                          stdout=subprocess.DEVNULL, stderr=subprocess.DEVNULL, start_new_session=True)
 
     def end_units(self):
-        """csid is ended within a connection, so the last changes are only in the log of its file."""
+        """Ends csid during a connection, so the last changes are only in the WAL of its file."""
         time.sleep(0.5)
         self.stop("csid-front")
         frames = os.path.join(self.top, "frames")
@@ -231,7 +233,7 @@ class Cluster(Control):
         os.unlink(self.pods + "csid-0")
 
     def wait(self, condition, pod, *_):
-        """Waits until the pod of csid is gone, or the claim's pod exists."""
+        """Waits until the pod of csid has ended, or the pod with the claim exists."""
         name, is_there = {
             ("--for=delete", "pod"): ("csid-0", False),
             ("--for=condition=Ready", "pod/csid-tables"): ("csid-tables", True),
@@ -239,7 +241,7 @@ class Cluster(Control):
         wait(lambda: os.path.exists(self.pods + name) == is_there)
 
     def exec(self, *words):
-        """A command next to the claim; it has an input where it is asked for one."""
+        """Runs a command in the pod with the claim, with input if the recipe asks for it."""
         *options, pod = words[: words.index("--")]
         assert os.path.exists(self.pods + pod), pod
         sys.exit(subprocess.run(words[words.index("--") + 1 :],
@@ -289,7 +291,7 @@ def wait(happens):
 
 
 class Place:
-    """A folder for recipes, with a csid started over a file without volumes."""
+    """A folder for recipes, with a csid over a file without volumes."""
 
     def __init__(self, csictl, csid, is_new=True, **more):
         self.top = tempfile.mkdtemp()
@@ -325,7 +327,7 @@ class Place:
         pathlib.Path(self.top + "/etc/csid/config.toml" + ending).write_text(config(pools, nodes))
 
     def front_calls(self, *calls, name="frames"):
-        """What csid-front calls once it is started."""
+        """The calls that csid-front makes after its start."""
         with open(os.path.join(self.top, name), "w") as file:
             for words in calls:
                 file.write(self.frame(*words).hex() + "\n")
@@ -335,7 +337,7 @@ class Place:
                               capture_output=True, check=True).stdout
 
     def shell(self, text, **variables):
-        """What bash says to commands, below the folder of this place, and its status."""
+        """Runs commands in bash below the folder. Returns the output and the status."""
         text = re.sub(r"(?<![\w/.$])(%s)(?=[/\s;\"']|-)" % "|".join(FOLDERS),
                       lambda found: self.top + found.group(1), text)
         done = subprocess.run(["bash", "-euo", "pipefail", "-c", text], env={**self.variables, **variables},
@@ -348,41 +350,41 @@ class Place:
         assert said[2] == 0, (text, said)
 
     def recipe(self, heading, number=0, page="OPERATING.md", **variables):
-        """What a block of a recipe says, run in the folder of the file."""
+        """Runs a block of a recipe in the folder of the file. Returns the output."""
         return self.shell(blocks("## Copies and restores")[0] + blocks(heading, page)[number], **variables)
 
     def in_folder(self, command):
-        """What a command says that is in the page, in the folder of the file."""
+        """Runs a command of the page in the folder of the file. Returns the output."""
         return self.shell(blocks("## Copies and restores")[0] + stands(command))
 
     def check(self):
-        """What a check says of the file."""
+        """Returns the output of a check of the file."""
         return self.in_folder("csid --check-tables volumes.db --config $config")
 
     def call(self, *words):
-        """What csictl shows of a call, but for the bytes."""
+        """Makes a call by csictl. Returns its output without the bytes."""
         out = self.shell("csictl call --socket /run/csid/csid.sock --method " + " ".join(words))[0]
         return re.sub(r"^0 OK \S+", "0 OK", out)
 
     def orchestrator(self, volumes, attachments):
-        """The files of what the orchestrator has, in the folder of the file."""
+        """Writes the files with the orchestrator's volumes and attachments, in the folder of the file."""
         for name, text in [("orchestrator", volumes), ("attached", attachments)]:
             pathlib.Path(self.folder + name).write_text(text)
 
     def copies(self):
-        """The one folder below /root."""
+        """Returns the path of the only folder below /root."""
         (name,) = os.listdir(self.top + "/root")
         return os.path.join(self.top, "root", name)
 
     def owners(self):
-        """Who has the files of volumes."""
+        """Returns the owners of the files of volumes."""
         return {(os.stat(it).st_uid, os.stat(it).st_gid) for it in glob.glob(self.folder + "volumes.db*")}
 
     def modes(self):
         return {oct(os.stat(it).st_mode & 0o777) for it in glob.glob(self.folder + "volumes.db*")}
 
     def rows(self, path="volumes.db"):
-        """The numbers and names of the volumes of a file, and its next number."""
+        """Returns the numbers and names of the volumes in a file, and its next number."""
         with contextlib.closing(sqlite3.connect(os.path.join(self.folder, path), timeout=SECONDS)) as file:
             return (dict(file.execute("SELECT number, name FROM volumes")),
                     file.execute("SELECT next_number FROM meta").fetchone()[0])
@@ -397,12 +399,12 @@ def publish(volume, node):
 
 
 def has(volumes, attachments, number, format=2):
-    """What a check says of a file."""
+    """Returns the line of a check of the file."""
     return "volumes %d, attachments %d, next number %d, format %d\n" % (volumes, attachments, number, format)
 
 
 class Etcd(etcd.Etcd):
-    """An etcd in a folder of its own."""
+    """A member of etcd in a new folder."""
 
     def __init__(self):
         self.folder = tempfile.mkdtemp()
@@ -425,7 +427,7 @@ PLUGIN, NODE = "pools.example.org", "n'2/é \U0001d11e"
 
 
 class RecipeTest(RowTest):
-    """A test of recipes, which need sqlite3."""
+    """A test of recipes. They need sqlite3."""
 
     def setUp(self):
         super().setUp()

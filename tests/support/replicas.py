@@ -1,5 +1,5 @@
-"""Replicas of csid over etcd as processes: csid-etcd, csid, and a front for each. They can be killed and
-started again."""
+"""Runs replicas of csid over etcd: csid-etcd, csid, and a front for each. They can be killed and started
+again."""
 
 import itertools
 import os
@@ -13,7 +13,8 @@ from tests.support.etcd import Etcd
 from tests.support.processes import SECONDS, wait
 
 NAME, LEASE = "pools.example.org", 2
-# What ends csid, or csid-etcd by a signal. SIGTERM releases the lock at once, the others keep it for a lease.
+# The ways to end csid, or csid-etcd by a signal. After SIGTERM csid-etcd releases the lock at once, otherwise
+# it keeps the lock until its lease ends.
 FAULTS = ["csid", signal.SIGTERM, signal.SIGKILL, signal.SIGTERM, signal.SIGSTOP]
 
 
@@ -28,7 +29,7 @@ def listens(path):
 
 
 class Replica:
-    """A csid over a csid-etcd. Each can be started again. `words` are further words of csid."""
+    """A csid over a csid-etcd. Both can be started again. `words` are further arguments of csid."""
 
     def __init__(self, programs, folder, number, etcd, *words):
         self.csid_program, self.keeper_program = programs
@@ -39,7 +40,7 @@ class Replica:
         self.keeper = self.csid = None
 
     def start(self):
-        """Starts what does not run."""
+        """Starts the programs that do not run."""
         if self.keeper is None:
             if os.path.exists(self.log):
                 os.unlink(self.log)
@@ -99,17 +100,16 @@ class Stack(Replica):
 
 
 class Stacks(Fronts):
-    """Two stacks over one etcd. One serves at a time. With `is_apart` each has an etcd of its own, and both
-    serve.
+    """Two stacks over one etcd, of which one serves at a time. With `is_apart` each has its own etcd, and
+    both serve. A change without a reply is made before the next call is served, or never (docs/PROTOCOL.md,
+    "The change store"). So a call ends when its client gives up, although csid-etcd may still make its
+    change."""
 
-    A change without a reply is made before the next call is served, or never (docs/PROTOCOL.md, "The change
-    store"): so a call ends when its client gives it up, although csid-etcd may still make its change."""
-
-    # Three histories in ten, as many of each kind.
+    # A program is ended in three of ten histories, with equal shares for both kinds of history.
     killed = (2, 5, 8, 11, 14, 17)
-    # A client gives up before a csid-etcd that is stopped goes on.
+    # A client gives up before a stopped csid-etcd is continued.
     patience = 1
-    # A call that is refused inside has no reply, as in the gRPC of the front (docs/DEPLOY.md).
+    # INTERNAL counts as no reply, as in the gRPC of the front (docs/DEPLOY.md).
     unheard = (13,)
 
     def __init__(self, programs, folder, is_apart=False):
@@ -122,7 +122,7 @@ class Stacks(Fronts):
         self.leader, self.takeovers = self.leads(), 0
 
     def leads(self):
-        """The stack that serves; waits for one."""
+        """Waits for the stack that serves, and returns it."""
         until = time.monotonic() + SECONDS
         while not (peer := self.connect()):
             if time.monotonic() > until:
@@ -131,7 +131,8 @@ class Stacks(Fronts):
         return next(it for it in self.both if it.control == self.paths[0])
 
     def kill(self):
-        """Ends csid or csid-etcd of the stack that serves, or stops its csid-etcd for a while; starts it."""
+        """Ends csid or csid-etcd of the stack that serves, or stops its csid-etcd for a while. Then starts
+        what has ended."""
         leader, fault = self.leads(), next(self.faults)
         self.takeovers += leader is not self.leader
         self.leader = leader

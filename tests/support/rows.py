@@ -17,7 +17,7 @@ MOST_SHOWN = 300
 
 
 def shown(part):
-    """A value as a failure shows it."""
+    """Returns a value as it is shown in a failure."""
     if isinstance(part, tuple):
         return "(%s)" % ", ".join(map(shown, part))
     text = "hex " + part.hex() if isinstance(part, bytes) else repr(part)
@@ -29,7 +29,8 @@ def fail_late(*_):
 
 
 def each(rows):
-    """Makes a test of each row: a method of its columns becomes methods that end in the first column."""
+    """Makes a test of each row. The method with the columns as parameters becomes methods whose names end in
+    the first column."""
 
     def mark(method):
         method.rows = [row if isinstance(row, tuple) else (row,) for row in rows]
@@ -48,7 +49,7 @@ def test_of(method, row):
 
 
 class RowTest(unittest.TestCase):
-    """A test whose cases are rows, with a folder of its own, of at most `longest` seconds."""
+    """A test whose cases are rows. It has a folder, and may take at most `longest` seconds."""
 
     longest = 10 * SECONDS
 
@@ -64,25 +65,25 @@ class RowTest(unittest.TestCase):
         folder = tempfile.TemporaryDirectory()
         self.addCleanup(folder.cleanup)
         self.folder = folder.name
-        # What a server said is a file without a name, which ends with the test.
+        # The lines of a server go to a file without a name, which is closed at the end of the test.
         warnings.simplefilter("ignore", ResourceWarning)
         signal.signal(signal.SIGALRM, fail_late)
         signal.alarm(self.longest)
         self.addCleanup(signal.alarm, 0)
 
     def check(self, name, got, want):
-        """Compares what came with what must come."""
+        """Compares a result with the expected result."""
         with self.subTest(name=name):
             if got != want:
                 self.fail("got:  %s\nwant: %s" % (shown(got), shown(want)))
 
 
 class FilesTest(RowTest):
-    """A test with files of its own in its folder."""
+    """A test with files in its folder."""
 
     def put(self, fixture):
-        """Copies a folder of tests/fixtures. Sources and lists of crates have a further `.txt` there, as
-        those names are the repository's own."""
+        """Copies a folder of tests/fixtures. Sources and lists of crates end in `.txt` there, since the gate
+        takes other names as its own."""
         shutil.copytree(os.path.join(TOP, "tests", "fixtures", fixture), self.folder, dirs_exist_ok=True)
         for at, _, names in os.walk(self.folder):
             for name in names:
@@ -99,7 +100,7 @@ class FilesTest(RowTest):
 
 
 class CsidTest(RowTest):
-    """A test of csid, with tables in its folder."""
+    """A test of csid, with a file of tables in its folder."""
 
     def setUp(self):
         super().setUp()
@@ -107,7 +108,7 @@ class CsidTest(RowTest):
         self.tables, self.config = Tables(self.csid, self.folder), os.path.join(self.folder, "config.toml")
 
     def serve(self, *words, **how):
-        """A server over the tables, which ends with the test."""
+        """Starts a server over the tables. It ends with the test."""
         server = Server(self.csid, self.folder, *words, **how)
         self.addCleanup(server.end)
         return server
@@ -125,7 +126,7 @@ class CsictlTest(CsidTest):
 
 
 class ProgramTest(RowTest):
-    """A test of the built programs together. Some may be missing."""
+    """A test of several programs. It is skipped if one is missing."""
 
     def setUp(self):
         super().setUp()

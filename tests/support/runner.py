@@ -1,5 +1,5 @@
-"""Runs the classes of a suite side by side, each in a process of its own, as many at a time as there are
-processors."""
+"""Runs the classes of a suite side by side, each in its own process, at most one for each processor at a
+time."""
 
 import collections
 import concurrent.futures
@@ -11,13 +11,13 @@ import time
 import unittest
 import warnings
 
-# The modules that take the longest: they start first, so that none runs alone at the end.
+# The modules that take the longest. They start first, so that none of them runs alone at the end.
 LONGEST = ["test_csid_peers", "test_histories", "test_recipes", "test_recipes_etcd", "test_csid_change_store"]
 
 
 @dataclasses.dataclass
 class Report:
-    """A test of another process in the lists of a result. A failure of what a class sets up has no name."""
+    """A test of another process, for the lists of a result. A failure in a class's setup has no name."""
 
     description: str
     name: str
@@ -31,7 +31,8 @@ class Report:
 
 @dataclasses.dataclass
 class Outcome:
-    """What came of the tests of a class: their number and seconds, a text of each, and lists of a result."""
+    """The result of the tests of a class: their number and seconds, a text for each, and the lists of a
+    result."""
 
     count: int
     seconds: float
@@ -52,7 +53,7 @@ class Text(io.StringIO):
 
 
 def reports(result, found):
-    """Pairs of a report and a text, for pairs of a test and a text."""
+    """Replaces the tests in pairs of a test and a text by reports."""
     for test, text in found:
         case = getattr(test, "test_case", test)
         name = case.id() if isinstance(case, unittest.TestCase) else None
@@ -69,14 +70,14 @@ def run_suite(suite, verbosity, settings):
 
 
 def send_outcome(sender, names, filters, *how):
-    """Runs the tests of these names, in another process."""
+    """Runs the tests with these names in another process."""
     if filters:
         warnings.simplefilter(filters)
     sender.send(run_suite(unittest.defaultTestLoader.loadTestsFromNames(names), *how))
 
 
 def run_apart(name, tests, *how):
-    """Runs the tests of a class in a process of their own."""
+    """Runs the tests of a class in another process."""
     context = multiprocessing.get_context("spawn")
     receiver, sender = context.Pipe(duplex=False)
     process = context.Process(target=send_outcome, args=(sender, [test.id() for test in tests], *how))
@@ -103,17 +104,17 @@ def by_class(suite, classes):
 
 
 def place(name):
-    """Where a class is in the order of starts."""
+    """Returns the position of a class in the order of starts."""
     module = name.split(".")[1]
     return LONGEST.index(module) if module in LONGEST else len(LONGEST)
 
 
 class Runner(unittest.TextTestRunner):
-    """Runs the classes of a suite side by side, and shows a line when one has ended."""
+    """Runs the classes of a suite side by side, and prints a line when one has ended."""
 
     def run(self, suite):
         classes = by_class(suite, collections.defaultdict(list))
-        # unittest makes tests of its own for modules that cannot be imported.
+        # unittest makes tests for modules that cannot be imported.
         missing = [it for name in list(classes) if name.startswith("unittest.") for it in classes.pop(name)]
 
         def run(result):
@@ -123,7 +124,7 @@ class Runner(unittest.TextTestRunner):
         return super().run(run)
 
     def run_classes(self, classes, result):
-        """Adds what comes of the tests to a result, in the order of the suite."""
+        """Adds the outcomes of the classes to a result, in the order of the suite."""
         settings = {it: getattr(result, it) for it in ("buffer", "failfast", "tb_locals")}
         pool, runs, outcomes = concurrent.futures.ThreadPoolExecutor(len(os.sched_getaffinity(0))), {}, {}
         for name in sorted(classes, key=place):

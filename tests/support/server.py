@@ -1,4 +1,4 @@
-"""`csid serve` as a process, and its lines on standard error."""
+"""Runs `csid serve`, and reads its lines on standard error."""
 
 import collections
 import contextlib
@@ -33,7 +33,8 @@ CROWDED = "csid: a connection that had sent no call was closed, as too many wait
 
 
 def received(peer):
-    """All that comes, to the end of a connection. The end is a reset if csid closes it with calls unread."""
+    """Returns all bytes up to the end of a connection. If csid closes it with unread calls, the end is a
+    reset."""
     replies = b""
     with contextlib.suppress(ConnectionResetError):
         while piece := peer.recv(1 << 16):
@@ -42,7 +43,7 @@ def received(peer):
 
 
 class Served:
-    """A csid with a socket at `path`. What it says goes to a file."""
+    """A csid with a socket at `path`. Its lines go to a file."""
 
     def begin(self, words, **how):
         self.said = tempfile.TemporaryFile()
@@ -51,7 +52,7 @@ class Served:
     def connect(self):
         peer = socket.socket(socket.AF_UNIX)
         peer.settimeout(SECONDS)
-        # Its file is there a moment before it listens.
+        # The file of the socket exists a moment before csid listens.
         for _ in range(100):
             with contextlib.suppress(ConnectionRefusedError):
                 peer.connect(self.path)
@@ -60,7 +61,7 @@ class Served:
         return peer
 
     def ask(self, *calls):
-        """All that comes back for calls on a connection of their own."""
+        """Makes calls on a new connection. Returns all bytes that come back."""
         with self.connect() as peer, contextlib.suppress(BrokenPipeError, ConnectionResetError):
             peer.sendall(b"".join(calls))
             peer.shutdown(socket.SHUT_WR)
@@ -68,19 +69,19 @@ class Served:
         return b""
 
     def lines(self):
-        """What it said until now."""
+        """Returns the lines so far."""
         return os.pread(self.said.fileno(), 1 << 20, 0).decode()
 
 
 class Server(Served):
-    """csid on a socket next to its file."""
+    """csid at a socket next to its file."""
 
     def __init__(self, csid, folder, *words, tables=None, **how):
         self.path = os.path.join(folder, "csid.sock")
         self.tables = tables or os.path.join(folder, "volumes.db")
         words = [csid, "serve", "--socket", self.path, "--tables", self.tables, *words]
         self.begin(words, stdout=subprocess.DEVNULL, **how)
-        # It says what the tables have, or why they cannot be had, before it takes the first connection.
+        # Before it takes the first connection it reports what the tables have, or why they are unusable.
         told = re.compile("(?m)^csid: %s: (?!%s).*\n" % (re.escape(self.tables), NEW))
         if not wait(lambda: told.search(self.lines()) or self.process.poll() is not None):
             raise ValueError("csid serve does not begin")
@@ -95,12 +96,12 @@ class Server(Served):
         return "csid: %s: %s\n" % (self.tables, what)
 
     def has(self, volumes, attachments, number):
-        """The line of what the tables have."""
+        """Returns the line about the contents of the tables."""
         counts = volumes, attachments, number
         return self.line("volumes %d, attachments %d, next number %d, format 2" % counts)
 
     def end(self):
-        """What it said in all, its status, and whether its socket is left."""
+        """Ends csid. Returns all its lines, its status, and True if its socket is left."""
         if self.process.poll() is None:
             self.process.kill()
         status = self.process.wait()
@@ -114,7 +115,7 @@ KILLED = -signal.SIGKILL
 
 
 def ended(lines, line):
-    """How many connections ended as a line says, or as the counts of those without a line say."""
+    """Returns the number of connections that ended as a line says, or as the counts say."""
     counts = collections.Counter({"of a line": lines.count(line)})
     for told in re.findall(r"(?m)^csid: \d+ more connections ended: (.*)$", lines):
         for part in told.split(", "):

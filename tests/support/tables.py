@@ -1,4 +1,4 @@
-"""Files of tables, made and looked at with python's own sqlite3, and the lines of docs/TABLES.md."""
+"""Makes and reads files of tables by Python's sqlite3. Has the lines of docs/TABLES.md."""
 
 import os
 import pathlib
@@ -8,8 +8,8 @@ from tests.support.frames import READY
 from tests.support.processes import run
 
 
-# Rows of volumes and attachments, as docs/TABLES.md encodes them: a block device with mode 1, one with mode
-# 5, and no parameters.
+# Cells of volumes and attachments (docs/TABLES.md): a block device with mode 1, one with mode 5, and no
+# parameters.
 BLOCK_CAPS = "x'1a060a001a020801'"
 SHARED_CAPS = "x'1a060a001a020805'"
 MIB = 1 << 20
@@ -23,7 +23,7 @@ def attachment(number, node="'n1'", cap=BLOCK_CAPS, readonly=0):
     return "INSERT INTO attachments VALUES (%d, %s, %s, %s);" % (number, node, cap, readonly)
 
 
-# Makes tables ones of an older csid.
+# Changes tables to the format of an older csid.
 FIRST_FORMAT = "UPDATE meta SET format_no = 1;"
 
 
@@ -33,16 +33,15 @@ def next_is(number):
 
 NEXT_9 = next_is(9)
 A = volume(1) + NEXT_9
-# A mebibyte of capabilities, and many attachments that have the first of them at nodes that no configuration
-# has.
+# 1 MiB of capabilities, and many attachments with the first of them, at nodes that no configuration has.
 LARGE_CAPS = ("x'%s'" % b"".join(b"\x1a\x0d\x12\x07\x0a\x05%05d\x1a\x02\x08\x01" % n
                                  for n in range(MIB // 15)).hex())
 PLACES = ("WITH RECURSIVE n (i) AS (VALUES (1) UNION ALL SELECT i + 1 FROM n WHERE i < %d) "
           "INSERT INTO attachments SELECT 1, 'm' || i, x'1a0d12070a0530303030301a020801', 0 FROM n;")
 MANY = ("WITH RECURSIVE n (i) AS (VALUES (1) UNION ALL SELECT i + 1 FROM n WHERE i < %d) "
         "INSERT INTO volumes SELECT i, 'v' || i, 1048576, 'p1', %s, x'' FROM n;")
-# 4,096 bytes of parameters in entries of four bytes, which take some 90 KiB of memory: 1,024 keys of two
-# letters, in their order, each its own value too.
+# 4,096 bytes of parameters in entries of four bytes: 1,024 keys of two letters, in order, each with itself as
+# value. They take about 90 KiB of memory.
 LETTERS = sorted(b"0123456789ABCDEFGHIJKLMNOPQRSTUVWXYZabcdefghijklmnopqrstuvwxyz")
 SHORT_KEYS = [bytes([first, second]) for first in LETTERS for second in LETTERS][:1024]
 SHORT_ENTRIES = b"".join(bytes.fromhex("22080a02") + key + bytes.fromhex("1202") + key for key in SHORT_KEYS)
@@ -79,12 +78,13 @@ BESIDE = "the volume is attached at another node too, and the two cannot have it
 
 
 def block(mode):
-    """The capability of a block device with a mode below 128, as a cell has it."""
+    """Returns the cell of a capability: a block device with a mode below 128."""
     return "1a060a001a0208%02x" % mode
 
 
 def pairs(field, key, size):
-    """A field of parameters with one entry: a key of one byte, and a value of 4,093 to 16,000 bytes."""
+    """Returns a field of parameters with one entry: a key of one byte, and a value of 4,093 to 16,000 bytes.
+    """
 
     def long(tag, length):
         return bytes([tag, length & 127 | 128, length >> 7])
@@ -98,7 +98,7 @@ def cell(digits):
 
 
 class Tables:
-    """A file of tables that csid is run over."""
+    """A file of tables for csid."""
 
     def __init__(self, csid, folder, name="volumes.db"):
         self.csid, self.path = csid, os.path.join(folder, name)
@@ -114,7 +114,7 @@ class Tables:
         return run(self.command + (["--config", config] if config else []), input=given, **how)
 
     def new(self):
-        """New tables, of csid's own making."""
+        """Has csid make new tables."""
         if self.clear().run() != (b"", "", 0):
             raise ValueError("no tables could be made")
         return self
@@ -135,7 +135,7 @@ class Tables:
         return run([self.csid, "--check-tables", self.path] + (["--config", config] if config else []), **how)
 
     def files(self):
-        """The bytes of the file, and of all that exists next to it."""
+        """Returns the bytes of the file, and of all files next to it."""
         found = {}
         for name in sorted(os.listdir(os.path.dirname(self.path))):
             if name.startswith(os.path.basename(self.path)):
@@ -143,7 +143,7 @@ class Tables:
         return found
 
     def rows(self):
-        """All that the database has, as statements that would make it; a text that is not UTF-8 too."""
+        """Returns the statements that make all rows of the database, even if a text is not UTF-8."""
         connection = sqlite3.connect(self.path)
         connection.text_factory = lambda text: text.decode(errors="surrogateescape")
         rows = list(connection.iterdump())
@@ -151,5 +151,6 @@ class Tables:
         return rows
 
     def says(self, line):
-        """What comes where the tables cannot be had; without a line they can, and a call is answered."""
+        """Returns the reply, the lines and the status of csid if the tables are unusable. Without a line they
+        are usable, and a call is answered."""
         return (READY, "", 0) if line is None else (b"", "csid: %s: %s\n" % (self.path, line), 4)

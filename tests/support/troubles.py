@@ -1,4 +1,4 @@
-"""Parts of tests/faults that break only the surroundings of programs: the disk, signals, clocks."""
+"""Parts of tests/faults that disturb the surroundings of programs: the disk, signals, clocks."""
 import ctypes
 import json
 import os
@@ -22,20 +22,20 @@ NEW_MOUNTS, NEW_TIME = 0x20000, 0x80
 
 
 def only(body, *numbers):
-    """The value under a number in a message, and so on for nested messages."""
+    """Returns the value of a field in a message. Further numbers are for nested messages."""
     for number in numbers:
         body = dict(change_stores.fields(body))[number]
     return body
 
 
 class Record:
-    """The ids that exist, with their names, from the OK replies; and each id that was ever given."""
+    """The ids and names of the volumes that exist, from the OK replies, and all ids that were ever given."""
 
     def __init__(self, run):
         self.run, self.names, self.standing = run, {}, {}
 
     def does(self, ask, what, of):
-        """Makes or removes a volume, and notes it. Returns True for OK, or otherwise the refusal."""
+        """Creates or deletes a volume, and records it. Returns True for OK, or otherwise the refusal."""
         answer, why = (
             ask("CreateVolume", v.name(of) + BLOCK) if what == "make" else ask("DeleteVolume", v.vol(of))
         )
@@ -57,7 +57,7 @@ class Record:
 
 
 def listed(ask):
-    """The ids that are listed in pages; None where a page is refused."""
+    """Returns the ids in all pages, or None if a page is refused."""
     ids, token = [], b""
     while True:
         body, _ = ask("ListVolumes", v.starting_token(token) if token else b"")
@@ -73,7 +73,8 @@ def listed(ask):
 UNANSWERED = ("closed unanswered", "nobody answers", "[Errno 32] Broken pipe",
               "[Errno 104] Connection reset by peer")
 NOT_MADE = re.compile(r"13 store refused|13 store is down")
-# What csid says of its file (docs/OPERATING.md, "Arguments and exit statuses of `csid`"; docs/TABLES.md).
+# The lines of csid about its file (docs/OPERATING.md, "Arguments and exit statuses of `csid`";
+# docs/TABLES.md).
 OF_FILE = (r"volumes \d+, attachments 0, next number \d+, format 2", "unable to open database file",
            "database or disk is full", "disk I/O error", "there is no such file, and none is made",
            "a change was refused, by the database or for memory; from then on .*",
@@ -86,8 +87,8 @@ DISK_LINES = re.compile(
 
 
 class Disk:
-    """A small disk with the file of a csid that runs without the rights of root, and what can happen to it.
-    Each gives what ends it."""
+    """A small disk with the file of a csid that runs without the rights of root, and the troubles of the
+    disk. Each method returns the function that ends the trouble."""
 
     def __init__(self, run):
         self.run, self.folder, self.file = run, run.path("disk"), run.path("disk/db")
@@ -135,7 +136,7 @@ class Disk:
         return lambda: [os.rename(place, path) for path, place in moved]
 
     def without_log(self, source):
-        """The log goes between two runs, once all that it had is in the file."""
+        """The WAL is removed between two runs, after its contents are in the file."""
         log = self.file + "-wal"
         if os.path.exists(log) and wait(lambda: os.path.getsize(log) <= 41, 1):
             self.csid.end(source.choice((signal.SIGTERM, signal.SIGKILL)))
@@ -154,7 +155,7 @@ class Disk:
 
 
 def one_call(run, record, source, client, waits):
-    """A call, which is noted where its outcome is open."""
+    """Makes a call, and records it as in doubt if no reply comes."""
     of = source.choice(sorted(set(record.standing) - {it for _, it in waits}) or [""])
     call = (("remove", of)
             if of
@@ -187,7 +188,8 @@ def makes(run, record, disk, waits):
 
 
 def disk(run):
-    """Each call answered OK is there after each trouble of the disk; service is back within 2 s."""
+    """The volume of each call that was answered with OK exists after each trouble of the disk. Calls are
+    served again within 2 s."""
     it, record, lines = Disk(run), Record(run), 0
     for source in run.inputs():
         waits, troubles = [], list(dict.fromkeys(source.choices([it.full, it.full, it.rights, it.aside,
@@ -230,7 +232,7 @@ SIGNALS = [signal.SIGSTOP] * 2 + [signal.SIGTERM, signal.SIGKILL, signal.SIGHUP,
 
 
 class Stack:
-    """One etcd, csid-etcd, csid and the front, and callers of the front."""
+    """etcd, csid-etcd, csid and the front, and callers of the front."""
 
     def __init__(self, run, clocks=None):
         self.run, self.etcd, self.record, self.over = run, Etcd(run), Record(run), threading.Event()
@@ -248,7 +250,7 @@ class Stack:
                         for number in range(4)]
 
     def calls(self, number):
-        """Makes and removes volumes, and repeats each call until it is OK."""
+        """Creates and deletes volumes, and repeats each call until it is OK."""
         source, count, mine, client = random.Random("%d %d" % (self.run.asked.seed, number)), 0, [], None
         while not self.over.is_set():
             count += 1
@@ -257,8 +259,8 @@ class Stack:
                     and source.random() < 0.4
                     else ("make", "c%d-%d" % (number, count)))
             done, end = False, time.monotonic() + 4 * SECONDS
-            # A late reply is a finding, but no call is given up: it may have been made, and the record would
-            # not know it.
+            # A late reply is a finding, but the caller does not give up: the call may have been made, and the
+            # record would not have it.
             while done is not True:
                 if time.monotonic() > end:
                     self.run.check("service is back", False, repr(call))
@@ -274,7 +276,8 @@ class Stack:
             mine = [of for of, name in list(self.record.standing.items()) if name.startswith("c%d-" % number)]
 
     def sends(self, source):
-        """A signal to one of the four; a stopped program goes on, in time or after the end of its lease."""
+        """Sends a signal to one of the four programs. A stopped program continues in time, or after the end
+        of its lease."""
         victim, how = source.choice(self.all), source.choice(SIGNALS)
         if victim.has_ended():
             return
@@ -290,9 +293,9 @@ class Stack:
             wait(victim.has_ended, 2)
 
     def keeps_no_longer(self, source):
-        """csid-etcd is killed or stopped: the key of its lock is gone after its lease, and where it goes on
-        it does not say that it leads without one.
-        An etcd that begins again counts each lease again, so that is after it."""
+        """Kills or stops csid-etcd. The key of its lock is gone after its lease, and a continued csid-etcd
+        does not say that it leads. An etcd that starts again counts each lease from the start, so the test
+        comes after that."""
         self.run.seen["the lock is lost"] += 1
         time.sleep(max(0, self.etcd.begun + LEASE + 2 - time.monotonic()))
         self.keeper.process.send_signal(source.choice((signal.SIGSTOP, signal.SIGSTOP, signal.SIGKILL)))
@@ -308,14 +311,14 @@ class Stack:
                            not told or told[0][0] != 0 or self.etcd.locks())
 
     def revive(self):
-        """Starts again what has ended, and lets go on what hangs."""
+        """Starts the programs that have ended, and continues the stopped programs."""
         for it in self.all:
             it.revive()
             it.process.send_signal(signal.SIGCONT)
         return True
 
     def lists(self, found):
-        """Finds all ids that are listed, if no page is refused."""
+        """Adds all listed ids to `found`. Returns False if a page is refused."""
         try:
             client = Grpc(self.front.socket, 10)
             ids = listed(lambda method, message: (client.call(b"/csi.v1.Controller/" + method.encode(),
@@ -326,7 +329,7 @@ class Stack:
         return ids is not None
 
     def ends(self):
-        """The callers end, and the listing and etcd agree with their replies."""
+        """Ends the callers. The listing and etcd agree with their replies."""
         self.over.set()
         self.run.check("the callers end",
                        wait(lambda: self.revive() and not any(it.is_alive() for it in self.callers),
@@ -343,7 +346,7 @@ class Stack:
 
 
 def signals(run, clocks=None):
-    """Each change answered OK is in the rows, and no id is given twice."""
+    """Each change that was answered with OK is in the rows, and no id is given twice."""
     stack = Stack(run, clocks)
     for it in stack.callers:
         it.start()
@@ -359,7 +362,7 @@ def signals(run, clocks=None):
 
 
 def clock(run):
-    """Each start has a monotonic clock and a clock since the boot of its own, years apart."""
+    """Each start of a program has another monotonic clock and another clock since the boot, years apart."""
     print(("clock: left out: jumps of the wall clock, which no namespace has, so that they would be those of"
            " the whole machine"), flush=True)
     source = random.Random(run.asked.seed)

@@ -1,18 +1,18 @@
 """Runs Docker Swarm over the plugin of deploy/swarm.json: csid, the front and the example node plugin.
 
-    python3 -m tests.swarm ROOT
+python3 -m tests.swarm ROOT
 
-ROOT is a Debian root with Docker 23 or newer, which stays as it is. debootstrap makes one in some minutes,
+ROOT is a Debian root with Docker 23 or newer, which is not changed. debootstrap makes it in some minutes,
 with 600 MB:
 
     debootstrap --variant=minbase --include=docker.io,docker-cli,tini,e2fsprogs,mount sid ROOT
 
-Each check is a line; the last one is 'N checks passed, M failed', and the exit status is 0 only where none
-failed. The first that fails ends the script. It takes two minutes or so, and is called
-by hand. It needs root, namespaces, overlayfs, loop devices and cgroups at /sys/fs/cgroup, and says what is
-missing. CSID, FRONT and NODE_PLUGIN name other programs than the built ones.
+Prints a line for each check. The last line is 'N checks passed, M failed', and the exit status is 0 only if
+none failed. The first failed check ends the script. It takes about two minutes, and is called by hand. It
+needs root, namespaces, overlayfs, loop devices and cgroups at /sys/fs/cgroup, and says what is missing. CSID,
+FRONT and NODE_PLUGIN name other programs than the built ones.
 
-dockerd runs in namespaces of its own over a temporary folder: neither Docker nor a network of this machine is
+dockerd runs in its own namespaces over a temporary folder: neither Docker nor a network of this machine is
 used, and its processes, mounts and loop devices end with the script.
 
 - life: a volume is created, attached to a service, written, read by its next task, detached and deleted

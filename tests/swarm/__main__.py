@@ -1,4 +1,4 @@
-"""Runs the parts over the Debian root that is given."""
+"""Runs the parts over the Debian root in the argument."""
 
 import itertools
 import os
@@ -12,13 +12,13 @@ from tests.swarm.engine import Engine, missing
 from tests.swarm.parts import begin_checks, form_checks, kill_checks, life_checks, pool_checks
 from tests.swarm.swarm import Swarm
 
-# How long what is awaited may take. Swarm tries a create again after longer and longer pauses.
+# The seconds to wait for an event. Swarm tries a create again after longer and longer pauses.
 SECONDS = 120
 SIGNALS = [signal.SIGINT, signal.SIGTERM]
 
 
 def soon(find, wanted):
-    """What is found once it is the wanted, or at the end of the time."""
+    """Calls `find` until it returns the expected value, or the time is over. Returns the last value."""
     end = time.monotonic() + SECONDS
     while True:
         found = find()
@@ -28,7 +28,7 @@ def soon(find, wanted):
 
 
 def run(checks):
-    """Prints each check until one fails; how many passed, and how many failed."""
+    """Prints each check until one fails. Returns the numbers of passed and of failed checks."""
     passed = 0
     try:
         for name, find, wanted in checks:

@@ -1,4 +1,4 @@
-"""dockerd in namespaces of its own, and the plugin in it."""
+"""Runs dockerd in namespaces, with the plugin."""
 
 import glob
 import os
@@ -10,12 +10,12 @@ import sys
 
 from tests.support.processes import TOP, place, program, wait
 
-# How long dockerd may take to answer, and to end.
+# The seconds that dockerd may take to answer, and to end.
 SECONDS = 60
 DEPLOY = os.path.join(TOP, "deploy")
-# The files of the root that neither the plugin nor a service needs.
+# Files of the root that neither the plugin nor a service needs.
 LEFT_OUT = "dev/* usr/share var usr/bin/docker* usr/bin/containerd* usr/bin/ctr usr/sbin/dockerd".split()
-# Each process ends with the one that started it.
+# Each process ends with its parent.
 NAMESPACES = "setpriv --pdeathsig KILL unshare --net --mount --pid --fork --kill-child".split()
 CONFIG = """\
 name = "pools.example.org"
@@ -33,7 +33,7 @@ max_volumes = 2
 
 
 def missing(root):
-    """Each thing that is missing here."""
+    """Returns a line for each missing requirement."""
     if os.geteuid() != 0:
         yield "it needs root"
     for name in ["unshare", "nsenter", "setpriv", "losetup", "ip", "tar"]:
@@ -56,13 +56,13 @@ def missing(root):
 
 
 def devices_of(path):
-    """The loop devices over a file."""
+    """Returns the loop devices over a file."""
     words = ["losetup", "--associated", path, "--noheadings", "--output", "NAME"]
     return subprocess.run(words, check=True, capture_output=True, text=True).stdout.split()
 
 
 class Engine:
-    """dockerd, with a folder for all that it writes."""
+    """dockerd, with a folder for all its files."""
 
     def __init__(self, root, folder):
         self.root, self.folder = root, folder
@@ -73,11 +73,11 @@ class Engine:
         return os.path.join(self.folder, *names)
 
     def host(self, *names):
-        """Where a path of dockerd's root is."""
+        """Returns the path on this machine of a path in dockerd's root."""
         return self.path("host", *names)
 
     def begin(self):
-        """Starts dockerd, with the folder of the plugin in /plugin."""
+        """Starts dockerd. /plugin has the folder of the plugin."""
         self.make_plugin()
         words = [os.path.join(TOP, "tests/swarm/dockerd"), self.root, self.folder, self.cgroup]
         with open(self.path("dockerd.log"), "w") as log:
@@ -105,7 +105,7 @@ class Engine:
         subprocess.run(first, check=True, stdin=subprocess.DEVNULL)
 
     def end(self):
-        """Ends dockerd and all that it started, and detaches what it left."""
+        """Ends dockerd and all its processes, and detaches the loop devices that remain."""
         if self.process is None:
             return
         for way in [signal.SIGTERM, signal.SIGKILL]:
@@ -120,7 +120,7 @@ class Engine:
                 os.rmdir(folder)
 
     def data(self):
-        """The files of volumes."""
+        """Returns the paths of the files with the volumes' data."""
         return glob.glob(self.host("var/lib/csid-pools/*/*.img"))
 
     def has_ended(self):
@@ -133,7 +133,7 @@ class Engine:
         return pathlib.Path(self.path("dockerd.log")).read_text(errors="replace")[-2000:]
 
     def first_process(self):
-        """The id of dockerd, the first process of its namespace; an empty text before it is there."""
+        """Returns the id of dockerd, the first process of its namespace, or '' before it runs."""
         with open("/proc/%d/task/%d/children" % (self.process.pid, self.process.pid)) as file:
             return file.read().strip()
 
@@ -143,14 +143,14 @@ class Engine:
         return subprocess.run(command, capture_output=True, text=True, timeout=SECONDS, **how)
 
     def docker(self, *words):
-        """What a command of docker shows."""
+        """Returns the output of a command of docker."""
         done = self.run("docker", *words)
         if done.returncode != 0:
             raise RuntimeError("docker %s: %s" % (" ".join(words), done.stderr.strip()))
         return done.stdout.strip()
 
     def kill(self, name):
-        """Kills the process of this name, once it runs. Returns its id."""
+        """Kills the process with this name, once it runs. Returns its id."""
         script = "process=$(pidof %s) && kill -KILL $process && echo $process" % name
         wait(lambda: self.run("pidof", name).returncode == 0, SECONDS, pause=0.05)
         return self.run("sh", "-c", script, check=True).stdout

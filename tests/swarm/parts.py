@@ -1,9 +1,9 @@
-"""The parts: each yields the name of a check, what finds it, and what must be found."""
+"""Yields the checks: each has a name, a function, and the value that the function must return."""
 
 import time
 
 GREETING = "hello"
-# The scope, the sharing and the kind of a volume, and the access mode that csid keeps.
+# The scope, the sharing and the type of a volume, and the access mode that csid keeps.
 FORMS = [
     ("single", "none", "mount", "SINGLE_NODE_WRITER"),
     ("single", "readonly", "mount", "SINGLE_NODE_READER_ONLY"),
@@ -13,13 +13,13 @@ FORMS = [
     ("multi", "onewriter", "block", "MULTI_NODE_SINGLE_WRITER"),
     ("multi", "all", "block", "MULTI_NODE_MULTI_WRITER"),
 ]
-# What csid refuses: a node may write while others have the file system mounted.
+# Volumes that csid refuses: one node may write while others have the file system mounted.
 UNSUPPORTED = [("multi", "onewriter", "mount", None), ("multi", "all", "mount", None)]
 KILLS, CREATES = 8, 30
 
 
 def refused(swarm, *names):
-    """What Docker says of a removal that it refuses; an empty text where it removes."""
+    """Returns Docker's answer to a removal that it refuses, or '' if it removes the volume."""
     try:
         swarm.remove(*names)
     except RuntimeError as why:
@@ -28,7 +28,8 @@ def refused(swarm, *names):
 
 
 def replaced(swarm, service):
-    """Asks for another task of a service. Returns a function that says whether it runs."""
+    """Makes Docker replace the task of a service. Returns a function that returns True once the new task
+    runs."""
     former = swarm.container(service)
     swarm.docker("service", "update", "--detach", "--force", service)
     return lambda: swarm.container(service) not in ("", former)
@@ -57,7 +58,7 @@ def attached_checks(swarm):
 
 
 def moved_checks(swarm):
-    """The task of the service is replaced, and the node drained."""
+    """The task of the service is replaced, and the node is drained."""
 
     def read():
         return swarm.execute("user", "cat /data/greeting")
@@ -110,7 +111,7 @@ def form_checks(swarm):
         row = swarm.rows()[name]
         found = [(each["access"], each["mode"]) for each in row["capabilities"]], row["parameters"]
         yield "%s, with an option" % name, lambda: found, ([form[2:]], {"tier": "fast"})
-    # A volume that is not created stays in the list of Swarm without --force.
+    # Only --force removes a volume from Swarm's list that was never created.
     swarm.remove("--force", *("-".join(form[:3]) for form in UNSUPPORTED))
     swarm.remove(*names)
     yield "all are removed", swarm.both, ({}, {})
@@ -152,7 +153,7 @@ def kill_checks(swarm):
 
 
 def kill_under_creates(swarm, names):
-    """Kills csid while volumes are created, each time some later; the ids of the processes."""
+    """Kills csid several times while volumes are created. Returns the ids of the processes."""
     killed = set()
     for number in range(KILLS):
         for name in names[number::KILLS]:

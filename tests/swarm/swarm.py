@@ -12,7 +12,7 @@ MIB = 1 << 20
 
 
 class Swarm:
-    """A swarm whose one node has the plugin."""
+    """A swarm with one node, which has the plugin."""
 
     def __init__(self, engine):
         self.engine, self.docker = engine, engine.docker
@@ -26,12 +26,12 @@ class Swarm:
             self.engine.run("docker", "import", "-", "user", stdin=file, check=True)
 
     def node(self):
-        """The plugin of the node, and the id and the limit that it answered."""
+        """Returns the plugin of the node, and the id and the limit that the plugin answered."""
         info = self.docker("node", "inspect", "self", "--format", "{{json .Description.CSIInfo}}")
         return tuple(json.loads(info)[0].get(key) for key in ["PluginName", "NodeID", "MaxVolumesPerNode"])
 
     def create(self, name, mib, *words, kind="mount", scope="single", sharing="none"):
-        """Asks for a cluster volume. Swarm creates it some time later."""
+        """Asks for a cluster volume. Swarm creates it later."""
         self.docker(*["volume", "create", "--driver", "csid:latest", "--type", kind, "--scope", scope],
                     *["--sharing", sharing, "--topology-required", "zone=a"],
                     *["--required-bytes", str(mib * MIB), *words, name])
@@ -49,39 +49,39 @@ class Swarm:
         self.engine.run("nsenter", "--target", process, "--all", *call, check=True)
 
     def volumes(self):
-        """The id of each volume of Swarm; an empty one before it is created."""
+        """Returns the id of each volume of Swarm, or '' before it is created."""
         names = self.docker("volume", "ls", "--cluster", "--quiet").split()
         found = json.loads(self.docker("volume", "inspect", *names)) if names else []
         return {each["Name"]: (each["ClusterVolume"].get("Info") or {}).get("VolumeID", "") for each in found}
 
     def created(self):
-        """The volumes of Swarm that are created."""
+        """Returns the created volumes of Swarm."""
         return {name: volume for name, volume in self.volumes().items() if volume}
 
     def rows(self):
-        """The volumes that csid has, by name."""
+        """Returns the volumes of csid by name."""
         words = [program("csid"), "--list-tables", self.engine.host("var/lib/csid/volumes.db"), "--json"]
         listed = subprocess.run(words, check=True, capture_output=True, text=True).stdout
         return {each["name"]: each for each in json.loads(listed)["volumes"]}
 
     def kept(self):
-        """The id of each volume that csid has, by name."""
+        """Returns the ids of the volumes of csid by name."""
         return {name: row["id"] for name, row in self.rows().items()}
 
     def agree(self):
-        """Whether Swarm and csid have the same volumes, by name and id."""
+        """Returns True if Swarm and csid have the same volumes, by name and id."""
         return self.created() == self.kept()
 
     def both(self):
-        """The volumes of Swarm, and those of csid."""
+        """Returns the volumes of Swarm, and the volumes of csid."""
         return self.volumes(), self.kept()
 
     def attached(self):
-        """The nodes of each volume that csid has attached, by id."""
+        """Returns the nodes of each attached volume of csid, by id."""
         return {row["id"]: row["nodes"] for row in self.rows().values() if row["nodes"]}
 
     def devices(self):
-        """The id of each volume that is a loop device, once for each device."""
+        """Returns the volume id of each loop device."""
         files = [path for path in self.engine.data() for _ in devices_of(path)]
         return [os.path.basename(path).removesuffix(".img") for path in files]
 
@@ -92,17 +92,17 @@ class Swarm:
         self.docker("service", "create", *words, "--name", service, "user", "sleep", "infinity")
 
     def states(self, service):
-        """What the tasks are in that should run."""
+        """Returns the states of the tasks that should run."""
         words = ["--filter", "desired-state=running", "--format", "{{.CurrentState}}"]
         return sorted(line.split()[0] for line in self.docker("service", "ps", service, *words).splitlines())
 
     def container(self, service):
-        """The container of a service; an empty text unless it has just one."""
+        """Returns the container of a service, or '' unless it has exactly one."""
         found = self.docker("ps", "--quiet", "--filter", "name=" + service).split()
         return found[0] if len(found) == 1 else ""
 
     def execute(self, service, command):
-        """What a command shows in the container of a service; an empty text where it fails."""
+        """Runs a command in the container of a service. Returns its output, or '' if it fails."""
         words = ["docker", "exec", self.container(service), "sh", "-c", command]
         return self.engine.run(*words).stdout.strip()
 

@@ -1,4 +1,4 @@
-"""Prints the vectors, or what `csictl vectors` says of them where each one passes."""
+"""Prints the vectors, or the expected output of `csictl vectors`."""
 
 import argparse
 

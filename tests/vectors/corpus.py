@@ -22,18 +22,18 @@ HEAD = """\
 SUBJECTS = """
     create_fields capabilities maps malformed fields checks limits create_volume modify_volume delete_volume
     publish_volume validate_volume list_volumes get_capacity streams""".split()
-# Groups: the steps of each name, under a title.
+# The groups in order. Each has a title, and the steps of each name.
 GROUPS = [plain("calls"), CUT, plain("arguments"), MODES, plain("modes"), plain("modify"), PAIRS,
           words("identity"), words("frames"), plain("wire"), *map(words, SUBJECTS)]
 
 
 def all_vectors():
-    """All that the groups have, as pairs of a title and its vectors."""
+    """Returns all vectors, as pairs of a title and its vectors."""
     return [(title, vectors) for groups in GROUPS for title, vectors in groups.items()]
 
 
 def names():
-    """The name of each vector."""
+    """Returns the name of each vector."""
     counts = collections.Counter(name for _, vectors in all_vectors() for name in vectors)
     for name, count in counts.items():
         if not re.fullmatch("[a-z0-9]+(-[a-z0-9]+)*", name) or count != 1:
@@ -42,13 +42,13 @@ def names():
 
 
 def line(name, steps):
-    """A vector as `csictl vectors` reads it: NAME INPUT OUTPUT."""
+    """Returns a vector as a line for `csictl vectors`: NAME INPUT OUTPUT."""
     sides = [b"".join(step[side] for step in steps).hex() or "-" for side in (0, 1)]
     return " ".join([name, *sides])
 
 
 def lines():
-    """The text of all vectors but for its head, in lines."""
+    """Returns the lines of all vectors, without the head."""
     names()
     out = []
     for title, vectors in all_vectors():

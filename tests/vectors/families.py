@@ -1,5 +1,5 @@
 """Vectors that differ by a number, in plain bytes: frames cut at each byte, each access mode alone, and each
-mode after another."""
+pair of modes."""
 
 from tests.vectors.messages import fault, unhex
 from tests.vectors.rows import call, ok, refused
@@ -20,7 +20,7 @@ CREATED = ok(unhex("0a24 08808040 1205766f6c2d31 1a0a0a04706f6f6c12027031 2a0b0a
 WRITER = ok(unhex("0a11 0a08726561646f6e6c79 120566616c7365"))
 READER = ok(unhex("0a10 0a08726561646f6e6c79 120474727565"))
 DONE = ok(b"")
-# vol-1 of 1 MiB leaves 13 MiB in the two pools, and the greatest size is 8 MiB.
+# With vol-1 of 1 MiB, 13 MiB are free in the two pools. The greatest size is 8 MiB.
 THIRTEEN_AND_8_MIB = ok(unhex("08 8080c006 1205 0880808004"))
 NONE_FREE = ok(unhex("1200"))
 NOT_CONFIRMED = ok(unhex("122c") + b"capabilities or parameters are not supported")
@@ -32,7 +32,7 @@ ELSEWHERE = refused("09001d", "volume is published elsewhere")
 
 
 def block(mode):
-    """A capability in digits, without the tag, which is 0a in GetCapacity and 1a elsewhere."""
+    """Returns a capability in hexadecimal, without its tag, which is 0a in GetCapacity and 1a elsewhere."""
     return "06 0a00 1a0208%02x" % mode
 
 
@@ -52,7 +52,7 @@ CREATE = (create(block(1)), CREATED)
 
 
 def calls(capability, replies):
-    """Calls with a capability: each has the reply, or the steps, of its place."""
+    """Returns the calls with a capability. Each call has the reply or the steps at its place."""
     return [(create(capability), replies[0]), *replies[1],
             (publish(N1, capability), replies[2]),
             (call("ValidateVolumeCapabilities", unhex(VOL_1 + "1a" + capability)), replies[3]),
@@ -82,7 +82,8 @@ MODES = {"In plain bytes: each access mode, of a block device and of a mount": {
 
 
 def pair(first, second, allowed):
-    """A mode at the first node, and another after it at that node and at the second one."""
+    """Returns the steps for a mode at the first node, and then another mode at that node and at the second
+    node."""
     return [(create(*map(block, range(1, 8))), CREATED),
             (publish(N1, block(first)), WRITER),
             (publish(N1, block(second)), WRITER if first == second else OTHERWISE),
@@ -91,8 +92,8 @@ def pair(first, second, allowed):
             (publish(N2, block(second), "2001"), ELSEWHERE if allowed == "-" else READER)]
 
 
-# A line for the mode at the first node, in it a letter for each mode at the second: 'w' where both may be
-# attached to write, 'r' where one of them must be only read, '-' where they do not go together.
+# A line for each mode at the first node, with a letter for each mode at the second node: 'w' if both may be
+# attached for writing, 'r' if one of them must be read-only, '-' if they exclude each other.
 BESIDE = {1: "-------", 2: "-------", 3: "--w----", 4: "---r---", 5: "----w--", 6: "-------", 7: "-------"}
 PAIRS = {
     "Each access mode at a node, and each after it at that node and at another: of a block device that was"

@@ -1,4 +1,4 @@
-"""What calls and replies are made of, in bytes: Protocol Buffers' encoding guide, and docs/PROTOCOL.md."""
+"""The parts of calls and replies in bytes (Protocol Buffers' encoding guide, docs/PROTOCOL.md)."""
 
 from functools import partial
 
@@ -10,7 +10,7 @@ def unhex(digits):
 
 
 def varint(n, size=1):
-    """n with seven bits a byte, the low ones first, in at least `size` bytes."""
+    """Returns n with seven bits in each byte, the low bits first, in at least `size` bytes."""
     out = []
     while n or len(out) < size:
         out.append(n & 127 | 128)
@@ -23,7 +23,7 @@ def tag(number, kind):
 
 
 def num(number, n, size=1):
-    """A field of wire type 0; a number below 0 is its 64 bits in two's complement."""
+    """Returns a field of wire type 0. A negative number becomes 64 bits in two's complement."""
     return tag(number, 0) + varint(n % (1 << 64), size)
 
 
@@ -32,7 +32,7 @@ def fixed64(number, eight=bytes(8)):
 
 
 def msg(number, *parts):
-    """A field of wire type 2: an embedded message of these parts."""
+    """Returns a field of wire type 2: an embedded message of these parts."""
     payload = b"".join(parts)
     return tag(number, 2) + varint(len(payload)) + payload
 
@@ -46,7 +46,7 @@ def txt(number, text):
 
 
 def entry(number, key, value):
-    """An entry of a map: an embedded message with the key as field 1 and the value as field 2."""
+    """Returns an entry of a map: an embedded message with the key as field 1 and the value as field 2."""
     return msg(number, txt(1, key), txt(2, value))
 
 
@@ -54,20 +54,20 @@ def entry(number, key, value):
 
 
 def frame(path, *parts, flag=0):
-    """A call."""
+    """Returns the frame of a call."""
     path, message = path.encode() if isinstance(path, str) else path, b"".join(parts)
     size = len(message).to_bytes(4, "big")
     return len(path).to_bytes(2, "big") + path + bytes([flag]) + size + message
 
 
 def reply(*parts):
-    """A reply with status 0."""
+    """Returns a reply with status 0."""
     body = b"".join(parts)
     return unhex("00 0000 00") + len(body).to_bytes(4, "big") + body
 
 
 def refusal(code, text):
-    """A reply with another status, and its text."""
+    """Returns a reply with another status, and its text."""
     return bytes([code]) + len(text).to_bytes(2, "big") + text.encode() + unhex("00 00000000")
 
 
@@ -95,7 +95,7 @@ modify = partial(controller, "ControllerModifyVolume")
 listing = partial(controller, "ListVolumes")
 capacity = partial(controller, "GetCapacity")
 
-# Fields of calls: their names, and the methods that have them where not all do.
+# The fields of calls: their names, and the methods that have them if not all do.
 
 name = partial(txt, 1)  # of CreateVolume
 vol = partial(txt, 1)  # the volume_id
@@ -115,12 +115,12 @@ max_entries, starting_token = partial(num, 1), partial(txt, 2)
 
 
 def block(mode):
-    """The fields of a capability: a block device with an access mode."""
+    """Returns the fields of a capability: a block device with an access mode."""
     return msg(1) + msg(3, num(1, mode))
 
 
 def mount(mode, *parts):
-    """The fields of a capability: a mount with an access mode."""
+    """Returns the fields of a capability: a mount with an access mode."""
     return msg(2, *parts) + msg(3, num(1, mode))
 
 
@@ -131,11 +131,11 @@ N1, N2 = node("n1"), node("n2")
 
 
 def create_in(*terms):
-    """A call that creates the volume a with these topology requirements."""
+    """Returns a call that creates the volume a with these topology requirements."""
     return create(A, BLOCK, topology(*terms))
 
 
-# Replies: docs/PROTOCOL.md, "Messages". A pool is its name and its zone.
+# Replies (docs/PROTOCOL.md, "Messages"). A pool is its name and its zone.
 
 P1, P2 = ("p1", "a"), ("p2", "b")
 
@@ -147,34 +147,34 @@ def volume(number, size, pool):
 
 
 def created(number, size, pool):
-    """The reply of CreateVolume."""
+    """Returns the reply of CreateVolume."""
     return reply(msg(1, volume(number, size, pool)))
 
 
 def confirmed(capabilities, parameters=None):
-    """The reply of ValidateVolumeCapabilities: the fields of each capability, and the parameters."""
+    """Returns the reply of ValidateVolumeCapabilities: the fields of each capability, and the parameters."""
     maps = [entry(3, key, value) for key, value in (parameters or {}).items()]
     return reply(msg(1, *[msg(2, fields) for fields in capabilities], *maps))
 
 
 def listed(number, size, pool, *nodes):
-    """An entry of a page of ListVolumes."""
+    """Returns an entry of a page of ListVolumes."""
     return msg(1, msg(1, volume(number, size, pool)), msg(2, *[txt(1, node) for node in nodes]))
 
 
 def page(*entries, next_token=""):
-    """The reply of ListVolumes."""
+    """Returns the reply of ListVolumes."""
     return reply(*entries, txt(2, next_token) if next_token else b"")
 
 
 def free(available, maximum):
-    """The reply of GetCapacity. A number that is 0 is left out, but not the message around the maximum."""
+    """Returns the reply of GetCapacity. A number 0 is left out, but not the message around the maximum."""
     first = num(1, available) if available else b""
     return reply(first, msg(2, num(1, maximum) if maximum else b""))
 
 
 def fault(text):
-    """The reply that ends a malformed stream."""
+    """Returns the reply that ends a malformed stream."""
     return refusal(3, text)
 
 

@@ -1,18 +1,18 @@
-"""Vectors in rows: files of `words/`, with expressions over the names of `messages`, and files of `plain/`,
-with bytes that owe nothing to those functions.
+"""Reads vectors in rows: files of `words/`, with expressions over the names of `messages`, and files of
+`plain/`, with bytes that do not depend on those functions.
 
 A row is `NAME | CALL | REPLY`, or NAME and below it a line with `CALL | REPLY` for each step. A comment
 before rows says what they show. `= TITLE` begins a group, and `WORD = ..` defines a word for the lines below.
-A line that begins with four spaces continues the one before.
+A line that begins with four spaces continues the line before it.
 
 In `words/` a call, a reply and the value of a word are expressions of Python. Steps that have names are a
 line of their own, `CREATE_A, DELETE_1`, or come before a call: `NAME | CREATE_A | delete(VOL_1) | DONE`.
 
-In `plain/`
-- BYTES are hexadecimal digits and words in any number, with spaces between; `61*128` is 128 times 61.
-- CALL is `METHOD BYTES`, a frame around a message, or `bytes BYTES`, which go into the stream as they are.
-- REPLY is `ok BYTES`, a body; six digits and a text, the status and the length of the text before it; or
-  `malformed AT`, what a malformed message gets.
+In `plain/`:
+- BYTES are hexadecimal digits and words, with spaces between them; `61*128` is 128 times 61.
+- CALL is `METHOD BYTES`, a frame around a message, or `bytes BYTES`, which go into the stream unchanged.
+- REPLY is `ok BYTES`, a body; six digits and a text, which are the status, the length of the text, and the
+  text; or `malformed AT`, the refusal of a malformed message.
 """
 
 import os
@@ -26,7 +26,7 @@ IDENTITY = {"Probe", "GetPluginInfo", "GetPluginCapabilities"}
 
 
 def call(method, message):
-    """A frame around a message."""
+    """Returns a frame around a message."""
     path = "/csi.v1.%s/%s" % ("Identity" if method in IDENTITY else "Controller", method)
     size = len(message).to_bytes(4, "big")
     return len(path).to_bytes(2, "big") + path.encode() + b"\0" + size + message
@@ -37,12 +37,12 @@ def ok(body):
 
 
 def refused(digits, text):
-    """A refusal, of its status and the length of its text as digits, and the text."""
+    """Returns a refusal: its status and the length of its text as digits, and the text."""
     return unhex(digits) + text.encode() + unhex("00 00000000")
 
 
 class Plain:
-    """Reads a file of bytes: `groups` has the vectors of each title, with their steps."""
+    """Reads a file of bytes. `groups` has the vectors of each title, with their steps."""
 
     def __init__(self, name, words=()):
         self.groups, self.words = {}, dict(words)
@@ -89,7 +89,7 @@ class Plain:
 
 
 def flat(steps):
-    """The steps of lists within lists; a step alone is a list of one."""
+    """Returns the steps of nested lists as one list. A single step becomes a list of one."""
     return [steps] if isinstance(steps[0], bytes) else [step for part in steps for step in flat(part)]
 
 
@@ -100,7 +100,7 @@ class Words(Plain):
         return eval(text, self.words)
 
     def steps_of(self, *columns):
-        """The named steps, a call and its reply, or both."""
+        """Returns the named steps, a call and its reply, or both."""
         values = [self.value(it) for it in columns]
         named, last = (values[:1], values[1:]) if len(values) % 2 else ([], values)
         return [step for steps in named for step in flat(steps)] + ([tuple(last)] if last else [])
@@ -110,10 +110,10 @@ STEPS = {**vars(messages), **Words("words/steps.txt", vars(messages)).words}
 
 
 def words(name):
-    """The groups of a file of expressions."""
+    """Returns the groups of a file of expressions."""
     return Words("words/%s.txt" % name, STEPS).groups
 
 
 def plain(name):
-    """The groups of a file of bytes."""
+    """Returns the groups of a file of bytes."""
     return Plain("plain/%s.txt" % name).groups
