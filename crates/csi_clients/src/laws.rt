@@ -140,7 +140,7 @@ pub fn linearizable(config: &Config)
     inclusions();
 }
 
-/// A history of two clients exists in which a stop comes between the tries of one of them.
+/// A history of two clients exists in which a stop comes between two tries of one client.
 ///
 /// One client makes a request, and its answer is lost. Another client makes a request and is answered. After
 /// a stop the first client tries again and is answered. If the two requests leave each other's objects alone

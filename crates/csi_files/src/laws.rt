@@ -35,8 +35,8 @@ pub fn went_on_at<S: Start>(config: &Config)
 {}
 
 /// If a client repeats each call until it gets a reply, it gets the same replies as if each request were
-/// executed once. The State is also the same. This holds even if runs end in stops. No other client may
-/// change anything.
+/// executed once. The State at the end is also the same. This holds even if runs end in stops. No other
+/// client may change anything.
 ///
 /// The first run may be over files that hold no database yet. A run may end in any way that [`went_on`]
 /// covers. The calls of a run may fail with an internal error, and replies may be lost. The next run is over

@@ -38,8 +38,8 @@ pub struct FilesAt<'a, S> {
     pub start: S,
     /// The greatest number of pages of the database file that are kept in memory.
     ///
-    /// An opening looks up each row in the index of names, and reads the pages of the index in any order. If
-    /// the index has more pages than this number, the opening reads a page again for nearly each row.
+    /// An opening looks up each row in the index of names, and reads the pages of the index in random order.
+    /// If the index has more pages than this number, the opening reads a page again for nearly each row.
     pub cache_pages: usize,
 }
 

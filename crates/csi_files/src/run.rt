@@ -46,9 +46,9 @@ pub struct RunOptions {
     /// answered from the copy.
     pub is_low_memory: bool,
     /// The memory in bytes that an opening of the tables takes, since an opening reads each table whole.
-    /// While reads are answered from the file, memory is held for the next opening, at most this number of
-    /// bytes. A call that adds rows holds memory for them first. If this memory is refused, or the observer
-    /// has no room, the call fails as if memory were refused.
+    /// While reads are answered from the file, this memory is held for the next opening, as far as the system
+    /// gives it. A call that adds rows holds memory for them first. The call fails if this memory is refused
+    /// or the observer has no room.
     pub reserve: usize,
 }
 
@@ -75,7 +75,7 @@ pub struct RunReport {
     pub refusals: u64,
     /// True if the store was down at the end. It answered no call after the call that brought it down.
     pub is_down: bool,
-    /// True if reads were answered from a copy of the volumes in memory, and false if from the file.
+    /// True if reads were answered from a copy of the volumes in memory, false if the file answered them.
     pub is_copied: bool,
     /// True if the database had no tables and got new ones.
     pub is_new: bool,
@@ -103,13 +103,13 @@ pub enum Refusal {
 }
 
 /// The step at which a run over files failed. Each variant has the reason, or the report of the calls that
-/// were served. Each variant except `NoFiles` also has what is left of the files.
+/// were served. Each variant except `NoFiles` also contains the files.
 pub enum RunFailure<D: Disk> {
     /// The operating system gave no files at the path. No call was read.
     NoFiles(Error),
     /// The files were not opened. No call was read.
     NotOpened(Error, Leftover<D>),
-    /// The database was refused, and the files are unchanged. No call was read.
+    /// The database was refused. No call was read, and no volume has changed.
     Refused(Refusal, Files<D>),
     /// Calls were served, but the store refused some of them. The WAL was copied into the database file if
     /// the disk and memory allowed it. The committed changes are in the WAL, in the database file or in both.

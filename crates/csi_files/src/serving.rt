@@ -25,8 +25,8 @@ use sqlite_disk::Disk;
 use std::alloc::Global;
 use std::io::{Read, Write};
 
-// Closes the connection after calls. If the store refused some calls, the result is `Left`, whether or not
-// the WAL can be copied.
+// Closes the connection after calls. If the store refused some calls, the result is `Left`, even if the WAL
+// was copied.
 fn finish<D: Disk + Drop>(
     alloc: Global,
     report: RunReport,

@@ -179,8 +179,8 @@ pub fn retry(config: &Config)
     inclusions();
 }
 
-/// The premises of [`retry`] can be met: there are lives with two tries, for each request and from each
-/// State.
+/// The premises of [`retry`] can be met: for each request and each State, there are sessions in which a
+/// client tries the request twice.
 ///
 /// Either the request is executed and its answer is lost, or the request fails with an internal error and a
 /// stop leaves the State with its change. In the next session the client tries the request again, and it is

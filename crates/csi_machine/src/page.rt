@@ -122,10 +122,10 @@ impl PageFold for Page<'_> {
     }
 }
 
-/// A fold that finds out if there is any volume.
+/// A [`PageFold`] that only finds out if a page has any volume.
 #[derive(Drop)]
 pub(crate) struct AnyVolume {
-    /// True if the fold has taken a volume. Initially false.
+    /// True after a volume was added. Initially false.
     pub(crate) is_any: bool,
 }
 

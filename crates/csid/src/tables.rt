@@ -8,7 +8,7 @@ use crate::making::make_private;
 use csid_settings::{Failure, TablesFile};
 use std::alloc::Global;
 
-/// The line if new tables were made.
+/// Reported if new tables were made.
 pub(crate) const NEW_TABLES: &str = "no tables were there, and new ones were made";
 
 // Fails if the file has a fault, and returns `Ok` if `fault` is `None`.
@@ -43,8 +43,7 @@ pub(crate) fn check_path(rt: &HostRuntime, path: &str) -> Result<(), Failure>
     Ok(())
 }
 
-// Checks that a file and its WAL, if they exist, are regular files. Opening a named pipe, a socket or a
-// device may block.
+// Fails if a file or its WAL is a named pipe, a socket or a device, since opening it may block.
 fn check_kind(rt: &HostRuntime, path: &str) -> Result<(), Failure>
     ensures { IfErr result (λ failure. IsOrNoMemory 4 failure) }
 {
@@ -55,7 +54,7 @@ fn check_kind(rt: &HostRuntime, path: &str) -> Result<(), Failure>
 ///
 /// # Errors
 ///
-/// If the file has no tables, or memory is refused.
+/// If the file is missing or has no tables, or memory is refused.
 pub(crate) fn check_existing(rt: &HostRuntime, path: &str) -> Result<(), Failure>
     ensures { IfErr result (λ failure. IsOrNoMemory 4 failure) }
 {

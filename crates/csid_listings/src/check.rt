@@ -1,5 +1,5 @@
 //! Runs `csid --check-config` and `csid --check-tables`: shows what a file contains, or why it is refused.
-//! Neither serves calls or changes a file.
+//! Neither of them serves calls or changes a file.
 
 ghost use Rattle.std.specs.Prelude.{◌≡◌, false};
 

@@ -13,7 +13,7 @@ use std::alloc::{AllocError, Global};
 
 // The reason why no details are reported.
 enum Silence {
-    // A row lacks a value, or the database fails.
+    // The fault has no details, or they cannot be read from the tables.
     Unread,
     NoMemory,
 }

@@ -277,14 +277,14 @@ pub fn read_arguments<'a>(
     command_line::matches(rt, &line, arguments)
 }
 
-/// The options that take a number: the name of each, and the option as a line shows it.
+/// The options that take a number: the name of each, and the option as an error line shows it.
 const NUMBERS: [(&str, &str); 2] = [
     ("connections", "--connections <N>"),
     ("idle", "--idle <SECONDS>"),
 ];
 
-/// Returns the first option whose value is not only decimal digits: the option as a line shows it, and its
-/// value. Returns `None` if there is no such option. The check is needed since `clap` accepts a sign.
+/// Returns the first option whose value is not only decimal digits: the option as an error line shows it, and
+/// its value. Returns `None` if there is no such option. The check is needed since `clap` accepts a sign.
 pub fn odd_number<'a>(matches: &ArgMatches<'a>) -> Option<(&'static str, &'a str)> {
     let (_, arguments) = matches.subcommand()?;
     for (name, shown) in NUMBERS {
@@ -297,8 +297,8 @@ pub fn odd_number<'a>(matches: &ArgMatches<'a>) -> Option<(&'static str, &'a str
     None
 }
 
-/// Returns the fault if the command line has two tasks over tables, or a configuration but no task. Returns
-/// `None` for any other command line.
+/// Returns the fault if the command line has two tasks over tables, or a configuration for a task that needs
+/// none. Returns `None` for any other command line.
 pub fn odd_check<'a>(matches: &ArgMatches<'a>) -> Option<&'static str> {
     let is_check = matches.get_str("check-tables").is_some();
     let is_copy = matches.get_str("copy-tables").is_some();
@@ -329,7 +329,7 @@ pub fn odd_check<'a>(matches: &ArgMatches<'a>) -> Option<&'static str> {
 }
 
 /// Returns the fault if the arguments of a server name no store for the volumes, or name two stores. Returns
-/// `None` if they name one store.
+/// `None` if they name one store, and for other commands.
 pub fn odd_store<'a>(matches: &ArgMatches<'a>) -> Option<&'static str> {
     let Some(("serve", arguments)) = matches.subcommand() else {
         return None;
@@ -386,7 +386,8 @@ fn list_task<'a>(arguments: &ArgMatches<'a>, tables: &'a str) -> Task<'a> {
     }
 }
 
-// Returns the task of a command line without a command.
+// Returns the task of a command line without a command. Without options, the task is to answer the calls on
+// standard input over the sample configuration.
 fn plain_task<'a>(arguments: &ArgMatches<'a>) -> Task<'a> {
     if let Some(path) = arguments.get_str("check-config") {
         return Task::CheckConfig(path);

@@ -15,7 +15,7 @@ pub(crate) fn mode_name(mode: u8) -> &'static str {
     }
 }
 
-// Writes a capability in words.
+// Returns a capability as one word: `block:MODE`, `mount:MODE` or `FILESYSTEM:MODE`.
 fn capability(alloc: Global, key: &CapKey) -> Result<String, AllocError> {
     let mode = mode_name(key.mode);
     match &key.kind {
@@ -68,7 +68,7 @@ pub(crate) const HEADINGS: [&str; 8] = [
     "NODES",
 ];
 
-/// Makes the row of a volume in the table.
+/// Makes the row of a volume in the table, with one word for each of [`HEADINGS`].
 pub(crate) fn row(
     alloc: Global,
     volume: &Volume,
