@@ -104,7 +104,7 @@ impl Table {
         self.add(row)
     }
 
-    /// Returns the lines of the table.
+    /// Returns the table as text, with one line for each row.
     ///
     /// # Errors
     ///

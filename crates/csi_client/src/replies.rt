@@ -71,7 +71,7 @@ pub fn put_reply_line(alloc: Global, out: &mut Vec<u8>, reply: &Reply<'_>) -> Re
     out.extend_from_slice(line.as_slice())
 }
 
-// Makes the lines of a response.
+// Returns the lines of a response as new bytes. So a caller whose memory is refused appends no partial lines.
 fn lines_of(alloc: Global, response: &Response) -> Result<Vec<u8>, AllocError>
     ensures { IfOk result (λ said. said.items ≡ lines response.now) }
 {

@@ -69,7 +69,7 @@ pub(crate) struct Printer {
 }
 
 impl Printer {
-    // Makes the lines of a reply in the buffer.
+    // Makes the lines of a reply in the buffer. If the body is malformed, the buffer has only the first line.
     fn make_lines(&mut self, alloc: Global, reply: &Reply<'_>) -> Result<(), DecodeFault>
         ensures method { self.new.method ≡ self.old.method }
         ensures refused { self.new.refused ≡ self.old.refused }

@@ -62,7 +62,8 @@ enum Source<'a, S: Alter, O> {
     File(Reserved<'a, S, O>),
 }
 
-// Copies the volumes in the tables into memory. While the copy is made, memory for calls is held back.
+// Copies the volumes in the tables into memory. While the copy is made, 4 MiB of memory are held back for
+// calls.
 fn copy_tables<'a, S: Alter + Drop, O: Observer>(
     run: &Run<'a, O>,
     tables: Tables<S>,

@@ -5,8 +5,7 @@
 //! makes a database if the files hold none yet, opens them, adopts their tables, serves calls, and closes the
 //! files. Before the first call, it copies the volumes into memory, unless the options forbid a copy.
 //! [`Run::adopt_and_serve`] begins with an open connection: it adopts the tables, serves calls, and closes
-//! the files.
-//! [`Run::serve_path`] opens the files at a path, and runs over them like `create_and_serve`.
+//! the files. [`Run::serve_path`] opens the files at a path, and then does the same as `create_and_serve`.
 //!
 //! `specs/Files.antt` defines which State the bytes of two files have (`HasState`). A run requires files that
 //! have a State, and leaves files that have a State. So the next run can begin from the files that the last

@@ -163,8 +163,8 @@ pub fn repeat(config: &Config)
 /// after the other, and tries each request again until it is answered. A try may fail with an internal error
 /// or because the store is down. An answer may be lost, and a stop may end the session between any two tries.
 /// Other clients may at any time make requests that change nothing: Probe, ListVolumes, GetCapacity,
-/// ValidateVolumeCapabilities, and the calls about the plugin. The answers, and each State that may be left
-/// in the end, are the same as if each request were executed once.
+/// ValidateVolumeCapabilities, and the calls about the plugin. The answers and the State at the end are the
+/// same as if each request were executed once.
 #[inline(always)]
 pub fn retry(config: &Config)
     ensures { (s t : State) (requests : List Request) (sessions : List (List Try)) (reported : List Report)

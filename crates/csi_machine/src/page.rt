@@ -1,4 +1,4 @@
-//! Writes pages of a listing while they are read, without a list of their volumes.
+//! Writes the entries of a page of a listing while the volumes are read, without a list of the volumes.
 
 ghost use Rattle.std.specs.Prelude.{◌≡◌, ◌++◌, ◌∷◌, [], OnOk};
 ghost use Rattle.pbmessage.specs.Kept.{Keeps};

@@ -1,4 +1,4 @@
-//! The trait of requests that can be planned in the same way: from the configuration and reads of the keeper.
+//! The trait of requests that are planned from the configuration and reads of the keeper.
 
 ghost use Rattle.std.specs.Prelude.{◌≡◌, None, IfErr, IfOk, IfSome};
 ghost use Rattle.csi_config.specs.declared.config.Config.{Config as AnyConfig};

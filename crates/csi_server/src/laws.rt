@@ -52,7 +52,7 @@ pub fn stop_leaves_state<C, S: Service<C>>(config: &C)
 
 /// Each reply in a run of any service is valid in the envelope. Its status is a status code. If the status is
 /// 0, the reply has a body and no text. If the status is not 0, the reply has a text and no body. This
-/// includes the replies to calls that are marked as refused for memory or by the store.
+/// includes the replies to calls that are refused for memory or by the store.
 pub fn formed<C, S: Service<C>>(config: &C)
     ensures { (old new : S) (s : S.State) (events : List Event)
         → Runs (S.machine config.now) (S.model config.now old) (S.model config.now new) s events
@@ -131,7 +131,7 @@ pub fn pending<K: Keeper>(config: &Config)
 {}
 
 /// A call with a known path, a readable message and valid arguments gets the machine's answer to its request.
-/// Any other call gets a fixed reply and changes no State. Each valid request has a call.
+/// Any other call changes nothing, and its reply does not depend on the State. Each valid request has a call.
 pub fn asking()
     ensures exact { (call : CallBytes) (r : Request) → (asked call ≡ Some r) ↔ Asks call r }
     ensures answered { (config : AnyConfig) (s : MachineState) (call : CallBytes) (r : Request)

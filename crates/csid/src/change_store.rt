@@ -33,12 +33,12 @@ use std::cell::Cell;
 use std::rc::Rc;
 use std::{io, str};
 
-/// A peer that gives each exchange a deadline and records that an exchange was made. Frames and replies pass
-/// through unchanged.
+/// Wraps a [`Peer`], the program at the other end of a connection. Gives each exchange of a frame and its
+/// reply a deadline, and records that an exchange was made. Frames and replies pass through unchanged.
 pub(crate) struct TrackedPeer<P> {
     peer: P,
     deadline: Rc<Deadline>,
-    // Set by each exchange, and cleared when a reply is written.
+    // True if a frame was sent to the change store since the last reply to a client.
     is_asked: Rc<Cell<bool>>,
 }
 
@@ -77,10 +77,10 @@ pub(crate) struct OpenChangeStore {
     pub(crate) keeper: Remote,
     /// The connection to the change store, on which it is asked if it leads.
     pub(crate) stream: TimedStream,
-    /// True if a frame was sent to the change store since the last reply.
+    /// True if a frame was sent to the change store since the last reply to a client.
     pub(crate) is_asked: Rc<Cell<bool>>,
-    /// True if a reply was held back because the change store did not lead. The next connection then reads
-    /// the volumes again.
+    /// True if a reply to a client was held back because the change store did not lead. The next connection
+    /// then reads the volumes again.
     pub(crate) is_cut: bool,
 }
 
@@ -134,11 +134,12 @@ pub(crate) fn leads(alloc: Global, stream: &TimedStream) -> bool {
     is_leading(alloc, &mut Channel::new(stream, stream))
 }
 
-/// Asks a change store, before each reply, if the change store leads.
+/// Confirms before each reply to a client that the change store leads. Asks the change store only if no frame
+/// was sent to it since the last reply.
 #[derive(Clone, Copy, Drop)]
 pub(crate) struct ChangeStoreLeadership<'a> {
     pub(crate) stream: &'a TimedStream,
-    /// True if a frame was sent to the change store since the last reply.
+    /// True if a frame was sent to the change store since the last reply to a client.
     pub(crate) is_asked: &'a Rc<Cell<bool>>,
     pub(crate) alloc: Global,
 }
@@ -233,8 +234,8 @@ fn make_meta<P: Peer>(alloc: Global, path: &str, change_store: &mut P) -> Result
     }
 }
 
-// Fails unless the row of the table `meta` has the format of change stores. A change store without any row
-// gets a row of `meta`. Rows without a row of `meta` are refused.
+// Fails unless the row of the table `meta` has format 2, the format of change stores. A change store without
+// any row gets a row of `meta`. Rows without a row of `meta` are refused.
 fn check_or_make_meta<P: Peer>(
     alloc: Global,
     path: &str,

@@ -32,7 +32,7 @@ pub(crate) fn check_tables(
     csid_listings::check_tables(console, path, &config)
 }
 
-/// Writes a list of the volumes in a file of tables.
+/// Writes a list of the volumes in a file of tables on standard output, in JSON if `is_json` is true.
 ///
 /// # Errors
 ///

@@ -143,8 +143,8 @@ pub(crate) struct OpeningLimits {
     pub(crate) cache_pages: usize,
 }
 
-// Returns how many pages of a file with `count` pages an opening keeps in memory: half of the pages and at
-// most `most` pages, but never fewer than 2,000.
+// Returns how many pages of a file with `count` pages an opening keeps in memory: half of the pages, but at
+// most `most` pages. If this is fewer than 2,000, returns 2,000.
 fn cached_pages(count: u64, most: u64) -> u64
     ensures least { 2000 ≤ result }
     ensures share { (result ≡ 2000) ⊎ ((result * 2 ≤ count) × (result ≤ most)) }

@@ -13,14 +13,15 @@ const MEMORY_GROUPS: &str = "/sys/fs/cgroup/memory";
 // The size in bytes of a page of memory in `/proc/self/statm`.
 const PAGE_BYTES: u64 = 4096;
 
-// The part of a control group's limit that is left for calls, in bytes. An eighth of the limit is left too.
+// The part of a control group's limit that is left for calls, in bytes. An eighth of the limit is left for
+// calls in addition.
 const CALL_BYTES: u64 = 8 << 20;
 
 // The part of the address space that is left for calls, in bytes. A call that needs more memory is refused,
 // and the process goes on.
 const CALL_SPACE_BYTES: u64 = 4 << 20;
 
-// A limit of memory, and how much of it the process uses.
+// A limit of memory, and how much memory the process used at the start and at the last measurement.
 struct Limit {
     // The limit in bytes.
     most: u64,

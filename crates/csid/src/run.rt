@@ -120,7 +120,7 @@ fn task<'a>(alloc: Global, arguments: &ArgMatches<'a>) -> Result<Task<'a>, Failu
 ///
 /// # Errors
 ///
-/// Returns why the program ends with a status other than 0. The caller reports it.
+/// Returns the failure, which gives the program its exit status. The caller reports the failure.
 pub(crate) fn run(console: &Console<'_>) -> Result<(), Failure> {
     let arguments = arguments(console.rt)?;
     let Some(matches) = read_arguments(console.rt, arguments.as_slice())? else {

@@ -87,7 +87,7 @@ fn listen(rt: &HostRuntime, path: &str, group: Option<&str>) -> Result<UnixListe
     }
 }
 
-// Reports how the calls of a connection ended, unless they ended without a failure.
+// Reports the failure with which the calls of a connection ended, if there is one.
 fn report_outcome(console: &Console<'_>, ending: Ending, now: Instant, end: RunEnd) {
     if let Err(failure) = outcome(Endpoint::Connection, end) {
         console.report_end(ending, now, &failure);
@@ -119,7 +119,8 @@ struct Service<'a> {
     gauge: &'a MemoryGauge,
 }
 
-// Begins the turn of a connection. If that fails, reports the error and returns `None`.
+// Begins the turn of a connection, in which its calls are answered. After an error, reports the error and
+// returns `None`.
 fn turn_of<'a>(
     console: &'a Console<'a>,
     waiting: &'a mut Waiting,

@@ -11,7 +11,7 @@ use std::alloc::Global;
 /// Reported if new tables were made.
 pub(crate) const NEW_TABLES: &str = "no tables were there, and new ones were made";
 
-// Fails if the file has a fault, and returns `Ok` if `fault` is `None`.
+// Converts the fault of the file at `path` to the program's failure, and `None` to `Ok`.
 fn existing_failure(alloc: Global, path: &str, fault: Option<FileFault>) -> Result<(), Failure>
     ensures { IfErr result (λ failure. IsOrNoMemory 4 failure) }
 {

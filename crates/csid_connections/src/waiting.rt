@@ -20,8 +20,8 @@ use std::os::fd::{AsRawFd, RawFd};
 use std::os::unix::net::{UnixListener, UnixStream};
 use std::time::{Duration, Instant};
 
-// The greatest number of connections in the queue. Another connection replaces the oldest connection that has
-// sent no call.
+// The greatest number of connections in the queue. If one more connection comes, the oldest connection that
+// has sent no call is closed.
 const MOST: usize = 256;
 
 // The greatest number of connections that one call of `look` accepts.

@@ -9,7 +9,7 @@ use csid_console::Console;
 use sqlite::{Alter, Connection, Error};
 use std::fmt;
 
-/// The counts of tables. Its `Display` is one line.
+/// The counts of tables: volumes, attachments, the next number and the format. Its `Display` is one line.
 #[derive(Clone, Copy)]
 pub struct Content {
     volumes: i64,

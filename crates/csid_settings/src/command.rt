@@ -8,9 +8,9 @@ use command_line::{
 /// The filter of a listing. A volume is listed if it meets each condition that is given.
 #[derive(Clone, Copy)]
 pub struct Chosen<'a> {
-    /// Only the volume with this id; `None` for any id.
+    /// The id of the volume that is listed, such as `vol-1`, or `None` for any id.
     pub id: Option<&'a str>,
-    /// Only the volume created under this name; `None` for any name.
+    /// The name under which the listed volume was created, or `None` for any name.
     pub name: Option<&'a str>,
     /// The name of the pool whose volumes are listed, or `None` for any pool.
     pub pool: Option<&'a str>,
@@ -360,7 +360,7 @@ fn place_of_volumes<'a>(arguments: &ArgMatches<'a>) -> Volumes<'a> {
     }
 }
 
-// Returns the task of `csid serve`.
+// Returns the options of `csid serve`.
 fn serve_task<'a>(arguments: &ArgMatches<'a>) -> Serving<'a> {
     Serving {
         socket: arguments.get_str("socket").unwrap_or(""),
