@@ -31,9 +31,9 @@ const BUSY: Error = Error::SqliteFailure(ErrorCode::DatabaseBusy);
 pub struct FilesAt<'a, S> {
     /// The operating system, which gives the files.
     pub rt: HostRuntime,
-    /// The path of the database file. The WAL is next to this file, with `-wal` at the end of its name. A path
-    /// that is `:memory:` or begins with `file:` is refused, since SQLite would not take it as the name of a
-    /// file.
+    /// The path of the database file. The WAL is next to this file, with `-wal` at the end of its name.
+    /// A path that is `:memory:` or begins with `file:` is refused, since SQLite would not take it as the
+    /// name of a file.
     pub path: &'a str,
     /// The contents of the files before the run. The contracts of a run hold for any contents.
     pub start: S,
@@ -95,8 +95,8 @@ impl<O: Observer> Run<'_, O> {
     ///
     /// # Errors
     ///
-    /// - `NoFiles`: the path is refused, or the operating system gives no files or no random seed. No call was
-    ///   read.
+    /// - `NoFiles`: the path is refused, or the operating system gives no files or no random seed. No call
+    ///   was read.
     /// - `NotOpened` or `Refused`: the files were not opened, or their database was refused. No call was
     ///   read.
     /// - `Left`: the store refused a call.

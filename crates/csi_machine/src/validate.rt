@@ -97,7 +97,8 @@ fn validate_volume(alloc: Global, request: &Validate, volume: &Volume) -> Result
 /// - the volume has the key of each capability
 /// - the parameters of the request are empty or equal the parameters of the volume
 ///
-/// The plan changes nothing. If the text is not the id of a volume, the keeper is not called.
+/// The request is refused if no volume has the id. The plan changes nothing. If the id does not have the form
+/// of a volume id, the keeper is not called.
 ///
 /// # Errors
 ///

@@ -1,5 +1,5 @@
-//! Answers ListVolumes (CSI specification, 'ListVolumes'). The entries of a page are written while the volumes
-//! are read, and not collected in a response first.
+//! Answers ListVolumes (CSI specification, 'ListVolumes'). The entries of a page are written while the
+//! volumes are read, and not collected in a response first.
 
 ghost use Rattle.std.specs.Prelude.{◌≡◌, ◌++◌, [], Some, Ok, OnOk};
 ghost use Rattle.pbmessage.specs.Kept.{Keeps};
