@@ -1,4 +1,5 @@
-//! Decodes the fields of a page.
+//! Decodes the fields of a page: the row of the table `meta`, rows of volumes and attachments, and the token
+//! of the next page.
 
 ghost use Rattle.std.specs.Prelude.{◌≡◌, ◌≤◌, IfErr, IfOk, IsUtf8, length};
 ghost use Rattle.pbwire.specs.Reading.{wire_field_of};

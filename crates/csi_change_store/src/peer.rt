@@ -45,7 +45,7 @@ pub struct Channel<R, W> {
 }
 
 impl<R: Read, W: Write> Channel<R, W> {
-    /// Creates a channel before its first exchange.
+    /// Makes a channel that has made no exchange yet.
     pub fn new(reader: R, writer: W) -> Channel<R, W>
         ensures ends { (result.reader ≡ reader) × (result.writer ≡ writer) }
         ensures begins { result.exchanges ≡ 0 }

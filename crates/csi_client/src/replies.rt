@@ -1,4 +1,4 @@
-//! Writes a reply as lines.
+//! Writes a reply as one line, and its decoded body as further lines.
 
 ghost use Rattle.std.specs.Prelude.{◌≡◌, ◌≢◌, ◌++◌, ℕ, IfErr, IfOk, OnErr, OnOk, Some, Err, codes, decimal};
 ghost use Rattle.pbmessage.specs.declared.message.DecodeFault.TheVariants.{Malformed, NoMemory};

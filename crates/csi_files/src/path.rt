@@ -1,4 +1,4 @@
-//! Serves calls over the files at a path.
+//! Opens the files at a path, and serves calls over them.
 
 ghost use Rattle.std.specs.Prelude.{◌≡◌, false, true, IfErr, IfOk, IsTrue};
 ghost use Rattle.sqlite_std_file.specs.File.{IsFresh, file_is_usable};

@@ -1,4 +1,4 @@
-//! Serves calls over two open files.
+//! Serves calls over an open database file and its WAL, and closes both.
 
 ghost use Rattle.std.specs.Prelude.{◌≡◌, ◌↔◌, false, IfErr, IfOk, IsTrue};
 ghost use Rattle.sqlite.specs.Files.{file_state};

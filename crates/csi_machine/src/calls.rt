@@ -27,8 +27,8 @@ use csi_types::Request;
 pub(crate) use listing::append_page;
 use std::alloc::Global;
 
-/// Returns the plan of a request, except Probe, ListVolumes and CreateVolume, which are answered without a
-/// plan.
+/// Returns the plan of a request. The request must not be Probe, ListVolumes or CreateVolume, which are
+/// answered without a plan.
 pub(crate) fn plan_of<K: Keeper>(
     alloc: Global,
     config: &Config,

@@ -1,4 +1,4 @@
-//! The volume machine over a keeper, as a service.
+//! Makes each keeper a service, which answers calls as the volume machine does. [`serve`] runs this service.
 
 ghost use Rattle.std.specs.Prelude.{◌≡◌, ◌≤◌, ℕ, List, None, Ok};
 ghost use Rattle.std.specs.Io.KnownBytes.{Consumes, IsAtEnd, Keeps};

@@ -128,7 +128,7 @@ fn is_leading<P: Peer>(alloc: Global, change_store: &mut P) -> bool
 }
 
 /// Asks the change store at the other end of a connection if it leads, and returns true if it answers yes.
-/// If it leads, the copy in memory still equals its volumes.
+/// Then no other change store has made a change, and a copy that has each change of this program is current.
 pub(crate) fn leads(alloc: Global, stream: &TimedStream) -> bool {
     stream.deadline().begin_exchange();
     is_leading(alloc, &mut Channel::new(stream, stream))

@@ -137,7 +137,8 @@ fn bytes_of(rt: &HostRuntime, path: &str, pages: Pages) -> io::Result<u64> {
 #[derive(Clone, Copy)]
 pub(crate) struct OpeningLimits {
     /// The greatest number of bytes of memory that the opening takes: six times the bytes of the file and its
-    /// WAL. A short row takes less than six times its length in memory, and a long row less than twice.
+    /// WAL, without free pages. A short row takes less than six times its length in memory, and a long row
+    /// less than twice.
     pub(crate) bytes: usize,
     /// The greatest number of pages of the file that the opening keeps in memory.
     pub(crate) cache_pages: usize,

@@ -1,4 +1,4 @@
-//! Runs the task of the command line.
+//! Parses the command line of `csid` and runs its task: answers calls, or checks, copies or lists tables.
 
 ghost use Rattle.std.specs.Prelude.{IfErr};
 ghost use Rattle.csid_settings.specs.Statuses.{IsOrNoMemory};

@@ -87,7 +87,7 @@ pub(crate) struct TablesRun<'a, O> {
     pub(crate) rt: HostRuntime,
     /// The configuration under which calls are answered.
     pub(crate) config: &'a Config,
-    /// The file of tables, and its options.
+    /// The path of the file of tables, and how the file is opened.
     pub(crate) file: TablesFile<'a>,
     /// The observer, which reports how the calls are served.
     pub(crate) observer: &'a O,

@@ -1,4 +1,5 @@
-//! Checks a file of tables before it is opened.
+//! Checks the path and the file of tables before an opening. Converts each fault that `existing.rt` finds to
+//! the program's failure.
 
 ghost use Rattle.std.specs.Prelude.{IfErr};
 ghost use Rattle.csid_settings.specs.Statuses.{IsOrNoMemory};
@@ -74,7 +75,7 @@ fn check_wal(rt: &HostRuntime, path: &str) -> Result<(), Failure>
 ///
 /// # Errors
 ///
-/// If the file may not be opened, or memory is refused.
+/// If the file fails one of these checks, or memory is refused.
 pub(crate) fn check_file(rt: &HostRuntime, file: &TablesFile<'_>) -> Result<(), Failure>
     ensures { IfErr result (λ failure. IsOrNoMemory 4 failure) }
 {
@@ -92,7 +93,7 @@ pub(crate) fn check_file(rt: &HostRuntime, file: &TablesFile<'_>) -> Result<(), 
 ///
 /// # Errors
 ///
-/// If the file may not be opened, or memory is refused.
+/// If the file fails one of these checks, or memory is refused.
 pub(crate) fn prepare(rt: &HostRuntime, file: &TablesFile<'_>) -> Result<(), Failure>
     ensures { IfErr result (λ failure. IsOrNoMemory 4 failure) }
 {

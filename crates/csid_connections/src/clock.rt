@@ -40,8 +40,8 @@ impl Since {
 }
 
 /// The time of the current call or reply. The time of a call begins with the first byte of the call. The time
-/// of a reply begins with the first write of the reply that waits, and replaces the time of the call. When
-/// the reply is written, no time runs until the next call.
+/// of a reply begins with the first write of the reply that waits, and replaces the time of the call. After
+/// the reply, neither time runs until the next call.
 #[derive(Clone, Copy)]
 pub(crate) struct CallClock {
     // The time when the peer last sent or took bytes.

@@ -1,4 +1,4 @@
-//! How long the server waits for a peer.
+//! The limits of the time for which the server waits for a peer.
 
 ghost use Rattle.csid_connections.specs.Timing.{IsLeast, LeftOf};
 ghost use Rattle.std.specs.Duration.{as_nanos};

@@ -15,7 +15,7 @@ use sqlite::{Alter, Connection};
 use std::fmt::{self, Display};
 use std::io::Write;
 
-/// The counts of pools and nodes of a configuration. Its `Display` is one line.
+/// A line about a configuration: the name of the plugin, and the numbers of pools and nodes.
 #[derive(Clone, Copy, Drop)]
 struct Summary<'a> {
     config: &'a Config,

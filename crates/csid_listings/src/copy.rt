@@ -228,7 +228,7 @@ pub(crate) fn open_copy(
 /// A task over the copy of tables.
 #[derive(Clone, Copy)]
 pub(crate) enum CopyTask<'a> {
-    /// Check that the tables can be adopted under a configuration.
+    /// Check that the tables can be served under a configuration.
     Check(&'a Config),
     /// List the chosen volumes, in JSON if the flag is true.
     List(&'a Chosen<'a>, bool),

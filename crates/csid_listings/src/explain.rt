@@ -124,7 +124,8 @@ fn line<S: Alter>(
     }
 }
 
-/// Reports details of the row for which tables are refused, if the fault is in a row.
+/// Reports details of the volume, the pool or the node for which tables are refused. Reports nothing if the
+/// fault is of another kind.
 pub(crate) fn explain<S: Alter>(
     console: &Console<'_>,
     path: &str,

@@ -1,4 +1,4 @@
-//! Failures about tables, and a keeper over the tables on a connection.
+//! Makes a keeper over the tables on a connection, and converts errors of tables to the program's failures.
 
 ghost use Rattle.std.specs.Prelude.{◌≡◌, false, IfErr, IfOk};
 ghost use Rattle.csi_adoption.specs.Adopting.{IsAdopted};

@@ -78,9 +78,9 @@ pub struct TablesFile<'a> {
 /// The store that keeps the volumes of a server.
 #[derive(Clone, Copy)]
 pub enum Volumes<'a> {
-    /// The tables of a file.
+    /// The tables of a file (`--tables`).
     Tables(TablesFile<'a>),
-    /// The change store that listens at the socket with this path.
+    /// The change store that listens at the socket with this path (`--log`).
     ChangeStore(&'a str),
 }
 
@@ -89,7 +89,7 @@ pub enum Volumes<'a> {
 pub struct Serving<'a> {
     /// The path at which the socket is made.
     pub socket: &'a str,
-    /// The place of the volumes: the tables of a file (`--tables`) or a change store (`--log`).
+    /// The store that keeps the volumes: the tables of a file, or a change store.
     pub volumes: Volumes<'a>,
     /// The file of the configuration, or `None` for the sample configuration.
     pub config: Option<&'a str>,

@@ -6,8 +6,8 @@ use csi_rules::ID_PREFIX;
 use csi_types::{Items, Map, Text};
 use std::alloc::{AllocError, Global};
 
-/// Returns the name of the access mode with this number (CSI specification, 'CreateVolume'), or `UNKNOWN` for
-/// any other number.
+/// Returns the name of the access mode with this number, 1 to 7 (CSI specification, 'CreateVolume'). Returns
+/// `UNKNOWN` for any other number.
 pub(crate) fn mode_name(mode: u8) -> &'static str {
     match MODE_NAMES.get(usize::from(mode)) {
         Some(name) => name,
