@@ -1,4 +1,4 @@
-//! Laws for several clients that change volumes at once: the history of their requests is linearizable.
+//! Laws for several clients that change volumes at once: their objects are linearizable.
 //!
 //! A client tries each of its requests until it is answered, as the sidecars of Kubernetes do. Replies are
 //! lost, requests are refused for memory or by the store, `csid` stops and starts again, and clients give up.

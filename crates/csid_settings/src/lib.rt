@@ -1,5 +1,5 @@
-//! The settings of the server: its command line, its configuration and the groups of the system. Also the
-//! failures with which it ends, each with its line and its exit status.
+//! The settings and the ends of the server: its command line, its configuration, the groups of the system,
+//! and each failure with its line and its exit status.
 //!
 //! ```rust
 //! match read_arguments(&rt, arguments.as_slice())? {
