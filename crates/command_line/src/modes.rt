@@ -1,4 +1,4 @@
-//! The access modes, as both programs write them.
+//! The names of the access modes, as `csid` and `csictl` write them.
 
 /// The name of each access mode, at the index that is its number (CSI specification, 'CreateVolume',
 /// `VolumeCapability.AccessMode.Mode`). The first, `UNKNOWN`, is not a mode.

@@ -1,4 +1,4 @@
-//! A name with a statement about the named thing.
+//! A name with a statement about the named thing, such as the path of a file and why it cannot be read.
 
 use std::alloc::{AllocError, Global};
 use std::fmt::{self, Display};

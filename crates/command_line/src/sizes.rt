@@ -1,4 +1,4 @@
-//! Writes sizes for people.
+//! Writes sizes for people, such as `1.5 MiB`.
 
 ghost use Rattle.std.specs.Prelude.{◌≡◌, IfOk, codes};
 ghost use Rattle.std.specs.String.{string_bytes};

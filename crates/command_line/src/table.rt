@@ -35,12 +35,12 @@ fn put_row(out: &mut String, row: &[String], widths: &[usize]) -> Result<(), All
     out.push('\n')
 }
 
-// Returns the width that a word needs, at most 80.
+// Returns the width that a word needs in bytes, or 0 if the word is longer than 80 bytes.
 fn width_of(word: &str) -> usize {
     if word.len() <= WIDEST { word.len() } else { 0 }
 }
 
-// Widens the columns so that the words of a row fit.
+// Widens the columns so that the words of a row fit, except words of more than 80 bytes.
 fn widen(widths: &mut Vec<usize>, row: &[String]) -> Result<(), AllocError> {
     for (at, word) in row.iter().enumerate() {
         let wanted = width_of(word.as_str());
@@ -104,7 +104,7 @@ impl Table {
         self.add(row)
     }
 
-    /// Returns the lines of the table.
+    /// Returns the table as text, with one line for each row.
     ///
     /// # Errors
     ///

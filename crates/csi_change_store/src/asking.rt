@@ -85,7 +85,7 @@ pub fn read_frame(alloc: Global, token: &[u8]) -> Result<Vec<u8>, StoreFault>
     Ok(frame_of(alloc, ChangeStoreCall::Read, message.as_slice())?)
 }
 
-/// Makes the frame that tells a change store without rows to make its row of the table `meta`.
+/// Makes the frame that asks a change store without rows to make its row of the table `meta`.
 ///
 /// # Errors
 ///

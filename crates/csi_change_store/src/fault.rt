@@ -20,9 +20,9 @@ pub enum RowsFault {
     /// The value of `readonly` of an attachment is not 0 or 1.
     #[error("volume {number} at node {node}: its readonly is not 0 or 1")]
     Flag {
-        /// The number of the attachment's volume, as it is in the row.
+        /// The number of the attachment's volume in the row.
         number: u64,
-        /// The id of the attachment's node, as it is in the row.
+        /// The id of the attachment's node in the row.
         node: String,
     },
     /// The database refused the row of the table `meta`, with this error.

@@ -1,4 +1,5 @@
-//! Decodes the fields of a page.
+//! Decodes the fields of a page: the row of the table `meta`, rows of volumes and attachments, and the token
+//! of the next page.
 
 ghost use Rattle.std.specs.Prelude.{◌≡◌, ◌≤◌, IfErr, IfOk, IsUtf8, length};
 ghost use Rattle.pbwire.specs.Reading.{wire_field_of};
@@ -70,8 +71,8 @@ fn cells_of<'a>(kinds: &[CellKind], payload: &'a [u8]) -> Result<Cells<'a>, Rows
     }
 }
 
-// Returns the bytes as a text, for the row of the volume with this number or of its attachment. Fails with
-// `Untyped` if the bytes are not UTF-8.
+// Returns the bytes as a text. Fails with `Untyped(number)` if the bytes are not UTF-8. `number` is the
+// number of the volume or of the attachment's volume.
 fn text_of<'a>(number: u64, bytes: &'a [u8]) -> Result<&'a str, RowsFault>
     ensures text { IfOk result (λ text. (text.now ≡ bytes.now) × IsUtf8 bytes.now) }
     ensures fault { IfErr result (λ fault. (fault ≡ Untyped number) × (IsUtf8 bytes.now → ⊥)) }

@@ -16,8 +16,8 @@ use pbwire::laws::spelled;
 use sqlite::{Alter, Transaction};
 use std::alloc::Global;
 
-/// The notes on pages: the parts that do not go into the tables. These are the token, the format, and whether
-/// there were rows.
+/// Notes on the pages that were read. They have the parts of the pages that do not go into the tables: the
+/// token of the next page and the format number. They also say if there were rows.
 #[derive(Drop)]
 pub struct PagesRead {
     /// The token of the next page. It is empty after the last page.

@@ -26,9 +26,9 @@ pub trait Peer {
 
     /// Sends a frame and waits for the reply.
     ///
-    /// If the frame requests a change, a reply with status 0 means that the peer made the change, and another
-    /// status means that it did not. Without a reply, the change may or may not have been made, and a stop
-    /// leaves the State with it or without it.
+    /// If the frame requests a change, a reply with status 0 means that the peer made the change. Another
+    /// status means that the peer did not make it. Without a reply, the change may or may not have been made:
+    /// a stop leaves the State with the change or without it.
     fn exchange(&mut self, alloc: Global, frame: &[u8]) -> Received
         ensures answers { Answers (model self.old) (model self.new) frame.now result }
         ensures asked { exchanged self.old self.new frame.now result };
@@ -45,7 +45,7 @@ pub struct Channel<R, W> {
 }
 
 impl<R: Read, W: Write> Channel<R, W> {
-    /// Creates a channel before its first exchange.
+    /// Makes a channel that has made no exchange yet.
     pub fn new(reader: R, writer: W) -> Channel<R, W>
         ensures ends { (result.reader ≡ reader) × (result.writer ≡ writer) }
         ensures begins { result.exchanges ≡ 0 }

@@ -15,8 +15,8 @@ use csi_keeper::StoreFault;
 use sqlite::{Alter, Error, Transaction};
 use std::alloc::Global;
 
-// The greatest number of pages that are read. With one row a page these are 1,048,576 rows: a row of the
-// table `meta`, 100,000 volumes, and about nine attachments of each volume.
+// The greatest number of pages that are read. If each page has one row, these are 1,048,576 rows: a row of
+// the table `meta`, 100,000 volumes, and about nine attachments of each volume.
 const MOST_PAGES: u64 = 1 << 20;
 
 /// The reason why the rows of a change store could not be read.
@@ -46,7 +46,8 @@ fn body_of(received: Received) -> Result<Vec<u8>, ReadFault>
     }
 }
 
-// Requests the page that a token names, and returns the body of the reply.
+// Requests the page with this token, and returns the body of the reply. An empty token requests the first
+// page.
 fn next_page<P: Peer>(alloc: Global, peer: &mut P, token: &[u8]) -> Result<Vec<u8>, ReadFault>
     ensures page { IfOk result (λ body. GivesPage P.exchanged peer.old peer.new token.now body.items) }
     ensures fault { IfErr result (IsPageless P.exchanged peer.old peer.new token.now) }

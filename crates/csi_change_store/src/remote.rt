@@ -1,4 +1,4 @@
-//! A change store that another program keeps.
+//! Sends each change to a change store that another program keeps. After a failure no more changes are sent.
 
 ghost use Rattle.std.specs.Prelude.{◌≡◌, Err, IsTrue, OnErr, false};
 ghost use Rattle.csi_keeper.specs.Keeper.{Changes};

@@ -30,8 +30,8 @@ pub trait Line {
         ensures sent { exchanged self.old self.new frame.now result };
 }
 
-/// Returns true if the client cannot know whether the server executed the call: the connection failed, or the
-/// connection ended before the complete reply. Any reply is an answer, also a malformed one.
+/// Returns true if it is unknown to the client whether the server executed the call: the connection failed,
+/// or it ended before the complete reply. A complete reply is an answer, even if it is malformed.
 /// [`Received::NoMemory`] counts as an answer too, since sending the call again would not help.
 pub fn is_unanswered(received: &Received) -> bool
     ensures { result ≡ is_unanswered received.now }

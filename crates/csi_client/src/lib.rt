@@ -18,8 +18,8 @@
 //!
 //! # Not promised
 //!
-//! An outcome may say that a read or a write failed, or that memory was refused, although it was not so.
-//! Tests in `tests/test_csictl_*.py` exclude that.
+//! The contracts do not exclude that an outcome reports a failed read or write, or refused memory, without
+//! such a failure. Tests in `tests/test_csictl_*.py` exclude that.
 #![tactic(auto)]
 
 mod again;

@@ -1,4 +1,4 @@
-//! Writes a reply as lines.
+//! Writes a reply as one line, and its decoded body as further lines.
 
 ghost use Rattle.std.specs.Prelude.{◌≡◌, ◌≢◌, ◌++◌, ℕ, IfErr, IfOk, OnErr, OnOk, Some, Err, codes, decimal};
 ghost use Rattle.pbmessage.specs.declared.message.DecodeFault.TheVariants.{Malformed, NoMemory};
@@ -41,7 +41,7 @@ fn put_content(alloc: Global, out: &mut Vec<u8>, text: &[u8], body: &[u8]) -> Re
     out.extend_from_slice(if text.is_empty() { b"-" } else { text })
 }
 
-// Makes the line of a reply.
+// Makes the line of a reply: its status as a number, the name of the status, and the body or the text.
 fn reply_line(alloc: Global, reply: &Reply<'_>) -> Result<Vec<u8>, AllocError>
     ensures { IfOk result (λ line. (code : Code) → reply.now.status ≡ number_of code
         → line.items ≡ first_line code (reply_bytes_of reply.now)) }
@@ -56,8 +56,8 @@ fn reply_line(alloc: Global, reply: &Reply<'_>) -> Result<Vec<u8>, AllocError>
 
 /// Appends one line for a reply: its status as a number, the name of the status, and the body in lower-case
 /// hexadecimal digits. If the body is empty, the line has the text of the reply instead of the body, or `-`
-/// if the text is empty too. The contract is only about replies whose status is one of the ten codes, as it
-/// is in each reply that [`take_reply`](envelope::take_reply) returns.
+/// if the text is empty too. The contract is only about replies whose status is one of the ten codes. Each
+/// reply that [`take_reply`](envelope::take_reply) returns has such a status.
 ///
 /// # Errors
 ///
@@ -71,7 +71,7 @@ pub fn put_reply_line(alloc: Global, out: &mut Vec<u8>, reply: &Reply<'_>) -> Re
     out.extend_from_slice(line.as_slice())
 }
 
-// Makes the lines of a response.
+// Returns the lines of a response as new bytes. So a caller whose memory is refused appends no partial lines.
 fn lines_of(alloc: Global, response: &Response) -> Result<Vec<u8>, AllocError>
     ensures { IfOk result (λ said. said.items ≡ lines response.now) }
 {
@@ -89,8 +89,8 @@ fn put_response(alloc: Global, out: &mut Vec<u8>, response: &Response) -> Result
     out.extend_from_slice(said.as_slice())
 }
 
-// Appends the lines of a decoded response. The response is borrowed, so its owner makes only one call that
-// can fail.
+// Appends the lines of a decoded response, or returns the fault if decoding failed. The response is borrowed,
+// so its owner makes only one call that can fail.
 fn put_decoded(
     alloc: Global,
     out: &mut Vec<u8>,

@@ -30,7 +30,7 @@ pub enum ShowEnd {
     /// The input ended after a complete reply, or was empty, and all replies were shown. The value is true if
     /// a reply had a status other than 0.
     Done(bool),
-    /// The stream has this fault. All replies before the fault were shown.
+    /// A reply of the stream is malformed, with this fault. All replies before it were shown.
     Malformed(ReplyFault),
     /// The body of a reply is not a response of the method. All replies before this reply were shown, and
     /// also the first line of this reply.
@@ -69,7 +69,7 @@ pub(crate) struct Printer {
 }
 
 impl Printer {
-    // Makes the lines of a reply in the buffer.
+    // Makes the lines of a reply in the buffer. If the body is malformed, the buffer has only the first line.
     fn make_lines(&mut self, alloc: Global, reply: &Reply<'_>) -> Result<(), DecodeFault>
         ensures method { self.new.method ≡ self.old.method }
         ensures refused { self.new.refused ≡ self.old.refused }
@@ -193,7 +193,7 @@ impl Printer {
         Shown::Fed(at)
     }
 
-    // Returns how the run ended. It is called at the end of the input.
+    // Ends the last frame at the end of the input, and returns how the run ended.
     fn finish(&self, framer: &mut ReplyFramer) -> ShowEnd
         ensures { (read : List ℕ) (held holds : Option (List ℕ))
             → Live self.now.method read framer.old held holds self.now.refused
@@ -222,7 +222,7 @@ fn halted(halt: Halt) -> ShowEnd
 /// of [`put_body_lines`](crate::put_body_lines).
 ///
 /// A read takes at most 4,096 bytes, and a run makes at most 2^32 reads. As soon as the frame of a reply is
-/// complete, the reply is written in one write and flushed, by [`send`](crate::send). Nothing more is read
+/// complete, the reply is written in one write and flushed, by `send` of `frames_core`. Nothing more is read
 /// after a fault, after a body that cannot be decoded, after a failed write, or after memory was refused.
 pub fn show_all<R: Read, W: Write>(
     alloc: Global,

@@ -85,10 +85,11 @@ pub fn guessed_id(config: &Config)
 /// exceptions below.
 ///
 /// The law starts in a State that meets the invariant, and other clients make requests that pass the checks
-/// of their arguments. A delete, an unpublish, a modify and a question about a volume have the same plan
-/// before and after these requests. So does a publish, unless its node is full in one of the two States. A
-/// create with a new name has the same size, name and parameters, but its pool and its number come from the
-/// later State. So it may be refused in one of the two States and not in the other.
+/// of their arguments. DeleteVolume, ControllerUnpublishVolume, ControllerModifyVolume and
+/// ValidateVolumeCapabilities have the same plan before and after these requests. ControllerPublishVolume
+/// also has the same plan, unless its node is full in one of the two States. A CreateVolume with a new name
+/// has the same size, name and parameters, but its pool and its number come from the later State. So it may
+/// be refused in one of the two States and not in the other.
 pub fn made_later(config: &Config)
     ensures { (s : State) (r : Request) (others : List Request) → IsInvariant config.now s
         → AllByRecursion (λ q. checked q ≡ None) others → AreOfOtherVolumes config.now s others r
@@ -140,7 +141,7 @@ pub fn linearizable(config: &Config)
     inclusions();
 }
 
-/// A history of two clients exists in which a stop comes between the tries of one of them.
+/// A history of two clients exists in which a stop comes between two tries of one client.
 ///
 /// One client makes a request, and its answer is lost. Another client makes a request and is answered. After
 /// a stop the first client tries again and is answered. If the two requests leave each other's objects alone
@@ -181,11 +182,10 @@ pub fn retry_alone(config: &Config)
 
 /// A history of calls of several clients is linearizable if no two of them work on one object at once.
 ///
-/// This is the law [`linearizable`] for calls and replies in bytes, over any keeper. Calls may be marked as
-/// refused. Each client repeats a call until it hears the reply. A call may be refused for memory or by the
-/// store, a reply may be lost, and a stop leaves a State that `csi_server::laws::pending` allows. If a call
-/// is not a request, or is refused for its arguments, it does not count as a try. So any client may make such
-/// a call at any time.
+/// This is the law [`linearizable`] for calls and replies in bytes, over any keeper. Each client repeats a
+/// call until it hears the reply. A call may be refused for memory or by the store, a reply may be lost, and
+/// a stop leaves a State that `csi_server::laws::pending` allows. If a call is not a request, or is refused
+/// for its arguments, it does not count as a try. So any client may make such a call at any time.
 ///
 /// # Not promised
 ///

@@ -18,8 +18,9 @@ use csi_through::{KeeperChanges, NotCopied, Through};
 use sqlite::{Alter, Connection};
 use std::io::{Read, Write};
 
-/// Adopts the tables on a connection, and returns true if the tables are new. A database without tables gets
-/// new tables, unless the options require existing tables.
+/// Adopts the tables on a connection: checks them and makes a keeper over them. Returns the keeper, and true
+/// if the tables are new. A database without tables gets new tables, unless the options require existing
+/// tables.
 ///
 /// # Errors
 ///
@@ -61,7 +62,8 @@ enum Source<'a, S: Alter, O> {
     File(Reserved<'a, S, O>),
 }
 
-// Copies the volumes in the tables into memory. While the copy is made, memory for calls is held back.
+// Copies the volumes in the tables into memory. While the copy is made, 4 MiB of memory are held back for
+// calls.
 fn copy_tables<'a, S: Alter + Drop, O: Observer>(
     run: &Run<'a, O>,
     tables: Tables<S>,
@@ -88,8 +90,8 @@ fn copy_tables<'a, S: Alter + Drop, O: Observer>(
     }
 }
 
-// Returns the source of answers: a copy in memory, if the options allow a copy and memory has room for it;
-// otherwise the file.
+// Returns the source of answers. It is a copy in memory if the options allow a copy and memory has room for
+// it, otherwise the file. Fails if the database refuses a read for the copy.
 fn source_of<'a, S: Alter + Drop, O: Observer>(
     run: &Run<'a, O>,
     tables: Tables<S>,

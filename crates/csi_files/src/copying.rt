@@ -1,4 +1,4 @@
-//! Copies the WAL into the database file, after the store over both files was given up.
+//! Copies the WAL into the database file, after the store over both files has returned them.
 
 ghost use Rattle.std.specs.Prelude.{◌≡◌, ◌<◌, false, length, IfErr, IfOk, IsTrue, OnOk};
 ghost use Rattle.sqlite_wal.specs.Log.{AreUsable, image, state};
@@ -42,7 +42,8 @@ fn copy_frames<D: Disk>(log: &mut Log<D>) -> Result<(), wal::Error>
     log.finish()
 }
 
-// Does the same as `copy_frames`, but takes the log by value and returns its files.
+// Copies the committed frames of a log into the database file, and returns the files of the log. The WAL then
+// has 41 bytes.
 fn copy_log<D: Disk>(mut log: Log<D>) -> Result<Files<D>, (wal::Error, Files<D>)>
     requires { AreUsable log }
     ensures moved { IfOk result (λ pair. LeavesLog log pair) }
@@ -87,8 +88,8 @@ fn copy_long<D: Disk>(
 ///
 /// # Errors
 ///
-/// If the files name no page size, memory is refused, or the disk fails. After an error or a crash during the
-/// copy, recovery finds a content of the database that it could also have found before the copy.
+/// If the files have no valid page size, memory is refused, or the disk fails. After an error or a crash
+/// during the copy, recovery finds a content of the database that it could also have found before the copy.
 pub(crate) fn copy_wal<D: Disk>(
     alloc: Global,
     mut pair: Files<D>,

@@ -18,25 +18,27 @@ pub fn found_again<D: Disk>(config: &Config)
 }
 
 /// A life of two files is a series of runs over them. Each run of
-/// [`create_and_serve`](crate::Run::create_and_serve) continues the life of its files, however the run ends
-/// and whatever a crash after it leaves. A run over files that hold no database yet can begin a life.
+/// [`create_and_serve`](crate::Run::create_and_serve) continues the life of its files. This holds for each
+/// way in which the run ends, and for all contents that a crash after it can leave. A run over files that
+/// hold no database yet can begin a life.
 ///
-/// The law leaves out one end: an opening that fails while it reads the schema, because memory is refused or
-/// a read fails. Such a run writes nothing (docs/THEOREMS.md, "From files to files").
+/// The law does not cover one end of a run: an opening that fails while it reads the schema, because memory
+/// is refused or a read fails. Such a run writes nothing (docs/THEOREMS.md, "From files to files").
 pub fn went_on<D: Disk>(config: &Config)
     ensures { RunsGoOn D.Disk config.now }
 {}
 
-/// Each run of [`serve_path`](crate::Run::serve_path) continues the life of its files, however the run ends
-/// and whatever a crash after it leaves. This is the law [`went_on`] for the files at a path. The files have
-/// the contents that `S` names, and a crash before the run leaves these contents unchanged.
+/// Each run of [`serve_path`](crate::Run::serve_path) continues the life of the files at its path. This holds
+/// for each way in which the run ends, and for all contents that a crash after it can leave. [`went_on`]
+/// states this for two given files. The files have the contents that `S` names, and a crash before the run
+/// leaves these contents unchanged.
 pub fn went_on_at<S: Start>(config: &Config)
     ensures { PathGoesOn S.Start config.now }
 {}
 
 /// If a client repeats each call until it gets a reply, it gets the same replies as if each request were
-/// executed once. The State is also the same. This holds even if runs end in stops. No other client may
-/// change anything.
+/// executed once. The State at the end is also the same. This holds even if runs end in stops. No other
+/// client may change anything.
 ///
 /// The first run may be over files that hold no database yet. A run may end in any way that [`went_on`]
 /// covers. The calls of a run may fail with an internal error, and replies may be lost. The next run is over

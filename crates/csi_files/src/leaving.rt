@@ -23,8 +23,8 @@ pub fn leave<D: Disk + Drop>(conn: Connection<FileStore<D>>) -> Files<D>
     conn.into_store().close()
 }
 
-// Does the same as `leave`, and also returns true if the store was open. A store that meets a fault shuts
-// itself, and keeps the last commit.
+// Returns the files of a connection without reading or writing them, and true if the store was open. A store
+// that meets a fault shuts itself, and keeps the last commit.
 fn leave_open<D: Disk + Drop>(conn: Connection<FileStore<D>>) -> (Files<D>, bool)
     ensures left { IsLeft D.Disk conn result.0 }
     ensures open { AreClean D.Disk result.0.log result.0.db → IsTrue result.1
@@ -40,8 +40,8 @@ fn leave_open<D: Disk + Drop>(conn: Connection<FileStore<D>>) -> (Files<D>, bool
 ///
 /// # Errors
 ///
-/// If a fault has shut the store, or if copying the WAL fails. The error contains the files. Their last
-/// commit is in the WAL, in the database file or in both.
+/// If a fault has shut the store, a sync of a file has failed before, or copying the WAL fails. The error
+/// contains the files. Their last commit is in the WAL, in the database file or in both.
 pub(crate) fn close<D: Disk + Drop>(
     alloc: Global,
     conn: Connection<FileStore<D>>,
@@ -71,9 +71,9 @@ pub(crate) fn close<D: Disk + Drop>(
     }
 }
 
-/// Closes a connection and copies the WAL into the database file. If the copy fails, returns the files all
-/// the same, without an error: the last commit is in the WAL, in the database file or in both. `seed` is the
-/// seed of the random salts in the next header of the WAL.
+/// Closes a connection and copies the WAL into the database file. If the copy fails, returns the files
+/// without an error: the last commit is in the WAL, in the database file or in both. `seed` is the seed of
+/// the random salts in the next header of the WAL.
 pub(crate) fn close_or_leave<D: Disk + Drop>(
     alloc: Global,
     conn: Connection<FileStore<D>>,

@@ -3,9 +3,9 @@
 //!
 //! A [`Run`] does what `csid` does with files. [`Run::create_and_serve`] takes two files over any disks. It
 //! makes a database if the files hold none yet, opens them, adopts their tables, serves calls, and closes the
-//! files. It first copies the volumes into memory, unless the options forbid a copy. [`Run::adopt_and_serve`]
-//! begins with an open connection: it adopts the tables, serves calls, and closes the files.
-//! [`Run::serve_path`] opens the files at a path, and runs over them like `create_and_serve`.
+//! files. Before the first call, it copies the volumes into memory, unless the options forbid a copy.
+//! [`Run::adopt_and_serve`] begins with an open connection: it adopts the tables, serves calls, and closes
+//! the files. [`Run::serve_path`] opens the files at a path, and then does the same as `create_and_serve`.
 //!
 //! `specs/Files.antt` defines which State the bytes of two files have (`HasState`). A run requires files that
 //! have a State, and leaves files that have a State. So the next run can begin from the files that the last
@@ -18,20 +18,20 @@
 //! `starting.rt` makes a database in files that hold none and opens it, `serving.rt` serves calls over open
 //! files and closes them, and `adopted.rt` serves calls over the tables on a connection to any store.
 //! `making.rt` makes an empty database, and `reserve.rt` holds memory for the next opening of tables.
-//! `leaving.rt` closes files or gives them up as they are, and `copying.rt` copies the WAL into the database
-//! file. `specs/Streams.antt` has the bytes that a run reads and writes.
+//! `leaving.rt` closes files, or returns them without writing to them, and `copying.rt` copies the WAL into
+//! the database file. `specs/Streams.antt` has the bytes that a run reads and writes.
 //!
 //! The files of lemmas follow the same steps. `RunLemmas` carries a run over to other models of its store,
 //! and `ThroughLemmas` to a copy in memory. `LeaveLemmas`, `CopyLemmas` and `UnopenedLemmas` show that files
-//! hold an outcome of the connection: files that are given up, files whose WAL is copied, and files that are
-//! not opened. `FilesLemmas` shows that the State of files is the State of their tables, and `StartingLemmas`
-//! that files with a new database have the first State.
+//! hold an outcome of the connection: files that are returned unclosed, files whose WAL is copied, and files
+//! that are not opened. `FilesLemmas` shows that the State of files is the State of their tables, and
+//! `StartingLemmas` that files with a new database have the first State.
 //!
 //! ```rust
 //! let run = Run { alloc, config: &config, options, observer: &observer };
 //! match run.create_and_serve(files, opening, &mut reader, &mut writer) {
 //!     Ok(closed) => say(closed.report.end),
-//!     Err(failure) => report(failure), // what is left of the files is in it
+//!     Err(failure) => report(failure), // failure.into_files() returns the files
 //! }
 //! ```
 #![tactic(auto)]

@@ -23,8 +23,8 @@ use std::io::{self, ErrorKind};
 // much.
 const PAGE_BYTES: usize = 1024;
 
-/// The smallest size in bytes of a WAL that contains a change: the header of the WAL, and the smallest frame.
-/// This frame is its header and a page of 512 bytes.
+/// The smallest size in bytes of a WAL that contains a change: the header of the WAL with 32 bytes, and the
+/// smallest frame. This frame has a header of 24 bytes and a page of 512 bytes.
 pub const WAL_WITH_FRAME_BYTES: usize = 32 + 24 + 512;
 
 // The beginning of the first page that earlier releases wrote to a new file: the database header, and a leaf
@@ -48,7 +48,7 @@ pub enum NotLaidOut {
     Failed(Error),
 }
 
-// Returns the options of an opening that only writes the first page, so no page is kept in memory.
+// Returns the options of an opening that only writes the first page, so that one page in memory is enough.
 fn options(seed: u64) -> Options {
     Options {
         cache_pages: 1,
@@ -58,7 +58,7 @@ fn options(seed: u64) -> Options {
     }
 }
 
-// Opens the pages of files without reading them.
+// Opens the pages of files without reading them. If memory is refused, returns the files.
 fn pages_of<D: Disk>(alloc: Global, pair: Files<D>, seed: u64) -> Result<Pool<D>, Files<D>>
     ensures back { IfErr result (λ left. left ≡ pair) }
     ensures size { IfOk result (λ pool. (state pool).page_size ≡ page_bytes) }
@@ -147,14 +147,14 @@ fn is_zero(bytes: &[u8]) -> bool
     bytes.iter().all(|byte| *byte == 0)
 }
 
-// Returns the byte at the offset `at` of the first page of a new file.
+// Returns the byte at the offset `at` of the first page that earlier releases wrote to a new file.
 fn page_byte(at: usize) -> u8
     ensures { result ≡ page_byte at }
 {
     if at < HEAD.len() { HEAD[at] } else { 0 }
 }
 
-// Returns true if the first page of a new file begins with these bytes.
+// Returns true if the first page that earlier releases wrote to a new file begins with these bytes.
 fn begins_page(bytes: &[u8]) -> bool
     ensures { IsTrue result ↔ BeginsPage bytes.now }
 {
@@ -190,7 +190,8 @@ fn reads_torn<D: Disk>(file: &mut D, room: &mut [u8]) -> io::Result<bool>
     Ok(is_torn(room))
 }
 
-// Does the same as `reads_torn` for a file of `len` bytes, and allocates the memory for them.
+// Reads a file of `len` bytes into new memory. Returns true if a stop during the write of the first page
+// could leave this file.
 fn has_torn<D: Disk>(alloc: Global, file: &mut D, len: usize) -> io::Result<bool>
     requires { IsTrue (D.Disk.is_usable file.old) }
     ensures value { IfOk result (λ is. IsTrue (D.Disk.is_clean file.new) → len ≡ length (D.Disk.seen file.old)

@@ -1,4 +1,4 @@
-//! Serves calls over the files at a path.
+//! Opens the files at a path, and serves calls over them.
 
 ghost use Rattle.std.specs.Prelude.{◌≡◌, false, true, IfErr, IfOk, IsTrue};
 ghost use Rattle.sqlite_std_file.specs.File.{IsFresh, file_is_usable};
@@ -31,15 +31,16 @@ const BUSY: Error = Error::SqliteFailure(ErrorCode::DatabaseBusy);
 pub struct FilesAt<'a, S> {
     /// The operating system, which gives the files.
     pub rt: HostRuntime,
-    /// The path of the database file. The WAL has the same path with `-wal` at its end. A path that is
-    /// `:memory:` or begins with `file:` is refused, since SQLite would not take it as the name of a file.
+    /// The path of the database file. The WAL is next to this file, with `-wal` at the end of its name.
+    /// A path that is `:memory:` or begins with `file:` is refused, since SQLite would not take it as the
+    /// name of a file.
     pub path: &'a str,
     /// The contents of the files before the run. The contracts of a run hold for any contents.
     pub start: S,
     /// The greatest number of pages of the database file that are kept in memory.
     ///
-    /// An opening looks up each row in the index of names, and reads the pages of the index in any order. If
-    /// the index has more pages than this number, the opening reads a page again for nearly each row.
+    /// An opening looks up each row in the index of names, and reads the pages of the index in random order.
+    /// If the index has more pages than this number, the opening reads a page again for nearly each row.
     pub cache_pages: usize,
 }
 
@@ -94,7 +95,8 @@ impl<O: Observer> Run<'_, O> {
     ///
     /// # Errors
     ///
-    /// - `NoFiles`: the operating system gives no files or no random seed. No call was read.
+    /// - `NoFiles`: the path is refused, or the operating system gives no files or no random seed. No call
+    ///   was read.
     /// - `NotOpened` or `Refused`: the files were not opened, or their database was refused. No call was
     ///   read.
     /// - `Left`: the store refused a call.

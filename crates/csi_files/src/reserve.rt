@@ -63,8 +63,8 @@ pub(crate) fn room(alloc: Global) -> Result<Vec<Vec<u8>>, AllocError>
     Ok(blocks)
 }
 
-// After each growth of the next opening by this number of bytes, the observer is asked again if there is
-// room.
+// Each time the memory for the next opening has grown by this number of bytes, the observer is asked again if
+// there is room.
 const STEP_BYTES: usize = 1 << 18;
 
 // The memory that is held for the next opening.
@@ -111,7 +111,8 @@ impl Reserve {
         reserve
     }
 
-    // Holds all of the memory that the next opening takes.
+    // Holds all of the memory that the next opening takes. Fails if memory for a block is refused, or if
+    // fewer than 4 MiB stay free for calls.
     #[tactic(auto, using(crate::proofs::ReserveLemmas::one_more))]
     fn fill(&mut self) -> Result<(), AllocError>
         ensures full { OnOk result (IsFull self.new) }
@@ -130,7 +131,7 @@ impl Reserve {
     }
 
     // Adds a number of bytes to the memory that the next opening takes. If memory is held, holds these bytes
-    // too.
+    // too. If memory is refused, adds nothing.
     fn grow(&mut self, bytes: usize) -> Result<(), AllocError>
         ensures full { OnOk result (IsTrue self.old.is_held → IsFull self.new) }
         ensures wanted { OnOk result (self.new.wanted ≡ wanted_with self.old bytes) }
@@ -192,9 +193,10 @@ fn bytes_of(change: &Change) -> usize
     }
 }
 
-/// Tables, and memory that is held for the next opening of their file. A change that adds rows needs more of
-/// this memory, and reserves it first. If the memory is refused, the change is not made and fails with
-/// `NoMemory`, but the tables do not go down. A change that removes rows reserves nothing.
+/// Tables, and memory that is held for the next opening of their file. A change that adds rows or sets
+/// parameters needs more of this memory, and reserves it first. If the memory is refused, the change is not
+/// made and fails with `NoMemory`, but the tables do not go down. A change that removes rows reserves no
+/// memory.
 ///
 /// While tables are copied into memory, reading a page of volumes fails with `NoMemory` if the observer has
 /// no room.
@@ -262,8 +264,8 @@ impl<'a, S: Alter, O: Observer> Reserved<'a, S, O> {
         self.tables
     }
 
-    // Returns true if the observer has no room for another page of the copy. Returns false if the tables are
-    // down, since reading a page fails with `Down` then.
+    // Returns true if the observer has no room for another page of the copy. Returns false if no copy is
+    // made, or if the tables are down, since reading a page fails with `Down` then.
     fn lacks_room(&self) -> bool
         ensures { IsTrue result → is_down S.Store self.now.tables ≡ false }
     {

@@ -11,8 +11,8 @@ use sqlite::{Error, Files, Leftover};
 use sqlite_disk::Disk;
 use std::alloc::Global;
 
-/// A run reports its progress to its observer: each step before the first call, and after the last call the
-/// first error of the database.
+/// The observer of a run. The run reports to it each step before the first call. After the last call, the run
+/// reports the first error of the database.
 pub trait Observer {
     /// Called after new tables were made, in a database that had no table.
     fn made(&self);
@@ -23,8 +23,8 @@ pub trait Observer {
     /// Called if memory has no room for a copy of the volumes. Each read is then answered from the file.
     fn uncopied(&self);
 
-    /// Called after the last call if the database refused any call. `cause` is its first error, such as a
-    /// full disk.
+    /// Called if the database refused any call: after the last call, or after a failed copy of the volumes.
+    /// `cause` is the first error of the database, such as a full disk.
     fn refused(&self, cause: &Error);
 
     /// Returns true if the process has memory for its calls and for the next opening of the tables, which
@@ -42,13 +42,13 @@ pub trait Observer {
 pub struct RunOptions {
     /// If true, a database without tables is refused. If false, it gets new tables.
     pub is_existing: bool,
-    /// If true, reads are answered from the file. If false, the volumes are copied into memory, and reads are
-    /// answered from the copy.
+    /// If true, reads are answered from the file. If false, the volumes are copied into memory if it has room
+    /// for them, and reads are answered from the copy.
     pub is_low_memory: bool,
     /// The memory in bytes that an opening of the tables takes, since an opening reads each table whole.
-    /// While reads are answered from the file, memory is held for the next opening, at most this number of
-    /// bytes. A call that adds rows holds memory for them first. If this memory is refused, or the observer
-    /// has no room, the call fails as if memory were refused.
+    /// While reads are answered from the file, this memory is held for the next opening, as far as the system
+    /// gives it. A call that adds rows holds memory for them first. The call fails if this memory is refused
+    /// or the observer has no room.
     pub reserve: usize,
 }
 
@@ -73,15 +73,16 @@ pub struct RunReport {
     pub end: RunEnd,
     /// The number of calls that the store refused, at most 2^64 - 1.
     pub refusals: u64,
-    /// True if the store was down at the end. It answered no call after the call that brought it down.
+    /// True if the store was down at the end. The store then refused each call after the call that brought it
+    /// down.
     pub is_down: bool,
-    /// True if reads were answered from a copy of the volumes in memory, and false if from the file.
+    /// True if reads were answered from a copy of the volumes in memory, false if the file answered them.
     pub is_copied: bool,
     /// True if the database had no tables and got new ones.
     pub is_new: bool,
 }
 
-/// The report of a run that closed its files, and the files.
+/// The result of a run that closed its files: the report of the run, and the files.
 #[derive(Drop)]
 pub struct Closed<D: Disk> {
     /// The report of the calls that were served.
@@ -103,13 +104,13 @@ pub enum Refusal {
 }
 
 /// The step at which a run over files failed. Each variant has the reason, or the report of the calls that
-/// were served. Each variant except `NoFiles` also has what is left of the files.
+/// were served. Each variant except `NoFiles` also contains the files.
 pub enum RunFailure<D: Disk> {
-    /// The operating system gave no files at the path. No call was read.
+    /// The path was refused, or the operating system gave no files or no random seed. No call was read.
     NoFiles(Error),
     /// The files were not opened. No call was read.
     NotOpened(Error, Leftover<D>),
-    /// The database was refused, and the files are unchanged. No call was read.
+    /// The database was refused. No call was read, and no volume has changed.
     Refused(Refusal, Files<D>),
     /// Calls were served, but the store refused some of them. The WAL was copied into the database file if
     /// the disk and memory allowed it. The committed changes are in the WAL, in the database file or in both.
@@ -134,8 +135,7 @@ impl<D: Disk + Drop> Drop for RunFailure<D> {
 }
 
 impl<D: Disk + Drop> RunFailure<D> {
-    /// Returns the files after the run without reading or writing them, or `None` if the operating system
-    /// gave no files.
+    /// Returns the files after the run without reading or writing them, or `None` for `NoFiles`.
     pub fn into_files(self) -> Option<Files<D>>
         ensures { option_map (λ files. (files.log, files.db)) result ≡ files_of self }
     {

@@ -1,4 +1,4 @@
-//! Serves calls over two open files.
+//! Serves calls over an open database file and its WAL, and closes both.
 
 ghost use Rattle.std.specs.Prelude.{◌≡◌, ◌↔◌, false, IfErr, IfOk, IsTrue};
 ghost use Rattle.sqlite.specs.Files.{file_state};
@@ -25,8 +25,8 @@ use sqlite_disk::Disk;
 use std::alloc::Global;
 use std::io::{Read, Write};
 
-// Closes the connection after calls. If the store refused some calls, the result is `Left`, whether or not
-// the WAL can be copied.
+// Closes the connection after calls. If the store refused some calls, the result is `Left`, even if the WAL
+// was copied.
 fn finish<D: Disk + Drop>(
     alloc: Global,
     report: RunReport,

@@ -21,8 +21,8 @@ use sqlite_trees::error::StoreError;
 use std::alloc::Global;
 use std::io::{Read, Write};
 
-// Returns SQLite's error code for a database that could not be made. If the disk failed, `fault` is the
-// failure.
+// Returns SQLite's error code for a database that could not be made. `fault` names the failure of the disk,
+// if the disk failed.
 fn code_of(why: NotLaidOut, fault: StoreError) -> ErrorCode
     ensures { result ≡ code_of why fault }
 {
@@ -80,7 +80,7 @@ impl<O: Observer> Run<'_, O> {
     /// `NotOpened` means that the files were not opened, and `Refused` that their database was refused. No
     /// call was read and no reply written, and the next run starts as this run would have. `Left` means that
     /// the store refused a call, and `NotClosed` that copying the WAL into the database file failed. After
-    /// `Left` or `NotClosed` the run is as described above, and the files have the State after the calls, or
+    /// `Left` or `NotClosed`, calls were served as after `Ok`. The files have the State after the calls, or
     /// the State that a refused call would have made.
     ///
     /// # Not promised

@@ -67,7 +67,7 @@ fn append_planned<K: Keeper>(
     finish(alloc, keeper, plan, out)
 }
 
-// Answers CreateVolume. Its response is written from the volume, without a plan in memory.
+// Answers CreateVolume. The response is written from the volume, without a plan in memory.
 fn append_creation<K: Keeper>(
     alloc: Global,
     config: &Config,

@@ -1,5 +1,5 @@
-//! Plans each request with reads alone. A plan is the answer, and at most one change. A page of a listing has
-//! no plan: its entries are written while they are read.
+//! Plans requests by reads of the keeper alone. A plan is the answer, and at most one change. A page of a
+//! listing has no plan: its entries are written while the volumes are read.
 #![tactic(auto, using(csi_keeper::specs::facts::Reads::quiet_same, csi_keeper::specs::facts::Reads::quiet_then))]
 
 ghost use Rattle.std.specs.Prelude.{◌≡◌, None, IfErr, IfOk, IfSome, IsTrue};
@@ -27,8 +27,8 @@ use csi_types::Request;
 pub(crate) use listing::append_page;
 use std::alloc::Global;
 
-/// Returns the plan of a request, except Probe, ListVolumes and CreateVolume, which are answered without a
-/// plan.
+/// Returns the plan of a request. The request must not be Probe, ListVolumes or CreateVolume, which are
+/// answered without a plan.
 pub(crate) fn plan_of<K: Keeper>(
     alloc: Global,
     config: &Config,

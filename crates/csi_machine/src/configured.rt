@@ -1,4 +1,4 @@
-//! The properties of a configuration that the proofs of requests need.
+//! Gives the proofs of requests the laws of a configuration in one call.
 
 ghost use Rattle.csi_machine.specs.Configured.{IsConfigured};
 

@@ -163,8 +163,8 @@ pub fn repeat(config: &Config)
 /// after the other, and tries each request again until it is answered. A try may fail with an internal error
 /// or because the store is down. An answer may be lost, and a stop may end the session between any two tries.
 /// Other clients may at any time make requests that change nothing: Probe, ListVolumes, GetCapacity,
-/// ValidateVolumeCapabilities, and the calls about the plugin. The answers, and each State that may be left
-/// in the end, are the same as if each request were executed once.
+/// ValidateVolumeCapabilities, and the calls about the plugin. The answers and the State at the end are the
+/// same as if each request were executed once.
 #[inline(always)]
 pub fn retry(config: &Config)
     ensures { (s t : State) (requests : List Request) (sessions : List (List Try)) (reported : List Report)
@@ -179,8 +179,8 @@ pub fn retry(config: &Config)
     inclusions();
 }
 
-/// The premises of [`retry`] can be met: there are lives with two tries, for each request and from each
-/// State.
+/// The premises of [`retry`] can be met: for each request and each State, there are sessions in which a
+/// client tries the request twice.
 ///
 /// Either the request is executed and its answer is lost, or the request fails with an internal error and a
 /// stop leaves the State with its change. In the next session the client tries the request again, and it is

@@ -46,9 +46,9 @@ fn modify_own(alloc: Global, number: u64, own: &Map, given: &Map) -> Result<Plan
 /// Plans ControllerModifyVolume, by reads of the keeper alone.
 ///
 /// Each given parameter is added to the volume's mutable parameters, or replaces the value under its key. It
-/// does not matter if the volume is published. If the result has more than 4,096 bytes, the request is
-/// refused. If the volume already has each given parameter, nothing changes. If the text is not the id of a
-/// volume, the keeper is not called.
+/// does not matter if the volume is published. The request is refused if no volume has the id, or if the
+/// result has more than 4,096 bytes. If the volume already has each given parameter, nothing changes. If the
+/// id does not have the form of a volume id, the keeper is not called.
 ///
 /// # Errors
 ///

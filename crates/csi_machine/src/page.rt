@@ -1,4 +1,4 @@
-//! Writes pages of a listing while they are read, without a list of their volumes.
+//! Writes the entries of a page of a listing while the volumes are read, without a list of the volumes.
 
 ghost use Rattle.std.specs.Prelude.{◌≡◌, ◌++◌, ◌∷◌, [], OnOk};
 ghost use Rattle.pbmessage.specs.Kept.{Keeps};
@@ -122,10 +122,10 @@ impl PageFold for Page<'_> {
     }
 }
 
-/// A fold that finds out if there is any volume.
+/// A [`PageFold`] that only finds out if a page has any volume.
 #[derive(Drop)]
 pub(crate) struct AnyVolume {
-    /// True if the fold has taken a volume. Initially false.
+    /// True after a volume was added. Initially false.
     pub(crate) is_any: bool,
 }
 

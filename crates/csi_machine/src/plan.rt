@@ -1,4 +1,4 @@
-//! The plan of a request: its answer, and the one change that it makes.
+//! The plan of a request: its answer, and at most one change.
 
 ghost use Rattle.std.specs.Prelude.{◌≡◌, IfOk};
 ghost use Rattle.csi_machine.specs.Plan.{make, refuse, respond};

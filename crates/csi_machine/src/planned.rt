@@ -1,4 +1,4 @@
-//! The trait of requests whose plan depends on the State alone.
+//! The trait of requests that are planned from the configuration and reads of the keeper.
 
 ghost use Rattle.std.specs.Prelude.{◌≡◌, None, IfErr, IfOk, IfSome};
 ghost use Rattle.csi_config.specs.declared.config.Config.{Config as AnyConfig};
@@ -13,8 +13,8 @@ use csi_keeper::Keeper;
 use csi_types::Boxed;
 use std::alloc::Global;
 
-/// A request that can be planned. It is implemented for the requests of single methods and for the request of
-/// any method.
+/// A request that can be planned: DeleteVolume, ControllerPublishVolume, ControllerUnpublishVolume or
+/// GetCapacity. A box of such a request can be planned too.
 pub(crate) trait Planned {
     /// The plan of the request in a State.
     ghost planned: { AnyConfig → State → Self → AnyPlan };

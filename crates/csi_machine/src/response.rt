@@ -46,7 +46,7 @@ fn append_published(readonly: bool, out: &mut Vec<u8>) -> Result<Verdict, AllocE
 }
 
 /// A response of any method. The responses to DeleteVolume, ControllerPublishVolume,
-/// ControllerUnpublishVolume and ControllerModifyVolume take no memory.
+/// ControllerUnpublishVolume and ControllerModifyVolume take no allocated memory.
 #[derive(Drop)]
 pub struct PlannedResponse {
     kept: ResponseForm,
@@ -80,7 +80,7 @@ impl PlannedResponse {
         })
     }
 
-    /// Returns `DeleteVolumeResponse`, which has no fields and takes no memory.
+    /// Returns `DeleteVolumeResponse`, which has no fields and takes no allocated memory.
     pub fn deleted() -> PlannedResponse
         ensures { result ≡ response.Delete }
     {
@@ -89,7 +89,7 @@ impl PlannedResponse {
         }
     }
 
-    /// Returns `ControllerModifyVolumeResponse`, which has no fields and takes no memory.
+    /// Returns `ControllerModifyVolumeResponse`, which has no fields and takes no allocated memory.
     pub fn modified() -> PlannedResponse
         ensures { result ≡ response.Modify }
     {
@@ -98,7 +98,7 @@ impl PlannedResponse {
         }
     }
 
-    /// Returns `ControllerUnpublishVolumeResponse`, which has no fields and takes no memory.
+    /// Returns `ControllerUnpublishVolumeResponse`, which has no fields and takes no allocated memory.
     pub fn unpublished() -> PlannedResponse
         ensures { result ≡ response.Unpublish }
     {
@@ -108,7 +108,7 @@ impl PlannedResponse {
     }
 
     /// Returns `ControllerPublishVolumeResponse`. Its `publish_context` has one entry: the key is `readonly`,
-    /// and the value is the text of the flag.
+    /// and the value is `true` or `false`.
     pub fn published(readonly: bool) -> PlannedResponse
         ensures { result ≡ response.Publish (publication readonly) }
     {

@@ -92,9 +92,13 @@ fn validate_volume(alloc: Global, request: &Validate, volume: &Volume) -> Result
 
 /// Plans ValidateVolumeCapabilities, by reads of the keeper alone.
 ///
-/// The answer confirms the capabilities and the parameters of the request if both conditions hold. The volume
-/// has the key of each capability. The parameters of the request are empty or equal the parameters of the
-/// volume. Nothing changes. If the text is not the id of a volume, the keeper is not called.
+/// The answer confirms the capabilities and the parameters of the request if both of these hold:
+///
+/// - the volume has the key of each capability
+/// - the parameters of the request are empty or equal the parameters of the volume
+///
+/// The request is refused if no volume has the id. The plan changes nothing. If the id does not have the form
+/// of a volume id, the keeper is not called.
 ///
 /// # Errors
 ///

@@ -1,4 +1,4 @@
-//! The ends of a run of the server.
+//! The reasons why the server stops reading calls ([`RunEnd`]).
 
 use envelope::FrameFault;
 

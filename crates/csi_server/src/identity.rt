@@ -52,7 +52,8 @@ fn respond(
     }
 }
 
-// Clears the buffer, and puts the response to a request into it, after room for the head of a reply.
+// Clears the buffer, and appends room for the head of a reply and then the response to a request. A request
+// other than Probe and GetPluginInfo is refused.
 fn put_response(
     alloc: Global,
     names: &PluginNames<'_>,

@@ -39,8 +39,8 @@ use csi_machine::laws::{
 use envelope::laws::decimal_is_text;
 
 /// If no call of a run is refused for memory or by the store, a stop after the run leaves only the state at
-/// its end. Before the run, a stop must leave only the state at the start. The run may have calls that are
-/// refused because the store is down.
+/// its end. The law requires that a stop before the run leaves only the state at the start. The run may have
+/// calls that are refused because the store is down.
 pub fn stop_leaves_state<C, S: Service<C>>(config: &C)
     ensures { (old new : S) (s : S.State) (events : List Event)
         → Runs (S.machine config.now) (S.model config.now old) (S.model config.now new) s events
@@ -52,7 +52,7 @@ pub fn stop_leaves_state<C, S: Service<C>>(config: &C)
 
 /// Each reply in a run of any service is valid in the envelope. Its status is a status code. If the status is
 /// 0, the reply has a body and no text. If the status is not 0, the reply has a text and no body. This
-/// includes the replies to calls that are marked as refused for memory or by the store.
+/// includes the replies to calls that are refused for memory or by the store.
 pub fn formed<C, S: Service<C>>(config: &C)
     ensures { (old new : S) (s : S.State) (events : List Event)
         → Runs (S.machine config.now) (S.model config.now old) (S.model config.now new) s events
@@ -67,7 +67,8 @@ pub fn formed_fault()
     decimal_is_text();
 }
 
-/// Each reply of the identity service is valid in the envelope, whatever the call is.
+/// Each reply of the identity service is valid in the envelope, for any call with a message of at most
+/// 1,048,576 bytes.
 pub fn formed_identity()
     ensures { (name version : List ℕ) (call : CallBytes) → length call.message ≤ MAX_MESSAGE_BYTES
         → IsReply ((identity name version).respond tt call).0 }
@@ -76,7 +77,8 @@ pub fn formed_identity()
     reading();
 }
 
-/// Each reply of the volume machine is valid in the envelope, whatever the call and the State are.
+/// Each reply of the volume machine is valid in the envelope, in any State and for any call with a message of
+/// at most 1,048,576 bytes.
 pub fn formed_volumes()
     ensures { (config : AnyConfig) (s : MachineState) (call : CallBytes)
         → length call.message ≤ MAX_MESSAGE_BYTES
@@ -87,8 +89,8 @@ pub fn formed_volumes()
 }
 
 /// If a run of the volume machine starts in a State that meets the invariant, it ends in a State that meets
-/// the invariant. This holds for any calls, and for any marks of calls as refused. Each State that a stop may
-/// leave ([`pending`]) meets the invariant too.
+/// the invariant. This holds for any calls, also if some are refused for memory or by the store. Each State
+/// that a stop may leave ([`pending`]) meets the invariant too.
 pub fn kept(config: &Config)
     ensures run { (s : MachineState) (events : List Event) → IsInvariant config.now s
         → IsInvariant config.now (state_after (volumes config.now) s events) }
@@ -100,10 +102,10 @@ pub fn kept(config: &Config)
 }
 
 /// No two volumes ever get the same number. A run of the volume machine never lowers the number for the next
-/// volume, and never gives a volume the number of a deleted volume. This holds for any calls, and for any
-/// marks of calls as refused. The run must start in a State that meets the invariant. If a volume exists
-/// before and after the run, only its mutable parameters may change. So an id never names another volume. The
-/// same holds for each State that a stop may leave ([`pending`]).
+/// volume, and never gives a volume the number of a deleted volume. This holds for any calls, also if some
+/// are refused for memory or by the store. The run must start in a State that meets the invariant. If a
+/// volume exists before and after the run, only its mutable parameters may change. So an id never names
+/// another volume. The same holds for each State that a stop may leave ([`pending`]).
 pub fn numbers(config: &Config)
     ensures run { (s : MachineState) (events : List Event) → IsInvariant config.now s
         → NumbersRise s (state_after (volumes config.now) s events) }
@@ -114,8 +116,8 @@ pub fn numbers(config: &Config)
     numbers_by_answers(config);
 }
 
-/// Before a run of the volume machine, a stop must leave only the State at the start. Then a stop after the
-/// run leaves one of two kinds of States:
+/// The law requires that a stop before a run of the volume machine leaves only the State at the start. Then a
+/// stop after the run leaves one of two kinds of States:
 ///
 /// - the State after the run
 /// - this State with the change of one call that was refused for memory or by the store. The request of this
@@ -129,7 +131,7 @@ pub fn pending<K: Keeper>(config: &Config)
 {}
 
 /// A call with a known path, a readable message and valid arguments gets the machine's answer to its request.
-/// Any other call gets a fixed reply and changes no State. Each valid request has a call.
+/// Any other call changes nothing, and its reply does not depend on the State. Each valid request has a call.
 pub fn asking()
     ensures exact { (call : CallBytes) (r : Request) → (asked call ≡ Some r) ↔ Asks call r }
     ensures answered { (config : AnyConfig) (s : MachineState) (call : CallBytes) (r : Request)
@@ -168,8 +170,8 @@ pub fn tries<K: Keeper>(config: &Config)
 /// The first State meets the invariant. A call may be refused for memory or by the store, a reply may be
 /// lost, and a stop may end the session between any two calls and leave a State of [`pending`]. At any time
 /// other clients may make calls that change nothing, such as Probe, ListVolumes and GetCapacity. They may
-/// also make calls that are no request or are refused for their arguments. The replies that the client hears,
-/// and each State that may be left in the end, are the same as if each request were executed once.
+/// also make calls that contain no request or are refused for their arguments. The replies that the client
+/// hears, and the State at the end, are the same as if each request were executed once.
 ///
 /// # Not promised
 ///
@@ -177,8 +179,8 @@ pub fn tries<K: Keeper>(config: &Config)
 /// if both make requests that may change something, each between the tries of the other. It assumes that a
 /// new connection starts from the State that the stop left.
 ///
-/// Contracts are about calls that return. A process that ends inside a call leaves the same as a disk that
-/// fails from that moment on. Rows of `test_tables` about stops show this.
+/// Contracts are about calls that return. A process that ends inside a call leaves the same files as a run
+/// whose disk fails from that moment on. Rows of `test_tables` about stops show this.
 pub fn retry(config: &Config)
     ensures { (s t : MachineState) (requests : List Request) (sessions : List (List Exchange))
         (heard : List ReplyBytes) → IsInvariant config.now s
@@ -215,8 +217,8 @@ pub fn walk(config: &Config)
     walk_by_requests(config);
 }
 
-/// The premises of [`retry`] can be met: there are sessions with two calls, for each call with a request and
-/// from each State.
+/// The premises of [`retry`] can be met: for each call with a request and each State, there are sessions in
+/// which the call is made twice.
 ///
 /// Either the call is executed and its reply is lost, or the call is refused for memory or by the store and a
 /// stop leaves the State with its change. In the next session the call is made again, and its reply is heard.

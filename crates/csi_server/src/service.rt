@@ -1,4 +1,4 @@
-//! The trait of services, which answer calls.
+//! The trait [`Service`]. The engine of the server passes each call to a service, which answers it.
 
 ghost use Rattle.std.specs.Prelude.{◌≡◌, ◌≤◌, [], OnOk, OnErr};
 ghost use Rattle.envelope.specs.Envelope.{bytes_of};
@@ -18,7 +18,8 @@ pub trait Service<C> {
     /// The service as a machine: the reply to a call in a state, and the next state.
     ghost machine: { C → Machine State };
 
-    /// The model of the service's keeper, as contracts see it.
+    /// The facts about the service that contracts use, such as the states that it may have and the states
+    /// that a stop may leave.
     ghost model: { C → Self → Model State };
 
     ghost use Rattle.csi_server.specs.Service.{reply_of, HoldsBody};

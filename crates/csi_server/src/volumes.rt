@@ -1,4 +1,4 @@
-//! The volume machine over a keeper, as a service.
+//! Makes each keeper a service, which answers calls as the volume machine does. [`serve`] runs this service.
 
 ghost use Rattle.std.specs.Prelude.{◌≡◌, ◌≤◌, ℕ, List, None, Ok};
 ghost use Rattle.std.specs.Io.KnownBytes.{Consumes, IsAtEnd, Keeps};
@@ -101,9 +101,9 @@ impl<K: Keeper> Service<Config> for K {
 ///
 /// The clause `serves` says this for each way in which a run can end. It holds for each State that the keeper
 /// may have had at the start, if this State meets the invariant and the keeper's `doubt` is 0 at the end. It
-/// also says that the keeper's count of refusals, which is at most 2^64 - 1, rose by 1 for each of these
-/// calls: a call that was refused by the store, or because the store is down. If a stop at the start could
-/// leave only the State at the start, a stop at the end leaves the State at the end, or a State that
+/// also says that the keeper's count of refusals rose by 1 for each call that was refused by the store or
+/// because the store is down. The count is at most 2^64 - 1. If a stop at the start could leave only the
+/// State at the start, a stop at the end leaves the State at the end, or a State that
 /// [`pending`](crate::laws::pending) allows.
 ///
 /// The clause `writes` has no premise: one valid reply of the envelope is written for each call that was

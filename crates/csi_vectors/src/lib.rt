@@ -11,9 +11,9 @@
 //!
 //! # Not promised
 //!
-//! The contract of a run allows an end that says that a read or a write failed, or that memory was refused,
-//! although it was not so. So it allows a run that gives up at once, and also a run that does not flush.
-//! Tests in `tests/test_csictl_*.py` and the vectors of `tests/vectors` show that all lines are run.
+//! The contract of a run does not exclude that the run reports a failed read or write, or refused memory,
+//! without such a failure. So it allows a run that gives up at once. It also allows a run that does not
+//! flush. Tests in `tests/test_csictl_*.py` and the vectors of `tests/vectors` show that all lines are run.
 #![tactic(auto)]
 
 mod judging;

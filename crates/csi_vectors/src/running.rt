@@ -90,7 +90,7 @@ fn line_of(alloc: Global, name: &str, failed: bool) -> Result<Vec<u8>, AllocErro
 }
 
 // Runs the vector of a line, given without its line end, and writes the result. Returns true if the vector
-// failed.
+// failed, and false if it passed or the line is skipped.
 fn run_text<W: Write>(
     alloc: Global,
     config: &Config,
@@ -126,7 +126,8 @@ fn without_end(line: &[u8]) -> &[u8]
     }
 }
 
-// Runs the vector of a line, given with its line end, unless the line is skipped.
+// Runs the vector of a line, given with its line end, and writes the result. Returns true if the vector
+// failed, and false if it passed or the line is skipped.
 fn run_line<W: Write>(
     alloc: Global,
     config: &Config,

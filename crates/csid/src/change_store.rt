@@ -33,12 +33,12 @@ use std::cell::Cell;
 use std::rc::Rc;
 use std::{io, str};
 
-/// A peer that gives each exchange a deadline and records that an exchange was made. Frames and replies pass
-/// through unchanged.
+/// Wraps a [`Peer`], the program at the other end of a connection. Gives each exchange of a frame and its
+/// reply a deadline, and records that an exchange was made. Frames and replies pass through unchanged.
 pub(crate) struct TrackedPeer<P> {
     peer: P,
     deadline: Rc<Deadline>,
-    // Set by each exchange, and cleared when a reply is written.
+    // True if a frame was sent to the change store since the last reply to a client.
     is_asked: Rc<Cell<bool>>,
 }
 
@@ -67,8 +67,8 @@ impl<P: Peer> Peer for TrackedPeer<P> {
 /// The connection to a change store: its socket, with a deadline for each exchange.
 pub(crate) type ChangeStorePeer = TrackedPeer<Channel<TimedStream, TimedStream>>;
 
-/// A keeper over a change store. It has a copy of the store's volumes in memory, and the change store makes
-/// each change first.
+/// A keeper over a change store. It has a copy of the store's volumes in memory. The change store makes each
+/// change before the copy gets it.
 pub(crate) type Remote = Through<MemKeeper, RemoteChangeStore<ChangeStorePeer>>;
 
 /// An open change store, whose volumes were read into memory.
@@ -77,9 +77,10 @@ pub(crate) struct OpenChangeStore {
     pub(crate) keeper: Remote,
     /// The connection to the change store, on which it is asked if it leads.
     pub(crate) stream: TimedStream,
-    /// True if a frame was sent to the change store since the last reply.
+    /// True if a frame was sent to the change store since the last reply to a client.
     pub(crate) is_asked: Rc<Cell<bool>>,
-    /// True if a reply was held back because the change store did not lead. Then the volumes are read again.
+    /// True if a reply to a client was held back because the change store did not lead. The next connection
+    /// then reads the volumes again.
     pub(crate) is_cut: bool,
 }
 
@@ -126,18 +127,19 @@ fn is_leading<P: Peer>(alloc: Global, change_store: &mut P) -> bool
     is_agreed(change_store.exchange(alloc, frame.as_slice()))
 }
 
-/// Asks the change store at the other end of a connection if it leads, and returns true if the answer is yes.
-/// The copy in memory then still equals the volumes of the change store.
+/// Asks the change store at the other end of a connection if it leads, and returns true if it answers yes.
+/// Then no other change store has made a change, and a copy that has each change of this program is current.
 pub(crate) fn leads(alloc: Global, stream: &TimedStream) -> bool {
     stream.deadline().begin_exchange();
     is_leading(alloc, &mut Channel::new(stream, stream))
 }
 
-/// Asks a change store, before each reply, if the change store leads.
+/// Confirms before each reply to a client that the change store leads. Asks the change store only if no frame
+/// was sent to it since the last reply.
 #[derive(Clone, Copy, Drop)]
 pub(crate) struct ChangeStoreLeadership<'a> {
     pub(crate) stream: &'a TimedStream,
-    /// True if a frame was sent to the change store since the last reply.
+    /// True if a frame was sent to the change store since the last reply to a client.
     pub(crate) is_asked: &'a Rc<Cell<bool>>,
     pub(crate) alloc: Global,
 }
@@ -161,7 +163,7 @@ fn change_store_failure(alloc: Global, path: &str, error: &io::Error) -> Failure
     }
 }
 
-// Returns the program's failure for rows that the database in memory does not take.
+// Returns the program's failure for rows of a change store that the database in memory refuses.
 fn rows_failure(alloc: Global, path: &str, fault: &RowsFault) -> Failure
     ensures { IsOrNoMemory 4 result }
 {
@@ -232,8 +234,8 @@ fn make_meta<P: Peer>(alloc: Global, path: &str, change_store: &mut P) -> Result
     }
 }
 
-// Fails unless the row of the table `meta` has the format of change stores. A change store without any row
-// gets a row of `meta`. Rows without a row of `meta` are refused.
+// Fails unless the row of the table `meta` has format 2, the format of change stores. A change store without
+// any row gets a row of `meta`. Rows without a row of `meta` are refused.
 fn check_or_make_meta<P: Peer>(
     alloc: Global,
     path: &str,
@@ -256,7 +258,7 @@ fn check_or_make_meta<P: Peer>(
     }
 }
 
-// Returns the fault for tables of this format.
+// Returns the fault for rows whose format is neither 1 nor 2, or unknown (`None`).
 fn format_fault(format: Option<u64>) -> AdoptFault {
     match format {
         Some(format) if format != 0 => AdoptFault::Newer {
@@ -318,8 +320,9 @@ fn read_change_store<P: Peer + Drop, S: Alter + Drop>(
     }
 }
 
-// Does the same as `read_change_store`, with the new database in files in memory. A new row takes O(log n)
-// steps in such files, and O(n) steps in the store of rows of the `sqlite` crate.
+// Reads and checks all rows of a change store, and copies the volumes into memory. The new database is in
+// files in memory, since adding a row to such files takes O(log n) steps. In the store of rows of the
+// `sqlite` crate, adding a row takes O(n) steps.
 fn read_over_memory<P: Peer + Drop>(
     console: &Console<'_>,
     config: &Config,
@@ -355,7 +358,8 @@ fn reach(
 ///
 /// # Errors
 ///
-/// If the change store cannot be reached or does not reply, its rows are refused, or memory is refused.
+/// If the change store cannot be reached, does not reply or refuses a request, its rows are refused, or
+/// memory is refused.
 pub(crate) fn open_change_store(
     console: &Console<'_>,
     config: &Config,

@@ -16,11 +16,12 @@ fn check_readable(rt: &HostRuntime, path: &str) -> Result<(), Failure>
     check_existing(rt, path)
 }
 
-/// Checks the tables in a file under a configuration, which is in another file or the sample configuration.
+/// Checks the tables in a file, and writes their counts on standard output. The check uses the configuration
+/// in the file `config`, or the sample configuration if `config` is `None`.
 ///
 /// # Errors
 ///
-/// If the configuration or the tables are refused, the line cannot be written, or memory is refused.
+/// If the configuration or the tables are refused, the counts cannot be written, or memory is refused.
 pub(crate) fn check_tables(
     console: &Console<'_>,
     path: &str,
@@ -31,7 +32,7 @@ pub(crate) fn check_tables(
     csid_listings::check_tables(console, path, &config)
 }
 
-/// Writes a list of the volumes in a file of tables.
+/// Writes a list of the volumes in a file of tables on standard output, in JSON if `is_json` is true.
 ///
 /// # Errors
 ///
@@ -46,12 +47,13 @@ pub(crate) fn list_tables(
     csid_listings::list_tables(console, path, chosen, is_json)
 }
 
-/// Copies the tables in a file into a new file, and checks the copy under a configuration, which is in
-/// another file or the sample configuration.
+/// Copies the tables in a file into a new file at `to`, and writes their counts on standard output. The copy
+/// is checked under the configuration in the file `config`, or under the sample configuration if `config` is
+/// `None`.
 ///
 /// # Errors
 ///
-/// If the configuration or the tables are refused, there is a file at `to`, the copy or the line cannot be
+/// If the configuration or the tables are refused, a file exists at `to`, the copy or the counts cannot be
 /// written, or memory is refused.
 pub(crate) fn copy_tables(
     console: &Console<'_>,

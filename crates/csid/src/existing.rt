@@ -9,7 +9,7 @@ use std::fs::{self, File};
 use std::io::{self, ErrorKind, Read};
 use thiserror::Error;
 
-// The number of bytes that are read of a file: the header of an SQLite file, and the first fields of its
+// The number of bytes that are read from a file: the header of an SQLite file, and the first fields of its
 // first page. The next two constants are the offsets of the page's kind and of its number of cells.
 const HEADER_BYTES: usize = 105;
 
@@ -22,12 +22,12 @@ const LEAF: u8 = 13;
 // The greatest number of bytes of memory that an opening takes for one byte of a row in the file.
 const OPENING_FACTOR: u64 = 6;
 
-// The least number of pages that an opening may keep in memory.
+// An opening may always keep this number of pages in memory.
 const LEAST_CACHE_PAGES: u64 = 2000;
 
-// An opening keeps at most half of the pages of a file. If the process has a limit of memory, the pages take
-// at most a 32nd of the limit. The index of names has a third of the pages of the file, and an opening reads
-// it in no order of pages. `OPENING_FACTOR` counts the memory of the pages that are kept.
+// An opening keeps at most half of the pages of a file in memory. If the process has a limit of memory, these
+// pages take at most a 32nd of it. The index of names has a third of the file's pages, and an opening reads
+// them in random order. `OPENING_FACTOR` includes the memory of the kept pages.
 const CACHE_SHARE: u64 = 2;
 
 const LIMIT_SHARE: u64 = 32;
@@ -58,8 +58,8 @@ fn is_blank(head: &[u8; HEADER_BYTES]) -> bool {
     head[KIND_AT] == LEAF && head[CELLS_AT] == 0 && head[CELLS_AT + 1] == 0
 }
 
-// Returns the path of a file's WAL. Links at `path` are followed, and the WAL is in the same folder as the
-// file that they lead to, even if this file does not exist.
+// Returns the path of a file's WAL. Links at `path` are followed: the WAL is next to the file to which they
+// lead. If the file does not exist, the WAL is next to `path` itself.
 fn wal_path(rt: &HostRuntime, path: &str) -> io::Result<String> {
     match fs::canonicalize(rt, path) {
         Ok(real) => Ok(format!(in rt.alloc(); "{}-wal", real.as_str())?),
@@ -70,19 +70,19 @@ fn wal_path(rt: &HostRuntime, path: &str) -> io::Result<String> {
     }
 }
 
-// Returns true if a file's WAL has changes.
+// Returns true if a file's WAL has changes: it is long enough for its header and one frame.
 fn has_frames(rt: &HostRuntime, path: &str) -> io::Result<bool> {
     let wal = wal_path(rt, path)?;
     Ok(fs::metadata(rt, wal.as_str()).is_ok_and(|found| found.len() >= WAL_WITH_FRAME_BYTES as u64))
 }
 
-// Returns true if a path leads to neither a regular file nor a folder.
+// Returns true if a path leads to a file that is neither a regular file nor a folder, such as a named pipe.
 fn is_special(rt: &HostRuntime, path: &str) -> bool {
     fs::metadata(rt, path).is_ok_and(|found| !found.is_file() && !found.is_dir())
 }
 
-/// Returns the fault if the file or its WAL exists and is neither a regular file nor a folder, otherwise
-/// `None`. The opening itself refuses a folder at once.
+/// Returns `NotRegular` if the file or its WAL is a named pipe, a socket or a device, otherwise `None`.
+/// A folder gives `None`, since the opening itself refuses a folder at once.
 pub(crate) fn fault_of_kind(rt: &HostRuntime, path: &str) -> Option<FileFault> {
     let is_special_wal = wal_path(rt, path).is_ok_and(|wal| is_special(rt, wal.as_str()));
     if is_special_wal || is_special(rt, path) {
@@ -123,8 +123,8 @@ fn pages_of(rt: &HostRuntime, path: &str) -> io::Result<Pages> {
     })
 }
 
-// Returns the number of bytes of a file and its WAL, without the free pages of the file. A free page that is
-// used again counts with the WAL.
+// Returns the number of bytes of a file and its WAL, without the free pages of the file. If a free page was
+// used again, its bytes are in the WAL.
 fn bytes_of(rt: &HostRuntime, path: &str, pages: Pages) -> io::Result<u64> {
     let wal = wal_path(rt, path)?;
     let wal_bytes = fs::metadata(rt, wal.as_str()).map_or(0, |found| found.len());
@@ -136,15 +136,16 @@ fn bytes_of(rt: &HostRuntime, path: &str, pages: Pages) -> io::Result<u64> {
 /// Limits of the memory that an opening of a file takes.
 #[derive(Clone, Copy)]
 pub(crate) struct OpeningLimits {
-    /// The greatest number of bytes of memory that the opening takes. The shortest rows have about 45 bytes
-    /// in the file, and take less than six times their length. A long row takes less than twice its length.
+    /// The greatest number of bytes of memory that the opening takes: six times the bytes of the file and its
+    /// WAL, without free pages. A short row takes less than six times its length in memory, and a long row
+    /// less than twice.
     pub(crate) bytes: usize,
     /// The greatest number of pages of the file that the opening keeps in memory.
     pub(crate) cache_pages: usize,
 }
 
-// Returns how many pages of a file with `count` pages an opening keeps in memory: half of the pages and at
-// most `most` pages, but never fewer than 2,000.
+// Returns how many pages of a file with `count` pages an opening keeps in memory: half of the pages, but at
+// most `most` pages. If this is fewer than 2,000, returns 2,000.
 fn cached_pages(count: u64, most: u64) -> u64
     ensures least { 2000 ≤ result }
     ensures share { (result ≡ 2000) ⊎ ((result * 2 ≤ count) × (result ≤ most)) }
@@ -152,8 +153,8 @@ fn cached_pages(count: u64, most: u64) -> u64
     (count / CACHE_SHARE).min(most).max(LEAST_CACHE_PAGES)
 }
 
-// Returns how many pages of a file with `count` pages an opening keeps in memory. The limit of the process's
-// memory is read only if the file is large.
+// Returns how many pages of a file with `count` pages an opening keeps in memory. The process's limit of
+// memory is read only if half of the pages are more than 2,000.
 fn cache_pages(rt: &HostRuntime, count: u64, page_bytes: u64) -> u64
     ensures least { 2000 ≤ result }
     ensures share { (result ≡ 2000) ⊎ (result * 2 ≤ count) }
@@ -192,7 +193,7 @@ pub(crate) fn fault_of_wal(rt: &HostRuntime, path: &str) -> Option<FileFault> {
     }
 }
 
-// Returns true if the file has no tables and its WAL has no changes.
+// Returns true if the file has no tables, as far as its header shows, and its WAL has no changes.
 fn has_nothing(rt: &HostRuntime, path: &str) -> io::Result<bool> {
     let mut file = File::open(rt, path)?;
     if has_frames(rt, path)? {
@@ -206,8 +207,9 @@ fn has_nothing(rt: &HostRuntime, path: &str) -> io::Result<bool> {
     }
 }
 
-/// Returns the fault if the file does not exist or has no tables, as far as its header shows. Returns `None`
-/// if the file cannot be read, since the opening reports the reason.
+/// Returns the fault if the file does not exist or has no tables, as far as its header shows. The fault is
+/// `Emptied` if the WAL of an empty or missing file has changes. Returns `None` if the file cannot be read,
+/// since the opening reports the reason.
 pub(crate) fn fault_of_existing(rt: &HostRuntime, path: &str) -> Option<FileFault> {
     if let Some(fault) = fault_of_wal(rt, path) {
         return Some(fault);

@@ -6,8 +6,8 @@ use std::os::unix::fs::{OpenOptionsExt, PermissionsExt};
 // The mode of a new file: only its owner may read and write it.
 const OWNER: u32 = 0o600;
 
-/// Makes a missing file with mode 0600, whatever the umask is; the library of `sqlite` would make it with
-/// mode 0644. An error is ignored, since the opening reports it.
+/// Makes a missing file with mode 0600, under any umask. The library of `sqlite` would make it with mode
+/// 0644. An existing file is not changed. An error is ignored, since the opening reports it.
 pub(crate) fn make_private(rt: &HostRuntime, path: &str) {
     if !matches!(fs::exists(rt, path), Ok(false)) {
         return;

@@ -1,5 +1,5 @@
-//! Tells how much memory the process may still use: below the limit at which it is killed, and below the
-//! limit of its address space.
+//! Checks that the process has memory left: below the limits of its control groups, at which the system kills
+//! it, and below the limit of its address space, at which an allocation fails.
 
 use std::cell::Cell;
 use std::fs;
@@ -13,20 +13,21 @@ const MEMORY_GROUPS: &str = "/sys/fs/cgroup/memory";
 // The size in bytes of a page of memory in `/proc/self/statm`.
 const PAGE_BYTES: u64 = 4096;
 
-// The part of a control group's limit that is left for calls, in bytes. An eighth of the limit is left too.
+// The part of a control group's limit that is left for calls, in bytes. An eighth of the limit is left for
+// calls in addition.
 const CALL_BYTES: u64 = 8 << 20;
 
 // The part of the address space that is left for calls, in bytes. A call that needs more memory is refused,
 // and the process goes on.
 const CALL_SPACE_BYTES: u64 = 4 << 20;
 
-// A limit of memory, and how much of it the process uses.
+// A limit of memory, and how much memory the process used at the start and at the last measurement.
 struct Limit {
     // The limit in bytes.
     most: u64,
     // The bytes that the process used at the start.
     base: u64,
-    // The bytes that the process used at the last look.
+    // The bytes that the process used at the last measurement.
     last: Cell<u64>,
 }
 
@@ -49,8 +50,10 @@ impl Limit {
         }
     }
 
-    // Returns true if there is room for two things. The process may grow once more as much as since the last
-    // look. And after its memory is released, an opening of tables may take `opening` bytes.
+    // Returns true if both of these stay within the limit:
+    //
+    // - the memory in use, if it grows again as much as since the last measurement
+    // - the memory in use at the start, and the `opening` bytes of the next opening of tables
     fn has_room(&self, used: u64, opening: u64) -> bool {
         let grown = used.saturating_sub(self.last.replace(used));
         let is_spent = used.saturating_add(grown) > self.most;
@@ -65,14 +68,14 @@ struct Usage {
     resident: u64,
 }
 
-// Returns the size in bytes of as many pages as the word says, or `None` if the word is missing or not a
+// Parses a number of pages and returns their size in bytes. Returns `None` if the word is missing or not a
 // number.
 fn pages(word: Option<&str>) -> Option<u64> {
     let pages: u64 = word?.parse().ok()?;
     Some(pages.saturating_mul(PAGE_BYTES))
 }
 
-// Returns the memory that the process uses, or `None` if the system does not tell it.
+// Returns the memory that the process uses, or `None` if the system does not report it.
 fn used(rt: &HostRuntime) -> Option<Usage> {
     let text = fs::read_to_string(rt, "/proc/self/statm").ok()?;
     let mut words = text.as_str().split(' ');
@@ -83,7 +86,7 @@ fn used(rt: &HostRuntime) -> Option<Usage> {
     })
 }
 
-// Returns the limit in a file of a control group, or `None` if there is no such file or no limit.
+// Returns the limit in a file of a control group, in bytes, or `None` if the file is missing or has no limit.
 fn limit_in(rt: &HostRuntime, root: &str, group: &str, file: &str) -> Option<u64> {
     let path = format!(in rt.alloc(); "{root}{group}/{file}").ok()?;
     let text = fs::read_to_string(rt, path.as_str()).ok()?;
@@ -99,7 +102,8 @@ fn lower(one: Option<u64>, other: Option<u64>) -> Option<u64> {
     }
 }
 
-// Returns the lowest limit of a group and of the groups above it, up to the root.
+// Returns the lowest limit of a group and of the groups above it, up to the root. Returns `None` if none of
+// these groups has a limit.
 fn lowest_limit(rt: &HostRuntime, root: &str, group: &str, file: &str) -> Option<u64> {
     let mut lowest = limit_in(rt, root, "", file);
     let mut rest = group;
@@ -116,8 +120,8 @@ fn lowest_limit(rt: &HostRuntime, root: &str, group: &str, file: &str) -> Option
     lowest
 }
 
-// Returns the limit of the group in a line `NUMBER:CONTROLLERS:GROUP`, or `None` if the controllers in the
-// line do not limit memory.
+// Returns the memory limit of the group in a line `NUMBER:CONTROLLERS:GROUP`. Returns `None` if the group has
+// no limit, or the controllers in the line do not limit memory.
 fn limit_of_line(rt: &HostRuntime, line: &str) -> Option<u64> {
     let (number, rest) = line.split_once(':')?;
     let (controllers, group) = rest.split_once(':')?;

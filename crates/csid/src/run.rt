@@ -1,4 +1,4 @@
-//! Runs the task of the command line.
+//! Parses the command line of `csid` and runs its task: answers calls, or checks, copies or lists tables.
 
 ghost use Rattle.std.specs.Prelude.{IfErr};
 ghost use Rattle.csid_settings.specs.Statuses.{IsOrNoMemory};
@@ -32,14 +32,14 @@ fn pipe_over_memory(rt: &HostRuntime, config: &Config) -> Result<(), Failure> {
     let mut reader = rt.stdin();
     let mut writer = rt.stdout();
     let end = serve(rt.alloc(), config, &mut keeper, &mut reader, &mut writer);
-    // The program ends here, and the system releases its memory at once. Releasing 100,000 volumes one by one
-    // would take a twentieth of a second.
+    // The program ends here, and the system releases its memory at once. Releasing many volumes one by one
+    // would only delay the end.
     forget(keeper);
     outcome(Endpoint::Pipe, end)
 }
 
-// Returns the outcome of the calls on standard input. If the file was not closed, reports the end of the
-// calls and this failure, which decides the exit status.
+// Returns the outcome of the calls on standard input. A failure of the tables is returned in place of a
+// failure of the calls, which is then only reported.
 fn pipe_outcome(
     console: &Console<'_>,
     ended: Result<RunReport, TablesFailure>,
@@ -120,7 +120,7 @@ fn task<'a>(alloc: Global, arguments: &ArgMatches<'a>) -> Result<Task<'a>, Failu
 ///
 /// # Errors
 ///
-/// Returns why the program ends with a status other than 0. The caller reports it.
+/// Returns the failure, which gives the program its exit status. The caller reports the failure.
 pub(crate) fn run(console: &Console<'_>) -> Result<(), Failure> {
     let arguments = arguments(console.rt)?;
     let Some(matches) = read_arguments(console.rt, arguments.as_slice())? else {

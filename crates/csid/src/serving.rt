@@ -80,14 +80,14 @@ fn outcome_of<D: Disk + Drop>(
     }
 }
 
-/// A run of calls over the tables in a file, which has not begun.
+/// The inputs of a run of calls over the tables in a file.
 #[derive(Clone, Copy)]
 pub(crate) struct TablesRun<'a, O> {
     /// The operating system, which opens the files.
     pub(crate) rt: HostRuntime,
     /// The configuration under which calls are answered.
     pub(crate) config: &'a Config,
-    /// The file of tables, and its options.
+    /// The path of the file of tables, and how the file is opened.
     pub(crate) file: TablesFile<'a>,
     /// The observer, which reports how the calls are served.
     pub(crate) observer: &'a O,
@@ -95,8 +95,8 @@ pub(crate) struct TablesRun<'a, O> {
 
 impl<O: Observer> TablesRun<'_, O> {
     /// Serves the calls in `sent`, and then the calls from the reader. A missing file is made, unless the
-    /// options require an existing file. `start` is the content of the file and its WAL. The contract holds
-    /// for any content.
+    /// options require an existing file. `start` stands for the content of the file and its WAL in the
+    /// contract, which holds for any content.
     ///
     /// # Errors
     ///

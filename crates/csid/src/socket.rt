@@ -46,7 +46,7 @@ fn of_socket(alloc: Global, path: &str, error: &io::Error) -> Failure
     }
 }
 
-// Sets the mode and the group of the socket's file, whatever the umask is. The group gets its rights last.
+// Sets the mode and the group of the socket's file, under any umask. The group gets its rights last.
 fn restrict(rt: &HostRuntime, path: &str, group: Option<u32>) -> io::Result<()> {
     fs::set_permissions(rt, path, Permissions::from_mode(OWNER))?;
     if group.is_none() {
@@ -56,7 +56,8 @@ fn restrict(rt: &HostRuntime, path: &str, group: Option<u32>) -> io::Result<()> 
     fs::set_permissions(rt, path, Permissions::from_mode(OWNER_AND_GROUP))
 }
 
-// Binds a socket for its owner and a group. If the mode cannot be set, removes the file again.
+// Binds a socket for its owner and a group. If the mode or the group cannot be set, removes the socket's file
+// again.
 fn bind(rt: &HostRuntime, path: &str, group: Option<u32>) -> io::Result<UnixListener> {
     let listener = UnixListener::bind(rt, path)?;
     match restrict(rt, path, group) {
@@ -86,15 +87,15 @@ fn listen(rt: &HostRuntime, path: &str, group: Option<&str>) -> Result<UnixListe
     }
 }
 
-// Reports how the calls of a connection ended, unless they ended without a failure.
+// Reports the failure with which the calls of a connection ended, if there is one.
 fn report_outcome(console: &Console<'_>, ending: Ending, now: Instant, end: RunEnd) {
     if let Err(failure) = outcome(Endpoint::Connection, end) {
         console.report_end(ending, now, &failure);
     }
 }
 
-// Reports how a connection ended. `ending` is the reason if its turn was ended, and `is_cut` is true if a
-// reply was held back.
+// Reports how a connection ended. `ending` is the reason if the server ended the turn of the connection.
+// `is_cut` is true if a reply was held back.
 fn report_end(console: &Console<'_>, ending: Option<Ending>, is_cut: bool, end: RunEnd) {
     let Ok(now) = Instant::now(console.rt) else {
         return;
@@ -109,7 +110,7 @@ fn report_end(console: &Console<'_>, ending: Option<Ending>, is_cut: bool, end: 
     }
 }
 
-/// The parts of a server with which each connection is served.
+/// The parts of a server that all its connections share.
 #[derive(Clone, Copy)]
 struct Service<'a> {
     console: &'a Console<'a>,
@@ -118,7 +119,8 @@ struct Service<'a> {
     gauge: &'a MemoryGauge,
 }
 
-// Begins the turn of a connection. If that fails, reports the error and returns `None`.
+// Begins the turn of a connection, in which its calls are answered. After an error, reports the error and
+// returns `None`.
 fn turn_of<'a>(
     console: &'a Console<'a>,
     waiting: &'a mut Waiting,
@@ -168,18 +170,18 @@ fn refuse_peer(service: &Service<'_>, waiting: &mut Waiting, peer: &Pending) {
     }
 }
 
-// The line if the keeper of a connection went down.
+// Reported if the keeper of a connection went down.
 const IS_DOWN: &str =
     "a change was refused, by the database or for memory; from then on the connection was answered that the store is down";
 
-// The line if the copy in memory lacks a change that the file has.
+// Reported if the copy in memory lacks a change that the file or the change store has.
 const IS_BEHIND: &str =
     "there was no memory for a change that was made; from then on the connection was answered that the store refused its calls";
 
-// The line if reads of a connection were refused.
+// Reported if reads of a connection were refused.
 const NO_READ: &str = "the database refused a read";
 
-// The line if there is no memory for a copy of the volumes.
+// Reported if there is no memory for a copy of the volumes.
 const NO_COPY: &str =
     "there was no memory for a copy of the volumes: each read of the connection goes to the file";
 
@@ -214,7 +216,7 @@ impl Observer for Announcer<'_> {
     }
 }
 
-// Reports that the store refused calls. The replies to the calls do not tell the cause.
+// Reports that the store refused calls, if it refused any. The replies to the calls do not say the cause.
 fn report_calls(console: &Console<'_>, path: &str, report: &RunReport) {
     if report.is_down {
         console.say_of(path, &IS_DOWN);
@@ -244,7 +246,7 @@ fn report_run(
     }
 }
 
-/// The change store of a server, as far as the server knows it.
+/// The change store of a server: the open connection to it, and the last error that was reported.
 struct KnownChangeStore {
     /// The open change store, or `None` if it could not be opened.
     open: Option<OpenChangeStore>,
@@ -414,8 +416,8 @@ fn serve_peer<'a>(
     );
 }
 
-// Opens the change store at the start of the server, if the volumes are in one. If that fails, reports the
-// error, and the first connection tries again.
+// Opens the change store at the start of the server, if the volumes are in a change store. If the opening
+// fails, reports the error, and the first connection tries again.
 fn first_change_store(service: &Service<'_>) -> KnownChangeStore {
     let console = service.console;
     let mut change_store = KnownChangeStore {
@@ -431,8 +433,8 @@ fn first_change_store(service: &Service<'_>) -> KnownChangeStore {
     change_store
 }
 
-// Binds the socket of a server, and surveys its tables. The socket is bound first, so that the file of
-// another server that is running is not opened.
+// Binds the socket of a server, and then opens and checks its tables once. The socket is bound first, so that
+// a second server at the same socket does not open the file of the first.
 fn listen_over<'a>(
     console: &'a Console<'a>,
     config: &'a Config,
@@ -472,8 +474,8 @@ fn next_peer(service: &Service<'_>, waiting: &mut Waiting) -> Result<Option<Pend
     }
 }
 
-/// Answers the calls of connections to a socket, one connection after the other. Returns after
-/// `serving.connections` connections were served.
+/// Answers the calls of connections to a socket, one connection after the other. Returns after it has
+/// accepted `serving.connections` connections, and has served or closed each of them.
 ///
 /// # Errors
 ///

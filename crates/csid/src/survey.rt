@@ -42,8 +42,8 @@ impl Observer for Surveyor<'_> {
     }
 }
 
-// Makes a run without calls over the tables in a file. `start` is the content of the file and its WAL. The
-// file is closed before a failure or the counts are reported.
+// Makes a run without calls over the tables in a file. `start` stands for the content of the file and its WAL
+// in the contract. The file is closed before a failure or the counts are reported.
 fn run_without_calls<'a, S: Start>(
     console: &'a Console<'a>,
     config: &'a Config,

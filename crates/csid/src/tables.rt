@@ -1,4 +1,5 @@
-//! Checks a file of tables before it is opened.
+//! Checks the path and the file of tables before an opening. Converts each fault that `existing.rt` finds to
+//! the program's failure.
 
 ghost use Rattle.std.specs.Prelude.{IfErr};
 ghost use Rattle.csid_settings.specs.Statuses.{IsOrNoMemory};
@@ -8,10 +9,10 @@ use crate::making::make_private;
 use csid_settings::{Failure, TablesFile};
 use std::alloc::Global;
 
-/// The line if new tables were made.
+/// Reported if new tables were made.
 pub(crate) const NEW_TABLES: &str = "no tables were there, and new ones were made";
 
-// Fails if the file has a fault, and returns `Ok` if `fault` is `None`.
+// Converts the fault of the file at `path` to the program's failure, and `None` to `Ok`.
 fn existing_failure(alloc: Global, path: &str, fault: Option<FileFault>) -> Result<(), Failure>
     ensures { IfErr result (λ failure. IsOrNoMemory 4 failure) }
 {
@@ -43,8 +44,7 @@ pub(crate) fn check_path(rt: &HostRuntime, path: &str) -> Result<(), Failure>
     Ok(())
 }
 
-// Checks that a file and its WAL, if they exist, are regular files. Opening a named pipe, a socket or a
-// device may block.
+// Fails if a file or its WAL is a named pipe, a socket or a device, since opening it may block.
 fn check_kind(rt: &HostRuntime, path: &str) -> Result<(), Failure>
     ensures { IfErr result (λ failure. IsOrNoMemory 4 failure) }
 {
@@ -55,7 +55,7 @@ fn check_kind(rt: &HostRuntime, path: &str) -> Result<(), Failure>
 ///
 /// # Errors
 ///
-/// If the file has no tables, or memory is refused.
+/// If the file is missing or has no tables, or memory is refused.
 pub(crate) fn check_existing(rt: &HostRuntime, path: &str) -> Result<(), Failure>
     ensures { IfErr result (λ failure. IsOrNoMemory 4 failure) }
 {
@@ -75,7 +75,7 @@ fn check_wal(rt: &HostRuntime, path: &str) -> Result<(), Failure>
 ///
 /// # Errors
 ///
-/// If the file may not be opened, or memory is refused.
+/// If the file fails one of these checks, or memory is refused.
 pub(crate) fn check_file(rt: &HostRuntime, file: &TablesFile<'_>) -> Result<(), Failure>
     ensures { IfErr result (λ failure. IsOrNoMemory 4 failure) }
 {
@@ -93,7 +93,7 @@ pub(crate) fn check_file(rt: &HostRuntime, file: &TablesFile<'_>) -> Result<(), 
 ///
 /// # Errors
 ///
-/// If the file may not be opened, or memory is refused.
+/// If the file fails one of these checks, or memory is refused.
 pub(crate) fn prepare(rt: &HostRuntime, file: &TablesFile<'_>) -> Result<(), Failure>
     ensures { IfErr result (λ failure. IsOrNoMemory 4 failure) }
 {

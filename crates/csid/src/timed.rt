@@ -16,7 +16,7 @@ const ROWS_SECONDS: u64 = 300;
 /// The deadlines of a connection to a change store: for the current exchange, and for the opening.
 pub(crate) struct Deadline {
     rt: HostRuntime,
-    // The deadline of the current exchange.
+    // The deadline of the current exchange, or `None` if no exchange has begun.
     exchange: Cell<Option<Instant>>,
     // The deadline of the opening, or `None` after all rows were read.
     rows: Cell<Option<Instant>>,
@@ -63,7 +63,8 @@ impl Deadline {
         self.rows.set(None);
     }
 
-    // Returns how long a read or a write may wait until the next deadline, at least a microsecond.
+    // Returns the time until the earlier of the two deadlines, at least a microsecond. Fails if this deadline
+    // has passed or no exchange has begun.
     fn left(&self) -> io::Result<Duration> {
         let now = Instant::now(&self.rt)?;
         let Some(exchange) = self.exchange.get() else {

@@ -16,9 +16,9 @@ use std::time::{Duration, Instant};
 pub(crate) enum Since {
     /// The period has not begun.
     Never,
-    /// The period has begun, and no wait has come since.
+    /// The period has begun, and the connection has not waited yet.
     Now,
-    /// The first wait in the period came at this time.
+    /// The first wait in the period began at this time.
     Then(Instant),
 }
 
@@ -40,7 +40,8 @@ impl Since {
 }
 
 /// The time of the current call or reply. The time of a call begins with the first byte of the call. The time
-/// of a reply begins with the first write of the reply that waits. Both times end when the reply is written.
+/// of a reply begins with the first write of the reply that waits, and replaces the time of the call. After
+/// the reply, neither time runs until the next call.
 #[derive(Clone, Copy)]
 pub(crate) struct CallClock {
     // The time when the peer last sent or took bytes.
@@ -89,7 +90,7 @@ impl CallClock {
         }
     }
 
-    /// Notes that the peer took bytes of a reply. So the peer is active at this time.
+    /// Notes that the peer took bytes of a reply. The time without activity begins again.
     pub(crate) fn note_taken(&mut self)
         ensures { self.new ≡ record self.old { active = Since.Now } }
     {
@@ -118,7 +119,7 @@ impl CallClock {
         self.begin(Since::Never);
     }
 
-    // Begins a call or a reply, or the time between two calls.
+    // Begins a reply if `begun` is `Since::Now`, or the time between two calls if it is `Since::Never`.
     fn begin(&mut self, begun: Since)
         ensures all { (self.new.active ≡ Since.Now) × (self.new.begun ≡ begun) × (self.new.delayed ≡ None)
             × (self.new.is_reply ≡ self.old.is_reply) }
@@ -173,7 +174,7 @@ impl CallClock {
     }
 
     /// Returns the time for which the peer may still delay a call or a reply, although another connection is
-    /// ready. The first other connection became ready at the time `since`.
+    /// ready. `since` is the time when the first other connection became ready.
     ///
     /// # Errors
     ///

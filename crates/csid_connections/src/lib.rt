@@ -5,7 +5,7 @@
 //!
 //! The contracts do not say what a socket gives, takes or refuses, or when a wait of the system ends. They do
 //! not say that [`Turn`] has one clock for both of its ends, since no clause knows the content of a cell.
-//! They do not say whether a connection that has sent no call has failed.
+//! They allow that a connection without a call is closed as failed, even if no read of it failed.
 //!
 //! # How it works
 //!
@@ -16,8 +16,8 @@
 //! also after a wait. [`GuardedWriter`] writes a reply only if it holds: no other program can have changed
 //! the volumes.
 //!
-//! `specs/Waiting.antt` has the rules by which a connection stops waiting (`Ends`, `ComesIn`), and
-//! `specs/Calling.antt` the rules for the time of a call.
+//! `specs/Waiting.antt` says when a connection leaves the queue (`Ends`, `ComesIn`), and `specs/Calling.antt`
+//! how the time of a call is counted.
 //!
 //! ```rust
 //! let mut waiting = Waiting::new(&rt, listener, 1_000_000, None)?;

@@ -1,4 +1,4 @@
-//! How long the server waits for a peer.
+//! The limits of the time for which the server waits for a peer.
 
 ghost use Rattle.csid_connections.specs.Timing.{IsLeast, LeftOf};
 ghost use Rattle.std.specs.Duration.{as_nanos};
@@ -11,15 +11,16 @@ use std::time::{Duration, Instant};
 pub(crate) const CALL_SECONDS: u64 = 10;
 
 /// The number of seconds for which the peer that is served may delay other connections. The seconds are
-/// counted from the time when the first of the other connections became ready.
+/// counted from the time when the first of the other connections became ready. A read or a write that blocks
+/// also ends after this time, so that the queue is polled.
 pub(crate) const WANTED_SECONDS: u64 = 1;
 
 /// The number of milliseconds for which the peer that is served may delay each call or reply in any case,
 /// even if other connections have waited longer than [`WANTED_SECONDS`].
 pub(crate) const SHORTEST_MILLIS: u64 = 100;
 
-/// The greatest number of seconds of a turn while another connection is ready. After these seconds the
-/// connection is closed as soon as it is between two calls.
+/// The greatest number of seconds of a turn. After this time, the connection that is served is closed between
+/// two calls, if another connection is ready.
 pub(crate) const TURN_SECONDS: u64 = 60;
 
 /// Returns the part of the time `longest` that is left at `now`, counted from `begun`. Returns `None` if the

@@ -16,10 +16,10 @@ pub fn has_gone(stream: &UnixStream) -> bool {
     writer.write(&[]).is_err()
 }
 
-/// Tells if a reply that was made from the volumes in memory holds. A reply holds if no other program can
-/// have changed the volumes.
+/// Decides if a reply that was made from the volumes in memory may be written. A reply holds, and may be
+/// written, if no other program can have changed the volumes.
 pub trait Leadership {
-    // The effect of one question whether replies hold, and its answer.
+    // The effect of a call of `holds`, and its result.
     ghost asked: { Self → Self → Bool → Type 0 } = { λ _ _ _. ⊤ };
 
     /// Returns true if replies still hold. [`GuardedWriter`] calls this function before the first byte of

@@ -1,4 +1,5 @@
-//! A connection in the queue, which has not sent a complete call yet.
+//! A connection in the queue, and the bytes that it has sent. It is ready to be served when these bytes are a
+//! complete call, 4,096 bytes of a call, or no call.
 
 ghost use Rattle.std.specs.Prelude.{◌≡◌, None, true, false, []};
 ghost use Rattle.csid_connections.specs.Waiting.{IsNew};
@@ -20,19 +21,19 @@ const ENOUGH: usize = 4096;
 /// The kind of the bytes that a connection has sent first: a call, no call, or the beginning of a frame.
 #[derive(Clone, Copy)]
 pub enum Start {
-    /// The beginning of a call: a complete frame, or the first 4,096 bytes of a frame.
+    /// The beginning of a call: a complete frame, or at least 4,096 bytes of a frame.
     Call,
     /// The bytes are no call: the first frame is malformed, or the connection ended before the frame was
     /// complete.
     NoCall,
-    /// The beginning of a frame, which is not complete yet.
+    /// The beginning of a frame, with fewer than 4,096 bytes, or no bytes. The frame is not complete yet.
     Open,
 }
 
 /// The result of a read from a connection in the queue, which does not block.
 #[derive(Clone, Copy)]
 pub enum PeerInput {
-    /// The connection has sent no bytes.
+    /// No new bytes have come, or the connection is ready and was not read.
     Nothing,
     /// The connection has sent bytes, or has ended its stream.
     Something,
@@ -47,9 +48,9 @@ pub struct FirstBytes {
     pub sent: Vec<u8>,
     /// The kind of the bytes, or `None` before the first read.
     pub start: Option<Start>,
-    // The time when the last byte came, or the connection if no byte has come.
+    // The time when the last byte came, or the time when the connection came if it has sent no byte.
     since: Instant,
-    // The time when the first byte came.
+    // The time when the first byte came, or `None` before it.
     begun: Option<Instant>,
 }
 
@@ -106,7 +107,7 @@ impl FirstBytes {
     /// Returns true if the connection is ready to be served:
     ///
     /// - its first frame is complete
-    /// - or 4,096 bytes of the first frame have come
+    /// - or at least 4,096 bytes of the first frame have come
     /// - or the bytes are known to be no call
     pub fn is_known(&self) -> bool
         ensures { result ≡ is_known self.now.start }
@@ -120,7 +121,7 @@ impl FirstBytes {
     ///
     /// # Errors
     ///
-    /// [`Ending::Idle`] or [`Ending::Slow`] if the first or the second of these times is over.
+    /// [`Ending::Idle`] if the time `idle` is over. [`Ending::Slow`] if the ten seconds are over.
     pub fn patience(&self, idle: Option<Duration>, now: Instant) -> Result<Option<Duration>, Ending>
         ensures { WaitsFor idle now self.now result }
     {
@@ -145,8 +146,8 @@ impl FirstBytes {
         }
     }
 
-    /// Returns the time when the last byte came. In a connection that is ready, this byte made the connection
-    /// ready.
+    /// Returns the time when the last byte came, or the time when the connection came if it has sent no byte.
+    /// If the connection is ready, it became ready at this time.
     pub fn since(&self) -> Instant
         ensures { result ≡ self.now.since }
     {

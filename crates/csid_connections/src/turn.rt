@@ -24,7 +24,7 @@ use std::time::{Duration, Instant};
 
 /// A connection that is read and written without blocking for long.
 trait Stream {
-    // The effect of asking if the stream is ready to be read or written, and the answer.
+    // The effect of a call of `is_ready`, and its result.
     ghost found: { Self → Way → Bool → Type 0 } = { λ _ _ _. ⊤ };
 
     /// Returns true if a read or a write would end at once, even with an error.
@@ -62,7 +62,7 @@ fn later(now: Instant, seconds: u64) -> Instant {
     now.checked_add(Duration::from_secs(seconds)).unwrap_or(now)
 }
 
-// The state of a turn.
+// The state of a turn: the stream, the queue, and the times that bound the current call and the turn.
 #[derive(Drop)]
 struct Steps<'a, S> {
     console: &'a Console<'a>,
@@ -70,7 +70,7 @@ struct Steps<'a, S> {
     waiting: &'a mut Waiting,
     // The clock of the current call or reply.
     clock: CallClock,
-    // The time when the turn ends if another connection is ready.
+    // The time after which the turn ends between two calls, if another connection is ready.
     until: Instant,
     // The time when the queue is polled again, even if no read blocks. Otherwise a peer that sends a byte
     // from time to time would keep the queue from being polled.
@@ -259,7 +259,7 @@ impl<'a> Turn<'a> {
     ///
     /// # Errors
     ///
-    /// If the system refuses a setting of the stream, or does not tell the time.
+    /// If the system refuses a setting of the stream, or the clock cannot be read.
     pub fn new(
         console: &'a Console<'a>,
         peer: &'a Pending,

@@ -20,11 +20,11 @@ use std::os::fd::{AsRawFd, RawFd};
 use std::os::unix::net::{UnixListener, UnixStream};
 use std::time::{Duration, Instant};
 
-// The greatest number of connections in the queue. Another connection replaces the oldest connection that has
-// sent no call.
+// The greatest number of connections in the queue. If one more connection comes, the oldest connection that
+// has sent no call is closed.
 const MOST: usize = 256;
 
-// The greatest number of connections that are accepted in one look.
+// The greatest number of connections that one call of `look` accepts.
 const AT_ONCE: usize = 64;
 
 // The token of every source. A look reads from all connections, so it does not matter which source is ready.
@@ -151,8 +151,8 @@ impl Waiting {
         earliest
     }
 
-    // Returns the time for which a connection in the queue may send nothing. After the last connection is
-    // accepted, this time is always limited, so that the program ends.
+    // Returns the time for which a connection in the queue may send nothing. After the last connection was
+    // accepted, this time is at most ten seconds, so that the program ends.
     fn silence(&self) -> Option<Duration>
         ensures { IsSilence self.now.idle self.now.left result }
     {
@@ -185,7 +185,7 @@ impl Waiting {
         Ok(Pending::new(alloc, stream, now))
     }
 
-    // Returns the index of the oldest connection that has sent no call.
+    // Returns the index of the oldest connection that was read and has sent no call.
     fn oldest(&self) -> Option<usize>
         ensures { result ≡ position has_no_call self.now.pending.items }
     {
@@ -194,7 +194,8 @@ impl Waiting {
             .position(|it| matches!(it.first.start, Some(Start::Open)))
     }
 
-    // Closes the oldest connection that has sent no call.
+    // Closes the oldest connection that was read and has sent no call, and reports it. If there is no such
+    // connection, does nothing.
     fn close_oldest(&mut self, console: &Console<'_>, now: Instant)
         ensures closed { self.new.pending.items
             ≡ without (position has_no_call self.old.pending.items) self.old.pending.items }
@@ -213,7 +214,7 @@ impl Waiting {
         self.pending.len() >= MOST && self.oldest().is_none()
     }
 
-    // Adds a connection to the queue.
+    // Adds a connection to the queue. If 256 connections wait, first closes the oldest that has sent no call.
     fn admit(&mut self, console: &Console<'_>, stream: UnixStream, now: Instant)
         ensures bounded { is_full self.old.pending.items ≡ false
             → StayFew self.old.pending.items self.new.pending.items }
@@ -233,8 +234,9 @@ impl Waiting {
         }
     }
 
-    // If the system refuses a new connection, for example for lack of descriptors, closes up to half of the
-    // queue. Returns the error if the queue is empty.
+    // Makes room after the system refused a new connection, for example for lack of descriptors. Closes the
+    // oldest connections that have sent no call, at most half of the queue. Returns the error if the queue is
+    // empty.
     fn make_room(&mut self, console: &Console<'_>, error: io::Error, now: Instant) -> io::Result<()>
         ensures bounded { length self.new.pending.items ≤ length self.old.pending.items }
         ensures room { (n : ℕ) × (n * 2 ≤ length self.old.pending.items + 1)
@@ -310,7 +312,8 @@ impl Waiting {
         }
     }
 
-    // Reads from each connection of the queue, in order.
+    // Reads from each connection of the queue, in order. Closes and reports the connections that failed or
+    // were silent for too long.
     fn receive_all(&mut self, console: &Console<'_>, now: Instant)
         ensures looks { LooksAt self.old.idle self.old.left now
             self.old.pending.items self.new.pending.items }
@@ -407,8 +410,8 @@ impl Waiting {
     ///
     /// # Errors
     ///
-    /// If the system refuses a new connection while the queue is empty, refuses to wait, or does not tell the
-    /// time.
+    /// If the system refuses a new connection while the queue is empty, refuses to wait, or cannot read the
+    /// clock.
     pub fn next(&mut self, console: &Console<'_>) -> io::Result<Option<Pending>>
         ensures ready { IfOk result (λ next. IfSome next (λ one. is_ready one ≡ true)) }
         ensures bounded { StayFew self.old.pending.items self.new.pending.items }

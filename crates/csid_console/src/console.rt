@@ -27,9 +27,10 @@ const WAYS: usize = 7;
 /// The way in which a connection ended before all its calls were read and answered.
 #[derive(Clone, Copy, PartialEq, Eq)]
 pub enum Ending {
-    /// The peer sent nothing for too long.
+    /// The peer sent nothing, or took nothing of a reply, for too long. A peer may not wait between two calls
+    /// at all while another connection is ready.
     Idle,
-    /// The peer began a call and did not complete it in time.
+    /// The peer did not complete a call, or did not take a complete reply, in time.
     Slow,
     /// The peer had closed the connection before it was served.
     Gone,
@@ -221,7 +222,8 @@ impl<'a> Console<'a> {
     }
 
     /// Begins the next second if the current second is over at `now`. Writes how many connections ended in
-    /// that second without a line of their own, if any.
+    /// the second before without a line of their own. If there are any, the connections of the next second
+    /// get no lines either, and are only counted.
     pub fn finish_second(&self, now: Instant) {
         if self.left(now).is_none() {
             self.shown.set(0);

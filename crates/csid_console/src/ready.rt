@@ -14,7 +14,7 @@ pub enum Way {
 }
 
 /// Returns true if a read or a write of a descriptor would end at once, even with an error. The call itself
-/// does not wait. Returns false if the system does not answer.
+/// does not wait. Returns false if the poll itself fails.
 pub fn is_ready(fd: RawFd, way: Way) -> bool {
     let events = match way {
         Way::Read => POLLIN,

@@ -47,7 +47,7 @@ fn whole_bytes(rt: &HostRuntime, path: &str) -> Result<Vec<u8>, Failure>
     }
 }
 
-// Checks the tables in the bytes of a file by a configuration, and returns their counts.
+// Checks the tables in the bytes of a file under a configuration, and returns their counts.
 fn judged(
     console: &Console<'_>,
     path: &str,
@@ -70,7 +70,7 @@ fn write_new(rt: &HostRuntime, path: &str, bytes: &[u8]) -> io::Result<()> {
     file.sync_all()
 }
 
-// Returns the folder of a path.
+// Returns the folder of a path, or `.` if the path has no slash.
 fn folder_of(path: &str) -> &str {
     match path.rsplit_once('/') {
         Some(("", _)) => "/",
@@ -79,7 +79,8 @@ fn folder_of(path: &str) -> &str {
     }
 }
 
-// Gives a file another name, which no other file may have. A file system without links renames the file.
+// Gives a file another name, which no other file may have. If the file system makes no hard link, renames the
+// file.
 fn give_name(rt: &HostRuntime, from: &str, to: &str) -> io::Result<()> {
     match fs::hard_link(rt, from, to) {
         Ok(()) => fs::remove_file(rt, from),
@@ -108,8 +109,8 @@ fn write_failure(rt: &HostRuntime, path: &str, error: &io::Error) -> Failure
     }
 }
 
-// Writes a copy as `TO.new` and then gives it the name `TO`. After a failure `TO.new` is removed, but for one
-// that was there before.
+// Writes a copy as `TO.new` and then gives it the name `TO`. After a failure, removes `TO.new` unless it
+// existed before.
 fn write_copy(rt: &HostRuntime, to: &str, bytes: &[u8]) -> Result<(), Failure>
     ensures { IfErr result (λ failure. IsOrNoMemory 4 failure) }
 {
@@ -126,14 +127,14 @@ fn write_copy(rt: &HostRuntime, to: &str, bytes: &[u8]) -> Result<(), Failure>
     }
 }
 
-/// Copies the tables in the file at `path` into a new file at `to`. The copy has the tables as they were
-/// committed at one moment. Writes the counts of the tables on standard output. The copy needs no WAL. It is
-/// checked under the configuration before the new file gets the name `to`. The file at `path` is only read,
-/// and a server may have it open.
+/// Copies the tables in the file at `path` into a new file at `to`, and writes their counts on standard
+/// output. The copy has the tables as they were committed at one moment, and needs no WAL. It is checked
+/// under the configuration before the new file gets the name `to`. The file at `path` is only read, and a
+/// server may have it open.
 ///
 /// # Errors
 ///
-/// If a file at `to` exists, the tables cannot be read or are refused, the copy or the line cannot be
+/// If a file at `to` exists, the tables cannot be read or are refused, the copy or the counts cannot be
 /// written, or memory is refused.
 pub fn copy_tables(
     console: &Console<'_>,

@@ -1,5 +1,5 @@
 //! Runs `csid --check-config` and `csid --check-tables`: shows what a file contains, or why it is refused.
-//! Neither serves calls or changes a file.
+//! Neither of them serves calls or changes a file.
 
 ghost use Rattle.std.specs.Prelude.{◌≡◌, false};
 
@@ -15,7 +15,7 @@ use sqlite::{Alter, Connection};
 use std::fmt::{self, Display};
 use std::io::Write;
 
-/// The counts of pools and nodes of a configuration. Its `Display` is one line.
+/// A line about a configuration: the name of the plugin, and the numbers of pools and nodes.
 #[derive(Clone, Copy, Drop)]
 struct Summary<'a> {
     config: &'a Config,
@@ -56,10 +56,9 @@ pub fn check_config(console: &Console<'_>, path: &str) -> Result<(), Failure> {
     report(console.rt, &Summary { config: &config })
 }
 
-/// Adopts tables in memory, and returns the counts of the tables. If the tables are refused because of a row,
+/// Adopts tables in memory: checks them under the configuration, and upgrades them to the latest format.
+/// Returns the counts that the tables had before the upgrade. If the tables are refused because of a row,
 /// reports details of this row.
-///
-/// The counts are read before the adoption, which upgrades the tables to the latest format.
 ///
 /// # Errors
 ///
@@ -84,7 +83,7 @@ pub(crate) fn adopted<S: Alter + Drop>(
     }
 }
 
-/// Checks that the tables in the file at `path` can be adopted under a configuration. Writes a line on
+/// Checks that the tables in the file at `path` can be served under a configuration. Writes a line on
 /// standard output: the numbers of volumes and of attachments, the next number, and the format. The check is
 /// over a copy in memory, and the file is only read.
 ///
@@ -95,8 +94,7 @@ pub fn check_tables(console: &Console<'_>, path: &str, config: &Config) -> Resul
     over_tables_copy(console, path, CopyTask::Check(config))?
 }
 
-/// Adopts the tables on a connection under a configuration, and writes the counts of the tables on standard
-/// output.
+/// Checks the tables on a connection under a configuration, and writes their counts on standard output.
 ///
 /// # Errors
 ///

@@ -9,7 +9,7 @@ use csid_console::Console;
 use sqlite::{Alter, Connection, Error};
 use std::fmt;
 
-/// The counts of tables. Its `Display` is one line.
+/// The counts of tables: volumes, attachments, the next number and the format. Its `Display` is one line.
 #[derive(Clone, Copy)]
 pub struct Content {
     volumes: i64,
@@ -18,7 +18,8 @@ pub struct Content {
     format: i64,
 }
 
-// Returns a count as an `i64`, as SQLite has numbers, or the greatest `i64` if the count is greater.
+// Returns a count as an `i64`, which is the type of SQLite's integers. A count above the greatest `i64`
+// becomes the greatest `i64`.
 fn shown(count: u64) -> i64 {
     i64::try_from(count).unwrap_or(i64::MAX)
 }

@@ -18,7 +18,7 @@ use std::alloc::Global;
 use std::fs::{self, File};
 use std::io::{self, ErrorKind, Read};
 
-// The greatest number of tries of a copy, if another process writes the file.
+// The greatest number of tries to copy a file while another process writes it.
 const TRIES: usize = 10;
 
 // The length in bytes of the header of a WAL (sqlite.org/fileformat2.html, section 4.1).
@@ -26,7 +26,7 @@ const WAL_HEADER_BYTES: usize = 32;
 
 const IS_WRITTEN: &str = "it is written all the time";
 
-/// The line for a file without tables.
+/// Reported for a file without tables.
 pub(crate) const NO_TABLES: &str = "it has no tables, and none are made";
 
 // Returns the failure for a file that cannot be read.
@@ -66,7 +66,8 @@ fn header_of(rt: &HostRuntime, path: &str) -> Result<Vec<u8>, Failure>
     }
 }
 
-// Returns the path of the file to which links lead. SQLite keeps the WAL and the journal next to this file.
+// Returns the path of the file to which the links at `path` lead. SQLite keeps the WAL and the journal next
+// to this file.
 fn real_path(rt: &HostRuntime, path: &str) -> Result<String, Failure>
     ensures { IfErr result (λ failure. IsOrNoMemory 4 failure) }
 {
@@ -139,8 +140,8 @@ fn has_header(wal: &[u8], header: &[u8]) -> bool
 }
 
 // Reads the database file, its WAL, the database file again, and last the header of the WAL. Returns `None`
-// if a process wrote to them meanwhile: the database file changed, or the WAL began anew. A WAL that begins
-// anew gets a new header before any of its frames is overwritten or cut off.
+// if a process wrote to them meanwhile: the database file or the header of the WAL has changed. A process
+// that starts a WAL again writes a new header before it overwrites or cuts off any frame.
 fn copied_once<F: DatabaseReads>(
     alloc: Global,
     files: &mut F,
@@ -165,7 +166,8 @@ fn copied_once<F: DatabaseReads>(
     Ok(Some(files_of(alloc, wal.as_slice(), database.as_slice())?))
 }
 
-// Returns a copy of a database file and its WAL as they were at one moment.
+// Returns a copy of a database file and its WAL as they were at one moment. Fails if a process wrote to them
+// during each of ten tries.
 fn copied<F: DatabaseReads>(
     alloc: Global,
     path: &str,
@@ -226,13 +228,14 @@ pub(crate) fn open_copy(
 /// A task over the copy of tables.
 #[derive(Clone, Copy)]
 pub(crate) enum CopyTask<'a> {
-    /// Check that the tables can be adopted under a configuration.
+    /// Check that the tables can be served under a configuration.
     Check(&'a Config),
     /// List the chosen volumes, in JSON if the flag is true.
     List(&'a Chosen<'a>, bool),
 }
 
-// Does a task over the tables on a connection. Fails if there are no tables. The code works for any store.
+// Does a task over the tables on a connection. The inner result is the result of the task. Fails if there are
+// no tables.
 fn over_tables<S: Alter + Drop>(
     console: &Console<'_>,
     path: &str,

@@ -13,7 +13,7 @@ use std::alloc::{AllocError, Global};
 
 // The reason why no details are reported.
 enum Silence {
-    // A row lacks a value, or the database fails.
+    // The fault has no details, or they cannot be read from the tables.
     Unread,
     NoMemory,
 }
@@ -124,7 +124,8 @@ fn line<S: Alter>(
     }
 }
 
-/// Reports details of the row for which tables are refused, if the fault is in a row.
+/// Reports details of the volume, the pool or the node for which tables are refused. Reports nothing if the
+/// fault is of another kind.
 pub(crate) fn explain<S: Alter>(
     console: &Console<'_>,
     path: &str,

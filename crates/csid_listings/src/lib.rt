@@ -3,8 +3,8 @@
 //! [`check_tables`], [`list_tables`] and [`copy_tables`] read a copy in memory, which has the tables as they
 //! were at one moment, even if another process writes the file. [`list_tables`] writes a list for people or
 //! in JSON, and [`copy_tables`] writes a new file. [`keeper_over`] adopts the tables on a connection.
-//! [`database_failure`], [`adoption_failure`] and [`store_failure`] choose the line and the exit status if
-//! that fails.
+//! [`database_failure`], [`adoption_failure`] and [`store_failure`] return the failure, with its line and its
+//! exit status, if tables cannot be opened, adopted or read.
 //!
 //! ```rust
 //! check_tables(&console, "/var/lib/csid/volumes.db", &config)?;

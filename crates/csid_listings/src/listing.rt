@@ -49,7 +49,7 @@ fn is_id(wanted: Option<&str>, number: u64) -> bool {
     }
 }
 
-// Returns true if a volume that is published to these nodes is listed.
+// Returns true if a volume, which is published to `nodes`, passes the filter.
 fn has(chosen: &Chosen<'_>, volume: &Volume, nodes: &Items<Text>) -> bool {
     is_id(chosen.id, volume.number)
         && is_wanted(chosen.name, &volume.name)
@@ -101,7 +101,7 @@ impl<S: Alter + Drop> TablesCopy<'_, S> {
         }
     }
 
-    // Reads the page of the volumes after a number.
+    // Reads up to 1,000 volumes, those with the lowest numbers above `after`, and the nodes of each.
     fn page(&mut self, after: u64) -> Result<PageWithNodes, Failure> {
         if after >= NUMBERS {
             return Ok(PageWithNodes {
@@ -146,7 +146,7 @@ pub fn list_tables(
     over_tables_copy(console, path, CopyTask::List(chosen, is_json))?
 }
 
-// Lists the volumes of the tables on a connection. The code works for any store.
+// Lists the volumes of the tables on a connection, in JSON if `is_json` is true, otherwise in columns.
 pub(crate) fn list_over<S: Alter + Drop>(
     console: &Console<'_>,
     path: &str,

@@ -49,8 +49,8 @@ pub fn files_of(alloc: Global, wal: &[u8], db: &[u8]) -> Result<Files<Memory>, F
     })
 }
 
-/// Returns true if memory was refused to a database in memory. SQLite reports that as a failure of the disk,
-/// and files in memory have no other failure.
+/// Returns true if memory for a file in memory was refused. SQLite reports this as a failure of the disk, and
+/// files in memory have no other failure.
 pub fn is_no_memory(error: &Error) -> bool {
     matches!(error, Error::SqliteFailure(ErrorCode::SystemIoFailure))
 }

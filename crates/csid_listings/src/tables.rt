@@ -1,4 +1,4 @@
-//! Failures about tables, and a keeper over the tables on a connection.
+//! Makes a keeper over the tables on a connection, and converts errors of tables to the program's failures.
 
 ghost use Rattle.std.specs.Prelude.{◌≡◌, false, IfErr, IfOk};
 ghost use Rattle.csi_adoption.specs.Adopting.{IsAdopted};
@@ -12,7 +12,8 @@ use csid_settings::Failure;
 use sqlite::{Alter, Connection, Error, ErrorCode};
 use std::alloc::Global;
 
-/// Returns the failure for a file at `path` that cannot be opened, read or closed.
+/// Returns the failure for a file at `path` that cannot be opened, read or closed. It is
+/// [`Failure::NoMemory`] if memory was refused.
 pub fn database_failure(alloc: Global, path: &str, error: &Error) -> Failure
     ensures { IsOrNoMemory 4 result }
 {
@@ -22,7 +23,8 @@ pub fn database_failure(alloc: Global, path: &str, error: &Error) -> Failure
     }
 }
 
-/// Returns the failure for tables in the file at `path` that were not adopted.
+/// Returns the failure for tables in the file at `path` that were not adopted. It is [`Failure::NoMemory`] if
+/// memory was refused.
 pub fn adoption_failure(alloc: Global, path: &str, fault: &AdoptFault) -> Failure
     ensures { IsOrNoMemory 4 result }
 {
@@ -32,7 +34,8 @@ pub fn adoption_failure(alloc: Global, path: &str, fault: &AdoptFault) -> Failur
     }
 }
 
-/// Returns the failure if the volumes of the tables at `path` could not be read into memory.
+/// Returns the failure if the volumes of the tables at `path` could not be read into memory. It is
+/// [`Failure::NoMemory`] if memory was refused.
 pub fn store_failure(alloc: Global, path: &str, fault: StoreFault) -> Failure
     ensures { IsOrNoMemory 4 result }
 {

@@ -8,9 +8,9 @@ use command_line::{
 /// The filter of a listing. A volume is listed if it meets each condition that is given.
 #[derive(Clone, Copy)]
 pub struct Chosen<'a> {
-    /// Only the volume with this id; `None` for any id.
+    /// The id of the volume that is listed, such as `vol-1`, or `None` for any id.
     pub id: Option<&'a str>,
-    /// Only the volume created under this name; `None` for any name.
+    /// The name under which the listed volume was created, or `None` for any name.
     pub name: Option<&'a str>,
     /// The name of the pool whose volumes are listed, or `None` for any pool.
     pub pool: Option<&'a str>,
@@ -78,9 +78,9 @@ pub struct TablesFile<'a> {
 /// The store that keeps the volumes of a server.
 #[derive(Clone, Copy)]
 pub enum Volumes<'a> {
-    /// The tables of a file.
+    /// The tables of a file (`--tables`).
     Tables(TablesFile<'a>),
-    /// The change store that listens at the socket with this path.
+    /// The change store that listens at the socket with this path (`--log`).
     ChangeStore(&'a str),
 }
 
@@ -89,7 +89,7 @@ pub enum Volumes<'a> {
 pub struct Serving<'a> {
     /// The path at which the socket is made.
     pub socket: &'a str,
-    /// The place of the volumes: the tables of a file (`--tables`) or a change store (`--log`).
+    /// The store that keeps the volumes: the tables of a file, or a change store.
     pub volumes: Volumes<'a>,
     /// The file of the configuration, or `None` for the sample configuration.
     pub config: Option<&'a str>,
@@ -277,14 +277,14 @@ pub fn read_arguments<'a>(
     command_line::matches(rt, &line, arguments)
 }
 
-/// The options that take a number: the name of each, and the option as a line shows it.
+/// The options that take a number: the name of each, and the option as an error line shows it.
 const NUMBERS: [(&str, &str); 2] = [
     ("connections", "--connections <N>"),
     ("idle", "--idle <SECONDS>"),
 ];
 
-/// Returns the first option whose value is not only decimal digits: the option as a line shows it, and its
-/// value. Returns `None` if there is no such option. The check is needed since `clap` accepts a sign.
+/// Returns the first option whose value is not only decimal digits: the option as an error line shows it, and
+/// its value. Returns `None` if there is no such option. The check is needed since `clap` accepts a sign.
 pub fn odd_number<'a>(matches: &ArgMatches<'a>) -> Option<(&'static str, &'a str)> {
     let (_, arguments) = matches.subcommand()?;
     for (name, shown) in NUMBERS {
@@ -297,8 +297,8 @@ pub fn odd_number<'a>(matches: &ArgMatches<'a>) -> Option<(&'static str, &'a str
     None
 }
 
-/// Returns the fault if the command line has two tasks over tables, or a configuration but no task. Returns
-/// `None` for any other command line.
+/// Returns the fault if the command line has two tasks over tables, or a configuration for a task that needs
+/// none. Returns `None` for any other command line.
 pub fn odd_check<'a>(matches: &ArgMatches<'a>) -> Option<&'static str> {
     let is_check = matches.get_str("check-tables").is_some();
     let is_copy = matches.get_str("copy-tables").is_some();
@@ -329,7 +329,7 @@ pub fn odd_check<'a>(matches: &ArgMatches<'a>) -> Option<&'static str> {
 }
 
 /// Returns the fault if the arguments of a server name no store for the volumes, or name two stores. Returns
-/// `None` if they name one store.
+/// `None` if they name one store, and for other commands.
 pub fn odd_store<'a>(matches: &ArgMatches<'a>) -> Option<&'static str> {
     let Some(("serve", arguments)) = matches.subcommand() else {
         return None;
@@ -360,7 +360,7 @@ fn place_of_volumes<'a>(arguments: &ArgMatches<'a>) -> Volumes<'a> {
     }
 }
 
-// Returns the task of `csid serve`.
+// Returns the options of `csid serve`.
 fn serve_task<'a>(arguments: &ArgMatches<'a>) -> Serving<'a> {
     Serving {
         socket: arguments.get_str("socket").unwrap_or(""),
@@ -386,7 +386,8 @@ fn list_task<'a>(arguments: &ArgMatches<'a>, tables: &'a str) -> Task<'a> {
     }
 }
 
-// Returns the task of a command line without a command.
+// Returns the task of a command line without a command. Without options, the task is to answer the calls on
+// standard input over the sample configuration.
 fn plain_task<'a>(arguments: &ArgMatches<'a>) -> Task<'a> {
     if let Some(path) = arguments.get_str("check-config") {
         return Task::CheckConfig(path);

@@ -11,7 +11,7 @@ use std::alloc::Global;
 use std::fs;
 use std::io::ErrorKind;
 
-// Reads the bytes of a file.
+// Reads the bytes of the configuration file at `path`. The failure names the path.
 fn read_file(rt: &HostRuntime, path: &str) -> Result<Vec<u8>, Failure>
     ensures { IfErr result (λ failure. IsOrNoMemory 3 failure) }
 {
@@ -22,7 +22,7 @@ fn read_file(rt: &HostRuntime, path: &str) -> Result<Vec<u8>, Failure>
     }
 }
 
-// Reads the configuration in the bytes of a file.
+// Parses the bytes of the file at `path` as a configuration. The failure names the path.
 fn config_of(alloc: Global, path: &str, bytes: &[u8]) -> Result<Config, Failure>
     ensures { IfErr result (λ failure. IsOrNoMemory 3 failure) }
 {

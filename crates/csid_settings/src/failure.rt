@@ -57,7 +57,7 @@ pub enum Failure {
     /// The output with this name cannot be written.
     #[error("a write to {0} failed")]
     WriteFailed(&'static str),
-    /// A run over calls ended because it reached the limit of reads.
+    /// A run of calls ended because it reached the limit of 2^32 reads.
     #[error("the reads of one run are spent")]
     TurnsSpent,
     /// Memory was refused.

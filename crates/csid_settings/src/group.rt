@@ -51,7 +51,7 @@ fn number_of(text: &str) -> Option<u32> {
 ///
 /// # Errors
 ///
-/// If no group has the name and the text is not a number, or memory is refused.
+/// If no group has the name and the text is not a number below 2^32 - 1, or memory is refused.
 pub fn group_number(rt: &HostRuntime, name: &str) -> Result<u32, Failure>
     ensures { IfErr result (λ failure. IsOrNoMemory 7 failure) }
 {

@@ -1,5 +1,5 @@
-//! Answers ListVolumes (CSI specification, 'ListVolumes'). The entries of a page are written while they are
-//! read, and not collected in a response first.
+//! Answers ListVolumes (CSI specification, 'ListVolumes'). The entries of a page are written while the
+//! volumes are read, and not collected in a response first.
 
 ghost use Rattle.std.specs.Prelude.{◌≡◌, ◌++◌, [], Some, Ok, OnOk};
 ghost use Rattle.pbmessage.specs.Kept.{Keeps};
@@ -79,7 +79,8 @@ fn write_page<K: Keeper>(
     Ok(put_token(alloc, page.last, rest.is_any, &mut page.body)?)
 }
 
-// Appends the body of the page after a number. Refuses a page that is too large for a reply.
+// Appends the body of the page of volumes with numbers above `after`. Refuses a page that is too large for a
+// reply.
 #[inline(always)]
 fn append_after<K: Keeper>(
     alloc: Global,

@@ -27,8 +27,8 @@ fn publish_again(key: &CapKey, readonly: bool, attachment: &Attachment) -> Plan
     refuse(Reason::PublishedOtherwise)
 }
 
-// What a publish is about: the volume, with its capabilities and attachments, and the node, with the number
-// of volumes that are attached to it.
+// The target of ControllerPublishVolume: the number, capabilities and attachments of the volume, the node,
+// and the count of volumes that are attached to the node (`there`).
 #[derive(Clone, Copy)]
 struct Target<'a> {
     number: u64,

@@ -6,8 +6,8 @@ use csi_rules::ID_PREFIX;
 use csi_types::{Items, Map, Text};
 use std::alloc::{AllocError, Global};
 
-/// Returns the name of the access mode with this number (CSI specification, 'CreateVolume'), or `UNKNOWN` for
-/// any other number.
+/// Returns the name of the access mode with this number, 1 to 7 (CSI specification, 'CreateVolume'). Returns
+/// `UNKNOWN` for any other number.
 pub(crate) fn mode_name(mode: u8) -> &'static str {
     match MODE_NAMES.get(usize::from(mode)) {
         Some(name) => name,
@@ -15,7 +15,7 @@ pub(crate) fn mode_name(mode: u8) -> &'static str {
     }
 }
 
-// Writes a capability in words.
+// Returns a capability as one word: `block:MODE`, `mount:MODE` or `FILESYSTEM:MODE`.
 fn capability(alloc: Global, key: &CapKey) -> Result<String, AllocError> {
     let mode = mode_name(key.mode);
     match &key.kind {
@@ -68,7 +68,7 @@ pub(crate) const HEADINGS: [&str; 8] = [
     "NODES",
 ];
 
-/// Makes the row of a volume in the table.
+/// Makes the row of a volume in the table, with one word for each of [`HEADINGS`].
 pub(crate) fn row(
     alloc: Global,
     volume: &Volume,

@@ -27,7 +27,7 @@ impl Visit for Rows {
     }
 }
 
-// Writes the sums of pools or of nodes, after an empty line.
+// Returns an empty line and the table of the sums of pools or of nodes.
 fn sums_text(alloc: Global, heading: &'static str, sums: &Sums) -> Result<String, AllocError> {
     let mut table = Table::with_headings(alloc, &[heading, "VOLUMES", "SIZE"])?;
     for (name, sum) in sums {
