@@ -1,7 +1,7 @@
 //! Checks a file of tables and its WAL before they are opened: if the file has tables, and if new tables may
 //! be made in it.
 
-ghost use Rattle.std.specs.Prelude.{◌≡◌, ◌≤◌, ◌*◌, ◌⊎◌};
+ghost use Rattle.std.specs.Prelude.{◌≡◌, ◌≤◌, ◌⊎◌};
 
 use crate::room::memory_limit;
 use csi_files::WAL_WITH_FRAME_BYTES;
@@ -19,17 +19,15 @@ const CELLS_AT: usize = 103;
 
 const LEAF: u8 = 13;
 
-// The greatest number of bytes of memory that an opening takes for one byte of a row in the file.
-const OPENING_FACTOR: u64 = 6;
+// The greatest number of bytes of memory that an opening takes for one byte of a row in the file, with the
+// page that is kept.
+const OPENING_FACTOR: u64 = 7;
 
-// An opening may always keep this number of pages in memory.
+// The least number of pages that an opening may keep in memory.
 const LEAST_CACHE_PAGES: u64 = 2000;
 
-// An opening keeps at most half of the pages of a file in memory. If the process has a limit of memory, these
-// pages take at most a 32nd of it. The index of names has a third of the file's pages, and an opening reads
-// them in random order. `OPENING_FACTOR` includes the memory of the kept pages.
-const CACHE_SHARE: u64 = 2;
-
+// An opening keeps all pages of a file in memory, since it reads the index of names in random order. If the
+// process has a limit of memory, the pages take at most a 32nd of the limit.
 const LIMIT_SHARE: u64 = 32;
 
 /// The reason why `csid` refuses a file of tables.
@@ -144,29 +142,28 @@ pub(crate) struct OpeningLimits {
     pub(crate) cache_pages: usize,
 }
 
-// Returns how many pages of a file with `count` pages an opening keeps in memory: half of the pages, but at
-// most `most` pages. If this is fewer than 2,000, returns 2,000.
-fn cached_pages(count: u64, most: u64) -> u64
+// Limits a number of pages to `most`, but returns at least 2,000.
+fn limited(count: u64, most: u64) -> u64
     ensures least { 2000 ≤ result }
-    ensures share { (result ≡ 2000) ⊎ ((result * 2 ≤ count) × (result ≤ most)) }
+    ensures most { (result ≡ 2000) ⊎ ((result ≤ count) × (result ≤ most)) }
 {
-    (count / CACHE_SHARE).min(most).max(LEAST_CACHE_PAGES)
+    count.min(most).max(LEAST_CACHE_PAGES)
 }
 
-// Returns how many pages of a file with `count` pages an opening keeps in memory. The process's limit of
-// memory is read only if half of the pages are more than 2,000.
+// Returns the number of pages that an opening of a file with `count` pages keeps in memory. The limit of the
+// process's memory is read only if the file has more than 2,000 pages.
 fn cache_pages(rt: &HostRuntime, count: u64, page_bytes: u64) -> u64
     ensures least { 2000 ≤ result }
-    ensures share { (result ≡ 2000) ⊎ (result * 2 ≤ count) }
+    ensures most { (result ≡ 2000) ⊎ (result ≤ count) }
 {
-    if count / CACHE_SHARE <= LEAST_CACHE_PAGES {
+    if count <= LEAST_CACHE_PAGES {
         return LEAST_CACHE_PAGES;
     }
     let most = match memory_limit(rt) {
         Some(limit) => (limit / LIMIT_SHARE).checked_div(page_bytes).unwrap_or(0),
         None => u64::MAX,
     };
-    cached_pages(count, most)
+    limited(count, most)
 }
 
 /// Returns the limits of memory for opening the file of tables. They depend on the size of the file and of
