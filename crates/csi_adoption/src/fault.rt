@@ -47,7 +47,7 @@ pub enum AdoptFault {
     /// The rows break a constraint of the configuration or of the volume machine.
     #[error("{0}")]
     Broken(BrokenConstraint),
-    /// The database failed a read, with this error.
+    /// The database failed a read or a write, with this error.
     #[error("the database failed: {0}")]
     Store(SqlError),
     /// Memory was refused.

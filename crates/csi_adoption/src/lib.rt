@@ -5,11 +5,11 @@
 //! the first constraint that is broken and the row that breaks it, and contains the connection, whose rows
 //! are unchanged. A scan keeps no row, so its memory does not grow with the tables.
 //!
-//! `specs/Seen.antt` has the results of the scans. `specs/Faults.antt` has the fault of each constraint, the
-//! order of the faults, and the results of checks: the first fault (`Reports`), or that memory for a copy of
-//! a name was refused (`Says`). `specs/Judging.antt` has the fault of given rows, by the format and the next
-//! number in the row of the table `meta` (`Meta`). The results of the scans over given rows (`in_volumes`,
-//! `in_attachments`) have the same faults, in the same order.
+//! `specs/Seen.antt` has the results of the scans. `specs/Faults.antt` has the fault of each constraint and
+//! the order of the faults. A check reports the first fault (`Reports`). A check that copies a name may also
+//! report that memory was refused (`Says`). `specs/Judging.antt` has the fault of given rows, by the format
+//! and the next number in the row of the table `meta` (`Meta`). The results of the scans over given rows
+//! (`in_volumes`, `in_attachments`) have the same faults, in the same order.
 //!
 //! `meta.rt`, `volumes.rt` and `attachments.rt` scan the tables, with one fold for each constraint and one
 //! scan for each table (`specs/Folding.antt` has the folds). They fill the structs of `seen.rt`: the first

@@ -2,14 +2,15 @@
 //! memory that does not grow with the number of rows.
 //!
 //! A scan is a query with a fixed text. `csi_sql::each_row` passes the rows of its answer to a
-//! `csi_sql::Fold`, in order. The relation `folds` states what a fold becomes: it relates the fold before
-//! some rows, the rows, and the fold after them. A fold that takes no row is unchanged, and each further row
-//! extends the relation. [`TextSum`] sums over the rows with a text, [`RowCount`] counts rows, and [`Rising`]
-//! tests that the integers of a column rise. A struct of folds is a fold too, which passes each row to all of
-//! its parts. [`FoldEach`] is such a struct for several folds of one type. So many constraints of a table are
-//! tested in one scan. `scans.rt` has the five scans: the table `meta`, volumes by number, attachments by
-//! rowid, attachments by number, and attachments with the caps of their volumes. Some constraints are about a
-//! volume and an attachment together. SQL joins the two rows, and the constraint is a test of the joined row.
+//! `csi_sql::Fold`, in order. A fold is a value that takes rows one by one, such as a sum. Its relation
+//! `folds` relates the fold before some rows, the rows, and the fold after them. [`TextSum`] sums over the
+//! rows with a text, [`RowCount`] counts rows, and [`Rising`] tests that the integers of a column rise. A
+//! struct of folds is a fold too, which passes each row to all of its parts. [`FoldEach`] is a list of folds
+//! of one type, and is a fold too. In this way one scan tests many constraints of a table.
+//!
+//! `scans.rt` has the five scans: the table `meta`, volumes by number, attachments by rowid, attachments by
+//! number, and attachments with the caps of their volumes. Some constraints are about a volume and an
+//! attachment together. SQL joins the two rows, and the constraint is a test of the joined row.
 //! `specs/Scans.antt` defines the rows of each scan, and `specs/facts/` has the facts that follow if each row
 //! passes a test.
 //!
@@ -25,13 +26,13 @@
 //!
 //! `specs/Coding.antt` defines which keys or parameters some bytes encode: the keys or parameters whose
 //! canonical bytes are these bytes. So `coding.rt` decodes the bytes, encodes the result, and compares both.
-//! [`laws`] ties each constraint to the State (`specs/Agreement.antt`): a row that represents a volume or an
-//! attachment passes if and only if a State may have that volume or attachment. Sums over rows, such as the
-//! bytes of a pool or the attachments of a node, are folds and not tests of one row.
+//! [`laws`] ties each constraint to the State (`specs/Agreement.antt`): the row of a volume or an attachment
+//! passes a constraint if and only if a State allows this in a volume or an attachment. Sums over rows, such
+//! as the bytes of a pool or the attachments of a node, are folds and not tests of one row.
 //!
-//! The contracts about rows hold if the disk is clean when the call ends (`HasCleanDisk`) and the schema is
-//! the schema that `csi_sql::make_tables` makes. A scan changes neither the tables nor the contents that a
-//! stop may leave.
+//! The contracts about rows hold if the disk is clean when the call ends (`HasCleanDisk`), that is, if it has
+//! returned the bytes that were written to it. The schema must be the schema that `csi_sql::make_tables`
+//! makes. A scan changes neither the tables nor the contents that a stop may leave.
 //!
 //! ```rust
 //! let mut unsized_volume = FirstBroken {

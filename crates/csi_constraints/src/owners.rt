@@ -42,16 +42,16 @@ impl KnownCaps {
     }
 }
 
-/// Finds the first attachment whose volume does not exist or lacks the attachment's capability
-/// (`scan_owners`).
+/// Finds the first attachment whose volume does not exist or lacks the attachment's capability. The rows come
+/// from `scan_owners`.
 ///
-/// The caps that were decoded last are kept. So the caps of a volume are decoded once for consecutive
+/// The fold keeps the caps that were decoded last. So the caps of a volume are decoded once for consecutive
 /// attachments of the volume.
 #[derive(Drop)]
 pub struct FirstUnowned {
     /// The allocator of the decoded capabilities and of the text in `found`.
     pub alloc: Global,
-    /// The caps that were decoded last, or `None` while no caps were decoded. Initially `None`.
+    /// The caps that were decoded last, or `None` if no caps have been decoded yet. Initially `None`.
     pub last: Option<KnownCaps>,
     /// The first row that breaks the constraint, or `None` if no row has broken it yet. Initially `None`.
     pub found: Option<RowName>,

@@ -62,8 +62,8 @@ impl Health {
     ///
     /// # Errors
     ///
-    /// Returns the fault in `answer`, but returns `Refused` instead of `Down`: this keeper is not down, but a
-    /// keeper below it may be. Each `Refused` that is returned is counted.
+    /// `NoMemory` if `answer` is this error. `Refused`, which is counted, if `answer` is `Refused` or `Down`.
+    /// A keeper below this keeper may be down while this keeper is not.
     pub fn finish_call<T>(&mut self, answer: Result<T, StoreFault>) -> Result<T, StoreFault>
         ensures { Finishes self.old self.new answer result }
     {
@@ -81,8 +81,7 @@ impl Health {
     ///
     /// # Errors
     ///
-    /// Returns the fault in `answer`, but returns `Refused` instead of `Down`. Each `Refused` that is
-    /// returned is counted.
+    /// `NoMemory` if `answer` is this error. `Refused`, which is counted, if `answer` is `Refused` or `Down`.
     pub fn finish_change(&mut self, answer: Result<(), StoreFault>) -> Result<(), StoreFault>
         ensures answers { result ≡ answered answer }
         ensures up { result ≢ Err Down }

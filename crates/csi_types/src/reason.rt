@@ -9,8 +9,8 @@ use std::fmt;
 
 /// The reason why a request is refused. Its `Display` is the text of the reply.
 ///
-/// A message that cannot be decoded has no such reason: the text of its reply contains an offset in the
-/// message.
+/// A message that cannot be decoded is refused without a `Reason`, because the text of its reply contains an
+/// offset in the message.
 #[derive(Clone, Copy, Debug, PartialEq, Eq)]
 pub enum Reason {
     /// `name` is empty.
@@ -66,9 +66,10 @@ pub enum Reason {
     OutOfRange,
     /// The volume cannot be deleted, since it is published to a node.
     VolumeInUse,
-    /// The volume is published to another node, and cannot be published to this one as well.
+    /// The volume is published to another node, and cannot be published to the requested node as well.
     PublishedElsewhere,
-    /// The volume is published to this node with another capability or another `readonly` flag.
+    /// The volume is published to the requested node already, with another capability or another `readonly`
+    /// flag.
     PublishedOtherwise,
     /// The node already has the greatest number of published volumes.
     NodeFull,

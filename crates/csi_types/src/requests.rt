@@ -158,7 +158,8 @@ pub struct GetCapacity {
     pub capabilities: Items<Capability>,
     /// `parameters`, field 2: the parameters of new volumes, which this plugin does not use.
     pub parameters: Map,
-    /// `accessible_topology`, field 3: the segments of the topology, or `None` if the field is absent.
+    /// `accessible_topology`, field 3: the segments of the topology from which new volumes must be
+    /// accessible. It is `None` if the field is absent, and then all pools count.
     pub topology: Option<Map>,
 }
 

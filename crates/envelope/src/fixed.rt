@@ -24,7 +24,7 @@ impl<const N: usize> Model for Fixed<N> {
     ghost invariant = { λ f. f.len ≤ N };
 }
 
-/// The frame of a refusal, or the head of a reply's frame.
+/// The frame of a refusal, or the head of a reply's frame: at most 168 bytes.
 pub type FixedFrame = Fixed<168>;
 
 /// One line of text, of at most 140 bytes.
