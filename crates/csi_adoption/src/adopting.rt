@@ -377,7 +377,7 @@ fn adopt_into<S: Alter>(
 ///
 /// The error contains the connection and one of these faults. The last commit is unchanged.
 ///
-/// - The first constraint that is broken, with the row that a scan finds first. This fault is not possible if
+/// - The first rule that the tables break, with the row that a scan finds first. This fault is not possible if
 ///   the rows are the rows of a State that meets every constraint.
 /// - A failure of the database: the disk failed, a fault shut the connection, or the database refused a
 ///   statement. This fault tells nothing about the rows.

@@ -1,4 +1,4 @@
-//! A map that takes no memory of its own if it is empty.
+//! A map that allocates no memory if it is empty.
 
 ghost use Rattle.std.specs.Prelude.{◌≡◌, IfOk};
 

@@ -4,8 +4,8 @@
 //! `CreateVolumeRequest` with only the capabilities. The column `params` has the canonical bytes of a request
 //! with only the parameters and the mutable parameters. A read of a row that this program cannot have written
 //! is refused. `specs/Holding.antt` defines which rows of a format represent a State (`IsRowsOf`). These are
-//! the rows that a SELECT of all columns shows, in any order. It also defines which States a connection with
-//! its totals may have.
+//! the rows that a SELECT of all columns shows, in any order. The same file defines which States a connection
+//! with its totals may have.
 //!
 //! `rows.rt` and `decoding.rt` decode rows and columns. `read.rt` has a function for each read and
 //! `changes.rt` a function for each change, both over a connection and in terms of the State. `nodes.rt`
@@ -26,10 +26,10 @@
 //!
 //! # Not promised
 //!
-//! The contracts do not promise that calls succeed, or which values the columns return; rows of `test_tables`
-//! show both. A call may return `NoMemory` although memory was not refused; `tests/memory --tables` refuses
-//! each allocation of each call in turn. The clauses about `Refused` hold for States whose capabilities have
-//! known modes, as each State that meets the invariant does.
+//! The contracts do not promise that calls succeed, or which values the columns return. Rows of `test_tables`
+//! show both. The contracts allow a call to return `NoMemory` although memory was not refused. The test
+//! `tests/memory --tables` refuses each allocation of each call in turn. The clauses about `Refused` hold for
+//! States whose capabilities have known modes. Each State that meets the invariant is such a State.
 #![tactic(auto)]
 
 mod changes;

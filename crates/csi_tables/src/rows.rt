@@ -72,7 +72,8 @@ fn params_in(alloc: Global, row: &Row, at: usize) -> Result<(Map, Map), TablesEr
     }
 }
 
-/// Decodes the volume in a row of the columns number, name, bytes, pool, caps and params.
+/// Decodes the volume in a row of the columns number, name, bytes, pool, caps and params. Fails with `Refused`
+/// if a value cannot be decoded.
 pub(crate) fn volume_from(alloc: Global, row: &Row) -> Result<Volume, TablesError>
     ensures ok { IfOk result (λ v. (e : ℕ × Stored) → IsStored e → row.now ≡ volume_entry e → v ≡ e.1) }
     ensures refused { IsErrOf result Refused → (e : ℕ × Stored) → IsReadable e → row.now ≢ volume_entry e }
@@ -138,7 +139,8 @@ fn cap_in(alloc: Global, row: &Row, at: usize) -> Result<CapKey, TablesError>
     }
 }
 
-/// Decodes the attachment in a row. Fails with `Refused` if `readonly` is neither 0 nor 1.
+/// Decodes the attachment in a row of the columns node, cap and readonly. Fails with `Refused` if a value
+/// cannot be decoded, for example if `readonly` is neither 0 nor 1.
 pub(crate) fn attachment_from(alloc: Global, row: &Row) -> Result<Attachment, TablesError>
     ensures ok { IfOk result (λ a. (e : AttachmentKey × Placed) → IsPlaced e → row.now ≡ node_entry e
         → a ≡ e.1) }
