@@ -15,7 +15,7 @@ use csi_keeper::{Keeper, StoreFault, Usage};
 use csi_types::{Map, Requirement};
 use std::alloc::Global;
 
-/// A pool, with its usage by volumes.
+/// A pool, with the number and the bytes of its volumes.
 #[derive(Drop)]
 pub struct Room<'a> {
     pub pool: &'a Pool,
@@ -155,8 +155,8 @@ fn pool_by<'a>(
 /// the configuration. The first pool that serves the topology and has room is chosen. Returns `None` if there
 /// is no such pool.
 ///
-/// If the request has no requisite topology, any pool with room is chosen after the preferred topologies were
-/// tried: the first such pool of the configuration.
+/// If the request has no requisite topology, and no pool is found for a preferred topology, the first pool of
+/// the configuration that has room is chosen.
 pub fn choose<'a>(
     alloc: Global,
     rooms: &[Room<'a>],

@@ -30,8 +30,8 @@ pub trait Message<P>: Drop {
     fn empty(alloc: Global) -> Self
         ensures { result ≡ of no_views };
 
-    /// Returns true if this payload is well-formed for the field with this number. A message that has another
-    /// payload in this field is malformed.
+    /// Returns true if this payload is well-formed for the field with this number. If it is not well-formed,
+    /// a message with this field is malformed.
     fn is_good(number: u32, payload: &[u8]) -> bool
         ensures { IsTrue result ↔ Good schema number payload.now };
 
@@ -96,10 +96,11 @@ fn merge_field<P, M: Message<P>>(
     Ok(())
 }
 
-/// The offset at which the bytes stop being a list of good fields, if they do. It takes no memory.
+/// Returns the offset of the first field that is not good, or `None` if the bytes are a list of good fields.
+/// Takes no memory.
 ///
-/// The offset is the place of the first field that is not good. A field is good if it is well-formed. If its
-/// number belongs to a text or an embedded message, its payload must be well-formed too.
+/// A field is good if it is well-formed. If its number belongs to a text or an embedded message, its payload
+/// must be well-formed too.
 pub fn first_fault<P, M: Message<P>>(bytes: &[u8]) -> Option<usize>
     ensures { MatchOption result (AreGood (GoodField (Good M.schema)) bytes.now)
         (IsRefusedAt (GoodField (Good M.schema)) bytes.now) }

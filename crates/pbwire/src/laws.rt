@@ -39,7 +39,7 @@ pub fn listed()
         AreFields (e ∷ es) bytes ↔ ((rest : List ℕ) × (field_at bytes ≡ Ok (e, rest)) × AreFields es rest) }
 {}
 
-/// The shortest encoding of a field is read back as the field, whatever bytes follow it. If the fields of a
+/// The shortest encoding of a field is read back as the field, with any bytes after it. If the fields of a
 /// list are written in order, the bytes are a message with this list of fields. No other encoding of a field
 /// is shorter. A field can be encoded if and only if its number and its value are in range.
 #[inline(always)]
