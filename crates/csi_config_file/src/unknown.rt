@@ -30,8 +30,8 @@ fn known_in(section: Section) -> &'static [Key]
     }
 }
 
-/// A key of the document that no part of a configuration has. [`read_config`](crate::read_config) ignores it.
-/// Its `Display` names the key and its section.
+/// A key that is not known in its section of the document. [`read_config`](crate::read_config) ignores the
+/// key. The `Display` names the key and its section.
 #[derive(Debug, Drop)]
 pub struct UnknownKey {
     /// The part of the document that contains the key.
