@@ -316,8 +316,8 @@ fn judge_and_upgrade<S: Alter>(
     Ok(judged.totals)
 }
 
-// Begins a transaction and rolls it back, so that reads see the last commit. No transaction may be open before
-// the call, so no change is lost.
+// Begins a transaction and rolls it back, so that reads see the last commit. No transaction may be open
+// before the call, so no change is lost.
 fn roll_back<S: Alter>(conn: &mut Connection<S>)
     requires { conn.old.in_transaction ≡ false }
     ensures idle { conn.new.in_transaction ≡ false }
@@ -377,8 +377,8 @@ fn adopt_into<S: Alter>(
 ///
 /// The error contains the connection and one of these faults. The last commit is unchanged.
 ///
-/// - The first rule that the tables break, with the row that a scan finds first. This fault is not possible if
-///   the rows are the rows of a State that meets every constraint.
+/// - The first rule that the tables break, with the row that a scan finds first. This fault is not possible
+///   if the rows are the rows of a State that meets every constraint.
 /// - A failure of the database: the disk failed, a fault shut the connection, or the database refused a
 ///   statement. This fault tells nothing about the rows.
 /// - A lack of memory, which tells nothing about the rows either.

@@ -1,5 +1,5 @@
-//! Defines how volumes and attachments are rows of tables, and encodes their capabilities and parameters for a
-//! column.
+//! Defines how volumes and attachments are rows of tables, and encodes their capabilities and parameters for
+//! a column.
 //!
 //! [`write_caps`] and [`write_params`] encode these bytes (`encoding.rt`): the canonical bytes of a
 //! `CreateVolumeRequest` that has no other fields (`specs/Encoding.antt`). `specs/Entries.antt` defines the

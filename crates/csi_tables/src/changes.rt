@@ -179,8 +179,8 @@ pub(crate) fn unmake_volume<S: Alter>(
     Ok(())
 }
 
-// Returns the parameters of a volume, or `None` if no volume is given. Nothing in this function can fail. So a
-// separate function makes the proof of its caller shorter.
+// Returns the parameters of a volume, or `None` if no volume is given. Nothing in this function can fail. So
+// a separate function makes the proof of its caller shorter.
 fn params_of(volume: Option<Volume>) -> Option<Map>
     ensures { result ≡ option_map (λ v. v.params) volume }
 {

@@ -72,8 +72,8 @@ fn params_in(alloc: Global, row: &Row, at: usize) -> Result<(Map, Map), TablesEr
     }
 }
 
-/// Decodes the volume in a row of the columns number, name, bytes, pool, caps and params. Fails with `Refused`
-/// if a value cannot be decoded.
+/// Decodes the volume in a row of the columns number, name, bytes, pool, caps and params. Fails with
+/// `Refused` if a value cannot be decoded.
 pub(crate) fn volume_from(alloc: Global, row: &Row) -> Result<Volume, TablesError>
     ensures ok { IfOk result (λ v. (e : ℕ × Stored) → IsStored e → row.now ≡ volume_entry e → v ≡ e.1) }
     ensures refused { IsErrOf result Refused → (e : ℕ × Stored) → IsReadable e → row.now ≢ volume_entry e }

@@ -19,9 +19,9 @@ use std::marker::Model;
 /// `new` allocates one buffer for the longest frame, and no later call allocates. Appending to a buffer with
 /// enough room cannot fail, so no other function returns an error for memory.
 ///
-/// Contracts see a cutter as three values: the length in bytes of all frames that were discarded (`past`), the
-/// bytes taken since then (`held`), and the fault of the stream (`fault`). Once a fault is known, it never
-/// changes.
+/// Contracts see a cutter as three values: the length in bytes of all frames that were discarded (`past`),
+/// the bytes taken since then (`held`), and the fault of the stream (`fault`). Once a fault is known, it
+/// never changes.
 #[derive(Drop)]
 pub struct Cutter<F: Fault> {
     buffer: Vec<u8>,

@@ -1,7 +1,7 @@
 //! Cuts streams of calls and replies into frames. The bytes of a stream may come in pieces of any size.
 //!
-//! The crate `envelope` defines frames, and which calls a list of bytes contains. The types and limits are also
-//! in `envelope`, such as `envelope::MAX_MESSAGE_BYTES`. This crate does not export them again.
+//! The crate `envelope` defines frames, and which calls a list of bytes contains. The types and limits are
+//! also in `envelope`, such as `envelope::MAX_MESSAGE_BYTES`. This crate does not export them again.
 //! `specs/Framer.antt` defines the bytes that a framer has taken, `specs/Holding.antt` the properties of the
 //! bytes it holds, and `specs/Prefix.antt` which bytes of a piece it takes. [`send`] writes a frame
 //! (`specs/Writing.antt`).

@@ -80,8 +80,8 @@ fn append_both(out: &mut Vec<u8>, head: &[u8], bytes: &[u8]) -> Result<(), Alloc
     out.extend_from_slice(bytes)
 }
 
-// Appends a field that has bytes (wire type 2). Its tag and its length may take any number of bytes. If memory
-// is refused, the vector is unchanged.
+// Appends a field that has bytes (wire type 2). Its tag and its length may take any number of bytes. If
+// memory is refused, the vector is unchanged.
 #[inline(never)]
 fn put_long_bytes(out: &mut Vec<u8>, number: u32, bytes: &[u8]) -> Result<(), AllocError>
     requires { (1 ≤ number) × (number < 2 ^ 29) }
@@ -137,8 +137,8 @@ fn insert_before(out: &mut Vec<u8>, from: usize, head: &[u8]) -> Result<(), Allo
     Ok(())
 }
 
-// Writes the length `len` of the payload that begins at `from`. One byte was reserved for the length, and `len`
-// takes more bytes, so the payload moves. If memory is refused, the vector is unchanged.
+// Writes the length `len` of the payload that begins at `from`. One byte was reserved for the length, and
+// `len` takes more bytes, so the payload moves. If memory is refused, the vector is unchanged.
 #[inline(never)]
 fn close_long_bytes(out: &mut Vec<u8>, from: usize, len: usize) -> Result<(), AllocError>
     requires within { (1 ≤ from) × (from + len ≡ length out.old.items) }

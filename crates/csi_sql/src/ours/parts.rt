@@ -68,8 +68,8 @@ fn is_one_ascending(orders: &Items<Order>) -> bool
     one.digits == 0
 }
 
-/// Returns true if the table has the primary key `primary`, exactly one index, and no CHECK. The index must be
-/// unique, over the columns `unique`, and ascending.
+/// Returns true if the table has the primary key `primary`, exactly one index, and no CHECK. The index must
+/// be unique, over the columns `unique`, and ascending.
 pub(super) fn has_keys(table: &Table, primary: &[usize], unique: &[usize]) -> bool
     ensures true_only_if { IsTrue result → HasKeys primary.now unique.now table.now }
     ensures true_if { HasKeys primary.now unique.now table.now → IsTrue result }
