@@ -196,8 +196,8 @@ fn judge_rows<S: Alter>(
     judge_after(alloc, conn, config, meta, content)
 }
 
-// Gives the laws of the rows in one call. Rows that break no constraint are the rows of a State that meets
-// every constraint, and the rows of such a State break no constraint.
+// Calls the laws about rows, so that its caller has their facts with one call. Rows that break no constraint
+// are the rows of a State that meets every constraint. The rows of such a State break no constraint.
 #[inline(always)]
 fn rows_report(config: &Config)
     ensures found { (db : Trees) (seen : VolumesSeen) → IsSound our_schema db → ArePassed config.now db seen
@@ -407,8 +407,8 @@ pub fn adopt<S: Alter>(
 ///
 /// # Errors
 ///
-/// The first constraint that is broken, with the row that a scan finds first, or a failure of the database or
-/// of memory. The last commit is unchanged, and the error contains the connection.
+/// The first rule that the tables break, with the row that a scan finds first, or a failure of the database
+/// or of memory. The last commit is unchanged, and the error contains the connection.
 ///
 /// # Not promised
 ///

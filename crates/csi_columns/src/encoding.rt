@@ -23,7 +23,7 @@ const KEY_BYTES: usize = 16;
 // Marks messages that are encoded from borrowed parts, without a copy of the parts.
 struct Borrowed;
 
-// A `VolumeCapability.MountVolume` that has no field but the file system type.
+// A `VolumeCapability.MountVolume` that has only the field for the file system type.
 #[derive(Drop)]
 struct BorrowedMount<'a> {
     fs_type: &'a Text,

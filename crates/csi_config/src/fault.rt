@@ -80,7 +80,7 @@ pub enum ConfigFault {
     /// The default size or the greatest size of a volume breaks a rule.
     #[error(transparent)]
     Sizes(SizeRule),
-    /// The configuration has no pool; it must have at least 1.
+    /// The configuration has no pool. It must have at least one.
     #[error("there is no pool")]
     NoPool,
     /// The configuration has more than 16 pools.

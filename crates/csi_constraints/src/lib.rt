@@ -14,21 +14,22 @@
 //! `specs/Scans.antt` defines the rows of each scan, and `specs/facts/` has the facts that follow if each row
 //! passes a test.
 //!
-//! A constraint is a function in `specs/` from a row to a Bool. `Kinds` has the types of columns, `Volumes`
-//! and `Attachments` have numbers and texts, `Coded` has encoded columns, and `Joins` has an attachment with
-//! the caps of its volume. A constraint that needs no memory is a [`RowTest`]. A constraint that decodes
-//! capabilities or parameters is a [`RowTrial`]: it fails if memory is refused, and a row that passes can be
-//! decoded again. [`InfallibleTest`] makes a trial of a test. Two constraints depend on earlier rows, and so
-//! are folds. [`FirstUnowned`] keeps the capabilities of the last volume (`Known`). [`FirstApart`] keeps one
-//! attachment that represents all attachments of the last volume (`Apart`). [`FirstBroken`] finds the first
-//! row that breaks a constraint, with the number and the text that name the row. The `Display` of
-//! [`BrokenConstraint`] is the message about it.
+//! A constraint is a function in `specs/` from a row to a Bool. The constraints in `Kinds` are about the
+//! types of columns, in `Volumes` and `Attachments` about numbers and texts, in `Coded` about encoded
+//! columns, and in `Joins` about an attachment and the caps of its volume. A constraint that needs no memory
+//! is a [`RowTest`]. A constraint that decodes capabilities or parameters is a [`RowTrial`]: it fails if
+//! memory is refused, and a row that passes can be decoded again. [`InfallibleTest`] makes a trial of a test.
+//! Two constraints depend on earlier rows, and so are folds. [`FirstUnowned`] keeps the capabilities of the
+//! last volume (`Known`). [`FirstApart`] keeps one attachment that represents all attachments of the last
+//! volume (`Apart`). [`FirstBroken`] finds the first row that breaks a constraint, with the number and the
+//! text that name the row. The `Display` of [`BrokenConstraint`] is the message about it.
 //!
-//! `specs/Coding.antt` defines which keys or parameters some bytes encode: the keys or parameters whose
-//! canonical bytes are these bytes. So `coding.rt` decodes the bytes, encodes the result, and compares both.
-//! [`laws`] ties each constraint to the State (`specs/Agreement.antt`): the row of a volume or an attachment
-//! passes a constraint if and only if a State allows this in a volume or an attachment. Sums over rows, such
-//! as the bytes of a pool or the attachments of a node, are folds and not tests of one row.
+//! Keys and parameters have one encoding each, their canonical bytes (`csi_columns`). `specs/Coding.antt`
+//! defines which keys or parameters some bytes encode: the keys or parameters whose canonical bytes are these
+//! bytes. So `coding.rt` decodes the bytes, encodes the result, and compares both. The [`laws`] state what a
+//! constraint means for the State (`specs/Agreement.antt`): the row of a volume or an attachment passes if
+//! and only if the volume or attachment itself meets the constraint. Sums over rows, such as the bytes of a
+//! pool or the attachments of a node, are folds and not tests of one row.
 //!
 //! The contracts about rows hold if the disk is clean when the call ends (`HasCleanDisk`), that is, if it has
 //! returned the bytes that were written to it. The schema must be the schema that `csi_sql::make_tables`

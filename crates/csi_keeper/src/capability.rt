@@ -23,7 +23,7 @@ pub enum Kind {
 ///
 /// Mount flags and the mount group are not part of the key, so two capabilities that differ only in these
 /// have the same key. Block keys come before mount keys in the order of keys. Mount keys are ordered by the
-/// bytes of their file system type. Equal access types are ordered by the number of the mode.
+/// bytes of their file system type. Keys with the same access type are ordered by the number of the mode.
 #[derive(Debug, Drop)]
 pub struct CapKey {
     /// The access type: block, or mount with a file system type.

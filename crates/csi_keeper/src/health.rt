@@ -58,12 +58,13 @@ impl Health {
         Ok(())
     }
 
-    /// Finishes a read with its result. The keeper does not go down, whatever the result is.
+    /// Finishes a read with its result. A failed read does not bring the keeper down.
     ///
     /// # Errors
     ///
-    /// `NoMemory` if `answer` is this error. `Refused`, which is counted, if `answer` is `Refused` or `Down`.
-    /// A keeper below this keeper may be down while this keeper is not.
+    /// - `NoMemory` if `answer` is `NoMemory`.
+    /// - `Refused` if `answer` is `Refused`, or `Down` from a keeper below this keeper. The refusal is
+    ///   counted.
     pub fn finish_call<T>(&mut self, answer: Result<T, StoreFault>) -> Result<T, StoreFault>
         ensures { Finishes self.old self.new answer result }
     {
@@ -81,7 +82,9 @@ impl Health {
     ///
     /// # Errors
     ///
-    /// `NoMemory` if `answer` is this error. `Refused`, which is counted, if `answer` is `Refused` or `Down`.
+    /// - `NoMemory` if `answer` is `NoMemory`.
+    /// - `Refused` if `answer` is `Refused`, or `Down` from a keeper below this keeper. The refusal is
+    ///   counted.
     pub fn finish_change(&mut self, answer: Result<(), StoreFault>) -> Result<(), StoreFault>
         ensures answers { result ≡ answered answer }
         ensures up { result ≢ Err Down }

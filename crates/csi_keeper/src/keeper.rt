@@ -37,8 +37,8 @@ use std::alloc::Global;
 /// - that a call succeeds if memory is available, or that memory was refused if a call returns `NoMemory`
 /// - how much time and memory calls take
 /// - what a change does if the State does not allow it
-/// - that the rows of an existing file are those of a State, which `csi_adoption::adopt` checks. A new keeper
-///   has a State, and each change leaves a State.
+/// - that the rows of an existing file are the rows of a State. `csi_adoption::adopt` checks such a file. A
+///   new keeper has a State, and each change leaves a State.
 pub trait Keeper {
     // The model of the keeper, which contracts use: its State, the States that a stop may leave, and the
     // counts.
@@ -49,8 +49,8 @@ pub trait Keeper {
     fn refusals(&self) -> u64
         ensures { result ≡ (model self.now).refusals };
 
-    /// Returns the number that the next volume gets. Adding a volume takes this number and raises it by 1.
-    /// No other change affects it, so no number is used twice.
+    /// Returns the number that the next volume gets. Adding a volume uses this number, and raises the next
+    /// number by 1. No other change affects the next number, so no number is used twice.
     fn next_number(&mut self) -> Result<u64, StoreFault>
         ensures { Reads (model self.old) (model self.new) result (λ s n. n ≡ s.next) };
 
@@ -90,7 +90,7 @@ pub trait Keeper {
         ensures { Reads (model self.old) (model self.new) result (λ s xs. xs ≡ attached_at s node.now) };
 
     /// Returns the number of volumes that are attached to a node: the length of the list that `attached_at`
-    /// returns. The call costs no more than `attached_at`, and less if a keeper has the count at hand.
+    /// returns. The call costs no more than `attached_at`, and less if a keeper stores the count.
     fn count_at(&mut self, alloc: Global, node: &Text) -> Result<u64, StoreFault>
         ensures { Reads (model self.old) (model self.new) result (λ s n. n ≡ count_at s node.now) }
     {

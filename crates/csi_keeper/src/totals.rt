@@ -75,9 +75,8 @@ impl Totals {
         Ok(())
     }
 
-    /// Adds a volume of `bytes` bytes to the total of a pool. The totals of other pools are unchanged. If the
-    /// pool has 2^64 - 1 volumes already, or if the sum of bytes would exceed 2^128 - 1, the new total of the
-    /// pool is unspecified.
+    /// Adds a volume of `bytes` bytes to the total of a pool. The totals of other pools are unchanged. If
+    /// [`has_room`](Totals::has_room) is false, the new total of the pool is unspecified.
     ///
     /// # Errors
     ///

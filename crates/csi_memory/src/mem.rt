@@ -290,7 +290,7 @@ impl Keeper for MemKeeper {
     }
 
     fn apply_owned(&mut self, alloc: Global, change: Change) -> Result<(), StoreFault> {
-        // Only `AddVolume` is taken by value; the other changes are applied by reference.
+        // Only `AddVolume` is taken by value. The other changes are applied by reference.
         if !matches!(&change, Change::AddVolume(_)) {
             return self.apply(alloc, &change);
         }

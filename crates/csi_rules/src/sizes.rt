@@ -39,7 +39,7 @@ fn size_by(sizes: &Sizes, required: u64, limit: u64) -> Option<u64>
     ensures { result ≡ size_by sizes.now required limit }
 {
     let bytes = requested_bytes(sizes, required, limit);
-    // The comparison of the required size never decides, since the rounded size is at least as great.
+    // The comparison of `required` never makes a difference, since `bytes` is at least as great.
     let is_within = bytes > 0
         && (limit == 0 || bytes <= limit)
         && bytes <= sizes.greatest_bytes

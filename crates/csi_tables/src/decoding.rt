@@ -42,7 +42,7 @@ fn keys_of(alloc: Global, capabilities: &[Capability]) -> Result<Items<CapKey>, 
 }
 
 /// Decodes the capability keys in the bytes of the column `caps`. Fails with `Refused` if the bytes are not
-/// the encoding of capability keys.
+/// an encoding of capability keys.
 pub(crate) fn read_caps(alloc: Global, bytes: &[u8]) -> Result<Items<CapKey>, TablesError>
     ensures ok { IfOk result (λ keys. (ks : List Key) → FitCaps ks → bytes.now ≡ caps_bytes ks → keys ≡ ks) }
     ensures refused { IsErrOf result Refused → (ks : List Key) → FitCaps ks → AreKnown ks

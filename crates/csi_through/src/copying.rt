@@ -164,8 +164,7 @@ fn restore_all<K: Keeper>(
 /// Copies the contents of a keeper into memory. Reads the volumes of the keeper in pages of 1,000, and the
 /// attachments of each volume that is published.
 ///
-/// If the keeper may have a State that meets the invariant, and the keeper's doubt is 0, the copy has this
-/// State.
+/// If the State of the keeper meets the invariant, and the keeper's doubt is 0, the copy has the same State.
 ///
 /// # Errors
 ///

@@ -126,8 +126,8 @@ impl<K: Keeper> Through<MemKeeper, KeeperChanges<K>> {
     /// Makes a keeper over a copy of `keeper` in memory, with `keeper` as the change store. Reads the volumes
     /// of `keeper` in pages of 1,000, and the attachments of each volume that is published.
     ///
-    /// If `keeper` may have a State that meets the invariant, the new keeper has this State. A stop leaves
-    /// the same States as a stop of `keeper`. The memory has each change that the change store has.
+    /// If the State of `keeper` meets the invariant, the new keeper has the same State. A stop leaves the
+    /// same States as a stop of `keeper`. The memory has each change that the change store has.
     ///
     /// # Errors
     ///

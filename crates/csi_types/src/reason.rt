@@ -29,7 +29,7 @@ pub enum Reason {
     CapabilityNotSupported,
     /// `required_bytes` or `limit_bytes` is below 0.
     CapacityNegative,
-    /// The keys and values of a map have more than 4,096 bytes.
+    /// The keys and values of a map have more than 4,096 bytes together.
     MapTooLarge,
     /// An id, a token, a file system type or a mount group is longer than its limit, or all flags of a mount
     /// together are longer than their limit.
@@ -75,7 +75,7 @@ pub enum Reason {
     NodeFull,
     /// The volume was not created with this capability.
     CapabilityNotOfVolume,
-    /// `starting_token` is not a token that this plugin issues.
+    /// `starting_token` is neither empty nor a number from 1 to below the next volume number.
     BadToken,
     /// With the requested changes, the mutable parameters of the volume would have more than 4,096 bytes.
     MutableTooLarge,
@@ -83,7 +83,8 @@ pub enum Reason {
     ReplyTooLarge,
     /// Memory was refused while the call was executed.
     OutOfMemory,
-    /// The store refused a read or a change of the call, so the call changed nothing.
+    /// The store refused a read or a change of the call. No change is visible. But if the store refused a
+    /// change, the change may be visible after a restart.
     StoreRefused,
     /// The store failed during an earlier call, and takes no call until it is opened again.
     StoreDown,

@@ -184,8 +184,8 @@ impl fmt::Debug for Modify {
     }
 }
 
-/// The request of a call. The variant tells the method. Messages with fields are boxed, so that a `Request`
-/// takes few bytes itself.
+/// The request of a call. Each variant belongs to one method. Messages with fields are boxed, so that a
+/// `Request` takes few bytes itself.
 #[derive(Debug)]
 pub enum Request {
     /// Asks for the name and version of the plugin: `GetPluginInfoRequest`, without fields.

@@ -5,7 +5,7 @@ use crate::map::Map;
 use crate::text::Text;
 use crate::volume::{Confirmed, Entry, VolumeInfo};
 
-/// The response of a call (CSI specification, 'RPC Interface'). The variant tells the method.
+/// The response of a call (CSI specification, 'RPC Interface'). Each variant belongs to one method.
 #[derive(Debug, Drop)]
 pub enum Response {
     /// `GetPluginInfoResponse`: the name and version of the plugin.
@@ -35,9 +35,9 @@ pub enum Response {
     Publish(Map),
     /// `ControllerUnpublishVolumeResponse`, without fields: the volume is not published any more.
     Unpublish,
-    /// `ValidateVolumeCapabilitiesResponse`: tells if the volume has the capabilities.
+    /// `ValidateVolumeCapabilitiesResponse`: reports if the volume has the capabilities.
     Validate {
-        /// `confirmed`, field 1, or `None` if a capability or a parameter is not supported.
+        /// `confirmed`, field 1, or `None` if the volume lacks a capability or has other parameters.
         confirmed: Option<Confirmed>,
         /// `message`, field 2: the reason why the capabilities are not confirmed, or an empty text if they
         /// are confirmed.

@@ -54,7 +54,7 @@ pub fn has_alike_keys(topology: &Map) -> bool
 fn has_alike_pair(topology: &Map) -> bool
     ensures { result ≡ has_alike_keys topology.now }
 {
-    // Calling `len` tells the proof that the number of keys fits a `usize`.
+    // The contract of `len` shows that the number of keys fits a `usize`.
     let _count = topology.len();
     topology.iter().enumerate().any(|(index, (key, _))| is_key_alike_before(topology, index, key))
 }

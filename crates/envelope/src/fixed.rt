@@ -9,7 +9,7 @@ use crate::limits::{MAX_REFUSAL_TEXT_BYTES, REPLY_HEAD_BYTES};
 use itoa::Buffer;
 use std::marker::Model;
 
-/// A list of at most `N` bytes in an array. Contracts see it as the list.
+/// A list of at most `N` bytes in an array. Contracts see only the list of bytes.
 #[derive(Drop)]
 pub struct Fixed<const N: usize> {
     array: [u8; N],

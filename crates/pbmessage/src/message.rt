@@ -1,5 +1,5 @@
-//! Decodes a message of any type. The first pass looks for faults and takes no memory; the second builds the
-//! value.
+//! Decodes a message of any type in two passes. The first pass looks for faults and takes no memory. The
+//! second pass builds the value.
 
 ghost use Rattle.std.specs.Prelude.{◌≡◌, ◌↔◌, ℕ, List, [], ◌∷◌, ◌++◌, IsTrue, OnOk, IfOk, IfErr, MatchOption};
 ghost use Rattle.pbwire.specs.Wire.{WireField};

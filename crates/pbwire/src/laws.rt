@@ -8,8 +8,8 @@ ghost use Rattle.pbwire.specs.Reading.{field_at};
 ghost use Rattle.pbwire.specs.Faults.{Faults};
 ghost use Rattle.pbwire.specs.Writing.{varint, spelling, spellings};
 
-/// A read of bytes gives a field and the rest of the bytes if and only if the bytes are an encoding of the
-/// field, followed by this rest. An encoding has at least one byte.
+/// A read of bytes gives a field and the bytes after it if and only if the read bytes are an encoding of the
+/// field, followed by these other bytes. An encoding has at least one byte.
 #[inline(always)]
 pub fn spelled()
     ensures exactly { (bytes rest : List ℕ) (e : WireField) →
