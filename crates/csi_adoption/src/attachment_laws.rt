@@ -1,5 +1,6 @@
 //! Laws of attachments. Rows that pass every constraint are the rows of a State's attachments. The rows of a
-//! State's attachments pass every constraint.
+//! State's attachments pass every constraint. A law is a function that does nothing: its caller gets what the
+//! contract of the law states.
 
 ghost use Rattle.csi_adoption.specs.FoundAttachments.{AttachmentsAreFound, AttachmentsDoPass, OwnersDoPass, PlacesDoPass};
 

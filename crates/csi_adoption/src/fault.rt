@@ -15,8 +15,8 @@ pub enum Foreign {
     /// The database does not have exactly the tables, indexes, views and columns that this program makes.
     #[error("the tables are not those of csid")]
     Schema,
-    /// The table `meta` does not have exactly one row with three integers, of which the key is 1 and the
-    /// format is at least 1.
+    /// The table `meta` does not have exactly one row of integers, or the key in the row is not 1, or the
+    /// format is below 1.
     #[error("meta has no row with the number of a format")]
     Meta,
     /// A value in a row of volumes does not have the type of its column.

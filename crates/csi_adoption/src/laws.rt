@@ -1,5 +1,6 @@
 //! Laws of adoption. Rows that pass every constraint are the rows of a State. The rows of a State that meets
-//! the invariant pass every constraint.
+//! the invariant pass every constraint. A law is a function that does nothing: its caller gets what the
+//! contract of the law states.
 
 ghost use Rattle.csi_adoption.specs.Again.{EitherTaken, EndsTaken, StopsTaken};
 ghost use Rattle.csi_adoption.specs.Laws.{FindsTotals, FindsVolumes, HasNoOtherPool, PassesMeta, PassesVolumes, ReportsCounts, ReportsPools, ReportsRooms};

@@ -35,7 +35,7 @@ use std::alloc::Global;
 /// The trait does not promise:
 ///
 /// - that a call succeeds if memory is available, or that memory was refused if a call returns `NoMemory`
-/// - how much time and memory calls take
+/// - how much time and memory calls take. The docs of the calls state the costs of this project's keepers.
 /// - what a change does if the State does not allow it
 /// - that the rows of an existing file are the rows of a State. `csi_adoption::adopt` checks such a file. A
 ///   new keeper has a State, and each change leaves a State.

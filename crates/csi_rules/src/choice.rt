@@ -32,7 +32,7 @@ impl Room<'_> {
     }
 }
 
-// Reads the usage of a pool.
+// Reads the number and the bytes of a pool's volumes from the keeper.
 #[inline(always)]
 fn read_room<'a, K: Keeper>(keeper: &mut K, pool: &'a Pool) -> Result<Room<'a>, StoreFault>
     ensures pool { IfOk result (λ r. r.pool.now ≡ pool.now) }
@@ -43,8 +43,8 @@ fn read_room<'a, K: Keeper>(keeper: &mut K, pool: &'a Pool) -> Result<Room<'a>, 
     Ok(Room { pool, used })
 }
 
-/// Reads the usage of each pool, in the order of the configuration. Fails if the keeper fails or memory is
-/// refused.
+/// Reads the number and the bytes of each pool's volumes from the keeper. The pools are in the order of the
+/// configuration. Fails if the keeper fails or memory is refused.
 #[tactic(auto, using(csi_keeper::specs::facts::Reads::quiet_same, csi_keeper::specs::facts::Reads::quiet_then))]
 #[inline(always)]
 pub fn read_rooms<'a, K: Keeper>(

@@ -105,7 +105,7 @@ impl<M: Keeper, D: ChangeStore> Through<M, D> {
     }
 
     /// Returns true if the memory has each change that the change store has. If a change is missing, each
-    /// further call fails.
+    /// further read and each further change fails.
     pub fn is_current(&self) -> bool
         ensures { result ≡ self.now.is_current }
     {

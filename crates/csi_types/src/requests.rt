@@ -1,4 +1,4 @@
-//! The requests of CSI.
+//! The requests of CSI calls: a struct for each message with fields, and an enum of all requests.
 //!
 //! `Debug` shows no secrets: it is written by hand for requests with secrets, and leaves the secrets out.
 

@@ -1,4 +1,4 @@
-//! The responses of CSI.
+//! The responses of CSI calls: an enum with a variant for each method.
 
 use crate::items::Items;
 use crate::map::Map;

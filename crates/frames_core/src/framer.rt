@@ -53,8 +53,8 @@ impl<F: Fault> Model for Cutter<F> {
 }
 
 impl<F: Fault> Cutter<F> {
-    /// Makes a framer for a new stream, and allocates all the memory that it will need. Fails if memory is
-    /// refused.
+    /// Makes a cutter for a new stream, and allocates all the memory that the cutter will need. Fails if
+    /// memory is refused.
     pub fn new(alloc: Global) -> Result<Cutter<F>, AllocError>
         ensures empty { IfOk result (λ f. f ≡ begun) }
         ensures open { IfOk result (λ f. IsUnfinished F.kind f.held) }
