@@ -375,7 +375,8 @@ fn adopt_into<S: Alter>(
 ///
 /// # Errors
 ///
-/// The error contains the connection and one of these faults. The last commit is unchanged.
+/// The error contains the connection and one of these faults. The last commit is unchanged. But if making or
+/// upgrading the tables failed, a stop may leave the new or upgraded tables.
 ///
 /// - The first rule that the tables break, with the row that a scan finds first. This fault is not possible
 ///   if the rows are the rows of a State that meets every constraint.
