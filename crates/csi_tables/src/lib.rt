@@ -7,16 +7,25 @@
 //! the rows that a SELECT of all columns shows, in any order. The same file defines which States a connection
 //! with its totals may have.
 //!
-//! `rows.rt` and `decoding.rt` decode rows and columns. `read.rt` has a function for each read and
-//! `changes.rt` a function for each change, both over a connection and in terms of the State. `nodes.rt`
-//! finds the nodes of a page's volumes in one list of places, and `fault.rt` has the reasons why a call
-//! fails. `tables.rt` is the keeper, which counts refusals with `csi_keeper::Health`. `opening.rt` makes the
-//! keeper over new tables, and returns the connection. The lemmas follow the same steps. `RowLemmas` shows
-//! that the rows after a change are the rows of the changed State, and `StateLemmas` that rows represent one
-//! State. `SortedLemmas`, `ShownLemmas` and `PageLemmas` show that a sorted answer over the rows of a State
-//! is a filter of its entries. `KeepLemmas` and `TablesLemmas` derive the clauses of the trait, which are
-//! about States, from the clauses of transactions, which are about rows. `NewLemmas` shows that new tables
-//! are the rows of the State without volumes.
+//! The modules:
+//!
+//! - `tables.rt` is the keeper, which counts refusals with `csi_keeper::Health`.
+//! - `opening.rt` makes the keeper over new tables or checked tables, and returns the connection.
+//! - `read.rt` has a function for each read, and `changes.rt` a function for each change. Both take a
+//!   connection, and their contracts are about the State.
+//! - `rows.rt` and `decoding.rt` decode rows and columns.
+//! - `nodes.rt` finds the nodes of a page's volumes in one list of places.
+//! - `fault.rt` has the reasons why a call fails.
+//!
+//! The lemmas follow the same steps:
+//!
+//! - `RowLemmas`: the rows after a change are the rows of the changed State.
+//! - `StateLemmas`: rows represent at most one State.
+//! - `SortedLemmas`, `ShownLemmas`, `PageLemmas`: a sorted answer over the rows of a State is a filter of its
+//!   entries.
+//! - `KeepLemmas`, `TablesLemmas`: the clauses of the trait, which are about States, follow from the clauses
+//!   of transactions, which are about rows.
+//! - `NewLemmas`: new tables are the rows of the State without volumes.
 //!
 //! ```rust
 //! let mut keeper = Tables::make(alloc, conn)?;
