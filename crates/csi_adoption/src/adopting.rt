@@ -381,8 +381,8 @@ fn adopt_into<S: Alter>(
 /// - The first rule that the tables break, with the row that a scan finds first. This fault is not possible
 ///   if the rows are the rows of a State that meets every constraint.
 /// - A failure of the database: the disk failed, a fault shut the connection, or the database refused a
-///   statement. This fault tells nothing about the rows.
-/// - A lack of memory, which tells nothing about the rows either.
+///   statement. This fault says nothing about the rows.
+/// - A lack of memory, which says nothing about the rows either.
 ///
 /// # Not promised
 ///

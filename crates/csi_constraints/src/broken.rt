@@ -36,7 +36,7 @@ pub enum AttachmentConstraint {
     /// `readonly` is 0 or 1, the integers for false and true.
     #[error("its readonly is not 0 or 1")]
     Readonly,
-    /// The volume exists, and its capabilities include the capability of the attachment.
+    /// The volume exists and has the capability of the attachment (`csi_keeper::has_key`).
     #[error("no volume of its number has its capability")]
     Owner,
     /// The configuration contains the node of the attachment.

@@ -31,7 +31,7 @@ pub struct KnownCaps {
 }
 
 impl KnownCaps {
-    // Returns true if the volume has this capability key.
+    // Returns true if the caps contain this key or its wider key.
     fn have(&self, key: &CapKey) -> bool
         ensures { result ≡ is_some_and (λ caps. has_key caps (Some key.now)) self.now.caps }
     {
@@ -81,7 +81,7 @@ fn read_caps(alloc: Global, last: &mut Option<KnownCaps>, bytes: &[u8]) -> Resul
     Ok(())
 }
 
-// Returns true if the caps that were decoded last contain this key.
+// Returns true if the caps that were decoded last contain this key or its wider key.
 fn have_key(last: &Option<KnownCaps>, key: &CapKey) -> bool
     ensures { result ≡ is_some_and (λ caps. has_key caps (Some key.now)) (last_keys last.now) }
 {

@@ -14,8 +14,8 @@ use std::cmp::Ordering;
 pub enum Kind {
     /// A raw block device (`BlockVolume`).
     Block,
-    /// A file system of this type (`MountVolume.fs_type`, at most 128 bytes). If the text is empty, the
-    /// plugin chooses the type.
+    /// A file system of this type (`MountVolume.fs_type`, at most 128 bytes in a request). If the text is
+    /// empty, the plugin chooses the type.
     Mount(Text),
 }
 

@@ -1,4 +1,4 @@
-//! The rules by which the volume machine decides a request, such as the size of a volume and its pool. Most
+//! The rules that the volume machine uses to decide requests, such as the size of a volume and its pool. Most
 //! rules are functions of values. Some read these values from a keeper.
 //!
 //! - `capability.rt`: [`keys_of`] and [`have_keys`] compute the keys of capabilities and compare them.

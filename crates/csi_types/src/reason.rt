@@ -73,7 +73,7 @@ pub enum Reason {
     PublishedOtherwise,
     /// The node already has the greatest number of published volumes.
     NodeFull,
-    /// The volume was not created with this capability.
+    /// The volume does not have the requested capability.
     CapabilityNotOfVolume,
     /// `starting_token` is neither empty nor a number from 1 to below the next volume number.
     BadToken,

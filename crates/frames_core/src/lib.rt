@@ -8,9 +8,9 @@
 //!
 //! [`Framer`] and [`ReplyFramer`] are one type, [`Cutter`]. A cutter appends the bytes that may belong to a
 //! head to its buffer, looks at them, and removes the bytes after the end of the frame or after the fault.
-//! Then it appends the body to the buffer in one block. The buffer is the only memory that a cutter
-//! allocates. A cutter remembers if the frame is complete (`Marks` of `specs/Holding.antt`), so that the head
-//! is not read again.
+//! Then it appends the bytes of the body to the buffer in one block. The buffer is the only memory that a
+//! cutter allocates. A cutter remembers if the frame is complete (`Marks` of `specs/Holding.antt`), so that
+//! the head is not read again.
 //!
 //! ```rust
 //! let mut framer = Framer::new(alloc)?;
