@@ -59,7 +59,7 @@ impl Fold for AttachmentsFold<'_> {
 impl<'a> AttachmentsFold<'a> {
     ghost use Rattle.csi_adoption.specs.Folding.{BeginsAttachments, attachments_seen};
 
-    // Makes the folds before the first row.
+    // Makes the folds, which have not taken any row.
     fn new(alloc: Global, config: &'a Config) -> Result<AttachmentsFold<'a>, AllocError>
         ensures { IfOk result (BeginsAttachments config.now) }
     {

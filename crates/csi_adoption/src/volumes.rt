@@ -72,7 +72,7 @@ impl Fold for VolumesFold<'_> {
 impl<'a> VolumesFold<'a> {
     ghost use Rattle.csi_adoption.specs.Folding.{BeginsVolumes, volumes_seen};
 
-    // Makes the folds before the first row.
+    // Makes the folds, which have not taken any row.
     fn new(alloc: Global, config: &'a Config, meta: Meta) -> Result<VolumesFold<'a>, AllocError>
         ensures { IfOk result (BeginsVolumes config.now meta) }
     {

@@ -47,21 +47,21 @@ impl fmt::Display for Section {
 pub enum Key {
     /// `name`, the name of the plugin or of a pool.
     Name,
-    /// `vendor_version`, the version of the plugin.
+    /// `vendor_version`, the version of the plugin, which GetPluginInfo returns.
     VendorVersion,
-    /// `default_bytes`, the size of a volume created without a requested size.
+    /// `default_bytes`, the size in bytes of a volume created without a requested size.
     DefaultBytes,
-    /// `greatest_bytes`, the greatest size of a volume.
+    /// `greatest_bytes`, the greatest size of a volume in bytes.
     GreatestBytes,
-    /// `[[pool]]`, the array of pools.
+    /// `[[pool]]`, the array of pools, with one table for each pool.
     Pool,
     /// `bytes`, the size of a pool in bytes.
     Bytes,
     /// `segments`, the topology of a pool: a table of texts.
     Segments,
-    /// `[[node]]`, the array of nodes.
+    /// `[[node]]`, the array of nodes, with one table for each node.
     Node,
-    /// `id`, the id of a node.
+    /// `id`, the id of a node, which publish requests contain.
     Id,
     /// `max_volumes`, the greatest number of volumes that can be published to a node.
     MaxVolumes,

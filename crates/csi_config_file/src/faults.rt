@@ -19,7 +19,7 @@ fn number_text(alloc: Global, number: usize) -> Result<Text, AllocError> {
     Ok(Text::from_string(format!(in alloc; "{number}")?))
 }
 
-// The faults found so far.
+// The faults that were found so far, and the allocator of their texts.
 #[derive(Drop)]
 struct Faults {
     alloc: Global,

@@ -90,7 +90,7 @@ fn add_of_table(
     }
 }
 
-// Adds the unknown keys of the pools.
+// Adds to `found` the unknown keys of each pool. `array` is the value of the key `pool`.
 fn add_of_pools(
     alloc: Global,
     found: &mut Vec<UnknownKey>,
@@ -105,7 +105,7 @@ fn add_of_pools(
     Ok(())
 }
 
-// Adds the unknown keys of the nodes.
+// Adds to `found` the unknown keys of each node. `array` is the value of the key `node`.
 fn add_of_nodes(
     alloc: Global,
     found: &mut Vec<UnknownKey>,

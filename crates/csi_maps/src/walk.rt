@@ -46,7 +46,6 @@ pub(crate) fn walk_after(
     }
 }
 
-// Removes all nodes from the list.
 #[inline(always)]
 fn clear(alloc: Global, nodes: &mut Items<Text>)
     ensures { nodes.new ≡ [] }

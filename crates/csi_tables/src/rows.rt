@@ -158,7 +158,7 @@ pub(crate) fn attachment_from(alloc: Global, row: &Row) -> Result<Attachment, Ta
     })
 }
 
-/// Decodes the volumes in rows, in order.
+/// Decodes the volumes in rows, in order. Fails with `Refused` if a row cannot be decoded.
 pub(crate) fn volumes_from(alloc: Global, rows: &[Row]) -> Result<Items<Volume>, TablesError>
     ensures ok { IfOk result (λ vs. (es : List (ℕ × Stored)) → AllByRecursion IsStored es
         → rows.now ≡ map volume_entry es → vs ≡ map (λ e. e.1) es) }
@@ -173,7 +173,8 @@ pub(crate) fn volumes_from(alloc: Global, rows: &[Row]) -> Result<Items<Volume>,
     Ok(volumes)
 }
 
-/// Decodes the attachments in the rows of one volume, in order.
+/// Decodes the attachments in the rows of one volume, in order. Fails with `Refused` if a row cannot be
+/// decoded.
 pub(crate) fn attachments_from(
     alloc: Global,
     rows: &[Row],
@@ -202,7 +203,8 @@ pub(crate) fn numbers_of(alloc: Global, volumes: &[Volume]) -> Result<Vec<u64>, 
     Ok(numbers)
 }
 
-/// Decodes the numbers in the first column of rows, in order.
+/// Decodes the numbers in the first column of rows, in order. Fails with `Refused` if a value is not an
+/// integer or is negative.
 pub(crate) fn numbers_from(alloc: Global, rows: &[Row]) -> Result<Items<u64>, TablesError>
     ensures ok { IfOk result (λ xs. (ns : List ℕ) → rows.now ≡ map (λ n. number_value n ∷ []) ns → xs ≡ ns) }
     ensures refused { IsErrOf result Refused → (ns : List ℕ) → rows.now ≢ map (λ n. number_value n ∷ []) ns }
