@@ -47,7 +47,7 @@ use std::alloc::Global;
 /// The reason why tables were not adopted, and the connection to their database.
 #[derive(Drop)]
 pub struct AdoptError<S: Alter> {
-    /// The first rule that the database breaks, or the error of a failed read.
+    /// The first rule that the database breaks, or the error of a failed read or write.
     pub fault: AdoptFault,
     /// The connection to the database. No transaction is open on the connection.
     pub conn: Connection<S>,
@@ -196,8 +196,8 @@ fn judge_rows<S: Alter>(
     judge_after(alloc, conn, config, meta, content)
 }
 
-// Gives the laws of the rows in one call. Rows that break no constraint are the rows of a State that meets
-// every constraint, and the rows of such a State break no constraint.
+// Calls the laws about rows, so that its caller has their facts with one call. Rows that break no constraint
+// are the rows of a State that meets every constraint. The rows of such a State break no constraint.
 #[inline(always)]
 fn rows_report(config: &Config)
     ensures found { (db : Trees) (seen : VolumesSeen) → IsSound our_schema db → ArePassed config.now db seen
@@ -316,7 +316,8 @@ fn judge_and_upgrade<S: Alter>(
     Ok(judged.totals)
 }
 
-// Rolls back, so that reads see the last commit. No transaction is open, so no change is lost.
+// Begins a transaction and rolls it back, so that reads see the last commit. No transaction may be open
+// before the call, so no change is lost.
 fn roll_back<S: Alter>(conn: &mut Connection<S>)
     requires { conn.old.in_transaction ≡ false }
     ensures idle { conn.new.in_transaction ≡ false }
@@ -327,7 +328,8 @@ fn roll_back<S: Alter>(conn: &mut Connection<S>)
     conn.transaction().rollback();
 }
 
-// Adopts the tables of a database as `adopt` does, and counts their rows.
+// Checks the tables of a database, makes a keeper over them, and sets `content` to the numbers of their rows.
+// A database without tables gets new tables, and `content` is unchanged.
 fn adopt_into<S: Alter>(
     alloc: Global,
     mut conn: Connection<S>,
@@ -368,21 +370,25 @@ fn adopt_into<S: Alter>(
 /// value must have the type of its column, and the rows must meet every constraint of the configuration
 /// (docs/TABLES.md, "What is judged when a file is opened"). After `Ok` there is one State whose rows were
 /// committed. This State meets the constraints, the keeper has it, and a stop leaves only this State. Rows
-/// are read one by one and not kept, so the memory does not grow with their number. A limit on the
-/// connection's steps is removed.
+/// are read one by one and not kept, so the memory does not grow with their number. The call removes a limit
+/// on the connection's steps.
 ///
 /// # Errors
 ///
-/// The error is the first constraint that is broken, with the row that a scan finds first. If the database or
-/// memory fails, the error says so, and tells nothing about the rows. If the rows are the rows of a State
-/// that meets every constraint, no other error is possible. An error of the database names its cause: the
-/// disk, a fault that shut the connection, or a statement that the database refuses. The last commit is
-/// unchanged, and the error contains the connection.
+/// The error contains the connection and one of these faults. The last commit is unchanged. But if making or
+/// upgrading the tables failed, a stop may leave the new or upgraded tables.
+///
+/// - The first rule that the tables break, with the row that a scan finds first. This fault is not possible
+///   if the rows are the rows of a State that meets every constraint.
+/// - A failure of the database: the disk failed, a fault shut the connection, or the database refused a
+///   statement. This fault says nothing about the rows.
+/// - A lack of memory, which says nothing about the rows either.
 ///
 /// # Not promised
 ///
-/// The steps may fail, and the displayed texts are not fixed; rows of `test_tables` show both. If the rowids
-/// of a file do not rise, the error says that the database failed; `sqlite` opens no such file.
+/// The contract does not say when the database or memory fails, and does not fix the displayed texts. Rows of
+/// `test_tables` show both. If the rowids of a file do not rise, the fault is that the database failed.
+/// `sqlite` opens no file with such rowids.
 pub fn adopt<S: Alter>(
     alloc: Global,
     conn: Connection<S>,
@@ -396,14 +402,14 @@ pub fn adopt<S: Alter>(
     adopt_into(alloc, conn, config, &mut content)
 }
 
-/// Checks the tables of a database, and makes a keeper over them, as [`adopt`]. Also returns the numbers of
-/// volumes and attachments. The checks count them without a further read. A database without tables gets new
+/// Checks the tables of a database, and makes a keeper over them, like [`adopt`]. Also returns the numbers of
+/// volumes and attachments, which the checks count without a further read. A database without tables gets new
 /// tables.
 ///
 /// # Errors
 ///
-/// The first constraint that is broken, with the row that a scan finds first, or a failure of the database or
-/// of memory. The last commit is unchanged, and the error contains the connection.
+/// The first rule that the tables break, with the row that a scan finds first, or a failure of the database
+/// or of memory. The last commit is unchanged, and the error contains the connection.
 ///
 /// # Not promised
 ///

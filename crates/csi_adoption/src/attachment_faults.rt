@@ -24,7 +24,8 @@ fn text_of(alloc: Global, text: &Option<Text>) -> Result<Text, AllocError>
 ///
 /// # Errors
 ///
-/// Returns the fault, which names this attachment, or [`AdoptFault::NoMemory`].
+/// If `found` names an attachment, returns the fault with its volume and node. If memory is refused, returns
+/// [`AdoptFault::NoMemory`].
 pub(crate) fn check_attachment(
     alloc: Global,
     found: &Option<RowName>,
@@ -54,7 +55,8 @@ fn full_node<'a>(nodes: &'a [Node], volumes: &[TextSum]) -> Option<&'a Node>
     None
 }
 
-/// Checks that no node has more attachments than its greatest number of volumes.
+/// Checks that no node has more attachments than its greatest number of volumes. `volumes` has the number of
+/// attachments of each node, in the order of `nodes`.
 pub(crate) fn check_nodes(
     alloc: Global,
     nodes: &[Node],

@@ -1,11 +1,13 @@
-//! Laws of attachments: rows that pass are the attachments of a State, and the attachments of a State pass.
+//! Laws of attachments. Rows that pass every constraint are the rows of a State's attachments. The rows of a
+//! State's attachments pass every constraint. A law is a function that does nothing: its caller gets what the
+//! contract of the law states.
 
 ghost use Rattle.csi_adoption.specs.FoundAttachments.{AttachmentsAreFound, AttachmentsDoPass, OwnersDoPass, PlacesDoPass};
 
 use csi_constraints::laws::{attachments, owners, pairs};
 
-/// Take rows of attachments that pass every constraint, where the volumes are those of a State. Then some
-/// State has the same volumes, and the rows are the rows of its attachments.
+/// Let a State have some volumes, and let rows of attachments pass every constraint with these volumes. Then
+/// there is a State with the same volumes and with the attachments in these rows.
 pub fn attachments_found()
     ensures { AttachmentsAreFound }
 {

@@ -59,7 +59,7 @@ impl Fold for AttachmentsFold<'_> {
 impl<'a> AttachmentsFold<'a> {
     ghost use Rattle.csi_adoption.specs.Folding.{BeginsAttachments, attachments_seen};
 
-    // Makes the folds before the first row.
+    // Makes the folds, which have not taken any row.
     fn new(alloc: Global, config: &'a Config) -> Result<AttachmentsFold<'a>, AllocError>
         ensures { IfOk result (BeginsAttachments config.now) }
     {
@@ -74,8 +74,7 @@ impl<'a> AttachmentsFold<'a> {
         })
     }
 
-    // Returns the result of the scan. The fields are moved out in a function of its own, in which no call can
-    // fail.
+    // Returns the result of the scan. Moves the fields out in a separate function, in which no call can fail.
     fn into_seen(self) -> AttachmentsSeen
         ensures { result ≡ attachments_seen self.entry }
     {
@@ -89,7 +88,8 @@ impl<'a> AttachmentsFold<'a> {
     }
 }
 
-/// Scans the rows of attachments, each with its rowid.
+/// Scans the rows of attachments, each with its rowid: finds broken constraints, and counts the attachments
+/// of each node.
 pub(crate) fn see_attachments<S: Alter>(
     alloc: Global,
     conn: &mut IdleConnection<S>,

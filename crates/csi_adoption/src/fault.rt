@@ -15,7 +15,8 @@ pub enum Foreign {
     /// The database does not have exactly the tables, indexes, views and columns that this program makes.
     #[error("the tables are not those of csid")]
     Schema,
-    /// The table `meta` does not have exactly one row, or the row has no format number.
+    /// The table `meta` does not have exactly one row of integers, or the key in the row is not 1, or the
+    /// format is below 1.
     #[error("meta has no row with the number of a format")]
     Meta,
     /// A value in a row of volumes does not have the type of its column.
@@ -47,7 +48,7 @@ pub enum AdoptFault {
     /// The rows break a constraint of the configuration or of the volume machine.
     #[error("{0}")]
     Broken(BrokenConstraint),
-    /// The database failed a read, with this error.
+    /// The database failed a read or a write, with this error.
     #[error("the database failed: {0}")]
     Store(SqlError),
     /// Memory was refused.

@@ -1,4 +1,6 @@
-//! Laws of adoption: rows that pass are the rows of a State, and the rows of a State pass.
+//! Laws of adoption. Rows that pass every constraint are the rows of a State. The rows of a State that meets
+//! the invariant pass every constraint. A law is a function that does nothing: its caller gets what the
+//! contract of the law states.
 
 ghost use Rattle.csi_adoption.specs.Again.{EitherTaken, EndsTaken, StopsTaken};
 ghost use Rattle.csi_adoption.specs.Laws.{FindsTotals, FindsVolumes, HasNoOtherPool, PassesMeta, PassesVolumes, ReportsCounts, ReportsPools, ReportsRooms};
@@ -39,8 +41,7 @@ pub fn pools_reported()
     ensures { ReportsPools }
 {}
 
-/// If rows of volumes pass every constraint, each volume that is found in them is in a pool of the
-/// configuration.
+/// If rows of volumes pass every constraint, the volume of each row is in a pool of the configuration.
 pub fn pools_elsewhere()
     ensures { HasNoOtherPool }
 {}

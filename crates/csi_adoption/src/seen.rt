@@ -3,7 +3,7 @@
 use csi_constraints::{RowName, TextSum};
 
 /// The result of a scan over the rows of volumes, in rising order of their numbers. For each constraint it
-/// has the name of the first row that breaks the constraint.
+/// has the name of the first row that breaks the constraint, or `None` if no row breaks it.
 pub(crate) struct VolumesSeen {
     /// The format of the tables, which decides how `params` is checked.
     pub format: u32,
@@ -29,7 +29,7 @@ pub(crate) struct VolumesSeen {
     pub rows: u64,
 }
 
-// Written by hand and not derived: the proof of code that drops the value then has one call for the drop.
+// Written by hand and not derived. So a proof about code that drops the value has one call of `drop`.
 impl Drop for VolumesSeen {
     fn drop(self) {
         let VolumesSeen {
@@ -49,7 +49,7 @@ impl Drop for VolumesSeen {
 }
 
 /// The result of a scan over the rows of attachments, in rising order of their rowids. For each constraint it
-/// has the name of the first row that breaks the constraint.
+/// has the name of the first row that breaks the constraint, or `None` if no row breaks it.
 pub(crate) struct AttachmentsSeen {
     /// The first row with a value that does not have the type of its column. The row is named by its rowid.
     pub kinds: Option<RowName>,

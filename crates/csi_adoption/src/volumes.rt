@@ -72,7 +72,7 @@ impl Fold for VolumesFold<'_> {
 impl<'a> VolumesFold<'a> {
     ghost use Rattle.csi_adoption.specs.Folding.{BeginsVolumes, volumes_seen};
 
-    // Makes the folds before the first row.
+    // Makes the folds, which have not taken any row.
     fn new(alloc: Global, config: &'a Config, meta: Meta) -> Result<VolumesFold<'a>, AllocError>
         ensures { IfOk result (BeginsVolumes config.now meta) }
     {
@@ -94,8 +94,7 @@ impl<'a> VolumesFold<'a> {
         })
     }
 
-    // Returns the result of the scan. The fields are moved out in a function of its own, in which no call can
-    // fail.
+    // Returns the result of the scan. Moves the fields out in a separate function, in which no call can fail.
     fn into_seen(self, format: u32) -> VolumesSeen
         ensures { result ≡ volumes_seen format self.entry }
     {
@@ -140,7 +139,8 @@ pub(crate) fn see_volumes<S: Alter>(
     Ok(seen)
 }
 
-/// Returns the total of each pool. If two pools have the same name, the total of the first pool counts.
+/// Returns the total of each pool, from the number of its volumes and the sum of their bytes. Both lists are
+/// in the order of `pools`. If two pools have the same name, the total of the first pool counts.
 pub(crate) fn totals_of(
     alloc: Global,
     pools: &[Pool],

@@ -16,7 +16,7 @@ pub(crate) fn has_missing_access(capabilities: &[Capability]) -> bool
         .any(|capability| matches!(capability.access, Access::Missing))
 }
 
-/// Returns true if a capability of the list has no access mode, or an unknown one.
+/// Returns true if a capability of the list has no access mode, or an unknown access mode.
 pub(crate) fn has_unknown_mode(capabilities: &[Capability]) -> bool
     ensures { result ≡ list_any (λ c. not (is_known_mode c.mode)) capabilities.now }
 {

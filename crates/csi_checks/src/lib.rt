@@ -4,9 +4,9 @@
 //! `csi_types` defines the table (`specs/Checks`). The checks do not allocate. The table is about the parts
 //! of a request: `parts.rt` borrows them for each method, and `requests.rt` has one check for each line, in
 //! order. A preferred topology must be among the requisite topologies. Comparing each preferred topology with
-//! each requisite topology would take too long. So each topology gets a mark and a place in a table on the
-//! stack. `marks.rt` makes the marks, which a peer cannot choose, and `places.rt` proposes where a topology
-//! may be in a list. Each proposed place is then compared.
+//! each requisite topology would take too long. So each topology gets a mark, which is a hash, and a place in
+//! a table on the stack. `marks.rt` makes the marks, which a peer cannot choose. `places.rt` proposes where a
+//! topology may be in a list. Each proposed place is then compared.
 //!
 //! ```rust
 //! if let Err(reason) = check(&request) {

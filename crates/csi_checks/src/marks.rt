@@ -1,4 +1,4 @@
-//! Computes marks of topologies: numbers that a peer cannot choose.
+//! Computes the marks of topologies: hashes that a peer cannot choose.
 //!
 //! The hasher of a list starts from the digest of the whole list, so a topology has another mark in another
 //! list. If a peer tries one list after another, the marks look like random numbers.

@@ -2,8 +2,8 @@
 //!
 //! Comparing each topology of one list with each topology of another list takes too long for the longest
 //! lists that a peer can send. So a table has, for the mark of each topology of a list, the place of the
-//! topology in the list. The table proposes places and decides nothing: each proposed place is compared, and
-//! if the table proposes no right place, the whole list is searched.
+//! topology in the list. The table only proposes places. The topology at each proposed place is compared. If
+//! none is equal, the whole list is searched.
 
 use crate::marks::mark_of_topology;
 use csi_types::Map;

@@ -32,7 +32,7 @@ pub struct CreatedVolume<'a> {
     pub segments: &'a Map,
 }
 
-// Appends the topology that has these segments; appends nothing if there are no segments.
+// Appends the topology that has these segments. Appends nothing if there are no segments.
 #[tactic(auto, unfolding(pbmessage::specs::Canon::row_fields))]
 fn put_topology(out: &mut Vec<u8>, segments: &Map) -> Result<(), AllocError>
     ensures ok { OnOk result (out.new.items

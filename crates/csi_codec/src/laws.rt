@@ -83,8 +83,8 @@ pub fn reading()
     spelled();
 }
 
-/// If bytes encode a value, `read_request` and `read_response` return this value. If bytes encode no value,
-/// both return the offset at which decoding refuses the bytes.
+/// If bytes encode a request, `read_request` returns this request. If they encode no request, it returns the
+/// offset at which decoding refuses the bytes. The same holds for responses and `read_response`.
 pub fn read_as_meant()
     ensures requests { (m : Method) (bytes : List ℕ) (r : Request) → MeansRequest m bytes r
         → read_request m bytes ≡ Ok r }

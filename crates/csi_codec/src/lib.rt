@@ -1,10 +1,10 @@
-//! Messages of the Container Storage Interface to and from bytes (Protocol Buffers, proto3).
+//! Decodes and encodes the messages of the Container Storage Interface (Protocol Buffers, proto3).
 //!
-//! Three short definitions describe each message: the view that gives each part of its value, its schema, and
-//! how the value is written. The crate `pbmessage` reads and writes any message by such definitions. The
-//! definitions are in `specs/messages/`, and the round trips in `proofs/` (`TopologyLemmas.antt` for
-//! `Topology.antt`). The code is in `src/messages/`, in one file each for requests, responses, volumes and
-//! other values.
+//! Three short definitions describe each message: the value that its fields make, the payloads that its
+//! fields may have (the schema), and how the value is written. The crate `pbmessage` reads and writes any
+//! message by such definitions. The definitions are in `specs/messages/`, and the round trips in `proofs/`
+//! (`TopologyLemmas.antt` for `Topology.antt`). The code is in `src/messages/`, in one file each for
+//! requests, responses, volumes and other values.
 //!
 //! `MeansRequest` and `IsNoRequest` define which bytes encode a request, without an order of reading.
 //! `specs/Reading.antt` defines the same by a function, for crates above that compute with it. The law

@@ -6,8 +6,8 @@ pub mod responses;
 pub mod values;
 pub mod volumes;
 
-/// Marks the messages of the package `csi.v1`. Their values are types of another crate. So a trait can be
-/// implemented for these values here only if the trait has a type of this crate as a parameter, such as this
-/// type.
+/// Marks the messages of the package `csi.v1`. The values of these messages are types of `csi_types`. This
+/// crate can implement the traits of `pbmessage` for them only because `Csi`, a type of this crate, is the
+/// parameter of the traits.
 #[derive(Clone, Copy)]
 pub struct Csi;

@@ -20,7 +20,8 @@ const NO_NODES: [u8; 2] = [18, 0];
 pub struct Placement {
     context: Map,
     topology: Items<Map>,
-    // The encoding, followed by the end of a listing's entry that has no nodes.
+    // The encoded context and topology, and after them the empty status of a volume that is published to no
+    // node.
     ending: Vec<u8>,
     ghost spelled: { ending.items ≡ placement_bytes context topology ++ no_nodes },
     ghost fitting: { FitsMap context × FitsTerms topology } by { Prim.hlevel props },
@@ -55,8 +56,8 @@ impl Placement {
         &self.ending[..len]
     }
 
-    /// Returns the encoded context and topology, and after them the last bytes of an entry whose volume is
-    /// published to no node.
+    /// Returns the encoded context and topology, and after them the empty status of a volume that is
+    /// published to no node (2 bytes).
     #[inline(always)]
     pub(crate) fn ending(&self) -> &[u8]
         ensures value { result.now ≡ placement_bytes self.now.context self.now.topology ++ no_nodes }

@@ -15,8 +15,9 @@ use pbmessage::{DecodeFault, Written, decode_message, whole_or_none};
 use pbwire::laws::spelled;
 use std::alloc::{AllocError, Global};
 
-/// Decodes the response of this method. Fields may come in any order, unknown fields are skipped, and
-/// [`decode`](crate::decode) describes the effect of a field that occurs more than once.
+/// Decodes the response of this method. Fields may come in any order, and unknown fields are skipped. If a
+/// number or a text occurs more than once, the last occurrence counts. An embedded message is merged from all
+/// its occurrences.
 ///
 /// # Errors
 ///
@@ -99,8 +100,8 @@ fn write_response(response: &Response, out: &mut Vec<u8>) -> Result<(), AllocErr
     }
 }
 
-/// Appends the encoding of the response, in one fixed form. Field numbers rise, a number that is 0, a flag
-/// that is false and an empty text are left out, and map entries come in byte order of their keys.
+/// Appends the encoding of the response, in one fixed form. Field numbers rise, and map entries come in byte
+/// order of their keys. A number that is 0, a flag that is false and an empty text are left out. The doc of
 /// [`encode_request`](crate::encode_request) has all rules of this form.
 ///
 /// # Errors

@@ -89,7 +89,8 @@ fn put_id(buffer: &mut [u8], end: usize, prefix: &str, number: u64) -> usize
 }
 
 /// Writes an entry without nodes into the last bytes of the buffer, and returns the offset of its first byte.
-/// Returns `None` if the entry may be too long for the buffer. The nodes in `entry` are ignored.
+/// Returns `None` if the prefix of the id is empty, or if the entry may be too long. The nodes in `entry` are
+/// ignored.
 #[inline(always)]
 pub(crate) fn put_short(buffer: &mut [u8], entry: &ListedEntry) -> Option<usize>
     requires { length buffer.old ≡ 176 }

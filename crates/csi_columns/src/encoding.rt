@@ -16,14 +16,14 @@ use csi_types::{Map, Text};
 use pbmessage::{Written, put_map, put_message, put_presence, put_text};
 use std::alloc::{AllocError, Global};
 
-// The memory in bytes for one encoded capability. A block capability takes 8 bytes, and a mount takes 10
-// bytes and the name of its file system.
+// The bytes that are reserved for each encoded capability. A block capability takes 8 bytes, and a mount
+// takes 10 bytes and the name of its file system.
 const KEY_BYTES: usize = 16;
 
 // Marks messages that are encoded from borrowed parts, without a copy of the parts.
 struct Borrowed;
 
-// A `VolumeCapability.MountVolume` that has no field but the file system type.
+// A `VolumeCapability.MountVolume` that has only the field for the file system type.
 #[derive(Drop)]
 struct BorrowedMount<'a> {
     fs_type: &'a Text,

@@ -10,8 +10,8 @@ use crate::pools::{Pool, check_bytes, check_names, check_segments};
 use crate::sizes::{Sizes, check_sizes};
 use csi_types::Items;
 
-/// A configuration that has none of the faults of [`ConfigFault`]. Such a value is made by [`Config::new`],
-/// which checks it, or by code that proves that it has no fault.
+/// A configuration that has none of the faults of [`ConfigFault`]. [`Config::new`] checks the parts and makes
+/// a configuration. Code that proves that the parts have no fault can make one directly.
 #[derive(Debug)]
 pub struct Config {
     /// The name and the version of the plugin.
@@ -25,8 +25,8 @@ pub struct Config {
     ghost faultless: { fault_of plugin sizes pools nodes ≡ None },
 }
 
-// Written by hand and not derived: the proof of code that drops a configuration then has one call for the
-// drop, and no branch for each part.
+// Written by hand and not derived. So a proof about code that drops a configuration has one call of `drop`,
+// and no branch for each part.
 impl Drop for Config {
     #[inline(always)]
     fn drop(self) {

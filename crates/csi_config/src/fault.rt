@@ -3,7 +3,7 @@
 use csi_types::Text;
 use thiserror::Error;
 
-/// The rule that the default size or the greatest size of a volume breaks.
+/// The rules for the default size and the greatest size of a volume. A fault has the rule that a size breaks.
 #[derive(Clone, Copy, Debug, Error)]
 pub enum SizeRule {
     /// The default size is 0 or not a multiple of 1 MiB.
@@ -20,7 +20,7 @@ pub enum SizeRule {
     Limit,
 }
 
-/// The rule that a pool breaks.
+/// The rules for a pool of a configuration. A fault has the rule that the pool breaks.
 #[derive(Clone, Copy, Debug, Error)]
 pub enum PoolRule {
     /// The name is not 1 to 63 ASCII letters, digits, `-`, `_` and `.`.
@@ -49,7 +49,7 @@ pub enum PoolRule {
     KeysAlike,
 }
 
-/// The rule that a node breaks.
+/// The rules for a node of a configuration. A fault has the rule that the node breaks.
 #[derive(Clone, Copy, Debug, Error)]
 pub enum NodeRule {
     /// The id is empty, is longer than 256 bytes, or contains a byte below 0x20 or the byte 0x7F.
@@ -80,7 +80,7 @@ pub enum ConfigFault {
     /// The default size or the greatest size of a volume breaks a rule.
     #[error(transparent)]
     Sizes(SizeRule),
-    /// The configuration has no pool; it must have at least 1.
+    /// The configuration has no pool. It must have at least one.
     #[error("there is no pool")]
     NoPool,
     /// The configuration has more than 16 pools.

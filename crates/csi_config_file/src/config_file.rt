@@ -20,8 +20,8 @@ use std::fmt;
 use thiserror::Error;
 use toml::{Table, Value};
 
-/// A part of a configuration file. Its `Display` is a prefix for messages, such as `pool 1:`; it is empty
-/// for [`Section::Top`].
+/// A part of a configuration file. Its `Display` is a prefix for messages, such as `pool 1: `. The prefix of
+/// [`Section::Top`] is empty.
 #[derive(Clone, Copy, Debug)]
 pub enum Section {
     /// The top of the document: the keys before the first table.
@@ -47,21 +47,21 @@ impl fmt::Display for Section {
 pub enum Key {
     /// `name`, the name of the plugin or of a pool.
     Name,
-    /// `vendor_version`, the version of the plugin.
+    /// `vendor_version`, the version of the plugin, which GetPluginInfo returns.
     VendorVersion,
-    /// `default_bytes`, the size of a volume created without a requested size.
+    /// `default_bytes`, the size in bytes of a volume created without a requested size.
     DefaultBytes,
-    /// `greatest_bytes`, the greatest size of a volume.
+    /// `greatest_bytes`, the greatest size of a volume in bytes.
     GreatestBytes,
-    /// `[[pool]]`, the array of pools.
+    /// `[[pool]]`, the array of pools, with one table for each pool.
     Pool,
     /// `bytes`, the size of a pool in bytes.
     Bytes,
     /// `segments`, the topology of a pool: a table of texts.
     Segments,
-    /// `[[node]]`, the array of nodes.
+    /// `[[node]]`, the array of nodes, with one table for each node.
     Node,
-    /// `id`, the id of a node.
+    /// `id`, the id of a node, which publish requests contain.
     Id,
     /// `max_volumes`, the greatest number of volumes that can be published to a node.
     MaxVolumes,
@@ -113,8 +113,8 @@ pub enum KeyRule {
     Texts,
 }
 
-/// The reason why no configuration was read from a document. Its `Display` is one line. If the document is at
-/// fault, this line names the line, key or item at fault, or the rule that is broken.
+/// The reason why no configuration was read from a document. Its `Display` is one line of text. If the
+/// document has a fault, the text names the faulty line, key or item of the document, or the broken rule.
 #[derive(Debug, Drop, Error)]
 pub enum ConfigError {
     /// The bytes are not UTF-8, or not a TOML document.
@@ -266,7 +266,7 @@ impl<'a> Keys<'a> {
         }
     }
 
-    // Reads the segments of a pool. Without the key, a pool has no segments.
+    // Reads the segments of a pool. If the table lacks the key `segments`, the pool has no segments.
     pub(crate) fn segments(&self, alloc: Global) -> Result<Map, ConfigError>
         ensures { IsRead (λ read. read) (texts_of self.now.section
             (get_member (key_text key_of.Segments) (table_view self.now.table.now))) result }
@@ -282,7 +282,8 @@ impl<'a> Keys<'a> {
     }
 }
 
-// Returns a reader of the keys of one element of an array of tables.
+// Returns a reader of the keys of one element of an array of tables. Fails with `KeyRule::Tables` if the
+// element is not a table.
 pub(crate) fn element<'a>(
     value: &'a Value,
     key: Key,
@@ -320,7 +321,7 @@ fn node(alloc: Global, keys: Keys<'_>) -> Result<Node, ConfigError>
     })
 }
 
-// Reads a pool from an element of the array `pool`; `number` is its number, counted from 1.
+// Reads a pool from an element of the array `pool`. `number` is the number of the element, counted from 1.
 fn pool_at(alloc: Global, value: &Value, number: usize) -> Result<Pool, ConfigError>
     ensures { IsRead (λ pool. pool) (pool_at number (view value.now)) result }
 {
@@ -347,7 +348,7 @@ fn pools(alloc: Global, table: &Table) -> Result<Vec<Pool>, ConfigError>
     }
 }
 
-// Reads a node from an element of the array `node`; `number` is its number, counted from 1.
+// Reads a node from an element of the array `node`. `number` is the number of the element, counted from 1.
 fn node_at(alloc: Global, value: &Value, number: usize) -> Result<Node, ConfigError>
     ensures { IsRead (λ node. node) (node_at number (view value.now)) result }
 {
@@ -364,7 +365,7 @@ fn nodes_of(alloc: Global, array: &[Value]) -> Result<Vec<Node>, ConfigError>
     Ok(nodes)
 }
 
-// Reads the nodes of the document. Without the key `node` there are none.
+// Reads the nodes of the document. If the document has no key `node`, the list is empty.
 fn nodes(alloc: Global, table: &Table) -> Result<Vec<Node>, ConfigError>
     ensures { IsRead (λ nodes. nodes.items)
         (nodes_in (get_member (key_text key_of.Node) (table_view table.now))) result }
@@ -409,7 +410,7 @@ fn config(alloc: Global, table: &Table) -> Result<Config, ConfigError>
     Config::new(plugin, sizes, pools, nodes).map_err(ConfigError::Fault)
 }
 
-// Returns the number of the line that follows the bytes `before`, counted from 1.
+// Returns the number of the line in which the byte after `before` is, counted from 1.
 fn line_of(before: &[u8]) -> usize {
     before
         .iter()
@@ -425,15 +426,16 @@ fn line_of(before: &[u8]) -> usize {
 ///
 /// # Errors
 ///
-/// If the bytes are not UTF-8 or not a TOML document: [`ConfigError::NotToml`]. If a key is missing or its
-/// value has the wrong type: [`ConfigError::Key`] with the first such key, in the order above. If the
-/// configuration that was read breaks a rule: [`ConfigError::Fault`] with the first fault of [`Config::new`].
-/// If memory is refused: [`ConfigError::NoMemory`].
+/// - [`ConfigError::NotToml`] if the bytes are not UTF-8 or not a TOML document.
+/// - [`ConfigError::Key`] if a key is missing or its value has the wrong type. The error has the first key
+///   with such a fault, in the order above.
+/// - [`ConfigError::Fault`] if the configuration that was read breaks a rule. The error has the first fault
+///   that [`Config::new`] finds.
+/// - [`ConfigError::NoMemory`] if memory is refused. The document may then have a fault too.
 ///
 /// # Not promised
 ///
-/// Which line [`ConfigError::NotToml`] contains is not promised; tests show it. If memory is refused, the
-/// document may or may not have a fault.
+/// The contract does not say which line [`ConfigError::NotToml`] contains. Tests show it.
 pub fn read_config(alloc: Global, bytes: &[u8]) -> Result<Config, ConfigError>
     ensures { IsOfText bytes.now result }
 {

@@ -19,7 +19,7 @@ fn number_text(alloc: Global, number: usize) -> Result<Text, AllocError> {
     Ok(Text::from_string(format!(in alloc; "{number}")?))
 }
 
-// The faults found so far.
+// The faults that were found so far, and the allocator of their texts.
 #[derive(Drop)]
 struct Faults {
     alloc: Global,
@@ -32,7 +32,8 @@ impl Faults {
         Ok(())
     }
 
-    // Returns the value that was read. If reading failed, adds the fault to the list and returns `None`.
+    // Returns the value that was read. If the document has a fault there, adds the fault to the list and
+    // returns `None`. Fails if memory was refused.
     fn keep<T: Drop>(&mut self, read: Result<T, ConfigError>) -> Result<Option<T>, AllocError> {
         match read {
             Ok(part) => Ok(Some(part)),
@@ -61,8 +62,8 @@ impl Faults {
         })
     }
 
-    // Makes a configuration of these parts, and adds its first fault. The caller makes all parts but one
-    // valid, so the fault is in the one part.
+    // Makes a configuration of these parts, and adds its first fault. The caller has made all parts valid
+    // except one, so the fault is in this one part.
     fn judge(
         &mut self,
         plugin: Plugin,
@@ -145,8 +146,9 @@ impl Faults {
         }
     }
 
-    // Adds the faults of one pool; `number` is its number, and `names` are the names of the pools before it.
-    // Returns the bytes of the pool, or 0 if they cannot be read.
+    // Adds the faults of one pool. `number` is the number of the pool, counted from 1. `names` has the names
+    // of the earlier pools, and the call adds the pool's name. Returns the bytes of the pool, or 0 if they
+    // cannot be read.
     fn add_pool(
         &mut self,
         number: usize,
@@ -213,7 +215,8 @@ impl Faults {
         Ok(())
     }
 
-    // Adds the faults of one node; `number` is its number, and `ids` are the ids of the nodes before it.
+    // Adds the faults of one node. `number` is the number of the node, counted from 1. `ids` has the ids of
+    // the earlier nodes, and the call adds the node's id.
     fn add_node(
         &mut self,
         number: usize,
@@ -280,17 +283,17 @@ impl Faults {
     }
 }
 
-/// Returns all faults of a document that [`read_config`](crate::read_config) refuses: the faults of keys, the
-/// first rule that each pool and each node breaks, and the faults of all pools or all nodes together. The
-/// list is empty if the bytes are not a TOML document.
+/// Returns all faults of a document that [`read_config`](crate::read_config) refuses: the faults of keys, of
+/// each pool and each node, and of all pools or all nodes together. The list is empty if the bytes are not a
+/// TOML document, or if memory is refused while they are parsed.
 ///
 /// # Errors
 ///
-/// If memory is refused.
+/// If memory is refused after the document was parsed.
 ///
 /// # Not promised
 ///
-/// Which faults are found is not promised; tests show them. Only `read_config` decides if a document is
+/// No contract says which faults are found. Tests show them. Only `read_config` decides if a document is
 /// refused.
 pub fn config_faults(alloc: Global, bytes: &[u8]) -> Result<Vec<ConfigError>, AllocError> {
     let mut faults = Faults {

@@ -30,8 +30,8 @@ fn known_in(section: Section) -> &'static [Key]
     }
 }
 
-/// A key of the document that no part of a configuration has. [`read_config`](crate::read_config) ignores it.
-/// Its `Display` names the key and its section.
+/// A key that is not known in its section of the document. [`read_config`](crate::read_config) ignores the
+/// key. The `Display` names the key and its section.
 #[derive(Debug, Drop)]
 pub struct UnknownKey {
     /// The part of the document that contains the key.
@@ -90,7 +90,7 @@ fn add_of_table(
     }
 }
 
-// Adds the unknown keys of the pools.
+// Adds to `found` the unknown keys of each pool. `array` is the value of the key `pool`.
 fn add_of_pools(
     alloc: Global,
     found: &mut Vec<UnknownKey>,
@@ -105,7 +105,7 @@ fn add_of_pools(
     Ok(())
 }
 
-// Adds the unknown keys of the nodes.
+// Adds to `found` the unknown keys of each node. `array` is the value of the key `node`.
 fn add_of_nodes(
     alloc: Global,
     found: &mut Vec<UnknownKey>,

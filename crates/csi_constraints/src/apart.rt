@@ -87,7 +87,8 @@ fn covers(last: &Option<LastAttachment>, next: &LastAttachment) -> bool
 pub struct FirstApart {
     /// The allocator of the decoded capabilities and of the text in `found`.
     pub alloc: Global,
-    /// The representative of the last volume, or `None` while no row had a number. Initially `None`.
+    /// The attachment that is kept for the last volume, or `None` if no row has had a number yet. Initially
+    /// `None`.
     pub last: Option<LastAttachment>,
     /// The first row that breaks the constraint, or `None` if no row has broken it yet. Initially `None`.
     pub found: Option<RowName>,

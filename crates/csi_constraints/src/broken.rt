@@ -18,7 +18,7 @@ pub enum VolumeConstraint {
     /// The size in bytes is a positive multiple of 1 MiB.
     #[error("its bytes are not a positive multiple of 1048576")]
     Bytes,
-    /// `caps` encodes at least one capability; the capabilities are in order and each is supported.
+    /// `caps` encodes at least one capability. The capabilities are in order, and each is supported.
     #[error("its caps are not the bytes of supported capabilities in order")]
     Caps,
     /// `params` encodes the parameters and the mutable parameters, each of at most 4,096 bytes. In tables of
@@ -36,7 +36,7 @@ pub enum AttachmentConstraint {
     /// `readonly` is 0 or 1, the integers for false and true.
     #[error("its readonly is not 0 or 1")]
     Readonly,
-    /// The volume exists, and its capabilities include the capability of the attachment.
+    /// The volume exists and has the capability of the attachment (`csi_keeper::has_key`).
     #[error("no volume of its number has its capability")]
     Owner,
     /// The configuration contains the node of the attachment.
@@ -47,7 +47,8 @@ pub enum AttachmentConstraint {
     Coexist,
 }
 
-/// A constraint that stored rows break. Its `Display` names the row.
+/// A constraint that stored rows break. Its `Display` is the line that reports it, with the row, the pool or
+/// the node if the constraint is about one.
 #[derive(Debug, Drop, Error)]
 pub enum BrokenConstraint {
     /// The next number in the table `meta` is not between 1 and 2^62, both included.

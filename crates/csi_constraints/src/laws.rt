@@ -1,5 +1,5 @@
-//! Laws of the constraints. If a row represents a volume or an attachment, it passes a constraint if and only
-//! if a State may have that volume or attachment.
+//! Laws of the constraints: what a constraint on a row means for the volume or the attachment that the row
+//! represents. A law is a function that does nothing: its caller gets what the contract of the law states.
 
 ghost use Rattle.std.specs.Prelude.{ℕ, List};
 ghost use Rattle.sqlite.specs.declared.types.Value.{Value};
@@ -12,15 +12,17 @@ ghost use Rattle.csi_constraints.specs.Agreement.{AttachmentAgrees, OwnerAgrees,
 
 use csi_columns::laws::read_back;
 
-/// A row of volumes meets the constraints if and only if a State may have the volume that the row represents.
+/// The row of a volume passes the test of a [`VolumeConstraint`](crate::VolumeConstraint) if and only if the
+/// volume itself meets the constraint. If its name and pool are UTF-8, the row has the types of the columns.
 pub fn volumes()
     ensures { (config : Config) (format next : ℕ) (e : ℕ × Volume) → VolumeAgrees config format next e }
 {
     read_back();
 }
 
-/// A row of attachments meets the constraints if and only if a State may have the attachment that the row
-/// represents, for the volume and the node in the row.
+/// The row of an attachment has a valid `readonly`. It passes the test of the node if and only if the
+/// configuration has the node, and the test of `cap` if and only if the capability is supported. If the node
+/// is UTF-8, the row has the types of the columns.
 pub fn attachments()
     ensures { (config : Config) (rowid : Value) (e : AttachmentKey × Attachment)
         → AttachmentAgrees config rowid e }
@@ -36,8 +38,8 @@ pub fn owners()
     read_back();
 }
 
-/// Two attachments break the constraint `Coexist` if and only if they belong to the same volume and cannot
-/// coexist.
+/// Two attachments with supported capabilities break the constraint `Coexist` if and only if they belong to
+/// the same volume and cannot coexist.
 pub fn pairs()
     ensures { (e f : AttachmentKey × Attachment) → PairAgrees e f }
 {

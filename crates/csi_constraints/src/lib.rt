@@ -1,37 +1,42 @@
 //! The constraints that stored rows must meet, and the scans that test each row for these constraints, in
 //! memory that does not grow with the number of rows.
 //!
-//! A scan is a query with a fixed text. `csi_sql::each_row` passes the rows of its answer to a
-//! `csi_sql::Fold`, in order. The relation `folds` states what a fold becomes: it relates the fold before
-//! some rows, the rows, and the fold after them. A fold that takes no row is unchanged, and each further row
-//! extends the relation. [`TextSum`] sums over the rows with a text, [`RowCount`] counts rows, and [`Rising`]
-//! tests that the integers of a column rise. A struct of folds is a fold too, which passes each row to all of
-//! its parts. [`FoldEach`] is such a struct for several folds of one type. So many constraints of a table are
-//! tested in one scan. `scans.rt` has the five scans: the table `meta`, volumes by number, attachments by
-//! rowid, attachments by number, and attachments with the caps of their volumes. Some constraints are about a
-//! volume and an attachment together. SQL joins the two rows, and the constraint is a test of the joined row.
-//! `specs/Scans.antt` defines the rows of each scan, and `specs/facts/` has the facts that follow if each row
-//! passes a test.
+//! A *scan* is a query with a fixed text. `scans.rt` has the five scans: the table `meta`, volumes by number,
+//! attachments by rowid, attachments by number, and attachments with the caps of their volumes.
+//! `csi_sql::each_row` passes the rows of the answer to a `csi_sql::Fold`, in order. `specs/Scans.antt`
+//! defines the rows of each scan, and `specs/facts/` has the facts that follow if each row passes a test.
 //!
-//! A constraint is a function in `specs/` from a row to a Bool. `Kinds` has the types of columns, `Volumes`
-//! and `Attachments` have numbers and texts, `Coded` has encoded columns, and `Joins` has an attachment with
-//! the caps of its volume. A constraint that needs no memory is a [`RowTest`]. A constraint that decodes
-//! capabilities or parameters is a [`RowTrial`]: it fails if memory is refused, and a row that passes can be
-//! decoded again. [`InfallibleTest`] makes a trial of a test. Two constraints depend on earlier rows, and so
-//! are folds. [`FirstUnowned`] keeps the capabilities of the last volume (`Known`). [`FirstApart`] keeps one
-//! attachment that represents all attachments of the last volume (`Apart`). [`FirstBroken`] finds the first
-//! row that breaks a constraint, with the number and the text that name the row. The `Display` of
-//! [`BrokenConstraint`] is the message about it.
+//! A *fold* is a value that takes rows one by one, such as a sum. Its relation `folds` relates the fold
+//! before some rows, the rows, and the fold after them. A struct of folds is a fold too, which passes each
+//! row to all of its parts. In this way one scan tests many constraints of a table. The folds are:
 //!
-//! `specs/Coding.antt` defines which keys or parameters some bytes encode: the keys or parameters whose
-//! canonical bytes are these bytes. So `coding.rt` decodes the bytes, encodes the result, and compares both.
-//! [`laws`] ties each constraint to the State (`specs/Agreement.antt`): a row that represents a volume or an
-//! attachment passes if and only if a State may have that volume or attachment. Sums over rows, such as the
-//! bytes of a pool or the attachments of a node, are folds and not tests of one row.
+//! - [`TextSum`] sums over the rows with a text, and [`RowCount`] counts rows.
+//! - [`Rising`] tests that the integers of a column rise.
+//! - [`FoldEach`] is a list of folds of one type.
+//! - [`FirstBroken`] finds the first row that breaks a constraint, with the number and the text that name the
+//!   row. The `Display` of [`BrokenConstraint`] is the message about the row.
+//! - [`FirstUnowned`] and [`FirstApart`] test the two constraints that depend on earlier rows.
+//!   [`FirstUnowned`] keeps the capabilities of the last volume (`Known`). [`FirstApart`] keeps one
+//!   attachment that represents all attachments of the last volume (`Apart`).
 //!
-//! The contracts about rows hold if the disk is clean when the call ends (`HasCleanDisk`) and the schema is
-//! the schema that `csi_sql::make_tables` makes. A scan changes neither the tables nor the contents that a
-//! stop may leave.
+//! A *constraint* is a function in `specs/` from a row to a Bool. The constraints in `Kinds` are about the
+//! types of columns, in `Volumes` and `Attachments` about numbers and texts, and in `Coded` about encoded
+//! columns. The constraint in `Joins` is about an attachment and the caps of its volume, whose rows SQL
+//! joins. A constraint that needs no memory is a [`RowTest`]. A constraint that decodes capabilities or
+//! parameters is a [`RowTrial`]: it fails if memory is refused, and a row that passes can be decoded again.
+//! [`InfallibleTest`] makes a trial of a test. Sums over rows, such as the bytes of a pool or the attachments
+//! of a node, are folds and not tests of one row.
+//!
+//! Keys and parameters have one encoding each, their *canonical bytes* (`csi_columns`). `specs/Coding.antt`
+//! defines which keys or parameters some bytes encode: the keys or parameters whose canonical bytes are these
+//! bytes. So `coding.rt` decodes the bytes, encodes the result, and compares both.
+//!
+//! The [`laws`] state what a constraint means for the State (`specs/Agreement.antt`): the row of a volume or
+//! an attachment passes if and only if the volume or attachment itself meets the constraint.
+//!
+//! The contracts about rows hold if the disk is clean when the call ends (`HasCleanDisk`), that is, if it has
+//! returned the bytes that were written to it. The schema must be the schema that `csi_sql::make_tables`
+//! makes. A scan changes neither the tables nor the contents that a stop may leave.
 //!
 //! ```rust
 //! let mut unsized_volume = FirstBroken {

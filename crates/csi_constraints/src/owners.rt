@@ -31,7 +31,7 @@ pub struct KnownCaps {
 }
 
 impl KnownCaps {
-    // Returns true if the volume has this capability key.
+    // Returns true if the caps contain this key or its wider key.
     fn have(&self, key: &CapKey) -> bool
         ensures { result ≡ is_some_and (λ caps. has_key caps (Some key.now)) self.now.caps }
     {
@@ -42,16 +42,16 @@ impl KnownCaps {
     }
 }
 
-/// Finds the first attachment whose volume does not exist or lacks the attachment's capability
-/// (`scan_owners`).
+/// Finds the first attachment whose volume does not exist or lacks the attachment's capability. The rows come
+/// from `scan_owners`.
 ///
-/// The caps that were decoded last are kept. So the caps of a volume are decoded once for consecutive
+/// The fold keeps the caps that were decoded last. So the caps of a volume are decoded once for consecutive
 /// attachments of the volume.
 #[derive(Drop)]
 pub struct FirstUnowned {
     /// The allocator of the decoded capabilities and of the text in `found`.
     pub alloc: Global,
-    /// The caps that were decoded last, or `None` while no caps were decoded. Initially `None`.
+    /// The caps that were decoded last, or `None` if no caps have been decoded yet. Initially `None`.
     pub last: Option<KnownCaps>,
     /// The first row that breaks the constraint, or `None` if no row has broken it yet. Initially `None`.
     pub found: Option<RowName>,
@@ -81,7 +81,7 @@ fn read_caps(alloc: Global, last: &mut Option<KnownCaps>, bytes: &[u8]) -> Resul
     Ok(())
 }
 
-// Returns true if the caps that were decoded last contain this key.
+// Returns true if the caps that were decoded last contain this key or its wider key.
 fn have_key(last: &Option<KnownCaps>, key: &CapKey) -> bool
     ensures { result ≡ is_some_and (λ caps. has_key caps (Some key.now)) (last_keys last.now) }
 {

@@ -28,7 +28,7 @@ pub struct Rising {
     pub column: usize,
     /// The integer of the last row that passed, or `None` before the first row.
     pub last: Option<i64>,
-    /// True while the integers rise. Initially true.
+    /// True if every row so far has passed. Initially true.
     pub good: bool,
 }
 

@@ -50,7 +50,7 @@ fn weight_in(row: &Row, weight: Weight) -> u64
 pub struct TextSum {
     /// The column of the text, counted from 0.
     pub column: usize,
-    /// The text that a row must have in the column. A row with any other value there adds nothing.
+    /// The text that a row must have in the column. A row with another value in the column adds nothing.
     pub text: Vec<u8>,
     /// The amount that a row with the text adds.
     pub weight: Weight,

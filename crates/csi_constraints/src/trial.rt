@@ -1,4 +1,4 @@
-//! Tests of a single row: one trait for tests that take no memory, and one for tests that do.
+//! Tests of a single row: a trait for tests that take no memory, and a trait for tests that may take memory.
 
 ghost use Rattle.std.specs.Prelude.{◌≡◌, Bool, IfOk, IsTrue, OnErr};
 ghost use Rattle.sqlite.specs.Order.{Row as Values};

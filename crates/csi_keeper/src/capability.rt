@@ -14,8 +14,8 @@ use std::cmp::Ordering;
 pub enum Kind {
     /// A raw block device (`BlockVolume`).
     Block,
-    /// A file system of this type (`MountVolume.fs_type`, at most 128 bytes). If the text is empty, the
-    /// plugin chooses the type.
+    /// A file system of this type (`MountVolume.fs_type`, at most 128 bytes in a request). If the text is
+    /// empty, the plugin chooses the type.
     Mount(Text),
 }
 
@@ -23,7 +23,7 @@ pub enum Kind {
 ///
 /// Mount flags and the mount group are not part of the key, so two capabilities that differ only in these
 /// have the same key. Block keys come before mount keys in the order of keys. Mount keys are ordered by the
-/// bytes of their file system type. Equal access types are ordered by the number of the mode.
+/// bytes of their file system type. Keys with the same access type are ordered by the number of the mode.
 #[derive(Debug, Drop)]
 pub struct CapKey {
     /// The access type: block, or mount with a file system type.
@@ -111,8 +111,8 @@ impl Ord for CapKey {
     }
 }
 
-// Returns the mode that is wider than `mode`, if there is one. CSI 1.5 split `SINGLE_NODE_WRITER` into
-// `SINGLE_NODE_SINGLE_WRITER` and `SINGLE_NODE_MULTI_WRITER`, so it is wider than these two.
+// Returns the mode that is wider than `mode`, if there is one. CSI 1.5 split `SINGLE_NODE_WRITER` (1) into
+// `SINGLE_NODE_SINGLE_WRITER` (6) and `SINGLE_NODE_MULTI_WRITER` (7), so mode 1 is wider than these two.
 fn wider_mode(mode: u8) -> Option<u8>
     ensures { result ≡ wider_mode mode }
 {
@@ -125,7 +125,7 @@ fn wider_mode(mode: u8) -> Option<u8>
 
 /// Returns the key with the same access type and the wider mode, or `None` if no mode is wider. Only
 /// `SINGLE_NODE_SINGLE_WRITER` and `SINGLE_NODE_MULTI_WRITER` have a wider mode, `SINGLE_NODE_WRITER`. A
-/// volume with the wider key can be used in each way that this key allows.
+/// volume with the wider key can be used in each way that `key` allows.
 pub fn wider_key(key: CapKey) -> Option<CapKey>
     ensures { result ≡ wider_key key }
 {

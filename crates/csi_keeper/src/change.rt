@@ -17,20 +17,21 @@ pub enum Change {
     /// Removes the volume with this number, which must have no attachments. Its number is never used again.
     /// If no volume has the number, nothing changes.
     RemoveVolume(u64),
-    /// Attaches the volume with this number, which must exist, to a node that it is not attached to.
+    /// Attaches the volume with this number to the node of the attachment. The volume must exist, and must
+    /// not be attached to this node already.
     Attach(u64, Attachment),
     /// Detaches the volume with this number from the node with this id. If the volume is not attached
     /// there, nothing changes.
     Detach(u64, Text),
     /// Detaches the volume with this number from every node. If the volume does not exist, nothing changes.
     DetachAll(u64),
-    /// Replaces the mutable parameters of the volume with this number, which must exist. The new parameters
-    /// have at most 4,096 bytes.
+    /// Replaces the mutable parameters of the volume with this number, which must exist. The keys and values
+    /// of the new parameters must have at most 4,096 bytes together.
     SetMutable(u64, Map),
 }
 
-// Written by hand and not derived: the proof of code that drops a change then has one call for the drop, and
-// no branch for each variant.
+// Written by hand and not derived. So a proof about code that drops a change has one call of `drop`, and no
+// branch for each variant.
 impl Drop for Change {
     #[inline(always)]
     fn drop(self) {
@@ -77,7 +78,7 @@ pub struct Usage {
 pub enum StoreFault {
     /// Memory for the call was refused.
     NoMemory,
-    /// The store below the keeper, such as a file, failed during the call.
+    /// The store below the keeper, such as a file, failed during the call or refused it.
     Refused,
     /// The keeper is down. Every call except `refusals` fails until the keeper is opened again.
     Down,

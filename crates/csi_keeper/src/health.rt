@@ -58,12 +58,13 @@ impl Health {
         Ok(())
     }
 
-    /// Finishes a read with its result. The keeper does not go down, whatever the result is.
+    /// Finishes a read with its result. A failed read does not bring the keeper down.
     ///
     /// # Errors
     ///
-    /// Returns the fault in `answer`, but returns `Refused` instead of `Down`: this keeper is not down, but a
-    /// keeper below it may be. Each `Refused` that is returned is counted.
+    /// - `NoMemory` if `answer` is `NoMemory`.
+    /// - `Refused` if `answer` is `Refused`, or `Down` from a keeper below this keeper. The refusal is
+    ///   counted.
     pub fn finish_call<T>(&mut self, answer: Result<T, StoreFault>) -> Result<T, StoreFault>
         ensures { Finishes self.old self.new answer result }
     {
@@ -81,8 +82,9 @@ impl Health {
     ///
     /// # Errors
     ///
-    /// Returns the fault in `answer`, but returns `Refused` instead of `Down`. Each `Refused` that is
-    /// returned is counted.
+    /// - `NoMemory` if `answer` is `NoMemory`.
+    /// - `Refused` if `answer` is `Refused`, or `Down` from a keeper below this keeper. The refusal is
+    ///   counted.
     pub fn finish_change(&mut self, answer: Result<(), StoreFault>) -> Result<(), StoreFault>
         ensures answers { result ≡ answered answer }
         ensures up { result ≢ Err Down }

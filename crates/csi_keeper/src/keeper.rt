@@ -35,10 +35,10 @@ use std::alloc::Global;
 /// The trait does not promise:
 ///
 /// - that a call succeeds if memory is available, or that memory was refused if a call returns `NoMemory`
-/// - how much time and memory calls take
+/// - how much time and memory calls take. The docs of the calls state the costs of this project's keepers.
 /// - what a change does if the State does not allow it
-/// - that the contents of a keeper are a State. A new keeper has a State, and has one after each change. For
-///   a file with rows, `csi_adoption::adopt` checks the contents.
+/// - that the rows of an existing file are the rows of a State. `csi_adoption::adopt` checks such a file. A
+///   new keeper has a State, and each change leaves a State.
 pub trait Keeper {
     // The model of the keeper, which contracts use: its State, the States that a stop may leave, and the
     // counts.
@@ -49,8 +49,8 @@ pub trait Keeper {
     fn refusals(&self) -> u64
         ensures { result ≡ (model self.now).refusals };
 
-    /// Returns the number that the next volume gets. Adding a volume takes this number and raises it by 1.
-    /// No other change affects it, so no number is used twice.
+    /// Returns the number that the next volume gets. Adding a volume uses this number, and raises the next
+    /// number by 1. No other change affects the next number, so no number is used twice.
     fn next_number(&mut self) -> Result<u64, StoreFault>
         ensures { Reads (model self.old) (model self.new) result (λ s n. n ≡ s.next) };
 
@@ -69,7 +69,7 @@ pub trait Keeper {
             (λ s has. has ≡ is_some (get s.volumes number)) };
 
     /// Returns the capability keys of the volume with this number, or `None` if no volume has it. The call
-    /// costs no more than `by_number`, and less if a keeper need not copy the rest of the volume.
+    /// costs no more than `by_number`, and less if a keeper need not copy the other fields of the volume.
     fn caps_of(&mut self, alloc: Global, number: u64) -> Result<Option<Items<CapKey>>, StoreFault>
         ensures { Reads (model self.old) (model self.new) result
             (λ s keys. keys ≡ option_map (λ v. v.caps) (get s.volumes number)) }
@@ -90,7 +90,7 @@ pub trait Keeper {
         ensures { Reads (model self.old) (model self.new) result (λ s xs. xs ≡ attached_at s node.now) };
 
     /// Returns the number of volumes that are attached to a node: the length of the list that `attached_at`
-    /// returns. The call costs no more than `attached_at`, and less if a keeper has the count at hand.
+    /// returns. The call costs no more than `attached_at`, and less if a keeper stores the count.
     fn count_at(&mut self, alloc: Global, node: &Text) -> Result<u64, StoreFault>
         ensures { Reads (model self.old) (model self.new) result (λ s n. n ≡ count_at s node.now) }
     {
@@ -156,7 +156,7 @@ pub trait Keeper {
     ///
     /// - After `Ok` the change is made, and the keeper is not down. A stop leaves the State with the change.
     /// - After `NoMemory` or `Refused` the State is unchanged. But a stop may leave the State with the
-    ///   change, as well as any State that a stop before the call could have left.
+    ///   change, or a State that a stop before the call could have left.
     /// - After `Down` nothing is changed.
     fn apply(&mut self, alloc: Global, change: &Change) -> Result<(), StoreFault>
         requires { IsBounded change.now }

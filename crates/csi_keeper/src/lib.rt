@@ -4,11 +4,11 @@
 //! its changes. `specs/Invariant.antt` defines the invariant: each State that the machine reaches meets it.
 //! `specs/Keeper.antt` defines the effect of each call on the model of a keeper. docs/MACHINE.md describes
 //! these definitions in prose. `specs/facts/` has facts about these definitions that crates above also use:
-//! sums over a pool after a change, the orders of the maps, chains of reads, and supported keys.
+//! sums over a pool after a change, the orders of the maps, sequences of reads, and supported keys.
 //!
-//! The step of requests uses only the trait [`Keeper`]. The keepers are in crates above: `csi_memory` keeps
-//! volumes in memory, `csi_tables` in SQLite, and `csi_through` in two keepers. This crate also has the parts
-//! that keepers share:
+//! `csi_machine` answers requests with the trait [`Keeper`] only. The keepers are in crates above:
+//! `csi_memory` keeps volumes in memory, `csi_tables` in SQLite, and `csi_through` in two keepers. This crate
+//! also has the parts that keepers share:
 //!
 //! - [`Totals`]: the running totals of pools
 //! - [`copy_volume`], [`copy_attachment`]: copies of volumes and attachments

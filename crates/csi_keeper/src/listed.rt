@@ -75,7 +75,7 @@ pub fn listed_at(alloc: Global, volume: &Volume, nodes: Items<Text>) -> Result<L
 }
 
 /// Makes the listing entries of volumes. The volume at an index is published to the nodes at the same index
-/// in `nodes`. If the lists have different lengths, the rest of the longer list is ignored.
+/// in `nodes`. If one list is longer, its additional elements are ignored.
 ///
 /// # Errors
 ///

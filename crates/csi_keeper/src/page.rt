@@ -1,4 +1,4 @@
-//! Folds over the volumes of a page, in order.
+//! The trait of code that takes the volumes of a page one by one, without a list of all of them.
 
 ghost use Rattle.std.specs.Prelude.{◌++◌, ◌∷◌, [], List, OnOk};
 ghost use Rattle.csi_keeper.specs.Listing.{row_reported};

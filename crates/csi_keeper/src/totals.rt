@@ -75,9 +75,8 @@ impl Totals {
         Ok(())
     }
 
-    /// Adds a volume of `bytes` bytes to the total of a pool. The totals of other pools are unchanged. If the
-    /// pool has 2^64 - 1 volumes already, or if the sum of bytes would exceed 2^128 - 1, the new total of the
-    /// pool is unspecified.
+    /// Adds a volume of `bytes` bytes to the total of a pool. The totals of other pools are unchanged. If
+    /// [`has_room`](Totals::has_room) is false, the new total of the pool is unspecified.
     ///
     /// # Errors
     ///
@@ -96,8 +95,8 @@ impl Totals {
         Ok(())
     }
 
-    /// Returns true if the total of a pool has room for a volume of `bytes` bytes. The pool must have fewer
-    /// than 2^64 - 1 volumes, and the sum of bytes with this volume must be below 2^128.
+    /// Returns true if the total of a pool can count one more volume of `bytes` bytes: the pool has fewer
+    /// than 2^64 - 1 volumes, and the sum of bytes with this volume is below 2^128.
     pub fn has_room(&self, pool: &Text, bytes: u64) -> bool
         ensures { IsTrue result ↔ HasRoom (total_of self.now pool.now) bytes }
     {
@@ -105,7 +104,7 @@ impl Totals {
         total.volumes < u64::MAX && total.bytes <= u128::MAX - bytes as u128
     }
 
-    /// Takes the memory that [`count`](Totals::count) needs for a pool. The totals are unchanged.
+    /// Allocates the memory that [`count`](Totals::count) needs for a pool. The totals are unchanged.
     ///
     /// # Errors
     ///
@@ -161,7 +160,7 @@ fn more_total(total: Total, bytes: u64) -> Total
     }
 }
 
-// Returns the total with one volume of `bytes` bytes less.
+// Returns the total without one volume of `bytes` bytes. Neither number falls below 0.
 fn less_total(total: Total, bytes: u64) -> Total
     ensures { result ≡ less total bytes }
 {

@@ -30,7 +30,8 @@ pub struct Volume {
 pub struct Attachment {
     /// The id of the node, at most 256 bytes.
     pub node: Text,
-    /// The key of the capability that the volume is published with: one of the volume's keys.
+    /// The key of the capability that the volume is published with. The keys of the volume contain this key
+    /// or its wider key ([`has_key`](crate::has_key)).
     pub cap: CapKey,
     /// True if the volume is published as read-only (`ControllerPublishVolumeRequest.readonly`).
     pub readonly: bool,

@@ -139,8 +139,8 @@ fn put_place(
 }
 
 /// Adds a copy of an attachment to the volume with this number. Also adds the attachment's node and the
-/// number to the index of nodes. If the volume was not attached to that node before, the index then agrees
-/// with the attachments.
+/// number to the index of nodes. If the volume was not attached to the node, an index that agreed with the
+/// attachments before the call agrees with them after the call.
 ///
 /// # Errors
 ///

@@ -1,4 +1,4 @@
-//! A map that takes no memory of its own if it is empty.
+//! A map that allocates no memory if it is empty.
 
 ghost use Rattle.std.specs.Prelude.{◌≡◌, IfOk};
 
@@ -6,7 +6,7 @@ use csi_types::{Boxed, Map, copy_map};
 use std::alloc::{AllocError, Global};
 use std::marker::Model;
 
-/// A map from texts to texts that takes two words. An empty map takes no other memory.
+/// A map from texts to texts that takes 16 bytes itself. An empty map takes no other memory.
 #[derive(Drop)]
 pub struct CompactMap {
     // The entries, or `None` for an empty map.

@@ -1,9 +1,9 @@
 //! Ordered maps of volumes and attachments in memory, and the indexes that find them.
 //!
-//! `rows.rt` defines the volumes by number, in the form of `stored.rt` and `compact.rt`. `attachments.rt` has
-//! the attachments by number and node, `names.rt` the index of names, which uses the hash of `hash.rt`, and
-//! `nodes.rt` the index of nodes. The indexes agree with the rows, also after memory was refused. `walk.rt`
-//! visits the attachments of a page of volumes.
+//! `rows.rt` has the map of volumes by number. Its values are the volumes of `stored.rt`, with the parameters
+//! in the maps of `compact.rt`. `attachments.rt` has the attachments by number and node, and `nodes.rt` the
+//! index of nodes. `names.rt` has the index of names, which uses the hash of `hash.rt`. The indexes agree
+//! with the rows, also after memory was refused. `walk.rt` visits the attachments of a page of volumes.
 //!
 //! `specs/Stored.antt` defines which volume a row is. `specs/Rows.antt` defines which finite maps of the
 //! State the rows represent, and the contents of the index of nodes. `specs/Naming.antt` defines which volume

@@ -1,8 +1,8 @@
 //! The index of names in memory, which finds a volume by its name.
 //!
-//! The index does not copy each name. It looks a name up by its hash. The volume that is found has the name,
-//! or another name with the same hash. If several names have the same hash, the name that was added first is
-//! found by the hash, and each other name is found by its text.
+//! The index does not copy each name. It looks a name up by its hash. The volume under this hash has the
+//! name, or another name with the same hash. If several names have the same hash, the name that was added
+//! first is found by the hash, and the names that were added later are found by their texts.
 
 ghost use Rattle.std.specs.Prelude.{◌≡◌, ◌≢◌, ◌↔◌, [], None, Some, IfOk, IsTrue, OnOk, OnErr};
 ghost use Rattle.std.specs.BTreeMap.{is_at};

@@ -34,8 +34,8 @@ pub(crate) fn walk_after(
 ) -> Walk<'_>
     ensures { IsOver attachments.now.entries result }
 {
-    // The addition saturates, so a walk after `u64::MAX` begins at `u64::MAX`. That does no harm: no number
-    // is greater, and the attachments of other numbers are looked up in the map.
+    // The addition saturates, so a walk after `u64::MAX` begins at `u64::MAX`. This start does no harm: no
+    // number is greater, and the attachments of other numbers are looked up in the map.
     let first = (after.saturating_add(1), Text::new(alloc));
     let mut rest = attachments.range((Bound::Included(first), Bound::Unbounded));
     Walk {
@@ -46,7 +46,6 @@ pub(crate) fn walk_after(
     }
 }
 
-// Removes all nodes from the list.
 #[inline(always)]
 fn clear(alloc: Global, nodes: &mut Items<Text>)
     ensures { nodes.new ≡ [] }

@@ -49,7 +49,7 @@ impl Fuse {
     }
 }
 
-/// A keeper in memory that refuses one call, which is chosen by its number. Calls are counted from 0;
+/// A keeper in memory that refuses one call, which is chosen by its number. Calls are counted from 0.
 /// [`refusals`](Keeper::refusals) and [`is_down`](FusedMem::is_down) are not counted.
 ///
 /// If the refused call is a read, later calls succeed. If the refused call is [`apply`](Keeper::apply), the

@@ -24,8 +24,8 @@ use csi_types::{Items, Map, Text, copy_map, copy_text};
 use std::alloc::{AllocError, Global};
 use std::collections::{BTreeMap, BTreeSet};
 
-/// A keeper in memory. It is never down. It refuses a call only if memory is refused; its State is then
-/// unchanged, and later calls may succeed. Its volumes end with the process, so a stop leaves nothing.
+/// A keeper in memory. It is never down. A call fails only if memory is refused. The State is then unchanged,
+/// and later calls may succeed. The volumes end with the process, so a stop leaves nothing.
 ///
 /// Each volume is stored once, and the values that calls return are copies. For n volumes, m attachments, p
 /// pools and d nodes with attachments, calls take this time:
@@ -35,7 +35,7 @@ use std::collections::{BTreeMap, BTreeSet};
 /// - a page: O(log n), and one step for each entry; with nodes also O(log m), and one step for each node
 /// - the used bytes of a pool: O(log p)
 /// - the number of volumes at a node: O(log d); their numbers also take one step for each
-/// - a change: O(log n + log m); `DetachAll` also takes one step for each attachment that it removes
+/// - a change: O(log n + log m + log p); `DetachAll` takes O(log m) for each attachment that it removes
 /// - `sizes_in`: one step for each volume
 #[derive(Drop)]
 pub struct MemKeeper {
@@ -290,7 +290,7 @@ impl Keeper for MemKeeper {
     }
 
     fn apply_owned(&mut self, alloc: Global, change: Change) -> Result<(), StoreFault> {
-        // Only `AddVolume` is taken by value; the other changes are applied by reference.
+        // Only `AddVolume` is taken by value. The other changes are applied by reference.
         if !matches!(&change, Change::AddVolume(_)) {
             return self.apply(alloc, &change);
         }

@@ -15,7 +15,7 @@ use csi_keeper::{Keeper, StoreFault, Usage};
 use csi_types::{Map, Requirement};
 use std::alloc::Global;
 
-/// A pool, with its usage by volumes.
+/// A pool, with the number and the bytes of its volumes.
 #[derive(Drop)]
 pub struct Room<'a> {
     pub pool: &'a Pool,
@@ -32,7 +32,7 @@ impl Room<'_> {
     }
 }
 
-// Reads the usage of a pool.
+// Reads the number and the bytes of a pool's volumes from the keeper.
 #[inline(always)]
 fn read_room<'a, K: Keeper>(keeper: &mut K, pool: &'a Pool) -> Result<Room<'a>, StoreFault>
     ensures pool { IfOk result (λ r. r.pool.now ≡ pool.now) }
@@ -43,8 +43,8 @@ fn read_room<'a, K: Keeper>(keeper: &mut K, pool: &'a Pool) -> Result<Room<'a>, 
     Ok(Room { pool, used })
 }
 
-/// Reads the usage of each pool, in the order of the configuration. Fails if the keeper fails or memory is
-/// refused.
+/// Reads the number and the bytes of each pool's volumes from the keeper. The pools are in the order of the
+/// configuration. Fails if the keeper fails or memory is refused.
 #[tactic(auto, using(csi_keeper::specs::facts::Reads::quiet_same, csi_keeper::specs::facts::Reads::quiet_then))]
 #[inline(always)]
 pub fn read_rooms<'a, K: Keeper>(
@@ -155,8 +155,8 @@ fn pool_by<'a>(
 /// the configuration. The first pool that serves the topology and has room is chosen. Returns `None` if there
 /// is no such pool.
 ///
-/// If the request has no requisite topology, any pool with room is chosen after the preferred topologies were
-/// tried: the first such pool of the configuration.
+/// If the request has no requisite topology, and no pool is found for a preferred topology, the first pool of
+/// the configuration that has room is chosen.
 pub fn choose<'a>(
     alloc: Global,
     rooms: &[Room<'a>],

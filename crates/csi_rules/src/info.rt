@@ -59,8 +59,8 @@ fn pool_named<'a>(pools: &'a [Pool], name: &Text) -> Option<&'a Pool>
     pools.iter().find(|pool| pool.name == *name)
 }
 
-/// Returns the segments of the first pool with this name, or `no_segments` if the configuration has no such
-/// pool.
+/// Returns the segments of the first pool with this name. Returns `no_segments`, which must be empty, if the
+/// configuration has no such pool.
 pub fn segments_at<'a>(config: &'a Config, pool: &Text, no_segments: &'a Map) -> &'a Map
     requires { no_segments.now ≡ empty }
     ensures { result.now ≡ segments_at config.now pool.now }

@@ -1,5 +1,5 @@
-//! The rules that the volume machine plans by: values of the State and of requests, and the reads that they
-//! need.
+//! The rules that the volume machine uses to decide requests, such as the size of a volume and its pool. Most
+//! rules are functions of values. Some read these values from a keeper.
 //!
 //! - `capability.rt`: [`keys_of`] and [`have_keys`] compute the keys of capabilities and compare them.
 //! - `sizes.rt`: [`size`] and [`has_size`] choose and compare the size of a volume.

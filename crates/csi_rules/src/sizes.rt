@@ -39,7 +39,7 @@ fn size_by(sizes: &Sizes, required: u64, limit: u64) -> Option<u64>
     ensures { result ≡ size_by sizes.now required limit }
 {
     let bytes = requested_bytes(sizes, required, limit);
-    // The comparison of the required size never decides, since the rounded size is at least as great.
+    // The comparison of `required` never makes a difference, since `bytes` is at least as great.
     let is_within = bytes > 0
         && (limit == 0 || bytes <= limit)
         && bytes <= sizes.greatest_bytes
@@ -51,8 +51,8 @@ fn size_by(sizes: &Sizes, required: u64, limit: u64) -> Option<u64>
 /// `CapacityRange`).
 ///
 /// If the range requires a size, the result is this size, rounded up to a multiple of 1 MiB. Otherwise the
-/// result is the default size or the limit of the range, rounded down to a multiple of 1 MiB, whichever is
-/// smaller. A required size or a limit of 0 or below counts as absent.
+/// result is the default size. If the limit, rounded down to a multiple of 1 MiB, is smaller than the default
+/// size, the result is the rounded limit. A required size or a limit of 0 or below counts as absent.
 ///
 /// Returns `None` if this size is 0, above the limit or above the greatest size of a volume.
 pub fn size(sizes: &Sizes, range: &Option<CapacityRange>) -> Option<u64>

@@ -20,8 +20,8 @@ use sqlite::{Alter, Error};
 
 /// Adds the row of a volume, and sets the next number to the volume's number plus 1.
 ///
-/// The number must be below 2^62 and the size below 2^63 bytes. `caps` and `params` are stored as given. A
-/// number or a name that another row has is refused.
+/// The number must be below 2^62 and the size below 2^63 bytes. `caps` and `params` are stored as given. The
+/// change is refused if another row has the number or the name.
 pub fn add_volume<S: Alter>(
     conn: &mut IdleConnection<S>,
     volume: u64,

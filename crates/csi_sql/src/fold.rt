@@ -40,7 +40,8 @@ pub trait Fold {
 ///
 /// # Errors
 ///
-/// If the query is refused, if a row cannot be read, or if `add_row` fails.
+/// If the query is refused, if a row cannot be read, if `add_row` fails, or if there are 2^64 - 1 rows or
+/// more.
 pub fn each_row<S: Alter, F: Fold>(
     conn: &mut IdleConnection<S>,
     sql: &str,

@@ -41,7 +41,7 @@ impl<S: Alter> IdleConnection<S> {
         IdleConnection(conn)
     }
 
-    /// Returns the schema of the database.
+    /// Returns the schema of the database: its tables, indexes and views.
     pub fn schema(&self) -> &Schema
         ensures value { result.now ≡ (state S.Store self.now).now.schema }
         ensures live { IsLive (state S.Store self.now) }

@@ -21,8 +21,8 @@
 //!   has a module for each table, and the SELECTs of rows are the variants of one enum
 //!   (`statements/select.rt`).
 //!
-//! The checker computes each text under the schema (`proofs/TextLemmas.antt`), so a contract names the
-//! meaning of a text and not the text. An INSERT adds a row (`specs/Effects.antt`). A DELETE is a filter of
+//! The checker computes the meaning of each text under the schema (`proofs/TextLemmas.antt`). So a contract
+//! names this meaning and not the text. An INSERT adds a row (`specs/Effects.antt`). A DELETE is a filter of
 //! the table (`specs/Deletes.antt`). A SELECT shows the rows that pass a test, in an order
 //! (`specs/Shown.antt` over the queries of `specs/Statements.antt`). A DELETE removes rows by their rowids,
 //! so it is a filter if no two rows share a rowid (`AreKeyed`). After an INSERT, still no two rows share a
@@ -45,7 +45,7 @@
 //!
 //! A statement may fail. An error may say that memory was refused although it was not, since a store may
 //! report this at any time. If the disk failed, the error does not name the fault of the disk. Rows of
-//! `test_tables` show that a number, a name or a place that already exists is refused.
+//! `test_tables` show that an INSERT is refused if its volume number, its name or its attachment exists.
 #![tactic(auto)]
 
 pub mod changes;

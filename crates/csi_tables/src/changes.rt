@@ -78,8 +78,8 @@ pub(crate) fn make_volume<S: Alter>(
     Ok(())
 }
 
-// Makes a change that changes nothing, such as a change of a number that no row has. It makes one read, which
-// fails if the connection is shut. After `Ok` a stop leaves the State.
+// Handles a change that has no effect, such as the removal of a volume number that no row can have. Makes one
+// read, which fails if the connection is shut. After `Ok` a stop leaves the State.
 fn make_nothing<S: Alter>(conn: &mut IdleConnection<S>) -> Result<(), TablesError>
     ensures { ConnStays S.Store conn.old conn.new result }
 {
@@ -179,8 +179,8 @@ pub(crate) fn unmake_volume<S: Alter>(
     Ok(())
 }
 
-// Returns the parameters of a volume. It is a function of its own, since nothing in it fails, which makes the
-// proof of its caller shorter.
+// Returns the parameters of a volume, or `None` if no volume is given. Nothing in this function can fail. So
+// a separate function makes the proof of its caller shorter.
 fn params_of(volume: Option<Volume>) -> Option<Map>
     ensures { result ≡ option_map (λ v. v.params) volume }
 {

@@ -42,7 +42,7 @@ fn keys_of(alloc: Global, capabilities: &[Capability]) -> Result<Items<CapKey>, 
 }
 
 /// Decodes the capability keys in the bytes of the column `caps`. Fails with `Refused` if the bytes are not
-/// the encoding of capability keys.
+/// an encoding of capability keys.
 pub(crate) fn read_caps(alloc: Global, bytes: &[u8]) -> Result<Items<CapKey>, TablesError>
     ensures ok { IfOk result (λ keys. (ks : List Key) → FitCaps ks → bytes.now ≡ caps_bytes ks → keys ≡ ks) }
     ensures refused { IsErrOf result Refused → (ks : List Key) → FitCaps ks → AreKnown ks
@@ -56,7 +56,7 @@ pub(crate) fn read_caps(alloc: Global, bytes: &[u8]) -> Result<Items<CapKey>, Ta
 }
 
 /// Decodes the parameters and the mutable parameters in the bytes of the column `params`. Fails with
-/// `Refused` if the bytes are not the encoding of such parameters.
+/// `Refused` if the bytes are not an encoding of parameters.
 pub(crate) fn read_params(alloc: Global, bytes: &[u8]) -> Result<(Map, Map), TablesError>
     ensures ok { IfOk result (λ read. (p m : TextMap) → FitParams p m → bytes.now ≡ params_bytes p m
         → read ≡ (p, m)) }

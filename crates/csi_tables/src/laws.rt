@@ -1,4 +1,5 @@
-//! Laws of the rows that represent a State.
+//! Laws of the rows that represent a State. A law is a function that does nothing: its caller gets what the
+//! contract of the law states.
 
 ghost use Rattle.csi_tables.specs.Laws.{HaveKnownModes, LatestHas, OneState};
 

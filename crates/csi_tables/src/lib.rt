@@ -4,19 +4,28 @@
 //! `CreateVolumeRequest` with only the capabilities. The column `params` has the canonical bytes of a request
 //! with only the parameters and the mutable parameters. A read of a row that this program cannot have written
 //! is refused. `specs/Holding.antt` defines which rows of a format represent a State (`IsRowsOf`). These are
-//! the rows that a SELECT of all columns shows, in any order. It also defines which States a connection with
-//! its totals may have.
+//! the rows that a SELECT of all columns shows, in any order. The same file defines which States a connection
+//! with its totals may have.
 //!
-//! `rows.rt` and `decoding.rt` decode rows and columns. `read.rt` has a function for each read and
-//! `changes.rt` a function for each change, both over a connection and in terms of the State. `nodes.rt`
-//! finds the nodes of a page's volumes in one list of places, and `fault.rt` has the reasons why a call
-//! fails. `tables.rt` is the keeper, which counts refusals with `csi_keeper::Health`. `opening.rt` makes the
-//! keeper over new tables, and returns the connection. The lemmas follow the same steps. `RowLemmas` shows
-//! that the rows after a change are the rows of the changed State, and `StateLemmas` that rows represent one
-//! State. `SortedLemmas`, `ShownLemmas` and `PageLemmas` show that a sorted answer over the rows of a State
-//! is a filter of its entries. `KeepLemmas` and `TablesLemmas` derive the clauses of the trait, which are
-//! about States, from the clauses of transactions, which are about rows. `NewLemmas` shows that new tables
-//! are the rows of the State without volumes.
+//! The modules:
+//!
+//! - `tables.rt` is the keeper, which counts refusals with `csi_keeper::Health`.
+//! - `opening.rt` makes the keeper over new tables or checked tables, and returns the connection.
+//! - `read.rt` has a function for each read, and `changes.rt` a function for each change. Both take a
+//!   connection, and their contracts are about the State.
+//! - `rows.rt` and `decoding.rt` decode rows and columns.
+//! - `nodes.rt` finds the nodes of a page's volumes in one list of places.
+//! - `fault.rt` has the reasons why a call fails.
+//!
+//! The lemmas follow the same steps:
+//!
+//! - `RowLemmas`: the rows after a change are the rows of the changed State.
+//! - `StateLemmas`: rows represent at most one State.
+//! - `SortedLemmas`, `ShownLemmas`, `PageLemmas`: a sorted answer over the rows of a State is a filter of its
+//!   entries.
+//! - `KeepLemmas`, `TablesLemmas`: the clauses of the trait, which are about States, follow from the clauses
+//!   of transactions, which are about rows.
+//! - `NewLemmas`: new tables are the rows of the State without volumes.
 //!
 //! ```rust
 //! let mut keeper = Tables::make(alloc, conn)?;
@@ -26,10 +35,10 @@
 //!
 //! # Not promised
 //!
-//! The contracts do not promise that calls succeed, or which values the columns return; rows of `test_tables`
-//! show both. A call may return `NoMemory` although memory was not refused; `tests/memory --tables` refuses
-//! each allocation of each call in turn. The clauses about `Refused` hold for States whose capabilities have
-//! known modes, as each State that meets the invariant does.
+//! The contracts do not promise that calls succeed, or which values the columns return. Rows of `test_tables`
+//! show both. The contracts allow a call to return `NoMemory` although memory was not refused. The test
+//! `tests/memory --tables` refuses each allocation of each call in turn. The clauses about `Refused` hold for
+//! States whose capabilities have known modes. Each State that meets the invariant is such a State.
 #![tactic(auto)]
 
 mod changes;

@@ -32,8 +32,6 @@ impl<S: Alter> Tables<S> {
     /// volumes and no attachments, and its next number is 1. The keeper is not down and has refused no call.
     /// The tables are committed, so a stop leaves them.
     ///
-    /// The contract promises nothing for a database that has other tables.
-    ///
     /// # Errors
     ///
     /// Returns the connection and the database's error, for example if a table with one of the names exists
@@ -42,8 +40,8 @@ impl<S: Alter> Tables<S> {
     ///
     /// # Not promised
     ///
-    /// The result for a database that has other tables, and success if memory is available, are not promised;
-    /// rows of `test_tables` show both.
+    /// The contract promises nothing for a database that has other tables. It does not promise success, even
+    /// if memory is available. Rows of `test_tables` show both cases.
     pub fn make(alloc: Global, mut conn: Connection<S>) -> Result<Tables<S>, MakeFault<S>>
         requires idle { conn.in_transaction ≡ false }
         ensures made { IfOk result (λ tables. IsNewOver S.Store conn tables) }

@@ -1,7 +1,8 @@
 //! Makes each read over a connection, and returns values of the State.
 //!
-//! If a row has values that this program does not write, the read is refused. Only a disk that returns other
-//! bytes than were written gives such a row.
+//! If a row has values that this program does not write, the read is refused. After the rows were checked
+//! when the tables were opened, a read finds such values only if the disk returns other bytes than were
+//! written.
 
 ghost use Rattle.std.specs.Prelude.{◌≡◌, ◌<◌, ◌^◌, IfOk, is_some, option_map};
 ghost use Rattle.std.specs.FinMap.{get};

@@ -72,7 +72,8 @@ fn params_in(alloc: Global, row: &Row, at: usize) -> Result<(Map, Map), TablesEr
     }
 }
 
-/// Decodes the volume in a row of the columns number, name, bytes, pool, caps and params.
+/// Decodes the volume in a row of the columns number, name, bytes, pool, caps and params. Fails with
+/// `Refused` if a value cannot be decoded.
 pub(crate) fn volume_from(alloc: Global, row: &Row) -> Result<Volume, TablesError>
     ensures ok { IfOk result (λ v. (e : ℕ × Stored) → IsStored e → row.now ≡ volume_entry e → v ≡ e.1) }
     ensures refused { IsErrOf result Refused → (e : ℕ × Stored) → IsReadable e → row.now ≢ volume_entry e }
@@ -138,7 +139,8 @@ fn cap_in(alloc: Global, row: &Row, at: usize) -> Result<CapKey, TablesError>
     }
 }
 
-/// Decodes the attachment in a row. Fails with `Refused` if `readonly` is neither 0 nor 1.
+/// Decodes the attachment in a row of the columns node, cap and readonly. Fails with `Refused` if a value
+/// cannot be decoded, for example if `readonly` is neither 0 nor 1.
 pub(crate) fn attachment_from(alloc: Global, row: &Row) -> Result<Attachment, TablesError>
     ensures ok { IfOk result (λ a. (e : AttachmentKey × Placed) → IsPlaced e → row.now ≡ node_entry e
         → a ≡ e.1) }
@@ -156,7 +158,7 @@ pub(crate) fn attachment_from(alloc: Global, row: &Row) -> Result<Attachment, Ta
     })
 }
 
-/// Decodes the volumes in rows, in order.
+/// Decodes the volumes in rows, in order. Fails with `Refused` if a row cannot be decoded.
 pub(crate) fn volumes_from(alloc: Global, rows: &[Row]) -> Result<Items<Volume>, TablesError>
     ensures ok { IfOk result (λ vs. (es : List (ℕ × Stored)) → AllByRecursion IsStored es
         → rows.now ≡ map volume_entry es → vs ≡ map (λ e. e.1) es) }
@@ -171,7 +173,8 @@ pub(crate) fn volumes_from(alloc: Global, rows: &[Row]) -> Result<Items<Volume>,
     Ok(volumes)
 }
 
-/// Decodes the attachments in the rows of one volume, in order.
+/// Decodes the attachments in the rows of one volume, in order. Fails with `Refused` if a row cannot be
+/// decoded.
 pub(crate) fn attachments_from(
     alloc: Global,
     rows: &[Row],
@@ -200,7 +203,8 @@ pub(crate) fn numbers_of(alloc: Global, volumes: &[Volume]) -> Result<Vec<u64>, 
     Ok(numbers)
 }
 
-/// Decodes the numbers in the first column of rows, in order.
+/// Decodes the numbers in the first column of rows, in order. Fails with `Refused` if a value is not an
+/// integer or is negative.
 pub(crate) fn numbers_from(alloc: Global, rows: &[Row]) -> Result<Items<u64>, TablesError>
     ensures ok { IfOk result (λ xs. (ns : List ℕ) → rows.now ≡ map (λ n. number_value n ∷ []) ns → xs ≡ ns) }
     ensures refused { IsErrOf result Refused → (ns : List ℕ) → rows.now ≢ map (λ n. number_value n ∷ []) ns }

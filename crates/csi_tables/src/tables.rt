@@ -44,7 +44,7 @@ pub struct Tables<S: Alter> {
     pub(crate) conn: IdleConnection<S>,
     totals: Totals,
     health: Health,
-    // The database's error of the first call that it refused.
+    // The database's error in the first call that the database refused, or `None`.
     cause: Cell<Option<Error>>,
 }
 

@@ -24,7 +24,7 @@ pub trait ChangeStore {
     ///
     /// - After `Ok` the change is made, and a stop leaves the State with the change.
     /// - After `NoMemory` or `Refused` the State is unchanged. But a stop may leave the State with the
-    ///   change, as well as any State that a stop before the call could have left.
+    ///   change, or a State that a stop before the call could have left.
     /// - After `Down` nothing is changed.
     fn commit(&mut self, alloc: Global, change: &Change) -> Result<(), StoreFault>
         requires { IsBounded change.now }

@@ -35,24 +35,24 @@ fn attach_each(
     Ok(())
 }
 
-// Returns true if the memory can have this next number: it is within the bounds of numbers. Only a store that
-// does not read back what was written has a greater next number.
+// Returns true if the memory can have this next number: it is at most 2^62. Only a store that returns other
+// values than were written has a greater next number.
 fn is_numbered(next: u64) -> bool
     ensures { IsTrue result ↔ IsNumbered next }
 {
     next <= MAX_NUMBER
 }
 
-// Returns true if the memory can have this volume: its number and its size are within their bounds. Only a
-// store that does not read back what was written has another volume.
+// Returns true if the memory can have this volume: its number is below 2^62, and its size is at most 2^62
+// bytes. Only a store that returns other values than were written has a volume outside these bounds.
 fn is_held(volume: &Volume) -> bool
     ensures { IsTrue result ↔ IsHeld volume.now }
 {
     (volume.number < MAX_NUMBER) & (volume.bytes <= MAX_POOL_BYTES)
 }
 
-// Adds a volume with its attachments after the volumes in memory. Fails for a volume that the memory cannot
-// have, so that no volume is left out.
+// Adds a volume with its attachments after the volumes in memory. Fails with `Refused` for a volume that the
+// memory cannot have, so that no volume is left out.
 fn restore(
     alloc: Global,
     memory: &mut MemKeeper,
@@ -107,7 +107,8 @@ fn attachments_of<K: Keeper>(
 }
 
 // Adds the volumes of a page with their attachments to the memory. `after` is the number of the volume before
-// the page. The volumes are moved. Returns the number of the last volume on the page.
+// the page. The volumes are moved. Returns the number of the last volume on the page, or `after` if the page
+// is empty.
 fn restore_page<K: Keeper>(
     alloc: Global,
     keeper: &mut K,
@@ -160,11 +161,10 @@ fn restore_all<K: Keeper>(
     Err(StoreFault::Refused)
 }
 
-/// Copies the contents of a keeper into memory. It only reads from the keeper: once for each 1,000 volumes,
-/// and once for each volume that is published.
+/// Copies the contents of a keeper into memory. Reads the volumes of the keeper in pages of 1,000, and the
+/// attachments of each volume that is published.
 ///
-/// If the keeper may have a State that meets the invariant, and the keeper's doubt is 0, the copy has this
-/// State.
+/// If the State of the keeper meets the invariant, and the keeper's doubt is 0, the copy has the same State.
 ///
 /// # Errors
 ///

@@ -6,7 +6,7 @@
 //! store. Any keeper can be a change store ([`KeeperChanges`]), and [`Through::over`] copies the contents of
 //! a keeper into memory.
 //!
-//! `specs/Through.antt` defines which States such a keeper may have, and what a read leaves unchanged.
+//! `specs/Through.antt` defines which States a `Through` may have, and what a read leaves unchanged.
 //! `specs/Copying.antt` defines which part of a keeper has been copied.
 //!
 //! ```rust
@@ -18,9 +18,9 @@
 //! # Not promised
 //!
 //! Any call of a keeper may be refused. So no contract promises that each change is made in memory. If the
-//! memory has no room for a change, no contract promises that later reads are refused and not answered by the
-//! change store. Tests of `test_bytes` show both. If `over` or `copied` returns `NoMemory`,
-//! `tests/test_csid_*.py` shows that memory was refused.
+//! memory has no room for a change, later reads are refused, but no contract promises this. Tests of
+//! `test_bytes` show both. If `over` or `copied` returns `NoMemory`, memory was refused. No contract promises
+//! this either, and `tests/test_csid_*.py` shows it.
 #![tactic(auto)]
 
 mod change_store;

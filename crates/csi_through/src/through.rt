@@ -58,7 +58,7 @@ fn start_change(health: &mut Health, is_current: bool) -> Result<(), StoreFault>
 ///
 /// If the change store made a change but the memory has no room for it, the call still returns `Ok`. The
 /// memory is then out of date, so each further read returns `Refused` until the keeper is opened again. The
-/// next change is refused without being tried, and brings the keeper down.
+/// next change is refused before it is passed to the change store, and brings the keeper down.
 pub struct Through<M, D> {
     memory: M,
     change_store: D,
@@ -67,8 +67,8 @@ pub struct Through<M, D> {
     is_current: bool,
 }
 
-// Written by hand and not derived: the proof of code that drops a keeper then has one call for the drop, and
-// no branch for each part.
+// Written by hand and not derived. So a proof about code that drops a keeper has one call of `drop`, and no
+// branch for each part.
 impl<M: Drop, D: Drop> Drop for Through<M, D> {
     fn drop(self) {
         let Through {
@@ -105,7 +105,7 @@ impl<M: Keeper, D: ChangeStore> Through<M, D> {
     }
 
     /// Returns true if the memory has each change that the change store has. If a change is missing, each
-    /// further call fails.
+    /// further read and each further change fails.
     pub fn is_current(&self) -> bool
         ensures { result ≡ self.now.is_current }
     {
@@ -123,11 +123,11 @@ pub struct NotCopied<K> {
 }
 
 impl<K: Keeper> Through<MemKeeper, KeeperChanges<K>> {
-    /// Makes a keeper over a copy of `keeper` in memory, with `keeper` as the change store. Reads from
-    /// `keeper` once for each 1,000 volumes, and once for each volume that is published.
+    /// Makes a keeper over a copy of `keeper` in memory, with `keeper` as the change store. Reads the volumes
+    /// of `keeper` in pages of 1,000, and the attachments of each volume that is published.
     ///
-    /// If `keeper` may have a State that meets the invariant, the new keeper has this State. A stop leaves
-    /// the same States as a stop of `keeper`. The memory has each change that the change store has.
+    /// If the State of `keeper` meets the invariant, the new keeper has the same State. A stop leaves the
+    /// same States as a stop of `keeper`. The memory has each change that the change store has.
     ///
     /// # Errors
     ///
@@ -152,7 +152,7 @@ impl<K: Keeper> Through<MemKeeper, KeeperChanges<K>> {
 
 impl<D: ChangeStore + Drop> Through<MemKeeper, D> {
     /// Makes a keeper over a copy of `keeper` in memory, and a change store that has the same State. Reads
-    /// from `keeper` once for each 1,000 volumes, and once for each volume that is published.
+    /// the volumes of `keeper` in pages of 1,000, and the attachments of each volume that is published.
     ///
     /// # Errors
     ///

@@ -25,9 +25,9 @@ pub fn pairs<T>()
         → list_any (λ p. list_any (λ x. test x p.1) (take p.0 xs)) (enumerate_from 0 xs) ≡ some_two test xs }
 {}
 
-/// Two keys are alike if they differ at most in the case of ASCII letters. Let two topologies be equal, and
-/// let neither have two keys that are alike. Then `is_within` gives the same result for both, as the inner
-/// topology and as the outer topology.
+/// Two keys are alike if they differ at most in the case of ASCII letters. Let two topologies have the same
+/// segments (`same_topology`), and let neither have two keys that are alike. Then `is_within` gives the same
+/// result for both, as the inner topology and as the outer topology.
 #[inline(always)]
 pub fn equal_topologies()
     ensures inner { (m n o : TextMap) → has_alike_keys m ≡ false → has_alike_keys n ≡ false

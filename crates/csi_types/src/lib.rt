@@ -8,9 +8,9 @@
 //! `specs/` also has facts about values that the layers above need: the table of argument checks (`Checks`),
 //! keys with ASCII letters in lower case, the supported capabilities, and the code and text of each refusal.
 //! `topology.rt` compares topologies for all layers, and `topology/segments.rt` sorts the segments of a
-//! topology on the stack. A `Map` keeps its entries in a list while the keys come in rising order, and in a
-//! tree after that (`map/entering.rt`). So a map is fast for any order of keys. `map/entries.rt` iterates
-//! over list and tree.
+//! topology on the stack. A `Map` puts its entries into a list while the keys come in rising order. After the
+//! first key out of order, it puts further entries into a tree (`map/entering.rt`). So a map is fast for any
+//! order of keys. `map/entries.rt` iterates over list and tree.
 //!
 //! ```rust
 //! let mut parameters = Map::new(alloc);
@@ -20,8 +20,8 @@
 //!
 //! # Not promised
 //!
-//! The `Debug` output of a value, which rows of `test_bytes` show, and the memory that a value takes are not
-//! promised.
+//! The `Debug` output of a value may change, although rows of `test_bytes` show it. The memory that a value
+//! takes may change too.
 #![tactic(auto)]
 
 mod boxed;

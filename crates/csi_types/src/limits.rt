@@ -1,8 +1,13 @@
 //! The limits of requests, configurations and volumes.
 //!
-//! The CSI specification sets the numbers of access modes, and the limits of 128 bytes for a text and 4 KiB
-//! for a map ('Size Limits'), 256 bytes for a node id (`NodeGetInfoResponse.node_id`) and 4 KiB for the flags
-//! of a mount (`VolumeCapability.MountVolume.mount_flags`). The other limits are this plugin's own.
+//! These are from the CSI specification:
+//!
+//! - the numbers of the access modes (`VolumeCapability.AccessMode.Mode`)
+//! - 128 bytes for a text and 4 KiB for a map ('Size Limits')
+//! - 256 bytes for a node id (`NodeGetInfoResponse.node_id`)
+//! - 4 KiB for the flags of a mount (`VolumeCapability.MountVolume.mount_flags`)
+//!
+//! All other limits are this plugin's own.
 
 /// The greatest number of an access mode, `SINGLE_NODE_MULTI_WRITER` (CSI specification, the enum
 /// `VolumeCapability.AccessMode.Mode`). The least number is 1.

@@ -21,12 +21,12 @@ use std::marker::Model;
 /// A `map<string, string>` (Protocol Buffers language guide, 'Maps'). Its entries are in byte order of their
 /// keys.
 ///
-/// A map has a list and a tree. Entries that are inserted in rising order of their keys are in the list, and
-/// other entries are in the tree. A map with one entry allocates room for this entry only.
+/// A map has a list and a tree. While keys are inserted in rising order, their entries go into the list. When
+/// a key comes out of order, the entries of the list whose keys are not smaller move to the tree. From then
+/// on each new entry goes into the tree. So an entry moves at most once.
 ///
-/// Most maps have one entry, and most longer maps are filled in rising order of their keys. When a key comes
-/// out of order for the first time, the entries with greater keys move to the tree. So an entry moves at most
-/// once.
+/// Most maps have one entry, and most longer maps are filled in rising order of their keys. A map with one
+/// entry allocates room for this entry only.
 pub struct Map {
     listed: Vec<(Text, Text)>,
     // The entries that are not in the list. Each key in the tree is above all keys in the list.

@@ -90,8 +90,8 @@ pub fn method_named(alloc: Global, name: &str) -> Result<Option<Method>, AllocEr
     }
 }
 
-// Returns the only method that can have this path. The length of the path and one byte of it are enough to
-// find the method.
+// Returns the only method that can have this path, or `None` if no method can. The length of the path and one
+// byte of it are enough to find the method. The caller compares the other bytes.
 fn likely_method(path: &[u8]) -> Option<Method>
     ensures { (method : Method) → path.now ≡ path_of method → result ≡ Some method }
 {

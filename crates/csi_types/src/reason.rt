@@ -9,8 +9,8 @@ use std::fmt;
 
 /// The reason why a request is refused. Its `Display` is the text of the reply.
 ///
-/// A message that cannot be decoded has no such reason: the text of its reply contains an offset in the
-/// message.
+/// A message that cannot be decoded is refused without a `Reason`, because the text of its reply contains an
+/// offset in the message.
 #[derive(Clone, Copy, Debug, PartialEq, Eq)]
 pub enum Reason {
     /// `name` is empty.
@@ -29,7 +29,7 @@ pub enum Reason {
     CapabilityNotSupported,
     /// `required_bytes` or `limit_bytes` is below 0.
     CapacityNegative,
-    /// The keys and values of a map have more than 4,096 bytes.
+    /// The keys and values of a map have more than 4,096 bytes together.
     MapTooLarge,
     /// An id, a token, a file system type or a mount group is longer than its limit, or all flags of a mount
     /// together are longer than their limit.
@@ -66,15 +66,16 @@ pub enum Reason {
     OutOfRange,
     /// The volume cannot be deleted, since it is published to a node.
     VolumeInUse,
-    /// The volume is published to another node, and cannot be published to this one as well.
+    /// The volume is published to another node, and cannot be published to the requested node as well.
     PublishedElsewhere,
-    /// The volume is published to this node with another capability or another `readonly` flag.
+    /// The volume is published to the requested node already, with another capability or another `readonly`
+    /// flag.
     PublishedOtherwise,
     /// The node already has the greatest number of published volumes.
     NodeFull,
-    /// The volume was not created with this capability.
+    /// The volume does not have the requested capability.
     CapabilityNotOfVolume,
-    /// `starting_token` is not a token that this plugin issues.
+    /// `starting_token` is neither empty nor a number from 1 to below the next volume number.
     BadToken,
     /// With the requested changes, the mutable parameters of the volume would have more than 4,096 bytes.
     MutableTooLarge,
@@ -82,7 +83,8 @@ pub enum Reason {
     ReplyTooLarge,
     /// Memory was refused while the call was executed.
     OutOfMemory,
-    /// The store refused a read or a change of the call, so the call changed nothing.
+    /// The store refused a read or a change of the call. No change is visible. But if the store refused a
+    /// change, the change may be visible after a restart.
     StoreRefused,
     /// The store failed during an earlier call, and takes no call until it is opened again.
     StoreDown,

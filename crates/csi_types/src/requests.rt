@@ -1,4 +1,4 @@
-//! The requests of CSI.
+//! The requests of CSI calls: a struct for each message with fields, and an enum of all requests.
 //!
 //! `Debug` shows no secrets: it is written by hand for requests with secrets, and leaves the secrets out.
 
@@ -158,7 +158,8 @@ pub struct GetCapacity {
     pub capabilities: Items<Capability>,
     /// `parameters`, field 2: the parameters of new volumes, which this plugin does not use.
     pub parameters: Map,
-    /// `accessible_topology`, field 3: the segments of the topology, or `None` if the field is absent.
+    /// `accessible_topology`, field 3: the segments of the topology from which new volumes must be
+    /// accessible. It is `None` if the field is absent, and then all pools count.
     pub topology: Option<Map>,
 }
 
@@ -183,8 +184,8 @@ impl fmt::Debug for Modify {
     }
 }
 
-/// The request of a call. The variant tells the method. Messages with fields are boxed, so that a `Request`
-/// takes few bytes itself.
+/// The request of a call. Each variant belongs to one method. Messages with fields are boxed, so that a
+/// `Request` takes few bytes itself.
 #[derive(Debug)]
 pub enum Request {
     /// Asks for the name and version of the plugin: `GetPluginInfoRequest`, without fields.

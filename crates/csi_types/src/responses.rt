@@ -1,11 +1,11 @@
-//! The responses of CSI.
+//! The responses of CSI calls: an enum with a variant for each method.
 
 use crate::items::Items;
 use crate::map::Map;
 use crate::text::Text;
 use crate::volume::{Confirmed, Entry, VolumeInfo};
 
-/// The response of a call (CSI specification, 'RPC Interface'). The variant tells the method.
+/// The response of a call (CSI specification, 'RPC Interface'). Each variant belongs to one method.
 #[derive(Debug, Drop)]
 pub enum Response {
     /// `GetPluginInfoResponse`: the name and version of the plugin.
@@ -15,18 +15,19 @@ pub enum Response {
         /// `vendor_version`, field 2: the version of the plugin.
         version: Text,
     },
-    /// `GetPluginCapabilitiesResponse`: a number for each of `capabilities`, field 1. The number is `type`,
-    /// field 1 of the message `service`, which is field 1 of the capability. It is `None` if `service` is
-    /// absent.
+    /// `GetPluginCapabilitiesResponse`: the optional services that the plugin has. Each number is the
+    /// `service.type` of one of `capabilities` (these three fields have the number 1). It is `None` if
+    /// `service` is absent.
     PluginCapabilities(Items<Option<i32>>),
-    /// `ProbeResponse`: `ready`, field 1, a `google.protobuf.BoolValue`. `None` means that the field is
-    /// absent.
+    /// `ProbeResponse`: `ready`, field 1, a `google.protobuf.BoolValue`. It is true if the plugin is ready,
+    /// and `None` if the field is absent.
     Probe(Option<bool>),
-    /// `ControllerGetCapabilitiesResponse`: a number for each of `capabilities`, field 1. The number is
-    /// `type`, field 1 of the message `rpc`, which is field 1 of the capability. It is `None` if `rpc` is
-    /// absent.
+    /// `ControllerGetCapabilitiesResponse`: the optional methods that the Controller service has. Each number
+    /// is the `rpc.type` of one of `capabilities` (these three fields have the number 1). It is `None` if
+    /// `rpc` is absent.
     ControllerCapabilities(Items<Option<i32>>),
-    /// `CreateVolumeResponse`: `volume`, field 1, the volume that was created or existed already.
+    /// `CreateVolumeResponse`: `volume`, field 1, the volume that was created or existed already. `None`
+    /// means that the field is absent.
     Create(Option<VolumeInfo>),
     /// `DeleteVolumeResponse`, without fields: the volume does not exist any more.
     Delete,
@@ -34,9 +35,9 @@ pub enum Response {
     Publish(Map),
     /// `ControllerUnpublishVolumeResponse`, without fields: the volume is not published any more.
     Unpublish,
-    /// `ValidateVolumeCapabilitiesResponse`: tells if the volume has the capabilities.
+    /// `ValidateVolumeCapabilitiesResponse`: reports if the volume has the capabilities.
     Validate {
-        /// `confirmed`, field 1, or `None` if a capability or a parameter is not supported.
+        /// `confirmed`, field 1, or `None` if the volume lacks a capability or has other parameters.
         confirmed: Option<Confirmed>,
         /// `message`, field 2: the reason why the capabilities are not confirmed, or an empty text if they
         /// are confirmed.
@@ -53,8 +54,8 @@ pub enum Response {
     Capacity {
         /// `available_capacity`, field 1: the bytes that new volumes can take.
         available: i64,
-        /// `maximum_volume_size`, field 2, a `google.protobuf.Int64Value`. `None` means that the field is
-        /// absent.
+        /// `maximum_volume_size`, field 2, a `google.protobuf.Int64Value`: the size in bytes of the largest
+        /// volume that can be created. `None` means that the field is absent.
         maximum: Option<i64>,
     },
     /// `ControllerModifyVolumeResponse`, without fields: the volume has the parameters.

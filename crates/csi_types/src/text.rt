@@ -33,8 +33,8 @@ pub struct Text {
     kept: TextStorage,
 }
 
-// Written by hand and not derived: the proof of code that drops a text then has one call for the drop, and no
-// branch for each place of the bytes.
+// Written by hand and not derived. So a proof about code that drops a text has one call of `drop`, and no
+// branch for each variant of `TextStorage`.
 impl Drop for Text {
     #[inline(always)]
     fn drop(self) {

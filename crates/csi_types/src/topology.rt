@@ -1,9 +1,9 @@
 //! The topologies that a request asks for, and functions that compare topologies.
 //!
-//! Keys are compared without regard to the case of ASCII letters, values by their bytes. No function here
-//! allocates. If a topology has at most 4,096 bytes and no two keys that are alike, the time is little more
-//! than linear in the number of its segments. Otherwise the result is right too, but all pairs of segments
-//! may be compared.
+//! Keys are compared without regard to the case of ASCII letters, values by their bytes. Two keys are *alike*
+//! if they differ at most in the case of ASCII letters. No function here allocates. If a topology has at most
+//! 4,096 bytes and no two keys that are alike, the time is little more than linear in the number of its
+//! segments. Otherwise the result is right too, but all pairs of segments may be compared.
 
 mod segments;
 
@@ -54,7 +54,7 @@ pub fn has_alike_keys(topology: &Map) -> bool
 fn has_alike_pair(topology: &Map) -> bool
     ensures { result ≡ has_alike_keys topology.now }
 {
-    // Calling `len` tells the proof that the number of keys fits a `usize`.
+    // The contract of `len` shows that the number of keys fits a `usize`.
     let _count = topology.len();
     topology.iter().enumerate().any(|(index, (key, _))| is_key_alike_before(topology, index, key))
 }
@@ -69,8 +69,8 @@ fn is_key_alike_before(topology: &Map, count: usize, key: &Text) -> bool
         .any(|(earlier, _)| are_alike(earlier, key))
 }
 
-// Does the same as `has_alike_pair`, by sorting the keys and comparing neighbours. The sorted segments are a
-// large local variable, so the call is not inlined.
+// Returns true if two keys of the topology differ at most in ASCII case. Sorts the segments by their keys and
+// compares neighbours. The sorted segments are a large local variable, so the call is not inlined.
 #[inline(never)]
 fn has_alike_neighbours(topology: &Map) -> bool
     ensures { result ≡ has_alike_keys topology.now }
@@ -107,8 +107,8 @@ pub fn is_within(inner: &Map, outer: &Map) -> bool
     }
 }
 
-// Does the same as `is_within`, by comparing each segment of `inner` with each segment of `outer`. Nearly all
-// maps are lists, which take few steps to go through.
+// Returns true if `outer` has each segment of `inner`. Compares each segment of `inner` with each segment of
+// `outer`. Nearly all maps have their entries in a list, which takes few steps to go through.
 fn is_within_few(inner: &Map, outer: &Map) -> bool
     ensures { result ≡ is_within inner.now outer.now }
 {
@@ -122,8 +122,8 @@ fn is_within_few(inner: &Map, outer: &Map) -> bool
     }
 }
 
-// Does the same as `is_within`, by looking for each segment of `inner` among the sorted segments of `outer`.
-// The sorted segments are a large local variable, so the call is not inlined.
+// Returns true if `outer` has each segment of `inner`. Looks for each segment of `inner` among the sorted
+// segments of `outer`. The sorted segments are a large local variable, so the call is not inlined.
 #[inline(never)]
 fn is_within_many(inner: &Map, outer: &Map) -> bool
     ensures { result ≡ is_within inner.now outer.now }
@@ -143,8 +143,8 @@ fn is_within_many(inner: &Map, outer: &Map) -> bool
 }
 
 // Returns true if the topology has this segment. `segments` are the sorted segments of the topology. If
-// bisection finds the key with another value, all segments are compared, since another key that is alike may
-// have this value.
+// bisection does not find the segment, all segments are compared. For if several keys are alike, bisection
+// looks at one of them only.
 fn is_found(topology: &Map, segments: &[Segment<'_>], key: &Text, value: &Text) -> bool
     requires { IsPermutation (entries topology.now) (map entry_of segments.now) }
     ensures { result ≡ list_any (λ f. alike key.now f.0 && same_text value.now f.1) (entries topology.now) }

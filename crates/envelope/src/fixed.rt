@@ -9,7 +9,7 @@ use crate::limits::{MAX_REFUSAL_TEXT_BYTES, REPLY_HEAD_BYTES};
 use itoa::Buffer;
 use std::marker::Model;
 
-/// A list of at most `N` bytes in an array. Contracts see it as the list.
+/// A list of at most `N` bytes in an array. Contracts see only the list of bytes.
 #[derive(Drop)]
 pub struct Fixed<const N: usize> {
     array: [u8; N],
@@ -24,7 +24,7 @@ impl<const N: usize> Model for Fixed<N> {
     ghost invariant = { λ f. f.len ≤ N };
 }
 
-/// The frame of a refusal, or the head of a reply's frame.
+/// The frame of a refusal, or the head of a reply's frame: at most 168 bytes.
 pub type FixedFrame = Fixed<168>;
 
 /// One line of text, of at most 140 bytes.

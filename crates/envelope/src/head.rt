@@ -77,8 +77,8 @@ impl Head {
     }
 }
 
-/// Returns true if the frame that the bytes begin has the same length as the bytes. The length of the frame
-/// is read from its head.
+/// Returns true if the bytes have exactly the length that the head of their frame gives. Returns false if a
+/// byte of the head is missing.
 ///
 /// If the bytes also break no rule ([`look_at`]), they are exactly one frame.
 #[tactic(auto, unfolding(crate::specs::Head::IsWhole))]
@@ -102,11 +102,11 @@ pub struct Flaw {
     pub at: usize,
 }
 
-/// What stands at the start of the remaining input: a part of a frame, a complete frame, or bytes that break
-/// a rule of frames.
+/// The result of [`look_at`]: the input begins with an incomplete frame, with a complete frame, or with bytes
+/// that break a rule of frames.
 #[derive(Clone, Copy)]
 pub enum Look {
-    /// The bytes are the start of a frame and break no rule.
+    /// The bytes are the start of a frame that is not complete, and break no rule.
     Short,
     /// The bytes begin with a complete frame. The number is the length of the frame in bytes.
     Whole(usize),
@@ -117,8 +117,8 @@ pub enum Look {
 /// Looks for a complete frame or a broken rule at the start of `bytes`. An earlier call must have looked at
 /// the first `seen` bytes and found no broken rule. For a first look, `seen` is 0.
 ///
-/// Takes time in proportion to the number of bytes of the text that are after the first `seen` bytes. The
-/// body is not read.
+/// The call takes time in proportion to the number of text bytes after the first `seen` bytes. It does not
+/// read the body.
 #[inline(always)]
 pub fn look_at(kind: FrameKind, bytes: &[u8], seen: usize) -> Look
     requires within { seen ≤ length bytes.now }
@@ -167,7 +167,8 @@ fn broken(part: Part, at: usize, size: usize) -> Look
     Look::Broken(Flaw { part, at }, size)
 }
 
-// Returns the offset of the first byte of the text, from the offset `from` on, that no text may have.
+// Looks at the bytes of the text from the offset `from` to below `end`. Returns the offset of the first byte
+// that a text of this kind may not have, or `None` if there is no such byte.
 #[inline(always)]
 fn bad_byte(kind: FrameKind, bytes: &[u8], from: usize, end: usize) -> Option<usize>
     ensures { MatchOption result (AreGoodBytes kind bytes.now from end (length bytes.now))

@@ -60,7 +60,8 @@ impl FrameKind {
         }
     }
 
-    /// Returns the greatest length of a text in bytes, in a frame whose first byte is `first`.
+    /// Returns the greatest length of the text in bytes. `first` is the first byte of the frame. In a reply
+    /// this byte is the status, and with status 0 the text must be empty.
     pub(crate) fn most_text(self, first: u8) -> usize
         ensures { result ≡ most_text self first }
     {
@@ -71,7 +72,8 @@ impl FrameKind {
         }
     }
 
-    /// Returns the greatest length of a body in bytes, in a frame whose first byte is `first`.
+    /// Returns the greatest length of the body in bytes. `first` is the first byte of the frame. In a reply
+    /// this byte is the status, and with a status other than 0 the body must be empty.
     pub(crate) fn most_body(self, first: u8) -> usize
         ensures { result ≡ most_body self first }
     {
@@ -112,8 +114,8 @@ impl FrameKind {
         }
     }
 
-    /// Returns true if frames of this kind begin with a status, but the first of these bytes is not a status
-    /// code. Returns false if `bytes` is empty.
+    /// Returns true if a reply that begins with these bytes has a bad status: its first byte is not a status
+    /// code. Returns false for calls, which have no status. Returns false if `bytes` is empty.
     pub(crate) fn has_bad_status(self, bytes: &[u8]) -> bool
         ensures bad { IsTrue result → HasBadStatus self bytes.now }
         ensures good { (result ≡ false) → HasBadStatus self bytes.now → ⊥ }

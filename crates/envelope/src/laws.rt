@@ -9,8 +9,9 @@ ghost use Rattle.envelope.specs.Taken.{IsTaken, TakesFirst};
 ghost use Rattle.envelope.specs.TakenReply.{IsTakenReply, TakesFirstReply};
 ghost use Rattle.envelope.specs.Stream.{HasReading, HasOneReading, KeepsReading};
 
-/// Every list of bytes has a reading: the frames of some calls, and after them an end. The end is no further
-/// byte, bytes that break a rule of frames, or the start of a frame that is not complete.
+/// Every list of bytes has a reading: the frames of some calls, and after them one of three ends. At the end
+/// there is no further byte, or there are bytes that break a rule of frames, or the start of an incomplete
+/// frame.
 pub fn some_reading()
     ensures { (bytes : List ℕ) → All (λ byte. byte < 256) bytes → HasReading bytes }
 {}

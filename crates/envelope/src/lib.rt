@@ -1,4 +1,4 @@
-//! The envelope: the frames of calls and replies as bytes, and which calls a list of bytes contains.
+//! The envelope: the frames of calls and replies as bytes, and how a list of bytes is read as frames.
 //!
 //! The envelope is this project's own (docs/PROTOCOL.md, "Envelope"). Calls and replies have the same form of
 //! frame: the length of a text, the text, a flag, the length of a body, and the body. A reply also has a

@@ -10,21 +10,21 @@ use crate::fault::Fault;
 use crate::kind::{FrameKind, Part};
 use thiserror::Error;
 
-/// The rules that a frame of a reply can break, in the order of the bytes that show the break. The last rule
-/// is about the end of the input.
+/// The rules that a frame of a reply can break, in the order of the frame's parts. The last rule is about the
+/// end of the input.
 #[derive(Clone, Copy, Debug, PartialEq, Eq)]
 pub enum ReplyWhy {
     /// The status is not one of the ten codes. The place of the fault is the first byte of the frame.
     BadStatus,
-    /// The two length bytes give a number above 1,024, or the status is 0 and they give a number other than
-    /// 0. The place of the fault is the first length byte.
+    /// The length of the text is above 1,024, or above 0 although the status is 0. The place of the fault is
+    /// the first of the two length bytes.
     BadTextLength,
     /// A byte of the text is not from 0x20 to 0x7E. The place of the fault is that byte.
     BadText,
     /// The flag is not 0 (compression is not supported). The place of the fault is the flag.
     BadFlag,
-    /// The four length bytes give a number above 4,194,304, or the status is not 0 and they give a number
-    /// other than 0. The place of the fault is the first length byte.
+    /// The length of the body is above 4,194,304, or above 0 although the status is not 0. The place of the
+    /// fault is the first of the four length bytes.
     BadBodyLength,
     /// The input ends inside a frame. The place of the fault is the length of the input.
     EndOfInput,

@@ -19,8 +19,9 @@ use std::marker::Model;
 /// `new` allocates one buffer for the longest frame, and no later call allocates. Appending to a buffer with
 /// enough room cannot fail, so no other function returns an error for memory.
 ///
-/// Contracts see a cutter as three values: the length of all frames that were discarded (`past`), the bytes
-/// taken since then (`held`), and the fault of the stream (`fault`). Once a fault is known, it never changes.
+/// Contracts see a cutter as three values: the length in bytes of all frames that were discarded (`past`),
+/// the bytes taken since then (`held`), and the fault of the stream (`fault`). Once a fault is known, it
+/// never changes.
 #[derive(Drop)]
 pub struct Cutter<F: Fault> {
     buffer: Vec<u8>,
@@ -52,8 +53,8 @@ impl<F: Fault> Model for Cutter<F> {
 }
 
 impl<F: Fault> Cutter<F> {
-    /// Makes a framer for a new stream, and allocates all the memory that it will need. Fails if memory is
-    /// refused.
+    /// Makes a cutter for a new stream, and allocates all the memory that the cutter will need. Fails if
+    /// memory is refused.
     pub fn new(alloc: Global) -> Result<Cutter<F>, AllocError>
         ensures empty { IfOk result (λ f. f ≡ begun) }
         ensures open { IfOk result (λ f. IsUnfinished F.kind f.held) }
@@ -85,8 +86,7 @@ impl<F: Fault> Cutter<F> {
         self.known
     }
 
-    // Returns the bytes of the frame if it is complete. The clauses `none` and `short` say what is known
-    // otherwise.
+    // Returns the held bytes if they are a complete frame, otherwise `None`.
     #[inline(always)]
     fn whole_frame(&self) -> Option<&[u8]>
         ensures value { IfSome result (λ bytes. (bytes.now ≡ self.now.held) × IsUnbroken F.kind bytes.now

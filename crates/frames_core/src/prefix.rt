@@ -23,8 +23,8 @@ pub(crate) struct Prefix {
 /// Takes bytes of the piece up to the end of one frame, or up to the byte that breaks a rule of the envelope.
 ///
 /// First appends the bytes that may belong to the head to the buffer and looks at them. If the frame ends in
-/// these bytes, or one of them breaks a rule, removes the bytes after that place. Otherwise appends the body
-/// in one block. The buffer must have room for the longest frame.
+/// these bytes, or one of them breaks a rule, removes the bytes after that place. Otherwise appends the bytes
+/// of the body that the piece has, in one block. The buffer must have room for the longest frame.
 #[inline(always)]
 pub(crate) fn take_prefix(kind: FrameKind, buffer: &mut Vec<u8>, piece: &[u8]) -> Prefix
     requires room { most_frame kind ≤ vec_capacity buffer.old }

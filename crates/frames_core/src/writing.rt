@@ -9,8 +9,8 @@ ghost use Rattle.frames_core.specs.Writing.{WrotePrefix};
 
 use std::io::{self, ErrorKind, Write};
 
-// Writes all of the bytes, or fails after a prefix of them. The contract of std's `write_all` does not say
-// what was written if it fails, and a change store needs that.
+// Writes all of the bytes, or fails after a prefix of them. The contract of std's `write_all` does not
+// promise that only a prefix was written if it fails. The client of a change store needs this promise.
 #[inline(always)]
 fn put<W: Write>(writer: &mut W, bytes: &[u8]) -> io::Result<()>
     ensures all { OnOk result (Appends (W.contents writer.old) (W.contents writer.new) bytes.now) }

@@ -1,10 +1,10 @@
-//! Messages of any type to and from bytes (Protocol Buffers, proto3).
+//! Decodes and encodes messages of any type (Protocol Buffers, proto3).
 //!
-//! The value that bytes encode is a function of *views*. A view is what a list of fields has under one field
-//! number, such as the last text, all payloads, or the joined fields of an embedded message. Three short
-//! definitions describe a message: the view that gives each part of its value, its *schema* (the field
-//! numbers of its texts and embedded messages), and how the value is written. The trait [`Message`] decodes
-//! messages of any type, and the trait [`Written`] encodes them. The crates above define the messages.
+//! The value that bytes encode is a function of *views*. A view collects the fields that have one field
+//! number: the last text, all payloads, or the joined fields of an embedded message. Three short definitions
+//! describe a message: the view that gives each part of its value, its *schema* (the field numbers of its
+//! texts and embedded messages), and how the value is written. The trait [`Message`] decodes messages of any
+//! type, and the trait [`Written`] encodes them. The crates above define the messages.
 //!
 //! Decoding takes two passes. The first looks for faults and takes no memory, so a malformed message is never
 //! refused for lack of memory. The second builds the value. Embedded messages are merged and written without

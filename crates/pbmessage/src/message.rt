@@ -1,5 +1,5 @@
-//! Decodes a message of any type. The first pass looks for faults and takes no memory; the second builds the
-//! value.
+//! Decodes a message of any type in two passes. The first pass looks for faults and takes no memory. The
+//! second pass builds the value.
 
 ghost use Rattle.std.specs.Prelude.{◌≡◌, ◌↔◌, ℕ, List, [], ◌∷◌, ◌++◌, IsTrue, OnOk, IfOk, IfErr, MatchOption};
 ghost use Rattle.pbwire.specs.Wire.{WireField};
@@ -30,8 +30,8 @@ pub trait Message<P>: Drop {
     fn empty(alloc: Global) -> Self
         ensures { result ≡ of no_views };
 
-    /// Returns true if this payload is well-formed for the field with this number. A message that has another
-    /// payload in this field is malformed.
+    /// Returns true if this payload is well-formed for the field with this number. If it is not well-formed,
+    /// a message with this field is malformed.
     fn is_good(number: u32, payload: &[u8]) -> bool
         ensures { IsTrue result ↔ Good schema number payload.now };
 
@@ -98,8 +98,9 @@ fn merge_field<P, M: Message<P>>(
 
 /// The offset at which the bytes stop being a list of good fields, if they do. It takes no memory.
 ///
-/// The offset is the place of the first field that is not good. A field is good if it is well-formed. If its
-/// number belongs to a text or an embedded message, its payload must be well-formed too.
+/// Returns the offset of the first field that is not good, or `None` if all fields are good. A field is good
+/// if it is well-formed. If its number belongs to a text or an embedded message, its payload must be
+/// well-formed too.
 pub fn first_fault<P, M: Message<P>>(bytes: &[u8]) -> Option<usize>
     ensures { MatchOption result (AreGood (GoodField (Good M.schema)) bytes.now)
         (IsRefusedAt (GoodField (Good M.schema)) bytes.now) }

@@ -47,8 +47,8 @@ pub fn is_message<P, M: Message<P>>(payload: &[u8]) -> bool
     first_fault::<P, M>(payload).is_none()
 }
 
-/// Merges the payload of an embedded message into `slot`, which has the message of the earlier occurrences of
-/// the field. The payload must be well-formed. Fails if memory is refused.
+/// Merges the payload of an embedded message into `slot`. `slot` has the message of the earlier occurrences
+/// of the field, or `None` if there are none. The payload must be well-formed. Fails if memory is refused.
 pub fn merge_message<P, M: Message<P>>(
     slot: &mut Option<M>,
     alloc: Global,

@@ -1,7 +1,7 @@
 //! Encodes a message of any type. A value has exactly one encoding.
 //!
 //! An embedded message is written in place: first a field with an empty payload, then the fields of the
-//! message. At last the length is set.
+//! message. Then the length of the payload is set.
 //!
 //! If memory is refused, each function fails, and may have appended a part of the field.
 

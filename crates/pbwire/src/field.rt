@@ -24,8 +24,8 @@ pub struct Field<'a> {
     pub value: Value<'a>,
 }
 
-/// The reason why bytes are not a field. Only one reason holds: a fault of the tag comes before a fault of
-/// the payload, and a fault of the tag's number comes before a fault of its wire type.
+/// The reason why bytes are not a field. Only the first fault is reported. A fault of the tag comes before a
+/// fault of the payload, and a fault of the tag's number comes before a fault of its wire type.
 #[derive(Clone, Copy, Debug, PartialEq, Eq, Error)]
 pub enum WireWhy {
     /// The tag, the value or the length is a malformed varint ("Base 128 Varints"): its tenth byte is above

@@ -8,8 +8,8 @@ ghost use Rattle.pbwire.specs.Reading.{field_at};
 ghost use Rattle.pbwire.specs.Faults.{Faults};
 ghost use Rattle.pbwire.specs.Writing.{varint, spelling, spellings};
 
-/// A read of bytes gives a field and the rest of the bytes if and only if the bytes are an encoding of the
-/// field, followed by this rest. An encoding has at least one byte.
+/// A read of bytes gives a field and the bytes after it if and only if the read bytes are an encoding of the
+/// field, followed by these other bytes. An encoding has at least one byte.
 #[inline(always)]
 pub fn spelled()
     ensures exactly { (bytes rest : List ℕ) (e : WireField) →
@@ -39,7 +39,7 @@ pub fn listed()
         AreFields (e ∷ es) bytes ↔ ((rest : List ℕ) × (field_at bytes ≡ Ok (e, rest)) × AreFields es rest) }
 {}
 
-/// The shortest encoding of a field is read back as the field, whatever bytes follow it. If the fields of a
+/// The shortest encoding of a field is read back as the field, with any bytes after it. If the fields of a
 /// list are written in order, the bytes are a message with this list of fields. No other encoding of a field
 /// is shorter. A field can be encoded if and only if its number and its value are in range.
 #[inline(always)]

@@ -1,10 +1,10 @@
-//! The wire format of Protocol Buffers: a message's bytes read as fields, and fields written as bytes.
+//! The wire format of Protocol Buffers: reads the bytes of a message as fields, and writes fields as bytes.
 //!
 //! [`Fields`] reads a message from its start and borrows each payload from it, without allocating.
 //! [`put_varint`], [`put_bytes`], [`put_joined`] (bytes in two parts) and [`put_entry`] append one field in
 //! its shortest encoding, and [`put_map`] appends one field for each entry of a map. If memory is refused,
-//! they leave the vector unchanged. [`close_bytes`] ends a field whose payload was appended after its head.
-//! So an embedded message is written in place, without a buffer of its own.
+//! these functions leave the vector unchanged. [`close_bytes`] ends a field whose payload was appended after
+//! its head. So an embedded message is written in place, without another buffer.
 //!
 //! `specs/Wire.antt` defines the encodings of varints, fields and lists of fields, following the Protocol
 //! Buffers encoding guide. `specs/Reading.antt` defines the field at the start of bytes, or the first fault

@@ -1,4 +1,5 @@
-//! Reads fields from the start of a message. Each function reads a prefix of the bytes and returns the rest.
+//! Reads fields from the start of a message. Each private function reads a prefix of the bytes, and returns
+//! the bytes after the prefix.
 
 ghost use Rattle.std.specs.Prelude.{◌≡◌, ◌*◌, ◌^◌, nat_le, if◌then◌else◌, Ok, Err, IsTrue, IsNone};
 ghost use Rattle.pbwire.specs.declared.field.WireWhy.TheVariants as why;
@@ -164,8 +165,8 @@ impl<'a> Fields<'a> {
         }
     }
 
-    /// Returns the offset in bytes after the last field that was read, or the offset of the fault after a
-    /// fault.
+    /// Returns the offset in bytes after the last field that was read. After a fault this is the offset of
+    /// the faulty field.
     pub fn at(&self) -> usize
         ensures { result ≡ self.now.at }
     {

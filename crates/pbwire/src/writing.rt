@@ -80,7 +80,8 @@ fn append_both(out: &mut Vec<u8>, head: &[u8], bytes: &[u8]) -> Result<(), Alloc
     out.extend_from_slice(bytes)
 }
 
-// Does the same as `put_bytes`, for a head of any length.
+// Appends a field that has bytes (wire type 2). Its tag and its length may take any number of bytes. If
+// memory is refused, the vector is unchanged.
 #[inline(never)]
 fn put_long_bytes(out: &mut Vec<u8>, number: u32, bytes: &[u8]) -> Result<(), AllocError>
     requires { (1 ≤ number) × (number < 2 ^ 29) }
@@ -111,7 +112,7 @@ pub fn put_bytes(out: &mut Vec<u8>, number: u32, bytes: &[u8]) -> Result<(), All
     }
 }
 
-// Moves the bytes back by the length of `head`, and writes `head` before them. The last bytes are
+// Moves the bytes towards the end by the length of `head`, and writes `head` at the start. The last bytes are
 // overwritten.
 #[inline(always)]
 fn put_before(bytes: &mut [u8], head: &[u8])
@@ -136,7 +137,8 @@ fn insert_before(out: &mut Vec<u8>, from: usize, head: &[u8]) -> Result<(), Allo
     Ok(())
 }
 
-// Does the same as `close_bytes`, for a length that takes more than the one byte that was reserved for it.
+// Writes the length `len` of the payload that begins at `from`. One byte was reserved for the length, and
+// `len` takes more bytes, so the payload moves. If memory is refused, the vector is unchanged.
 #[inline(never)]
 fn close_long_bytes(out: &mut Vec<u8>, from: usize, len: usize) -> Result<(), AllocError>
     requires within { (1 ≤ from) × (from + len ≡ length out.old.items) }
@@ -191,7 +193,8 @@ fn append_short_joined(
     out.extend_from_slice(second)
 }
 
-// Does the same as `put_joined`, but if memory is refused, a part of the field may have been appended.
+// Appends a field whose bytes are `first` followed by `second`. If memory is refused, a part of the field may
+// have been appended.
 fn append_joined(
     out: &mut Vec<u8>,
     number: u32,
@@ -261,7 +264,7 @@ fn append_short_entry(
     out.extend_from_slice(value)
 }
 
-// Does the same as `put_entry`, but if memory is refused, a part of the entry may have been appended.
+// Appends one entry of a map of texts. If memory is refused, a part of the entry may have been appended.
 fn append_entry(out: &mut Vec<u8>, number: u32, key: &[u8], value: &[u8]) -> Result<(), AllocError>
     requires { (1 ≤ number) × (number < 2 ^ 29) }
     ensures ok { OnOk result (out.new.items

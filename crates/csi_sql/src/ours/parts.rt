@@ -68,7 +68,8 @@ fn is_one_ascending(orders: &Items<Order>) -> bool
     one.digits == 0
 }
 
-/// Returns true if the table has this primary key, one other key, which is `unique`, and no CHECK.
+/// Returns true if the table has the primary key `primary`, exactly one index, and no CHECK. The index must
+/// be unique, over the columns `unique`, and ascending.
 pub(super) fn has_keys(table: &Table, primary: &[usize], unique: &[usize]) -> bool
     ensures true_only_if { IsTrue result → HasKeys primary.now unique.now table.now }
     ensures true_if { HasKeys primary.now unique.now table.now → IsTrue result }
@@ -86,7 +87,8 @@ fn is_no_stamp(stamps: &Stamps) -> bool
     stamps.places.is_empty() & stamps.terms.roots.is_empty() & stamps.formats.is_empty()
 }
 
-/// Returns true if the table has this name and tree, and no reference, no computed default and no counter.
+/// Returns true if the table has this name and tree. It must have no foreign key, no AUTOINCREMENT, and no
+/// default that is computed.
 pub(super) fn is_bare(table: &Table, name: &[u8], tree: u32) -> bool
     ensures true_only_if { IsTrue result → IsBare name.now tree table.now }
     ensures true_if { IsBare name.now tree table.now → IsTrue result }

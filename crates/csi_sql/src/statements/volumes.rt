@@ -18,9 +18,9 @@ use sqlite::{Alter, Transaction};
 /// The row of a volume that an INSERT adds.
 #[derive(Clone, Copy)]
 pub struct VolumeRow<'a> {
-    /// The number of the volume, below 2^63. A number that another volume has is refused.
+    /// The number of the volume, below 2^63. The INSERT is refused if another volume has this number.
     pub number: u64,
-    /// The name of the volume. A name that another volume has is refused.
+    /// The name of the volume. The INSERT is refused if another volume has this name.
     pub name: &'a str,
     /// The size of the volume in bytes, below 2^63.
     pub bytes: u64,
@@ -32,7 +32,7 @@ pub struct VolumeRow<'a> {
     pub params: &'a [u8],
 }
 
-/// Adds the row of a volume. A number or a name that another row has is refused.
+/// Adds the row of a volume. The statement is refused if another row has the number or the name.
 pub fn insert_volume<S: Alter>(tx: &mut Transaction<'_, S>, row: &VolumeRow<'_>) -> Changed
     requires number { row.now.number < 2 ^ 63 }
     requires bytes { row.now.bytes < 2 ^ 63 }

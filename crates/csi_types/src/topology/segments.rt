@@ -16,8 +16,8 @@ use std::cmp::Ordering;
 /// bytes.
 pub(crate) const MOST_SEGMENTS: usize = 2_113;
 
-/// A segment of a topology. Segments are ordered by their keys with ASCII letters in lower case, and their
-/// values do not matter.
+/// A segment of a topology. Segments are ordered by their keys with ASCII letters in lower case. Their values
+/// do not affect the order.
 #[derive(Clone, Copy)]
 pub(crate) struct Segment<'m> {
     /// The key, as it is in the topology.
