@@ -284,12 +284,12 @@ impl Faults {
 }
 
 /// Returns all faults of a document that [`read_config`](crate::read_config) refuses: the faults of keys, of
-/// each pool and each node, and of all pools or all nodes together. The list is empty if the bytes are not a
-/// TOML document, or if memory is refused while they are parsed.
+/// each pool and each node, and of all pools or all nodes together. If an element of `pool` or `node` is not
+/// a table, the elements after it are not judged. The list is empty if the bytes are not a TOML document.
 ///
 /// # Errors
 ///
-/// If memory is refused after the document was parsed.
+/// If memory is refused.
 ///
 /// # Not promised
 ///
@@ -300,8 +300,10 @@ pub fn config_faults(alloc: Global, bytes: &[u8]) -> Result<Vec<ConfigError>, Al
         alloc,
         found: Vec::new(alloc),
     };
-    if let Ok(table) = toml::table_from_slice(alloc, bytes) {
-        faults.add_all(&table)?;
+    match toml::table_from_slice(alloc, bytes) {
+        Ok(table) => faults.add_all(&table)?,
+        Err(error) if error.span().is_none() => return Err(AllocError),
+        Err(_) => {}
     }
     let Faults { found, .. } = faults;
     Ok(found)
