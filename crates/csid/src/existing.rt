@@ -134,9 +134,9 @@ fn bytes_of(rt: &HostRuntime, path: &str, pages: Pages) -> io::Result<u64> {
 /// Limits of the memory that an opening of a file takes.
 #[derive(Clone, Copy)]
 pub(crate) struct OpeningLimits {
-    /// The greatest number of bytes of memory that the opening takes: six times the bytes of the file and its
-    /// WAL, without free pages. A short row takes less than six times its length in memory, and a long row
-    /// less than twice.
+    /// The greatest number of bytes of memory that the opening takes: seven times the bytes of the file and
+    /// its WAL, without free pages. A short row takes less than six times its length in memory, and a long
+    /// row less than twice. The pages that the opening keeps take their own length.
     pub(crate) bytes: usize,
     /// The greatest number of pages of the file that the opening keeps in memory.
     pub(crate) cache_pages: usize,
