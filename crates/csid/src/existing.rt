@@ -26,8 +26,11 @@ const OPENING_FACTOR: u64 = 7;
 // The least number of pages that an opening may keep in memory.
 const LEAST_CACHE_PAGES: u64 = 2000;
 
-// An opening keeps all pages of a file in memory, since it reads the index of names in random order. If the
-// process has a limit of memory, the pages take at most a 32nd of the limit.
+// The greatest number of bytes of pages that an opening keeps in memory: 64 MiB. It keeps all pages of a
+// smaller file, since it reads the index of names in random order.
+const CACHE_BYTES: u64 = 1 << 26;
+
+// If the process has a limit of memory, the pages take at most a 32nd of the limit.
 const LIMIT_SHARE: u64 = 32;
 
 /// The reason why `csid` refuses a file of tables.
@@ -159,11 +162,11 @@ fn cache_pages(rt: &HostRuntime, count: u64, page_bytes: u64) -> u64
     if count <= LEAST_CACHE_PAGES {
         return LEAST_CACHE_PAGES;
     }
-    let most = match memory_limit(rt) {
-        Some(limit) => (limit / LIMIT_SHARE).checked_div(page_bytes).unwrap_or(0),
-        None => u64::MAX,
+    let bytes = match memory_limit(rt) {
+        Some(limit) => (limit / LIMIT_SHARE).min(CACHE_BYTES),
+        None => CACHE_BYTES,
     };
-    limited(count, most)
+    limited(count, bytes.checked_div(page_bytes).unwrap_or(0))
 }
 
 /// Returns the limits of memory for opening the file of tables. They depend on the size of the file and of
