@@ -90,8 +90,9 @@ func (r *revisions) least() int64 {
 	return r.greatest
 }
 
-// check refuses if etcd was at a lower revision than least, the value when the request was sent.
-// From then on it always refuses, since other writers may raise the revision again.
+// check returns a refusal if etcd was at a lower revision than least. least is the result of the
+// method least when the request was sent. After the first refusal check always refuses, since other
+// writers may raise the revision again.
 func (r *revisions) check(least, revision int64) error {
 	r.mutex.Lock()
 	defer r.mutex.Unlock()

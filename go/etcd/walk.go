@@ -172,8 +172,8 @@ func (w *walk) appendRows(ctx context.Context, page []byte) (longer []byte, isFu
 	return page, false, nil
 }
 
-// nextLimit returns the limit of the next read. The last read had that many rows, at least one, and
-// that many bytes.
+// nextLimit returns the limit of the next read, in rows. rows and bytes are the size of the last
+// read, which had at least one row.
 func nextLimit(rows, bytes int64) int64 {
 	limit := targetPageBytes / (bytes/rows + 1)
 	if limit > 8*rows {
