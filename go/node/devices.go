@@ -36,7 +36,8 @@ func (devices) supports(use *capability, _ bool) error {
 	return nil
 }
 
-// create makes the file under another name first: a file with the volume's name has its full size.
+// create makes the file under another name first, so that a file with the volume's name always has
+// its full size.
 func (devices) create(data string, bytes int64) error {
 	unfinished := data + ".new"
 	file, err := files.Create(unfinished, 0o666)

@@ -1,5 +1,4 @@
-// Package clusters runs clusters of etcd on loopback for tests. Each member has a folder of its
-// own.
+// Package clusters runs clusters of etcd on loopback for tests. Each member has its own folder.
 package clusters
 
 import (
@@ -113,7 +112,7 @@ func (m *Member) Start(t *testing.T) {
 	m.Current = processes.Start(t, "", command)
 }
 
-// Kill sends SIGKILL to a member.
+// Kill sends SIGKILL to a member, and waits for its end.
 func (m *Member) Kill() { m.Current.Kill() }
 
 // Restore replaces the data of a stopped member by a snapshot. The cluster must have one member.

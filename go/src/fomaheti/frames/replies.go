@@ -28,10 +28,11 @@ type Reply struct {
 	Body []byte
 }
 
-// Malformed is an error: a reply that breaks a rule of the envelope.
+// Malformed is the error for a reply that breaks a rule of the envelope. Its value names the part
+// of the reply, such as "text length".
 type Malformed string
 
-// Error names the part that breaks the rule.
+// Error returns the line about the part that breaks the rule.
 func (part Malformed) Error() string { return "malformed reply: bad " + string(part) }
 
 // IsPath reports whether a frame can have the path.
