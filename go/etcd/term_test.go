@@ -316,14 +316,14 @@ func TestSentBefore(t *testing.T) {
 	}
 }
 
-// newPlainTerm returns a term over a client, which leads by the key k.
+// newPlainTerm returns a term over a client. The term leads with the key k.
 func newPlainTerm(client *clientv3.Client, revisions *revisions) *term {
 	return &term{client: client, keys: sampleKeys, lease: &lease{client: client, length: time.Minute},
 		revisions: revisions, timeout: 5 * time.Second, ctx: context.Background(), end: func() {}, key: "k"}
 }
 
-// leaderServer is an etcd that counts requests, and those that a member without a leader would not
-// refuse at once.
+// leaderServer is an etcd that counts requests. waiting is the number of requests that a member
+// without a leader would not refuse at once.
 type leaderServer struct {
 	pb.KVServer
 	pb.LeaseServer

@@ -28,8 +28,8 @@ const (
 var room = &configuration{[]pool{{"p1", 10485760, nil}, {"p2", 4194304, nil}, {"p3", 1048576, nil}},
 	[]node{{"n1", 2}, {"n3", 4}}}
 
-// paging is a csid that answers ListVolumes with these pages, each under its token in hexadecimal,
-// and notes the messages.
+// paging returns listings of a csid that answers ListVolumes with these pages, in hexadecimal, by
+// the message that asks for each. The channel gets the calls.
 func paging(t *testing.T, pages map[string]string) (*listings, chan string) {
 	t.Helper()
 	asked := make(chan string, 99)
@@ -53,7 +53,7 @@ func paging(t *testing.T, pages map[string]string) (*listings, chan string) {
 	return l, asked
 }
 
-// All pages are added up, as far as the last one, whose token is empty.
+// A listing adds up all pages, up to the last one, whose token is empty.
 func TestListing(t *testing.T) {
 	l, asked := paging(t, map[string]string{"": entry1 + "120131", "\x12\x011": entry2 + "120132", "\x12\x012": entry3})
 	l.pagePause = 20 * time.Millisecond
@@ -88,7 +88,8 @@ func TestListingThatFails(t *testing.T) {
 	}
 }
 
-// A csid that is away at the start has no line by the first listing, and has one by the second.
+// If csid is not reachable at the start, the first listing logs nothing, and the second one logs
+// the reason.
 func TestListingAtTheStart(t *testing.T) {
 	log := &written{}
 	h := newHandler(options{csid: filepath.Join(t.TempDir(), "absent"), late: time.Minute, waiting: 1},
@@ -102,7 +103,7 @@ func TestListingAtTheStart(t *testing.T) {
 	defer cancel()
 	go l.run(ctx)
 	awaits(t, "a line", func() bool { return strings.Contains(log.String(), listVolumes+" 14 ") })
-	// A refusal of csid has a line at once.
+	// A refusal by csid is logged at once.
 	path, _ := csid(t, answering(fromHex(t, "0d 0002 4142 00 00000000")))
 	h = newHandler(options{csid: path, late: time.Minute, waiting: 1}, newLogger(log, textLines))
 	if newListings(h, room).list(context.Background()) == nil || !strings.Contains(log.String(), listVolumes+" 13 ") {
@@ -122,7 +123,8 @@ func TestListingWithoutEnd(t *testing.T) {
 	}
 }
 
-// Pages come a pause apart, and so do listings; a standby front does not ask.
+// There is a pause between two pages, and between two listings. A front that waits for csid makes
+// no listing.
 func TestPaceOfListings(t *testing.T) {
 	l, asked := paging(t, map[string]string{"": "120131", "\x12\x011": ""})
 	l.pagePause, l.listingPause, l.failurePause = 30*time.Millisecond, 100*time.Millisecond, time.Millisecond
@@ -149,7 +151,8 @@ func TestPaceOfListings(t *testing.T) {
 	<-ended
 }
 
-// The series of each pool and node of the configuration; before the first listing only their room.
+// The series of each pool and node of the configuration. Before the first listing there are only
+// their sizes and limits.
 func TestMetricsOfListings(t *testing.T) {
 	l, _ := paging(t, map[string]string{"": entry1 + entry2 + entry3})
 	sizes := `

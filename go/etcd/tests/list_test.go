@@ -148,8 +148,8 @@ func TestListAsOfFile(t *testing.T) {
 	}
 }
 
-// While a program makes changes, a list of several pages is of one revision: each new volume but
-// the last is at its node.
+// While a program makes changes, a list of several pages shows one revision: each new volume except
+// the last one is at its node.
 func TestListOfOneRevision(t *testing.T) {
 	t.Parallel()
 	const before = 20000

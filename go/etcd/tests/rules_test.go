@@ -85,8 +85,8 @@ func ruleCases() []ruleCase {
 	}
 }
 
-// csid refuses rows in etcd that break a rule of docs/TABLES.md as it refuses those of a file: it
-// names the row and answers no call. Once they are fixed, it serves without a restart.
+// csid refuses rows in etcd that break a rule of docs/TABLES.md, as it refuses such rows in a file:
+// it names the row and answers no call. Once the rows are fixed, csid serves without a restart.
 func TestRowsThatBreakRules(t *testing.T) {
 	t.Parallel()
 	cluster := clusters.Start(t, 1)

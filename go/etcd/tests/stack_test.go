@@ -223,7 +223,7 @@ func (f *fleet) noteID(id, volumeName string) {
 // heldVolume is a volume of a caller, as the replies describe it.
 type heldVolume struct{ volumeName, id, node, params string }
 
-// caller has volumes that no other caller uses, so the replies determine what must be there.
+// caller has volumes that no other caller uses, so the replies determine what must be in etcd.
 type caller struct {
 	*fleet
 	number  int
@@ -344,9 +344,9 @@ func storedRows(client *clientv3.Client) (all []string, next int, err error) {
 	return all, next, nil
 }
 
-// watchRows reads the rows again and again. At no revision may the pool be overcommitted, a name be
-// there twice, a number reach the next one, or an attachment have no volume or be a volume's second
-// one.
+// watchRows reads the rows again and again. At each revision the volumes must fit in the pool, no
+// name may occur twice, each number must be below the next number, and each attachment must be the
+// only one of an existing volume.
 func watchRows(t *testing.T, client *clientv3.Client, ctx context.Context) (checks int) {
 	for ; ctx.Err() == nil; time.Sleep(50 * time.Millisecond) {
 		all, next, err := storedRows(client)
@@ -397,7 +397,7 @@ func (f *fleet) leader(client *clientv3.Client) *stack {
 	return nil
 }
 
-// kills returns the number of kills: a few in the gate.
+// kills returns the number of kills, from the environment variable KILLS, or 10 without it.
 func kills(t *testing.T) int {
 	t.Helper()
 	stdout := os.Getenv("KILLS")
@@ -411,8 +411,8 @@ func kills(t *testing.T) int {
 	return count
 }
 
-// victim is what is killed. With isBound, the csid-etcd of its stack is then told to end, as by a
-// unit that is bound to it.
+// victim is a program to kill. With isBound, the csid-etcd of its stack is then told to end, as a
+// systemd unit that is bound to the killed one would be.
 type victim struct {
 	name    string
 	isBound bool
@@ -431,7 +431,7 @@ const (
 	leadingMember = "leader of etcd"
 )
 
-// member returns the member that a victim means, or nil for another victim.
+// member returns the member of etcd to kill, or nil if the victim is another program.
 func (f *fleet) member(who victim, random *rand.Rand) *clusters.Member {
 	switch who.name {
 	case anyMember:
