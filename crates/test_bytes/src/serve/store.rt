@@ -168,8 +168,8 @@ impl Trials<'_> {
         })
     }
 
-    /// Returns how many calls of the stream, counted from the first, were answered as without a refusal.
-    /// These are the calls whose replies `written` begins with; it has the bytes that the server wrote.
+    /// Returns the number of calls, from the first call on, whose replies `written` begins with. These calls
+    /// were answered as without a refusal. `written` has the bytes that the server wrote.
     pub(super) fn answered(&self, written: &[u8]) -> usize {
         let mut answered = 0;
         for call in 0..self.stream.calls.len() {
