@@ -30,7 +30,7 @@ type (
 )
 
 // plan is one transaction. If all compares hold, etcd makes the operations of success. Otherwise it
-// makes those of failure, which are reads.
+// makes the operations of failure, which are reads.
 type plan struct {
 	compares []clientv3.Cmp
 	success  []clientv3.Op

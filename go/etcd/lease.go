@@ -82,7 +82,7 @@ func (l *lease) keepAlive(ctx context.Context) error {
 	return <-done
 }
 
-// waitExpired returns once the lease has expired or the context has ended.
+// waitExpired returns when the lease has expired or the context has ended.
 func (l *lease) waitExpired(ctx context.Context) error {
 	for {
 		remaining := l.remaining()

@@ -17,8 +17,9 @@ import (
 	"google.golang.org/grpc/status"
 )
 
-// members connects to the members of etcd, with the certificates that the files have at that
-// moment. For lines it also notes why a member could not be reached and which error it returned.
+// members connects to the members of etcd. Each connection uses the certificates that the files
+// have at that moment. For log lines, members also notes why a member could not be reached and
+// which error a member returned.
 type members struct {
 	opts  options
 	logf  func(format string, args ...interface{})

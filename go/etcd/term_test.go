@@ -172,8 +172,8 @@ func outcome(err error) (codes.Code, string) {
 	return codes.OK, ""
 }
 
-// After the answer that etcd has no space, a change is refused only if the key that it puts was
-// read and is not newer than revision 100, the greatest one seen before. A deleted key leaves no
+// If etcd answers that it has no space, a change is refused only if a read shows that its key is
+// not newer than revision 100. This is the greatest revision seen before. A deleted key leaves no
 // trace that would show whether the change was made.
 func TestNoSpaceOutcome(t *testing.T) {
 	puts, deletes := &attach{attachment{7, "n", nil, false}}, &detach{7, "n"}
@@ -240,7 +240,8 @@ func TestFence(t *testing.T) {
 	}
 }
 
-// A revision below that of an earlier answer ends the term. A change with this revision gets no OK.
+// A revision below the revision of an earlier answer ends the term. A change with this revision
+// gets no OK.
 func TestOlder(t *testing.T) {
 	server := &scriptedServer{answers: []answer{{succeeded: true, revision: 110}, {succeeded: true, revision: 109}}}
 	term := server.newTerm(t)

@@ -112,7 +112,7 @@ func (w *walk) deliver(ctx context.Context, p page) ([]byte, error) {
 	return p.body, p.err
 }
 
-// waitAhead returns once no page is being read.
+// waitAhead returns when no page is being read.
 func (w *walk) waitAhead() {
 	if w != nil && w.ahead != nil {
 		w.ahead <- <-w.ahead

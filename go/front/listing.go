@@ -32,8 +32,8 @@ const (
 type listing struct {
 	endedAt time.Time
 	volumes int
-	// The use of each pool, by the pool's name in the contexts of volumes, and the number of
-	// volumes that are attached at each node, by the node's id.
+	// The use of each pool, by its name in the contexts of volumes. The number of volumes that are
+	// attached at each node, by the node's id.
 	pools       map[string]poolUse
 	attachments map[string]int
 }

@@ -15,9 +15,10 @@ import (
 	"fomaheti/frames"
 )
 
-// Entries of ListVolumes, worked out by hand from docs/PROTOCOL.md, "Messages": 'vol-1' has 1 MiB
-// of the pool p1 at the nodes n1 and n2, 'vol-2' 3 MiB of p2 at none and in no good condition, and
-// 'vol-3' 1 MiB of p1 at n1, with a further entry of its context and a topology.
+// Entries of ListVolumes, worked out by hand from docs/PROTOCOL.md, "Messages". vol-1 has 1 MiB in
+// the pool p1, and is at the nodes n1 and n2. vol-2 has 3 MiB in p2, is at no node, and has an
+// abnormal condition. vol-3 has 1 MiB in p1, is at n1, and has a further entry in its context and a
+// topology.
 const (
 	entry1 = "0a23 0a17 08808040 1205 766f6c2d31 1a0a 0a04706f6f6c 12027031 1208 0a026e31 0a026e32"
 	entry2 = "0a20 0a18 088080c001 1205 766f6c2d32 1a0a 0a04706f6f6c 12027032 1204 1202 0801"

@@ -22,7 +22,7 @@ func passed(l *lineLimit, lines int, kind string, now time.Time) (count int) {
 	return count
 }
 
-// wantsCounts waits for a report.
+// wantsCounts waits for a report, and compares its counts.
 func wantsCounts(t *testing.T, reports <-chan map[string]uint64, want map[string]uint64) {
 	t.Helper()
 	select {

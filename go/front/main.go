@@ -26,7 +26,7 @@ import (
 	"fomaheti/sockets"
 )
 
-// The exit statuses. Except for 3, they are the same as those of csid.
+// The exit statuses. csid uses the same numbers for the same outcomes, except for 3.
 const (
 	done     = 0
 	cutOff   = 1

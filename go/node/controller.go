@@ -20,7 +20,7 @@ const (
 	startTime = 2 * time.Second
 )
 
-// redial limits the pause between attempts to connect to a second.
+// redial limits the pause between two attempts to connect: it is at most one second.
 var redial = grpc.ConnectParams{
 	Backoff: backoff.Config{
 		BaseDelay: 100 * time.Millisecond, Multiplier: 1.6, Jitter: 0.2, MaxDelay: time.Second,

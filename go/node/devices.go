@@ -237,9 +237,10 @@ func attached(data string) (string, error) {
 	return output("losetup", "--noheadings", "--output", "NAME", "--associated", data)
 }
 
-// detach detaches a file from its loop device. If another program has the device open, such as a
-// blkid that probes all devices, the kernel detaches it only when that program closes it, so detach
-// waits. If the file was detached earlier in this way, losetup reports that there is no file.
+// detach detaches a file from its loop device. Another program may have the device open, such as a
+// blkid that probes all devices. Then the kernel detaches the file only when that program closes
+// the device, so detach waits. If the file was detached earlier in this way, losetup reports that
+// there is no file.
 func detach(data, device string) error {
 	err := command("losetup", "--detach", device)
 	for end := time.Now().Add(detachTime); ; time.Sleep(detachTime / 100) {

@@ -98,7 +98,8 @@ func (s *session) startNode(t *testing.T) {
 
 func (s *session) at(name string) string { return filepath.Join(s.folder, name) }
 
-// call makes a call and returns its output. AT/ stands for the folder in both.
+// call makes a call and returns its output. AT/ stands for the session's folder in the message and
+// in the output.
 func (s *session) call(socket, method, message string) string {
 	var out, log strings.Builder
 	message = strings.ReplaceAll(message, "AT/", s.folder+"/")
@@ -473,7 +474,7 @@ func (s *session) wantEndAtOnce(t *testing.T) {
 	}
 }
 
-// The statistics of a folder are those of its file system.
+// The statistics of a volume in a folder are the statistics of the folder's file system.
 func TestStatsOfFolders(t *testing.T) {
 	t.Parallel()
 	s := newSession(t, "--without-devices")

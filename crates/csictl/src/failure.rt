@@ -89,7 +89,7 @@ pub(crate) enum Failure {
     /// A pair of a key and a value has no `=`.
     #[error("a pair without '=': write KEY=VALUE,KEY=VALUE")]
     NotPair,
-    /// The message has more than 1,048,576 bytes, which is the limit of a frame.
+    /// The message has more than 1,048,576 bytes, which is the greatest length of a message in a frame.
     #[error("the message has more than 1048576 bytes")]
     TooLong,
     /// A line of a file of vectors is not a vector.

@@ -1,4 +1,4 @@
-//! Writes replies as JSON, in the mapping of proto3. Each field of a message is written, also if it has its
+//! Writes replies as JSON, in the mapping of proto3. Each field of a message is written, even if it has its
 //! default value.
 
 use command_line::MODE_NAMES;

@@ -69,8 +69,9 @@ fn take_all<T: Taker>(alloc: Global, entries: Items<Entry>, taker: &mut T) -> Re
     Ok(())
 }
 
-// Takes the entries in the body of the page that begins at a token, and returns the token of the next page,
-// which is empty after the last page. Fails if the body is not a page, or if the two tokens are the same.
+// Takes the entries in the body of a page, and returns the token of the next page, which is empty after the
+// last page. `token` is the token of this page. Fails if the body is not a page, or if the next page would
+// have the same token.
 fn take_page<T: Taker>(
     alloc: Global,
     body: &[u8],

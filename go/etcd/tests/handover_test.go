@@ -78,8 +78,8 @@ func (p program) firstChangeTime(t *testing.T) time.Time {
 	return time.Now()
 }
 
-// If the lock is taken by hand, the old program does not confirm its lead to a question that was
-// sent after the new program's first OK.
+// The lock is taken by hand. The old program does not confirm its lead if the question is sent
+// after the new program's first OK.
 func TestLockTakenByHand(t *testing.T) {
 	t.Parallel()
 	cluster := clusters.Start(t, 3)

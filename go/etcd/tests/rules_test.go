@@ -33,7 +33,7 @@ type ruleCase struct {
 	want string
 }
 
-// store replaces the rows in etcd by those of the case.
+// store replaces the rows in etcd by the rows of the case.
 func (c ruleCase) store(t *testing.T, client *clientv3.Client) {
 	t.Helper()
 	ops := []clientv3.Op{clientv3.OpPut(name+"/meta", fmt.Sprintf(`{"format_no":2,"next_number":%d}`, c.next))}

@@ -344,9 +344,9 @@ func storedRows(client *clientv3.Client) (all []string, next int, err error) {
 	return all, next, nil
 }
 
-// watchRows reads the rows again and again. At each revision the volumes must fit in the pool, no
-// name may occur twice, each number must be below the next number, and each attachment must be the
-// only one of an existing volume.
+// watchRows reads the rows again and again, and checks them at each revision. The volumes must fit
+// in the pool. No name may occur twice. Each number must be below the next number. Each attachment
+// must have a volume, and be the only attachment of this volume.
 func watchRows(t *testing.T, client *clientv3.Client, ctx context.Context) (checks int) {
 	for ; ctx.Err() == nil; time.Sleep(50 * time.Millisecond) {
 		all, next, err := storedRows(client)
@@ -411,8 +411,8 @@ func kills(t *testing.T) int {
 	return count
 }
 
-// victim is a program to kill. With isBound, the csid-etcd of its stack is then told to end, as a
-// systemd unit that is bound to the killed one would be.
+// victim is a program to kill. With isBound, the csid-etcd of its stack is then told to end, as
+// systemd does if the unit of csid-etcd is bound to the unit of the victim.
 type victim struct {
 	name    string
 	isBound bool
@@ -442,8 +442,8 @@ func (f *fleet) member(who victim, random *rand.Rand) *clusters.Member {
 	return nil
 }
 
-// While eight callers make calls to two stacks, the serving stack loses its csid-etcd, its csid or
-// its front again and again, or etcd loses one of its three members.
+// Eight callers make calls to two stacks. Again and again the serving stack loses its csid-etcd,
+// its csid or its front, or etcd loses one of its three members.
 func TestStacks(t *testing.T) {
 	help, err := exec.Command(processes.CsidProgram(t), "serve", "--help").Output()
 	if err != nil || !strings.Contains(string(help), "--log") {

@@ -232,7 +232,7 @@ func TestLockTakenAway(t *testing.T) {
 	p.waitLeadingSince(t, before)
 	second := p.dial(t)
 	second.wantReply(t, readPath, "", codes.OK, "0a04 0802 1001 2200")
-	// The key is put again by hand: the next change is refused, and the one after it is made after
+	// The key is put again by hand. The next change is refused. The change after it is made, after
 	// a fence.
 	lines = strings.Split(cluster.Ctl(t, "get", "--prefix", name+"/lock/"), "\n")
 	cluster.Ctl(t, "put", "--ignore-lease", lines[0], "other")

@@ -20,8 +20,8 @@ import (
 	"./processes"
 )
 
-// A call whose message exceeds the limit of all waiting messages is refused at once. A call with an
-// empty message never is. When the call before ends, there is room again.
+// A call is refused at once if its message and the waiting messages exceed the limit. A call with
+// an empty message is never refused. When an earlier call ends, there is room again.
 func TestMessagesThatWait(t *testing.T) {
 	t.Parallel()
 	first, second := make(chan struct{}), make(chan struct{})

@@ -63,8 +63,9 @@ impl Trials<'_> {
         Err(RowFault::Refused("the store was asked too often"))
     }
 
-    // Returns the index after `call`, which is the call that was refused last. Fails if `call` is neither the
-    // call that was refused before nor the next call that asks the store.
+    // Returns the index after `call`, the call of the stream that was refused. `seen` is the index after the
+    // call that was refused before. Fails unless `call` is that call again, or the next call that asks the
+    // store.
     fn seen_with(&self, seen: usize, call: usize) -> Result<usize, RowFault> {
         let next = call.saturating_add(1);
         if next == seen || self.first_asking(seen) == Some(call) {

@@ -161,7 +161,7 @@ func (c *Cluster) WaitReady(t *testing.T) {
 	})
 }
 
-// Client returns a client of the cluster without TLS. It is closed at the end of the test.
+// Client returns a client of the cluster, without TLS. The client is closed at the end of the test.
 func (c *Cluster) Client(t *testing.T) *clientv3.Client {
 	t.Helper()
 	client, err := clientv3.New(clientv3.Config{Endpoints: strings.Split(c.Endpoints(), ","),

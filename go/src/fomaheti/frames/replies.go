@@ -208,8 +208,8 @@ func inside(err error) error {
 	return err
 }
 
-// IsClosing reports whether the peer closed the connection: by an end if it had read everything, or
-// else by a reset or a broken pipe.
+// IsClosing reports whether the peer closed the connection. The error is io.EOF if the peer had
+// read everything, and otherwise a reset or a broken pipe.
 func IsClosing(err error) bool {
 	return err == io.EOF || errors.Is(err, syscall.ECONNRESET) || errors.Is(err, syscall.EPIPE)
 }
