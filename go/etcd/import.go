@@ -133,7 +133,8 @@ type importer struct {
 	client  *clientv3.Client
 	keys    keys
 	timeout time.Duration
-	// The number of rows written, the first of their keys, and its create revision.
+	// The number of rows written, the key of the first of them, and the create revision of this
+	// key.
 	written   int
 	first     string
 	firstMade int64

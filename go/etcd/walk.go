@@ -77,7 +77,8 @@ func newWalk(ctx context.Context, t *term) (*walk, []byte, error) {
 	return w, nil, nil
 }
 
-// unknownKeys reads the gaps between the keys of rows and of the lock. A key there is unknown.
+// unknownKeys returns the reads of the gaps between the keys of rows and of the lock. A key in a
+// gap is unknown.
 func (k keys) unknownKeys() (reads []clientv3.Op) {
 	begin := k.all()
 	for _, known := range []struct{ begin, end string }{

@@ -115,7 +115,7 @@ func TestConfigurationOverControl(t *testing.T) {
 	}
 }
 
-// A connection that has ended leaves its place to another one.
+// A connection that has ended makes room for another one.
 func TestManyControlConnections(t *testing.T) {
 	path, _ := csid(t, answering(notFound))
 	_, socket, _ := controlled(t, path)

@@ -171,7 +171,7 @@ func (p *plugin) stage(ctx context.Context, request *stageRequest) (*empty, erro
 	return new(empty), p.storage.stage(data, request.StagingPath, request.Capability, readOnly)
 }
 
-// dataOf returns the path of a volume's data. Its context names the pool.
+// dataOf returns the path of a volume's data. The context of the volume names the pool.
 func (p *plugin) dataOf(request *stageRequest) (string, error) {
 	pool := request.VolumeContext["pool"]
 	if pool == "" {

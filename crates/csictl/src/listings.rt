@@ -190,7 +190,8 @@ fn list_groups(
 ///
 /// - the socket is not found, or an argument is malformed
 /// - a call is not answered
-/// - a reply is malformed or not a page, or the pages have no end
+/// - a reply is malformed, or is not a page or a configuration
+/// - the pages have no end
 /// - for [`What::Volume`]: no volume has the id in the arguments
 /// - for [`What::Volumes`]: the configuration does not have the pool or the node in the arguments
 /// - writing fails, or memory is refused

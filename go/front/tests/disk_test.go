@@ -64,8 +64,8 @@ func back(t *testing.T, front *client, name string) (string, time.Duration) {
 }
 
 // While the disk is full, the outcome of each change is open, and calls without a change are
-// answered. When there is room again, service is back without a restart, and the volumes are those
-// that were reported.
+// answered. When there is room again, service is back without a restart, and exactly the reported
+// volumes exist.
 func TestFullDisk(t *testing.T) {
 	t.Parallel()
 	disk := smallDisk(t, 1<<20)
