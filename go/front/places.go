@@ -29,8 +29,9 @@ type places struct {
 	mutex  sync.Mutex
 	free   int
 	shares map[*clientConn]*share
-	// How many calls wait for a place, and how many have done so since the start. stillSince is the
-	// time at which the last message came, or at which the calls began to wait, if that was later.
+	// How many calls wait for a place, and how many have begun to wait since the start. stillSince
+	// is the time at which the last message came, or at which the calls began to wait, if that was
+	// later.
 	waiting    int
 	numbers    uint64
 	stillSince time.Time
