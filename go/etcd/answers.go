@@ -9,12 +9,12 @@ import (
 	"google.golang.org/grpc"
 )
 
-// Interceptors check each answer of etcd once, so that their readers need not check for a missing
-// revision, row or response: etcd always sends these. An answer without them comes from something
-// else. It says nothing about a change, so the outcome of that change is unknown. A missing
-// revision must not count as an older snapshot, which would end service.
+// Interceptors check each answer of etcd once, so that the rest of the program need not check for a
+// missing revision, row or response. etcd always sends these, so an answer without them comes from
+// something else. Such an answer says nothing about a change, so the outcome of the change is
+// unknown. A missing revision must not count as an older snapshot, which would end service.
 
-// malformed is an error: the part that an answer of etcd lacks.
+// malformed is the error for a malformed answer of etcd. Its text says what is missing or wrong.
 type malformed string
 
 // Error implements error.

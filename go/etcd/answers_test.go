@@ -131,7 +131,7 @@ func anotherRow(reply interface{}) {
 	}
 }
 
-// The places that read an answer of etcd.
+// Functions that each read one kind of answer of etcd.
 var (
 	askLease      = func(t *term) error { _, _, err := grantLease(t.ctx, t.client, 10); return err }
 	askQueue      = func(t *term) error { _, err := t.queue(); return err }
@@ -259,7 +259,7 @@ func (s *partialServer) newTerm(t *testing.T) *term {
 }
 
 // After a malformed answer the outcome of a change is unknown, and a fence comes before the next
-// one.
+// change.
 func TestMalformedAnswerIsOpen(t *testing.T) {
 	server := &partialServer{remove: noHeader}
 	term := server.newTerm(t)

@@ -8,9 +8,9 @@ import (
 	"google.golang.org/grpc/codes"
 )
 
-// change is a change of the rows that csid requests.
+// change is a change of the rows in etcd, requested by csid.
 type change interface {
-	// plan returns the transaction of the change. It may read rows in the term first.
+	// plan returns the transaction of the change. It may read rows first.
 	plan(ctx context.Context, t *term) (plan, error)
 }
 
@@ -29,7 +29,8 @@ type (
 	}
 )
 
-// plan is one transaction: etcd makes success if all compares hold, and otherwise reads failure.
+// plan is one transaction. If all compares hold, etcd makes the operations of success. Otherwise it
+// makes the operations of failure, which are reads.
 type plan struct {
 	compares []clientv3.Cmp
 	success  []clientv3.Op
@@ -178,7 +179,8 @@ type makeMeta struct{}
 
 func (makeMeta) plan(_ context.Context, t *term) (plan, error) { return t.keys.firstRow(), nil }
 
-// firstRow makes the row of meta. It compares that the plugin has no key except those of the lock.
+// firstRow returns the plan that makes the row of meta. The plan compares that the plugin has no
+// key except the keys of the lock.
 func (k keys) firstRow() plan {
 	all, locks := k.all(), k.locks()
 	return plan{
@@ -199,7 +201,7 @@ func (k keys) firstRow() plan {
 	}
 }
 
-// brokenRow refuses a call because of a row that no csid-etcd has written.
+// brokenRow returns the refusal for a row that is not as csid-etcd writes rows.
 func brokenRow(k keys, key string, err error) refusal {
 	return refuse("%s: %v", k.display(key), err)
 }

@@ -35,7 +35,7 @@ func (s *compareServer) Txn(_ context.Context, request *pb.TxnRequest) (*pb.TxnR
 }
 
 // The first row is made, and an import starts, only if the plugin has no key. A key of the lock
-// stops an import but not the first row. Keys next to those of the plugin stop neither.
+// stops an import but not the first row. Keys of other plugins stop neither of them.
 func TestFirstOfAll(t *testing.T) {
 	const name = "example.fomaheti"
 	cases := []struct {

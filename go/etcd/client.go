@@ -13,7 +13,8 @@ import (
 	"google.golang.org/grpc"
 )
 
-// maxRequestBytes limits a request. csid's longest change fits; etcd has a limit of its own.
+// maxRequestBytes is the greatest length of a request that the client sends. csid's longest change
+// fits. etcd has its own limit.
 const maxRequestBytes = 4 << 20
 
 // keepAliveTime is the silence after which a connection is pinged. gRPC allows no shorter time, and

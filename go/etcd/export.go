@@ -13,7 +13,7 @@ import (
 	"go.etcd.io/etcd/etcdserver/api/v3rpc/rpctypes"
 )
 
-// SQL statements that add rows to new tables of csid (docs/TABLES.md), each on a line of its own.
+// The methods below return SQL statements that add rows to new tables of csid (docs/TABLES.md).
 
 func (m meta) statement() string {
 	return fmt.Sprintf("UPDATE meta SET next_number = %d;", m.next)
@@ -49,7 +49,7 @@ var (
 	errCompacted = errors.New("etcd compacted the revision of this reading: start again")
 )
 
-// snapshot reads rows at one revision without the lock: the revision of its first answer.
+// snapshot reads rows without the lock, all at the revision of its first answer.
 type snapshot struct {
 	client   *clientv3.Client
 	timeout  time.Duration
@@ -93,7 +93,7 @@ func export(m *members, to io.Writer, lines *logger) error {
 	return err
 }
 
-// readMeta reads the row of meta. Without it there are no rows.
+// readMeta reads the row of meta. If the row is missing, it returns errNoMeta.
 func (r *snapshot) readMeta(k keys) (row meta, err error) {
 	read, err := r.get(k.meta())
 	if err != nil {

@@ -17,8 +17,8 @@ import (
 	"fomaheti/frames"
 )
 
-// A transaction of an import has at most maxBatchRows rows, and no further row once it has
-// targetBatchBytes. By default etcd accepts 128 operations and 1.5 MiB; each key is in a
+// A transaction of an import has at most maxBatchRows rows. If it has more than one row, it has at
+// most targetBatchBytes. By default etcd accepts 128 operations and 1.5 MiB. Each key is in a
 // transaction three times.
 const (
 	maxBatchRows     = 64
@@ -133,7 +133,8 @@ type importer struct {
 	client  *clientv3.Client
 	keys    keys
 	timeout time.Duration
-	// The number of rows written, the first of their keys, and its create revision.
+	// The number of rows written, the key of the first of them, and the create revision of this
+	// key.
 	written   int
 	first     string
 	firstMade int64
@@ -154,7 +155,7 @@ func (i *importer) checkEmpty() error {
 	return i.found(locks.Kvs, there.Kvs)
 }
 
-// found refuses if a key of the lock or any other key exists.
+// found returns an error if a key of the lock or another key of the plugin exists.
 func (i *importer) found(locks, there []*mvccpb.KeyValue) error {
 	for _, lock := range locks {
 		return fmt.Errorf("%s: %s has the lock or waits for it, and must be stopped first",
@@ -167,8 +168,8 @@ func (i *importer) found(locks, there []*mvccpb.KeyValue) error {
 }
 
 // write makes one transaction. The first one compares that the plugin has no key, so at most one of
-// several imports continues. Each later one compares that the first key is still the one that this
-// import created: a late transaction fails after somebody has removed the rows.
+// several imports continues. Each later one compares that the first key is still the key that this
+// import created. So a transaction that arrives late, after somebody has removed the rows, fails.
 func (i *importer) write(rows []importLine) error {
 	k := i.keys
 	var compares []clientv3.Cmp

@@ -41,7 +41,7 @@ func (k keys) attachmentsOf(number uint64) string {
 	return fmt.Sprintf("%s%0*d/", k.attachments(), numberDigits, number)
 }
 
-// attachment ends with the node's id, unescaped.
+// attachment returns the key of an attachment. It ends with the node's id, unescaped.
 func (k keys) attachment(number uint64, node string) string {
 	return k.attachmentsOf(number) + node
 }

@@ -21,7 +21,7 @@ type lease struct {
 	id     clientv3.LeaseID
 	length time.Duration
 	mutex  sync.Mutex
-	// The time of its end on the clock of sinceBoot.
+	// The end of the lease on the clock of sinceBoot.
 	expiry time.Duration
 }
 
@@ -41,7 +41,8 @@ const clockPause = time.Second
 
 var errLeaseOver = errors.New("its lease is over")
 
-// grantLease gets a lease of that many seconds. It also returns the revision of etcd.
+// grantLease gets a lease of this length from etcd. It also returns the revision of etcd in the
+// answer.
 func grantLease(ctx context.Context, client *clientv3.Client, seconds int64) (*lease, int64, error) {
 	sent := sinceBoot()
 	granted, err := client.Grant(ctx, seconds)
@@ -70,8 +71,8 @@ func (l *lease) extend(sent time.Duration) {
 }
 
 // keepAlive keeps the lease alive and returns the reason of its end: errLeaseOver or the error of
-// the context. It watches the clock in a goroutine of its own, so that a request that hangs in
-// etcd's client does not delay the end.
+// the context. It watches the clock in a separate goroutine, so that a request that hangs in etcd's
+// client does not delay the end.
 func (l *lease) keepAlive(ctx context.Context) error {
 	ctx, cancel := context.WithCancel(ctx)
 	defer cancel()
@@ -81,7 +82,7 @@ func (l *lease) keepAlive(ctx context.Context) error {
 	return <-done
 }
 
-// waitExpired returns once the lease has expired or the context has ended.
+// waitExpired returns when the lease has expired or the context has ended.
 func (l *lease) waitExpired(ctx context.Context) error {
 	for {
 		remaining := l.remaining()

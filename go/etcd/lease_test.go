@@ -166,7 +166,7 @@ func TestRenewedInTime(t *testing.T) {
 	<-done
 }
 
-// A lease is over once etcd no longer knows it, or once no answer has kept it in time.
+// A lease is over when etcd no longer knows it, or when no answer has kept it in time.
 func TestLeaseOver(t *testing.T) {
 	cases := []struct {
 		name   string
@@ -199,7 +199,7 @@ func TestLateLease(t *testing.T) {
 			ctx, cancel := context.WithCancel(context.Background())
 			done := make(chan error, 1)
 			go func() { done <- l.renew(ctx) }()
-			// A stream carries the answered requests and one that is not answered.
+			// A stream carries the answered requests and one request that is not answered.
 			for i := 0; i < answered+2; i++ {
 				select {
 				case <-server.requests:

@@ -10,7 +10,8 @@ import (
 	"strings"
 )
 
-// sum is the number of volumes of a pool or node, and their bytes, at most the greatest uint64.
+// sum is the number of volumes of a pool or node, and the sum of their bytes. If the sum of bytes
+// is too large, it is the greatest uint64.
 type sum struct{ volumes, bytes uint64 }
 
 type sums map[string]sum
@@ -104,7 +105,8 @@ func sortedKeys(pairs map[string]string) []string {
 	return keys
 }
 
-// String formats the capability for the table: its access, or its file system, and its mode.
+// String formats the capability for the table: block, mount or the file system, then a colon and
+// the mode.
 func (c capability) String() string {
 	switch {
 	case !c.isMount:
@@ -181,7 +183,8 @@ func writeTable(out *bufio.Writer, volumes []*listedVolume) {
 	nodes.write(out, "NODE")
 }
 
-// MarshalJSON gives the capability its access: block, or mount with its file system.
+// MarshalJSON writes the access of the capability and its mode. The access is block, or mount with
+// the file system.
 func (c capability) MarshalJSON() ([]byte, error) {
 	shown := struct {
 		Access string  `json:"access"`
@@ -194,7 +197,7 @@ func (c capability) MarshalJSON() ([]byte, error) {
 	return encode(shown)
 }
 
-// MarshalJSON gives the volume with its lists, also empty ones.
+// MarshalJSON writes the volume with all of its lists, even if they are empty.
 func (v *listedVolume) MarshalJSON() ([]byte, error) {
 	return encode(struct {
 		ID           string            `json:"id"`
@@ -209,7 +212,7 @@ func (v *listedVolume) MarshalJSON() ([]byte, error) {
 		append([]string{}, v.nodes...)})
 }
 
-// encode encodes a value as JSON, in which < > & stay as they are.
+// encode encodes a value as JSON, and does not escape < > &.
 func encode(value interface{}) ([]byte, error) {
 	var text bytes.Buffer
 	encoder := json.NewEncoder(&text)
@@ -218,7 +221,7 @@ func encode(value interface{}) ([]byte, error) {
 	return bytes.TrimSuffix(text.Bytes(), []byte("\n")), err
 }
 
-// entries returns the sums, each with its name under the key.
+// entries returns an object for each sum, with its name under the given key.
 func (s sums) entries(key string) []map[string]interface{} {
 	entries := make([]map[string]interface{}, 0, len(s))
 	for _, name := range s.names() {
@@ -227,7 +230,7 @@ func (s sums) entries(key string) []map[string]interface{} {
 	return entries
 }
 
-// writeJSON writes one JSON document with each volume on a line of its own.
+// writeJSON writes one JSON document, with a line for each volume.
 func writeJSON(out *bufio.Writer, volumes []*listedVolume) error {
 	out.WriteString(`{"volumes":[`)
 	for i, v := range volumes {

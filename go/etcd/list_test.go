@@ -208,7 +208,7 @@ func TestFormatWord(t *testing.T) {
 	}
 }
 
-// Characters of HTML stay as they are, also in a volume.
+// Characters of HTML are not escaped, even in a volume.
 func TestUnescapedJSON(t *testing.T) {
 	text, err := encode(&listedVolume{volume: volume{name: "<&>"}, parameters: map[string]string{"<": "&"}})
 	if err != nil || !strings.Contains(string(text), `"name":"<&>"`) || !strings.Contains(string(text), `{"<":"&"}`) {

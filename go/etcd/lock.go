@@ -41,10 +41,10 @@ func (l *leadership) set(term *term, reason refusal) {
 	l.term, l.refusal = term, reason
 }
 
-// candidate campaigns for the lock and leads while it holds it. The lock is an election by etcd's
-// own rule: each candidate puts a key with its lease below one prefix, and the key created first
-// leads. Unlike clientv3/concurrency, a candidate also checks that its own key exists, and each of
-// its waits has a deadline.
+// candidate campaigns for the lock, and leads while it holds the lock. The lock is an election by
+// etcd's own rule: each candidate puts a key with its lease below one prefix, and the key created
+// first leads. Unlike clientv3/concurrency, a candidate also checks that its own key exists, and
+// each of its waits has a deadline.
 type candidate struct {
 	opts      options
 	members   *members
@@ -86,8 +86,8 @@ func (c *candidate) reportError(line string, err error) {
 }
 
 // campaign gets a lease, puts a key into the queue and leads when its turn comes. It returns nil
-// after the lease or the key is lost, or the error that kept it from a lease. Each campaign reads
-// the certificates and the password again.
+// after the lease or the key is lost. If it gets no lease, it returns the error. Each campaign
+// reads the certificates and the password again.
 func (c *candidate) campaign(parent context.Context) error {
 	client, err := c.members.connect()
 	if err != nil {
@@ -108,7 +108,8 @@ func (c *candidate) campaign(parent context.Context) error {
 	go func() {
 		reason := lease.keepAlive(ctx)
 		cancel()
-		// Dropped here too: stopLeading below may first wait for an answer of etcd.
+		// Close the connection of csid here too, since stopLeading below may be called only after
+		// an answer of etcd.
 		c.drop()
 		leaseDone <- reason
 	}()
@@ -150,7 +151,7 @@ func (c *candidate) releaseLeases(client *clientv3.Client) {
 	c.leases = left
 }
 
-// Ends of a term other than the end of its lease.
+// The reasons for the end of a term, other than the end of its lease.
 var (
 	errKeyGone = errors.New("its key is gone")
 	errEnding  = errors.New("it was asked to end")

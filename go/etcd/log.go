@@ -11,7 +11,7 @@ import (
 	"fomaheti/logqueue"
 )
 
-// The formats of lines.
+// The values of --log-format.
 const (
 	textLines = "text"
 	jsonLines = "json"
@@ -59,7 +59,7 @@ func (l *logger) warnf(format string, args ...interface{}) { l.write(logqueue.Wa
 // fails writes why the program ends.
 func (l *logger) fails(err error) { l.write(logqueue.Error, "%v", []interface{}{err}) }
 
-// Write takes a line that a package writes with Go's log.
+// Write writes a line of a package that uses Go's log, as a warning.
 func (l *logger) Write(line []byte) (int, error) {
 	l.warnf("%s", strings.TrimSuffix(string(line), "\n"))
 	return len(line), nil

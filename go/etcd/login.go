@@ -17,7 +17,7 @@ const (
 )
 
 // login holds the token that identifies the user to etcd and adds it to each call. etcd's own
-// client does this too, but it opens another connection for each token, and verifies that
+// client does this too. But it opens another connection for each token, and verifies this
 // connection with the certificates that it read at its start.
 type login struct {
 	user, password string

@@ -1,6 +1,6 @@
-// csid-etcd is the change store of a csid whose rows are in etcd: it reads rows and makes changes
-// for that csid while it holds a lock in etcd. Of several csid-etcd, each with a csid of its own,
-// the holder of the lock serves. When it loses the lock, another one takes over.
+// csid-etcd is the change store of a csid whose rows are in etcd. It reads rows and makes changes
+// for this csid while it holds a lock in etcd. Several csid-etcd can run, each with its own csid.
+// Only the holder of the lock serves. When it loses the lock, another one takes over.
 package main
 
 import (
@@ -36,15 +36,15 @@ func main() {
 	// The program goes on when the reader of standard error closes the pipe.
 	signal.Ignore(syscall.SIGPIPE)
 	opts, err := readOptions(os.Args[1:], os.Stdout)
-	// A command, and arguments that are refused, have lines without a time.
+	// Lines have no time if the program runs as a command, or if its arguments are refused.
 	lines, queue := newLogger(os.Stderr, opts.logFormat, err == nil && !opts.isOneShot() && !logqueue.HasJournal())
 	status := run(opts, err, lines)
 	queue.End(lastLinesTime)
 	os.Exit(status)
 }
 
-// run does all that the program does with the options that were read, or refused. It returns the
-// exit status.
+// run runs the program with the options, or reports err, the reason why they were refused. It
+// returns the exit status.
 func run(opts options, err error, lines *logger) int {
 	if errors.Is(err, flag.ErrHelp) {
 		return exitOK
@@ -67,7 +67,8 @@ func run(opts options, err error, lines *logger) int {
 		lines.fails(fmt.Errorf("--revision: %w", err))
 		return exitFailure
 	}
-	// Calls are served in order. With a second processor each step of a call would have to wake it.
+	// Calls are served in order, so a second processor would only have to be woken at each step of
+	// a call.
 	if os.Getenv("GOMAXPROCS") == "" {
 		runtime.GOMAXPROCS(1)
 	}

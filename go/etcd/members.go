@@ -17,8 +17,9 @@ import (
 	"google.golang.org/grpc/status"
 )
 
-// members connects to the members of etcd, with the certificates that the files have at that
-// moment. For lines it also notes why a member could not be reached and which error it returned.
+// members connects to the members of etcd. Each connection uses the certificates that the files
+// have at that moment. For log lines, members also notes why a member could not be reached and
+// which error a member returned.
 type members struct {
 	opts  options
 	logf  func(format string, args ...interface{})
@@ -37,8 +38,8 @@ func newMembers(opts options, logf func(format string, args ...interface{})) *me
 		refused: map[string]string{}}
 }
 
-// isSecure reports whether connections use TLS. The scheme of the first endpoint decides; without a
-// scheme --cacert or --cert does.
+// isSecure reports whether connections use TLS. The scheme of the first endpoint decides. If it has
+// no scheme, connections use TLS if --cacert or --cert is given.
 func (m *members) isSecure() bool {
 	_, _, scheme := endpoint.ParseEndpoint(m.opts.endpoints[0])
 	return scheme == "https" || scheme == "" && (m.opts.cacert != "" || m.opts.cert != "")
@@ -65,7 +66,7 @@ func (m *members) certificates() (certificates, error) {
 func (m *members) watchCertificates(ctx context.Context) {
 	var warned time.Time
 	for m.isSecure() && ctx.Err() == nil {
-		// A connection reports why files cannot be read.
+		// If the files cannot be read, the next connection reports the reason.
 		if read, err := m.certificates(); err == nil && time.Since(warned) >= warningPause {
 			warned = time.Now()
 			for _, line := range read.warnings(warned) {
@@ -135,9 +136,9 @@ func (m *members) recordAnswer(ctx context.Context, method string, request, repl
 	return err
 }
 
-// membersOf names the members that caused an error, in parentheses. If no member answered, these
-// are the unreachable ones with their reasons; otherwise the members that returned the error last.
-// It is empty for an error that does not come from etcd.
+// membersOf names the members that caused an error, in parentheses. If no member answered, it names
+// the unreachable members with their reasons. Otherwise it names the members whose last error this
+// is. The result is empty for an error that does not come from etcd.
 func (m *members) membersOf(err error) string {
 	if m == nil || err == nil {
 		return ""
@@ -162,7 +163,7 @@ func (m *members) membersOf(err error) string {
 	return " (" + strings.Join(found, "; ") + ")"
 }
 
-// reasons joins the reasons for which members were unreachable. It is empty if a member answered.
+// reasons joins the reasons why members were unreachable. The result is empty if a member answered.
 func (m *members) reasons(err error) string {
 	if m == nil || err == nil || !isNoAnswer(err) {
 		return ""
@@ -185,8 +186,8 @@ func isNoAnswer(err error) bool {
 		strings.Contains(err.Error(), context.DeadlineExceeded.Error())
 }
 
-// memberCredentials secures each connection with the certificates that the files have then. The
-// certificate of the member must name the endpoint.
+// memberCredentials secures each connection with the certificates that the files have when the
+// connection is made. The certificate of the member must name the endpoint.
 type memberCredentials struct {
 	credentials.TransportCredentials
 	members *members

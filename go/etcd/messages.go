@@ -25,7 +25,8 @@ type field struct {
 	bytes  []byte
 }
 
-// readFields calls handle for each field of a message in order. Groups are malformed.
+// readFields calls handle for each field of a message in order. A message with a group is
+// malformed.
 func readFields(message []byte, handle func(field) error) error {
 	for len(message) > 0 {
 		number, kind, size := protowire.ConsumeTag(message)

@@ -59,7 +59,7 @@ func runOnce(opts options, lines *logger) int {
 	default:
 		option, err = "--import", importRows(m, os.Stdin, os.Stdout)
 	}
-	// The reader of a listing may go before its end, as head does.
+	// The reader of a listing may close the pipe before the end, as head does.
 	if opts.isList && errors.Is(err, syscall.EPIPE) {
 		return exitOK
 	}

@@ -97,8 +97,8 @@ func readOptions(args []string, out io.Writer) (options, error) {
 	return opts, check(opts)
 }
 
-// setFilter gives --id and --name the meaning that they have with --list: those of a volume, as in
-// csid --list-tables. Without --plugin --name is the plugin's.
+// setFilter applies to --list, with which --id is the id of a volume. With --plugin, --name is the
+// name of a volume, as in csid --list-tables. Without --plugin, --name is the name of the plugin.
 func (opts *options) setFilter() error {
 	if !opts.isList {
 		return nil
@@ -174,8 +174,8 @@ func (opts options) isOneShot() bool {
 	return opts.isNew || opts.isExport || opts.isImport || opts.isList
 }
 
-// checkOneShot refuses a second one-shot flag, a serving flag next to a one-shot flag, and a flag
-// of --list without --list.
+// checkOneShot refuses a second one-shot flag, a serving flag next to a one-shot flag (except --id
+// with --list), and a flag of --list without --list.
 func checkOneShot(flags *flag.FlagSet) (err error) {
 	var once string
 	flags.Visit(func(f *flag.Flag) {

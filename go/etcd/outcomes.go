@@ -19,7 +19,7 @@ type refusal struct {
 	text string
 }
 
-// Error is the text of the reply.
+// Error returns the text of the reply.
 func (r refusal) Error() string { return r.text }
 
 // refuse returns a FAILED_PRECONDITION: a comparison failed, or this program does not lead.
@@ -75,14 +75,14 @@ func notMade(err error) (refusal, bool) {
 	return refusal{}, false
 }
 
-// A transaction is sent once. etcd's client would send it again in two cases. In the first the
-// error says "there is no connection available"; then it was not sent. In the second a server
-// answers that the deadline of the call is over, or that the call was canceled, before the client's
-// own deadline. There the client sends again whatever its policy for the call is: in
-// retry_interceptor.go of clientv3 3.4 the branch of isContextError does not ask isSafeRetry. etcd
-// may have made the first one, and the answer to the second would be a failed comparison. gRPC
-// itself sends again only calls that no server has seen: calls without a connection, and calls that
-// a server refused as unprocessed.
+// A transaction is sent once. etcd's client would send it again in two cases. In the first case the
+// error says "there is no connection available"; then the transaction was not sent. In the second
+// case a server answers, before the client's own deadline, that the deadline of the call is over or
+// that the call was canceled. The client then sends the transaction again, even if its policy
+// forbids that: for such errors retry_interceptor.go of clientv3 3.4 does not ask isSafeRetry. etcd
+// may have made the first transaction, and the second one would fail by a comparison. gRPC itself
+// sends again only calls that no server has processed: calls without a connection, and calls that a
+// server refused as unprocessed.
 
 // attempt is the result of the last attempt to send a transaction. It lives in the call's context.
 type attempt struct{ err error }

@@ -121,9 +121,9 @@ func startServer(t *testing.T, kv pb.KVServer, members int, options ...grpc.Dial
 	return client
 }
 
-// The program's own client sends a transaction to etcd once, unless etcd refused its token. On its
-// own, etcd's client sends it again if the server answers that it was canceled or that its deadline
-// is over.
+// The program's own client sends a transaction to etcd once, unless etcd refused its token. etcd's
+// client alone sends it again if the server answers that it was canceled or that its deadline is
+// over.
 func TestSentOnce(t *testing.T) {
 	cases := []struct {
 		name     string

@@ -54,9 +54,9 @@ func openRevisions(path string, acceptOlder bool) (*revisions, error) {
 	return r, nil
 }
 
-// text is the line of the file: the greatest revision, and after a space the lower one, if etcd had
-// one. So the refusal survives a restart, even after etcd's revision has risen again, as it does
-// with each put of the key of the lock.
+// text returns the line of the file: the greatest revision and, if etcd had a lower one, a space
+// and the lower revision. So the refusal survives a restart, even after etcd's revision has risen
+// again. It rises with each put of the key of the lock.
 func (r *revisions) text() string {
 	if r.older != nil {
 		return fmt.Sprintf("%d %d\n", r.greatest, r.lower)
@@ -90,8 +90,9 @@ func (r *revisions) least() int64 {
 	return r.greatest
 }
 
-// check refuses if etcd was at a lower revision than least, the value when the request was sent.
-// From then on it always refuses, since other writers may raise the revision again.
+// check returns a refusal if etcd was at a lower revision than least. least is the result of the
+// method least when the request was sent. After the first refusal check always refuses, since other
+// writers may raise the revision again.
 func (r *revisions) check(least, revision int64) error {
 	r.mutex.Lock()
 	defer r.mutex.Unlock()

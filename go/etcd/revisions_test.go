@@ -101,8 +101,8 @@ func TestAcceptOlder(t *testing.T) {
 	}
 }
 
-// That an older etcd was seen is written at once, not at the next regular time: the program may be
-// stopped before.
+// A lower revision of etcd is written to the file at once, not at the next regular time: the
+// program may be stopped before.
 func TestOlderIsWrittenAtOnce(t *testing.T) {
 	path := filepath.Join(t.TempDir(), "revision")
 	r, err := openRevisions(path, false)
@@ -235,7 +235,7 @@ func TestLinkIsNotFollowed(t *testing.T) {
 	if _, err := os.Lstat(path); err == nil {
 		t.Error("the link became the file")
 	}
-	// After the link is removed the file is written, even over a rest that a crash left.
+	// After the link is removed, the file is written, even if a crash left an unfinished file.
 	if err := os.Remove(path + ".new"); err != nil {
 		t.Fatal(err)
 	}

@@ -34,8 +34,8 @@ type attachment struct {
 
 // tableRow is a row of one of the tables.
 type tableRow interface {
-	// encoded is the value in etcd, message the message of the row, and field the number of the
-	// field of a page that has such a message.
+	// encoded returns the value in etcd. message returns the message of the row in a page, and
+	// field returns the number of the field that has this message.
 	encoded() []byte
 	message() []byte
 	field() protowire.Number
@@ -89,7 +89,7 @@ func appendJSONString(value []byte, text string) []byte {
 	return append(value, '"')
 }
 
-// Reasons for which a value is not the value of a row.
+// The reasons why a value is not the value of a row.
 var (
 	errNotText    = errors.New("its value is not UTF-8")
 	errRange      = errors.New("a number of its value is above 9223372036854775807")
@@ -101,7 +101,7 @@ var (
 )
 
 // readObject decodes a value. encoding/json also accepts duplicate members, other letter case and
-// any order of members. Callers find these by encoding the row again.
+// any order of members. Callers find such values when they encode the row again and compare.
 func readObject(value []byte, into interface{}, form error) error {
 	if !utf8.Valid(value) {
 		return errNotText
@@ -209,7 +209,7 @@ func skipField(fields []byte) (rest []byte, ok bool) {
 	return fields[1+size:], true
 }
 
-// replaceMutable returns params with other mutable parameters.
+// replaceMutable returns params with other mutable parameters. ok is false if params is malformed.
 func replaceMutable(params, mutable []byte) (replaced []byte, ok bool) {
 	parameters, _, ok := splitParams(params)
 	if !ok {

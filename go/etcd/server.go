@@ -13,7 +13,7 @@ import (
 	"fomaheti/frames"
 )
 
-// How long csid may take to read a reply: replyTime, or replacedTime once a newer connection waits.
+// How long csid may take to read a reply: replyTime, or replacedTime if a newer connection waits.
 const (
 	replyTime    = 10 * time.Second
 	replacedTime = time.Second
@@ -84,8 +84,8 @@ func (c *connection) wait() {
 	}
 }
 
-// serve answers calls until the connection ends. It starts after the last call of the connection
-// before.
+// serve answers calls until the connection ends. Before its first call, it waits for the last call
+// of the connection before.
 func (s *server) serve(c, before *connection) {
 	requests := frames.NewRequests(c)
 	for {
@@ -130,7 +130,7 @@ func (s *server) handle(c *connection, request frames.Request) (frames.Reply, er
 	if term == nil {
 		return refusalReply(reason), nil
 	}
-	// A page that is read ahead belongs to the order of the calls too.
+	// The term must not be used while a page is read ahead.
 	c.walk.waitAhead()
 	body, err := s.dispatch(c, term, request)
 	if term.isOver() {

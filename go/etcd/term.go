@@ -40,7 +40,7 @@ type term struct {
 // isOver reports whether this program may have lost the lock, by its own clock.
 func (t *term) isOver() bool { return t.ctx.Err() != nil || !t.lease.isAlive() }
 
-// errOver ends a call in whose course the term ended.
+// errOver is the error of a call during which the term ended.
 var errOver = errors.New("the lock was lost")
 
 // request returns the context of one request to etcd. A member without a leader refuses it at once,
@@ -183,10 +183,10 @@ func (t *term) endReason() error {
 }
 
 // confirmLead asks etcd whether this program leads. It returns an error if the program does not
-// lead, or if etcd does not answer within the timeout of a request. A nil error holds for some
-// moment after the question arrived. Neither the program's own clock nor a watch can confirm that:
-// if somebody deletes the key or revokes the lease by hand, another program may lead before a watch
-// reports it.
+// lead, or if etcd does not answer within the timeout of a request. If it returns nil, the program
+// led at some moment after confirmLead was called. Neither the program's own clock nor a watch can
+// confirm this: if somebody deletes the key or revokes the lease by hand, another program may lead
+// before a watch reports it.
 func (t *term) confirmLead(ctx context.Context) error {
 	ctx, cancel := context.WithTimeout(ctx, t.timeout)
 	defer cancel()
@@ -259,8 +259,8 @@ func (t *term) watchStream(seen int64) int64 {
 	}
 }
 
-// lockHeld compares that the key of the lock is as last put: this program leads, and etcd has made
-// no later fence.
+// lockHeld returns the comparison that the key of the lock is as last put. If it holds, this
+// program leads, and etcd has made no later fence.
 func (t *term) lockHeld() clientv3.Cmp {
 	return clientv3.Compare(clientv3.ModRevision(t.key), "=", t.put)
 }

@@ -172,8 +172,8 @@ func outcome(err error) (codes.Code, string) {
 	return codes.OK, ""
 }
 
-// After the answer that etcd has no space, a change is refused only if the key that it puts was
-// read and is not newer than revision 100, the greatest one seen before. A deleted key leaves no
+// If etcd answers that it has no space, a change is refused only if a read shows that its key is
+// not newer than revision 100. This is the greatest revision seen before. A deleted key leaves no
 // trace that would show whether the change was made.
 func TestNoSpaceOutcome(t *testing.T) {
 	puts, deletes := &attach{attachment{7, "n", nil, false}}, &detach{7, "n"}
@@ -240,7 +240,8 @@ func TestFence(t *testing.T) {
 	}
 }
 
-// A revision below that of an earlier answer ends the term. A change with this revision gets no OK.
+// A revision below the revision of an earlier answer ends the term. A change with this revision
+// gets no OK.
 func TestOlder(t *testing.T) {
 	server := &scriptedServer{answers: []answer{{succeeded: true, revision: 110}, {succeeded: true, revision: 109}}}
 	term := server.newTerm(t)
@@ -316,14 +317,14 @@ func TestSentBefore(t *testing.T) {
 	}
 }
 
-// newPlainTerm returns a term over a client, which leads by the key k.
+// newPlainTerm returns a term over a client. The term leads with the key k.
 func newPlainTerm(client *clientv3.Client, revisions *revisions) *term {
 	return &term{client: client, keys: sampleKeys, lease: &lease{client: client, length: time.Minute},
 		revisions: revisions, timeout: 5 * time.Second, ctx: context.Background(), end: func() {}, key: "k"}
 }
 
-// leaderServer is an etcd that counts requests, and those that a member without a leader would not
-// refuse at once.
+// leaderServer is an etcd that counts requests. waiting is the number of requests that a member
+// without a leader would not refuse at once.
 type leaderServer struct {
 	pb.KVServer
 	pb.LeaseServer

@@ -77,7 +77,8 @@ func newWalk(ctx context.Context, t *term) (*walk, []byte, error) {
 	return w, nil, nil
 }
 
-// unknownKeys reads the gaps between the keys of rows and of the lock. A key there is unknown.
+// unknownKeys returns the reads of the gaps between the keys of rows and of the lock. A key in a
+// gap is unknown.
 func (k keys) unknownKeys() (reads []clientv3.Op) {
 	begin := k.all()
 	for _, known := range []struct{ begin, end string }{
@@ -112,7 +113,7 @@ func (w *walk) deliver(ctx context.Context, p page) ([]byte, error) {
 	return p.body, p.err
 }
 
-// waitAhead returns once no page is being read.
+// waitAhead returns when no page is being read.
 func (w *walk) waitAhead() {
 	if w != nil && w.ahead != nil {
 		w.ahead <- <-w.ahead
@@ -172,8 +173,8 @@ func (w *walk) appendRows(ctx context.Context, page []byte) (longer []byte, isFu
 	return page, false, nil
 }
 
-// nextLimit returns the limit of the next read. The last read had that many rows, at least one, and
-// that many bytes.
+// nextLimit returns the limit of the next read, in rows. rows and bytes are the size of the last
+// read, which had at least one row.
 func nextLimit(rows, bytes int64) int64 {
 	limit := targetPageBytes / (bytes/rows + 1)
 	if limit > 8*rows {

@@ -147,7 +147,7 @@ func TestPages(t *testing.T) {
 	}
 }
 
-// newWalkTerm returns a term whose rows the server has.
+// newWalkTerm returns a term over the rows of the server.
 func newWalkTerm(t *testing.T, server *rowServer) *term {
 	t.Helper()
 	return &term{client: startServer(t, server, 1), keys: sampleKeys, lease: &lease{}, revisions: &revisions{},
@@ -179,7 +179,7 @@ func readPages(t *testing.T, leading *term) (rows []byte) {
 }
 
 // Only the token of the last page is accepted, over the same connection and in the same term. After
-// a page that could not be read no token is, and no read waits for a page.
+// a page that could not be read, no token is accepted, and no read waits for a page.
 func TestTokens(t *testing.T) {
 	server := &rowServer{rows: map[string]string{}}
 	for n := uint64(1); n <= 8; n++ {

@@ -13,29 +13,29 @@ import (
 	"fomaheti/frames"
 )
 
-// A call is sent after others if csid should come to it within this time. Until it is sent its
-// caller can give it up, and a csid that takes longer gains nothing by a further call.
+// promptTime is the longest time that a sent call should wait in csid for the calls before it. A
+// call that would wait longer is sent later, so that its caller can still give it up.
 const promptTime = 2 * time.Millisecond
 
-// With so many calls on their way a new call waits for the next reply. Then one write sends all
-// that came in the meantime, and csid still has a call to go on with.
+// enoughSent is the number of calls on their way from which on a new call waits for the next reply.
+// One write then sends all calls that came in the meantime, while csid works on another call.
 const enoughSent = 2
 
-// backend hands calls to csid over one connection, since csid serves one connection at a time.
+// backend sends calls to csid over one connection, since csid serves one connection at a time.
 type backend struct {
 	path string
-	// How long a reply may take once its caller gave the call up.
+	// How long csid may take for a reply after the caller has given the call up.
 	late time.Duration
 	// Guards the fields from here to usual.
 	mutex sync.Mutex
-	// The calls that are not sent, in the order in which they will be.
+	// The calls that are not sent yet, in the order in which they will be sent.
 	waiting list.List
 	// The connection to csid, or nil.
 	kept         *connection
 	isConnecting bool
 	pace         pace
 	promptTime   time.Duration
-	// How long csid took for a call, as a moving average.
+	// The moving average of the time that csid takes for a call.
 	usual time.Duration
 	// When the last reply came.
 	life life
@@ -55,38 +55,39 @@ func newBackend(path string, late time.Duration) *backend {
 	}
 }
 
-// stage is where a call is.
+// stage says how far a call has come.
 type stage int
 
 const (
-	// Among the calls that wait.
+	// The call waits to be sent.
 	isWaiting stage = iota
-	// Among the calls on their way.
+	// The call is sent or being sent, and has no reply yet.
 	isSent
-	// Among the calls of a connection that are sent again over the next one.
+	// csid refused the call since its store was down. The call will be sent again over the next
+	// connection.
 	isRefused
-	// It has its outcome, or its caller gave it up.
+	// The call has its outcome, or its caller has given it up.
 	isOver
 )
 
-// call is a call until it has its outcome.
+// call is a call of a client, from its beginning until it has its outcome.
 type call struct {
 	ctx     context.Context
 	path    string
 	message []byte
-	// The bytes of its frame.
+	// The length of its frame in bytes.
 	size  int
 	stage stage
-	// Its place among the calls that wait.
+	// Its element in the list of waiting calls.
 	place *list.Element
-	// Whether it has let other calls go first, and whether it has been sent again. It does each
-	// once at most.
+	// Whether the call has let other calls go first, and whether it has been sent again. Each
+	// happens at most once.
 	hasYielded, isRepeated bool
-	// Gets the outcome. It has room for it, so that nothing waits for the caller.
+	// Receives the outcome. The channel has room for it, so sending never waits for the caller.
 	done chan outcome
 }
 
-// outcome is the reply to a call, or why there is none.
+// outcome is the reply to a call, or the reason why the call has no reply.
 type outcome struct {
 	answer frames.Reply
 	err    error
@@ -100,15 +101,15 @@ func (c *call) finish(answer frames.Reply, err error) {
 	}
 }
 
-// isHasty reports whether the deadline of a call is nearer than its reply should be if so many
-// calls are before it.
+// isHasty reports whether the deadline of a call is likely to pass before its reply comes. The
+// estimate is that csid takes the usual time for this call and for each of the calls before it.
 func (c *call) isHasty(before int, usual time.Duration) bool {
 	deadline, isLimited := c.ctx.Deadline()
 	return isLimited && time.Until(deadline) <= time.Duration(before+1)*usual
 }
 
-// ended is why a caller waits no longer. A deadline counts from its time on, also where the context
-// learns of it a little later.
+// ended returns why a caller no longer waits, or nil if it still waits. A deadline that has passed
+// counts, even if the context does not report it yet.
 func ended(ctx context.Context) error {
 	if err := ctx.Err(); err != nil {
 		return err
@@ -119,8 +120,8 @@ func ended(ctx context.Context) error {
 	return nil
 }
 
-// call sends a call to csid, and returns the reply. It never sends a call twice that csid may have
-// done: after an error csid has done the call or not, and the caller must repeat it.
+// call sends a call to csid and returns its reply. It never sends a call again that csid may have
+// carried out. After an error, csid has carried out the call or not, and the caller must repeat it.
 func (b *backend) call(ctx context.Context, path string, message []byte) (frames.Reply, error) {
 	if err := ended(ctx); err != nil {
 		return frames.Reply{}, err
@@ -140,7 +141,9 @@ func (b *backend) call(ctx context.Context, path string, message []byte) (frames
 	return got.answer, got.err
 }
 
-// begin sends a call, or lets it wait. A call alone is sent at once.
+// begin sends a call at once, or adds it to the calls that wait. A call waits if other calls wait,
+// if enoughSent calls are on their way, if there is no connection, or if mayBeSent forbids to send
+// it.
 func (b *backend) begin(c *call) {
 	b.mutex.Lock()
 	defer b.mutex.Unlock()
@@ -155,7 +158,8 @@ func (b *backend) begin(c *call) {
 	}
 }
 
-// mayBeSent reports whether a call may be sent now over the connection.
+// mayBeSent reports whether a call may be sent now over the connection. If other calls are on their
+// way, the connection must also have room for it, and csid should begin with it within promptTime.
 func (b *backend) mayBeSent(c *call) bool {
 	conn := b.kept
 	if len(conn.sent) == 0 {
@@ -164,9 +168,10 @@ func (b *backend) mayBeSent(c *call) bool {
 	return conn.hasRoom(c) && time.Since(conn.begun)+time.Duration(len(conn.sent))*b.usual < b.promptTime
 }
 
-// giveUp forgets a call, and reports whether it had no outcome. A call that is not sent never will
-// be. One that csid may have a part of is carried to its end, and its reply dropped, so the
-// connection stays as clean as after any other call.
+// giveUp forgets a call whose caller no longer waits, and reports whether the call had no outcome.
+// A call that waits is never sent. A call on its way is taken back if it is the last one and none
+// of its bytes are written. Otherwise all of it is sent and its reply is dropped, so that the
+// connection can be used for further calls.
 func (b *backend) giveUp(c *call) bool {
 	b.mutex.Lock()
 	defer b.mutex.Unlock()
@@ -186,7 +191,8 @@ func (b *backend) giveUp(c *call) bool {
 	return true
 }
 
-// limit ends a connection unless the reply to its first call, which was given up, comes in time.
+// limit ends a connection if no reply to its first call comes within b.late. The caller has given
+// this call up.
 func (b *backend) limit(conn *connection) {
 	first := conn.sent[0]
 	conn.late = time.AfterFunc(b.late, func() {
@@ -198,7 +204,8 @@ func (b *backend) limit(conn *connection) {
 	})
 }
 
-// send sends the calls that wait, as many as may be sent now. Without a connection it has one made.
+// send sends as many of the waiting calls as may be sent now. If calls wait and there is no
+// connection, it begins to connect.
 func (b *backend) send() {
 	for b.kept != nil && b.load(b.kept) {
 		b.write(b.kept)
@@ -209,10 +216,10 @@ func (b *backend) send() {
 	}
 }
 
-// load moves calls that wait to those on their way, until one may not be sent now or has a message
-// that is not copied. It reports whether it moved any. A call whose deadline is nearer than its
-// reply should be lets the others go first, once: with more callers than there is time for, most
-// calls that are sent would otherwise be given up before their replies.
+// load moves waiting calls to the calls on their way, and reports whether it moved any. It stops at
+// a call that may not be sent now, and after a call whose message is too long to be copied. A call
+// whose deadline is likely to pass before its reply lets the other calls go first, once. Otherwise,
+// with too many callers, most calls would be sent and then given up before their replies.
 func (b *backend) load(conn *connection) (any bool) {
 	for b.waiting.Len() > 0 && conn.message == nil {
 		c := b.waiting.Front().Value.(*call)
@@ -236,9 +243,9 @@ func (b *backend) load(conn *connection) (any bool) {
 	return any
 }
 
-// write writes the frames of the calls on their way. If the socket does not take all of them, which
-// happens with long messages, a goroutine writes the rest of the first one that is not written
-// whole. The calls after that one wait again.
+// write writes the frames of the calls on their way. If the socket does not take all bytes, which
+// happens with long messages, a goroutine writes the rest of the frame that was interrupted. The
+// calls after this frame wait again.
 func (b *backend) write(conn *connection) {
 	isDone := true
 	err := conn.raw.Write(func(file uintptr) bool {
@@ -246,7 +253,8 @@ func (b *backend) write(conn *connection) {
 		return true
 	})
 	if err != nil {
-		// The connection has ended and was closed. lose is yet to be called, with the reason.
+		// The connection is closed already. The goroutine that reads will call lose with the
+		// reason.
 		conn.end(nil)
 	}
 	for conn.isUnwritten(conn.last()) && (conn.isBroken || conn.unwritten() > conn.last().size) {
@@ -258,7 +266,8 @@ func (b *backend) write(conn *connection) {
 	}
 }
 
-// writeRest writes what is left as the socket takes it, and then sends the calls that wait.
+// writeRest writes the remaining bytes as the socket takes them, and then sends the calls that
+// wait.
 func (b *backend) writeRest(conn *connection) {
 	conn.raw.Write(func(file uintptr) bool {
 		b.mutex.Lock()
@@ -273,7 +282,7 @@ func (b *backend) writeRest(conn *connection) {
 	}
 }
 
-// putBack lets a call wait before all others, unless its caller gave it up.
+// putBack puts a call before all calls that wait, unless its caller has given it up.
 func (b *backend) putBack(c *call) {
 	if c.stage != isOver {
 		c.stage = isWaiting
@@ -303,7 +312,7 @@ func (b *backend) connect() {
 	b.send()
 }
 
-// dropEnded drops the calls that wait whose callers wait no longer.
+// dropEnded ends the waiting calls whose callers no longer wait.
 func (b *backend) dropEnded() {
 	for place := b.waiting.Front(); place != nil; {
 		c := place.Value.(*call)
@@ -315,8 +324,8 @@ func (b *backend) dropEnded() {
 	}
 }
 
-// fail answers all calls that wait with the reason why a connection could not be made, or ended
-// without any reply, so that each of them need not find out for itself.
+// fail ends all waiting calls with the reason why a connection could not be made, or why it ended
+// without any reply. Otherwise each of these calls would make its own attempt to connect.
 func (b *backend) fail(why error) {
 	b.pace.failed()
 	for b.waiting.Len() > 0 {
@@ -324,7 +333,8 @@ func (b *backend) fail(why error) {
 	}
 }
 
-// read gives the calls of a connection their replies until it ends, and closes it.
+// read reads the replies of a connection and gives them to their calls. When the connection ends,
+// read closes it.
 func (b *backend) read(conn *connection) {
 	for {
 		answer, err := conn.next()
@@ -339,8 +349,8 @@ func (b *backend) read(conn *connection) {
 	}
 }
 
-// answered gives the first call on its way its reply. An error says why the connection is to be
-// closed. Calls that wait are sent after the last of the replies that came together.
+// answered gives a reply to the first call on its way. If it returns an error, the connection must
+// be closed. Waiting calls are sent after the last of the replies that came together.
 func (b *backend) answered(conn *connection, answer frames.Reply) error {
 	b.mutex.Lock()
 	defer b.mutex.Unlock()
@@ -372,7 +382,7 @@ func (b *backend) answered(conn *connection, answer frames.Reply) error {
 	return nil
 }
 
-// served records that a reply came.
+// served records that a reply came, and how long csid took for it.
 func (b *backend) served(conn *connection) {
 	now := time.Now()
 	b.usual += (now.Sub(conn.begun) - b.usual) / 8
@@ -382,9 +392,9 @@ func (b *backend) served(conn *connection) {
 	b.pace.served()
 }
 
-// lose drops a connection that is closed, after reading a reply failed with err. The calls that
-// csid cannot have done are sent again over the next connection, before all that wait. The others
-// have no reply.
+// lose forgets a closed connection, after reading a reply failed with err. Calls that csid cannot
+// have carried out are sent again, once, over the next connection, before the calls that wait. The
+// other calls of the connection end without a reply.
 func (b *backend) lose(conn *connection, err error) {
 	b.mutex.Lock()
 	defer b.mutex.Unlock()

@@ -17,12 +17,13 @@ import (
 	"fomaheti/frames"
 )
 
-// The frame of a call to /a/b without a message has so many bytes.
+// The length in bytes of the frame of a call to /a/b without a message.
 const shortCall = 2 + 4 + 1 + 4
 
 var notFound = []byte{5, 0, 0, 0, 0, 0, 0, 0}
 
-// csid serves connections in order, each by a function, and counts them.
+// csid plays a csid. It serves connections one after the other with the function serve, and counts
+// them.
 func csid(t *testing.T, serve func(net.Conn)) (path string, connections *int32) {
 	t.Helper()
 	listener, path := listening(t)
@@ -55,8 +56,8 @@ func wants(t *testing.T, b *backend, code codes.Code) {
 	}
 }
 
-// Nor is one that closes when the call has come, and leaves it unread, as csid closes a connection
-// that was idle. Where it was read it may have been done, and is not sent again.
+// A call that csid leaves unread, because it closes an idle connection, is sent again. A call that
+// csid has read may have been carried out, and is not sent again.
 func TestUnreadCallIsSentAnew(t *testing.T) {
 	reads := int32(0)
 	path, connections := csid(t, func(conn net.Conn) {
@@ -79,8 +80,8 @@ func TestUnreadCallIsSentAnew(t *testing.T) {
 	}
 }
 
-// A late reply, also one that comes in parts, is no reply of the next call, and its connection
-// stays.
+// The late reply to a call that was given up is not the reply to the next call, even if it comes in
+// parts. The connection stays open.
 func TestLateReply(t *testing.T) {
 	gone := make(chan struct{}, 1)
 	path, connections := csid(t, func(conn net.Conn) {
@@ -113,8 +114,8 @@ func TestLateReply(t *testing.T) {
 	}
 }
 
-// However many call, few connections are made to a csid that closes each; all calls are answered
-// with it, and none waits for the others.
+// If csid closes each connection, the front makes few connections, however many calls there are.
+// Each failed connection ends all waiting calls, so no call waits for others.
 func TestFewConnections(t *testing.T) {
 	path, connections := csid(t, func(net.Conn) {})
 	b := newBackend(path, time.Minute)
@@ -139,7 +140,7 @@ func TestFewConnections(t *testing.T) {
 	for caller := 0; caller < 50; caller++ {
 		<-ended
 	}
-	// At 0, 0.2, 0.6, 1.4 and 2.4 seconds.
+	// Connections begin at 0, 0.2, 0.6, 1.4 and 2.4 seconds.
 	if made := atomic.LoadInt32(connections); made < 3 || made > 6 {
 		t.Errorf("%d connections", made)
 	}
@@ -149,8 +150,8 @@ func TestFewConnections(t *testing.T) {
 	t.Logf("%d connections, %d calls", atomic.LoadInt32(connections), told)
 }
 
-// With more callers than there is time for, those who give up leave the others at least half of the
-// calls of patient callers.
+// With too many callers for csid, callers with short deadlines get at least half as many replies as
+// patient callers.
 func TestShortDeadlines(t *testing.T) {
 	path, connections := csid(t, func(conn net.Conn) {
 		for isCalled(conn) {
@@ -178,8 +179,7 @@ func TestShortDeadlines(t *testing.T) {
 		all.Wait()
 		return served
 	}
-	// Another program that runs in the meantime can take the time of either second, so one of three
-	// tries must do.
+	// Another program can slow down either measurement, so the test has three tries.
 	patient, hasty := int32(0), int32(0)
 	for try := 0; try < 3 && (try == 0 || hasty < patient/2); try++ {
 		patient, hasty = rate(time.Minute), rate(12*time.Millisecond)
@@ -193,14 +193,14 @@ func TestShortDeadlines(t *testing.T) {
 	t.Logf("%d calls of hasty callers, %d of patient ones", hasty, patient)
 }
 
-// kept is the connection of a backend; nil where it has none.
+// kept returns the connection of a backend, or nil if it has none.
 func kept(b *backend) *connection {
 	b.mutex.Lock()
 	defer b.mutex.Unlock()
 	return b.kept
 }
 
-// count is how many calls of a backend wait, and how many are on their way.
+// count returns how many calls of a backend wait, and how many are on their way.
 func count(b *backend) (waiting, sent int) {
 	b.mutex.Lock()
 	defer b.mutex.Unlock()
@@ -210,7 +210,7 @@ func count(b *backend) (waiting, sent int) {
 	return b.waiting.Len(), sent
 }
 
-// awaits waits until something is so.
+// awaits waits until isSo returns true, for at most 10 seconds.
 func awaits(t *testing.T, what string, isSo func() bool) {
 	t.Helper()
 	for begin := time.Now(); !isSo(); time.Sleep(time.Millisecond) {
@@ -220,13 +220,14 @@ func awaits(t *testing.T, what string, isSo func() bool) {
 	}
 }
 
-// underWay waits until so many calls of a backend are on their way.
+// underWay waits until this number of calls of a backend are on their way.
 func underWay(t *testing.T, b *backend, calls int) {
 	t.Helper()
 	awaits(t, "calls on their way", func() bool { _, sent := count(b); return sent == calls })
 }
 
-// hold keeps the calls of a backend without a connection waiting until it is let go.
+// hold keeps a backend without a connection from connecting, so that its calls wait, until letGo is
+// called.
 func hold(b *backend) (letGo func()) {
 	b.mutex.Lock()
 	defer b.mutex.Unlock()
@@ -239,7 +240,7 @@ func hold(b *backend) (letGo func()) {
 	}
 }
 
-// An old connection over which nothing can be sent is no reason to refuse a call.
+// If a call cannot be sent over an old connection, it is sent over a new one.
 func TestUnsentCallIsSentAnew(t *testing.T) {
 	path, _ := csid(t, func(conn net.Conn) {
 		if isCalled(conn) {
@@ -256,7 +257,8 @@ func TestUnsentCallIsSentAnew(t *testing.T) {
 	}
 }
 
-// A context that ended makes no connection, also where it ends in the pause before one.
+// A call whose context has ended makes no connection, even if the context ends in the pause before
+// a connection.
 func TestEndedContext(t *testing.T) {
 	path, connections := csid(t, answering(notFound))
 	b := newBackend(path, time.Minute)
@@ -277,7 +279,7 @@ func TestEndedContext(t *testing.T) {
 	}
 }
 
-// Nor is a call sent whose context ended, also where a connection is there.
+// A call whose context has ended is not sent over an open connection.
 func TestEndedContextOverAConnection(t *testing.T) {
 	path, _ := csid(t, answering(notFound))
 	b := newBackend(path, time.Minute)
@@ -293,8 +295,8 @@ func TestEndedContextOverAConnection(t *testing.T) {
 	}
 }
 
-// A call that was given up holds up the next ones for so long at most, and then a new connection is
-// made.
+// A call that was given up delays the next calls for the time of --late at most. Then a new
+// connection is made.
 func TestLateReplyThatNeverComes(t *testing.T) {
 	isSilent := true
 	path, connections := csid(t, func(conn net.Conn) {
@@ -319,7 +321,7 @@ func TestLateReplyThatNeverComes(t *testing.T) {
 	}
 }
 
-// So does one that was given up while csid read nothing of it.
+// The same limit applies if csid read nothing of the call that was given up.
 func TestCallThatIsNeverRead(t *testing.T) {
 	listener, path := listening(t)
 	unread := make(chan net.Conn, 1)
@@ -356,8 +358,8 @@ func stuff(conn *connection) {
 	conn.socket.SetWriteDeadline(time.Time{})
 }
 
-// A call of which csid can have nothing leaves nothing on the connection when it is given up, and
-// the next one goes out as soon as the socket takes it.
+// If no byte of a call was sent, the call leaves nothing on the connection when it is given up. The
+// next call is sent as soon as the socket takes it.
 func TestCallThatIsNeverSent(t *testing.T) {
 	let := make(chan struct{})
 	path, _ := csid(t, func(conn net.Conn) {
@@ -388,8 +390,8 @@ func TestCallThatIsNeverSent(t *testing.T) {
 	wants(t, b, codes.NotFound)
 }
 
-// The pause grows as well with each connection that cannot be made, and the calls that wait are
-// answered with that failure.
+// The pause also grows with each connection that cannot be made. The waiting calls end with the
+// error of this connection.
 func TestConnectionsThatCannotBeMade(t *testing.T) {
 	_, path := listening(t)
 	b := newBackend(path+".absent", time.Minute)
@@ -400,7 +402,7 @@ func TestConnectionsThatCannotBeMade(t *testing.T) {
 	}
 }
 
-// A late reply shows as any other that csid lives.
+// A late reply is a sign of life of csid, like any other reply.
 func TestLateReplyIsASignOfLife(t *testing.T) {
 	gone := make(chan struct{})
 	ctx, cancel := context.WithCancel(context.Background())
@@ -424,7 +426,7 @@ func TestLateReplyIsASignOfLife(t *testing.T) {
 	}
 }
 
-// A call is sent where nobody else waits, however near its deadline is.
+// If no other call waits, a call is sent even if its deadline is near.
 func TestLoneCallWithAShortDeadline(t *testing.T) {
 	path, _ := csid(t, answering(notFound))
 	b := newBackend(path, time.Minute)
@@ -432,7 +434,7 @@ func TestLoneCallWithAShortDeadline(t *testing.T) {
 	wants(t, b, codes.NotFound)
 }
 
-// A reply ends what a failure began: the pause is the least one again.
+// After a reply the pause is the least one again.
 func TestReplyAfterAFailure(t *testing.T) {
 	path, _ := csid(t, answering([]byte{13, 0, 0, 0, 0, 0, 0, 0}))
 	b := newBackend(path, time.Minute)
@@ -443,8 +445,8 @@ func TestReplyAfterAFailure(t *testing.T) {
 	}
 }
 
-// A connection that gave a reply, and is closed unanswered later, costs the call that was on its
-// way, and neither a pause nor the calls that wait.
+// If a connection ends after it gave a reply, only the call on its way is lost. The waiting calls
+// are sent over a new connection, without a longer pause.
 func TestConnectionThatEndsAfterAReply(t *testing.T) {
 	let := make(chan struct{})
 	path, _ := csid(t, func(conn net.Conn) {
@@ -477,7 +479,7 @@ func TestConnectionThatEndsAfterAReply(t *testing.T) {
 	}
 }
 
-// After status 13 the next call has another connection.
+// After status 13 the next call goes over another connection.
 func TestRefusedChange(t *testing.T) {
 	path, connections := csid(t, func(conn net.Conn) {
 		if isCalled(conn) {
@@ -495,8 +497,8 @@ func TestRefusedChange(t *testing.T) {
 	}
 }
 
-// The pause after a failure is twice the last one, up to the greatest, and after a reply the least.
-// It begins with a connection.
+// The pause doubles after a failure, up to the greatest pause. After a reply it is the least pause.
+// A pause counts from the beginning of a connection.
 func TestPauses(t *testing.T) {
 	p := pace{pause: leastPause}
 	if got := p.left(); got > 0 {

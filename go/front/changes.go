@@ -8,14 +8,16 @@ import (
 	"google.golang.org/protobuf/encoding/protowire"
 )
 
-// What csid takes of a name or an id, in bytes; a longer one is refused, and cut in the log.
+// The greatest lengths in bytes of a name or volume id, and of a node id. csid refuses longer ones,
+// and the log cuts them.
 const (
 	maxNameBytes = 128
 	maxNodeBytes = 256
 )
 
-// change has the parts of a call that the log shows if the call changes volumes: the name or the
-// id of the volume, and the node. No other field of a message is read: it may have secrets.
+// change has the parts of a call that the log shows if the call changes volumes: the name or the id
+// of the volume, and the node. Other fields of the message are not read, since they may hold
+// secrets.
 type change struct {
 	Name   string `json:"name,omitempty"`
 	Volume string `json:"volume,omitempty"`
@@ -24,15 +26,15 @@ type change struct {
 	*sender
 }
 
-// sender is a process that called: its user, and its number, which is 0 where the front's container
-// does not see it.
+// sender is the process that made a call: its user id and its process id. The process id is 0 if
+// the front's container cannot see the process.
 type sender struct {
 	UID uint32 `json:"uid"`
 	PID int32  `json:"pid"`
 }
 
-// changes has the numbers of the logged fields of each request (docs/PROTOCOL.md, "Messages"); 0
-// for an absent field.
+// changes has the field numbers of the logged fields of each request that changes volumes
+// (docs/PROTOCOL.md, "Messages"). The number is 0 if the request has no such field.
 var changes = map[string]struct{ name, volume, node protowire.Number }{
 	createVolume:                           {name: 1},
 	deleteVolume:                           {volume: 1},
@@ -41,8 +43,8 @@ var changes = map[string]struct{ name, volume, node protowire.Number }{
 	controller + "ControllerModifyVolume":  {volume: 1},
 }
 
-// changeOf is the change that a call asks for; nil where it asks for none. A volume that was
-// created has its id from the body of the reply.
+// changeOf returns the change that a call asks for, or nil if the method changes no volumes. The id
+// of a created volume comes from the body of the reply.
 func changeOf(path string, message, body []byte) *change {
 	fields, is := changes[path]
 	if !is {
@@ -54,7 +56,7 @@ func changeOf(path string, message, body []byte) *change {
 		Node:   textOf(message, fields.node, maxNodeBytes),
 	}
 	if path == createVolume {
-		// Field 1 is the volume, and field 2 of that its id.
+		// Field 1 is the volume, and field 2 of the volume is its id.
 		asked.Volume = textOf(fieldOf(body, 1), 2, maxNameBytes)
 	}
 	return asked
@@ -73,7 +75,7 @@ func fieldOf(message []byte, number protowire.Number) []byte {
 	return bytes
 }
 
-// textOf returns the text of a field, cut to a most of bytes.
+// textOf returns the first most bytes of a field as text.
 func textOf(message []byte, number protowire.Number, most int) string {
 	bytes := fieldOf(message, number)
 	if len(bytes) > most {
@@ -82,7 +84,8 @@ func textOf(message []byte, number protowire.Number, most int) string {
 	return string(bytes)
 }
 
-// words is how a line of text ends that is about a change.
+// words returns the end of a text line about a change, such as " volume=vol-1 node=n1". It is empty
+// for a nil change.
 func (c *change) words() string {
 	if c == nil {
 		return ""
@@ -99,7 +102,8 @@ func (c *change) words() string {
 	return line.String()
 }
 
-// shownWord is a text as one word of a line.
+// shownWord returns a text as one word of a line. It quotes a text with spaces, quotes, control
+// characters or bytes outside ASCII.
 func shownWord(text string) string {
 	for i := 0; i < len(text); i++ {
 		if text[i] <= ' ' || text[i] >= 0x7f || text[i] == '"' {

@@ -37,7 +37,7 @@ func TestChangeOf(t *testing.T) {
 	}
 }
 
-// Texts that csid refuses for their length are cut, and those that would not be a word are quoted.
+// Texts that are too long for csid are cut. Texts that would not be one word are quoted.
 func TestShownChange(t *testing.T) {
 	long := strings.Repeat("a", 300)
 	message := append(bytesField(1, []byte(long)), bytesField(2, []byte(long))...)

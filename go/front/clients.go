@@ -10,24 +10,25 @@ import (
 	"google.golang.org/grpc/peer"
 )
 
-// How many connections are open at once on the socket for the orchestrator, on the control socket,
-// and at --metrics.
+// The greatest numbers of open connections: on the socket for the orchestrator, on the control
+// socket, and at --metrics.
 const (
 	maxClients  = 256
 	maxControls = 16
 	maxWatchers = 64
 )
 
-// How long a connection may be without a call before it can be closed for another one: a client
-// that has connected needs a moment to send its call. How often it is looked whether there is room.
+// quietTime is how long a connection without a call cannot be closed for another one: a new client
+// needs a moment to send its first call. roomPause is the pause between two attempts to make room
+// for a connection.
 const (
 	quietTime = 100 * time.Millisecond
 	roomPause = 10 * time.Millisecond
 )
 
-// limitedListener keeps a limited number of connections open. For a further one it closes the
-// connection that has had no call for the longest time; while each connection has a call, the new
-// one waits.
+// limitedListener accepts connections, and keeps at most limit of them open. To make room for a new
+// one, it closes the connection that has had no call for the longest time. If each connection has a
+// call, the new one waits.
 type limitedListener struct {
 	net.Listener
 	limit int
@@ -35,7 +36,7 @@ type limitedListener struct {
 	report func()
 	closed chan struct{}
 	close  sync.Once
-	// The rest is shared with the connections.
+	// The mutex guards the fields below, which the connections use too.
 	mutex sync.Mutex
 	open  int
 	// The open connections without a call, the longest idle one first.
@@ -47,7 +48,7 @@ func limitListener(listener net.Listener, limit int, report func()) *limitedList
 		quiet: list.New()}
 }
 
-// Accept is for servers that take any connection; it gives a *clientConn.
+// Accept returns the next connection, a *clientConn, as soon as there is room for it.
 func (l *limitedListener) Accept() (net.Conn, error) {
 	client, err := l.take()
 	if err != nil {
@@ -80,7 +81,8 @@ func (l *limitedListener) Close() error {
 	return l.Listener.Close()
 }
 
-// admit counts a connection, if there is room for it or another one can be closed for it.
+// admit counts a connection as open, and reports whether there is room for it. To make room, it
+// closes a connection without a call.
 func (l *limitedListener) admit(client *clientConn) bool {
 	l.mutex.Lock()
 	defer l.mutex.Unlock()
@@ -92,7 +94,8 @@ func (l *limitedListener) admit(client *clientConn) bool {
 	return true
 }
 
-// closeQuiet closes the connection that has had no call for the longest time, unless that is short.
+// closeQuiet closes the connection that has had no call for the longest time, if this time is at
+// least quietTime. It reports whether it closed a connection.
 func (l *limitedListener) closeQuiet() bool {
 	first := l.quiet.Front()
 	if first == nil {
@@ -108,19 +111,20 @@ func (l *limitedListener) closeQuiet() bool {
 	return true
 }
 
-// clientConn is the connection of a client. A nil one belongs to no listener, and counts nothing.
+// clientConn is the connection of a client. The methods begin and end do nothing if it is nil.
 type clientConn struct {
 	net.Conn
 	listener *limitedListener
-	// How many calls of it run. While none does it has a place among the quiet connections, since
-	// then.
+	// The number of running calls of this connection. If it is 0, place is the connection's element
+	// in the list of quiet connections, and since is the time at which it became quiet.
 	calls      int
 	place      *list.Element
 	since      time.Time
 	isReleased bool
 }
 
-// begin says that a call of the connection has come whole, and end that it was answered.
+// begin records that a call of the connection has been received completely, and end that it was
+// answered.
 func (c *clientConn) begin() {
 	if c == nil {
 		return
@@ -142,7 +146,8 @@ func (c *clientConn) end() {
 	}
 }
 
-// joinQuiet and leaveQuiet move a connection to the end of the quiet ones, and away from them.
+// joinQuiet adds a connection to the end of the list of quiet connections, and leaveQuiet removes
+// it from the list.
 func (c *clientConn) joinQuiet() {
 	c.since = time.Now()
 	c.place = c.listener.quiet.PushBack(c)
@@ -155,7 +160,7 @@ func (c *clientConn) leaveQuiet() {
 	}
 }
 
-// Close closes the connection, and gives its place back. It may be called more than once.
+// Close closes the connection, which makes room for another one. It may be called more than once.
 func (c *clientConn) Close() error {
 	err := c.Conn.Close()
 	c.listener.mutex.Lock()
@@ -172,7 +177,7 @@ func (c *clientConn) release() {
 	}
 }
 
-// RemoteAddr is the address of the client; clientOf gets the connection from it.
+// RemoteAddr returns the address of the client. clientOf gets the connection from it.
 func (c *clientConn) RemoteAddr() net.Addr { return clientAddr{c.Conn.RemoteAddr(), c} }
 
 type clientAddr struct {
@@ -180,7 +185,7 @@ type clientAddr struct {
 	client *clientConn
 }
 
-// clientOf is the connection that a call of gRPC came over.
+// clientOf returns the connection over which a gRPC call came, or nil if it is not a clientConn.
 func clientOf(ctx context.Context) *clientConn {
 	if from, is := peer.FromContext(ctx); is {
 		if address, is := from.Addr.(clientAddr); is {
@@ -190,7 +195,7 @@ func clientOf(ctx context.Context) *clientConn {
 	return nil
 }
 
-// grpcListener takes the connections of gRPC.
+// grpcListener accepts connections for the gRPC server, as grpcConn.
 type grpcListener struct{ *limitedListener }
 
 func (l grpcListener) Accept() (net.Conn, error) {
@@ -201,10 +206,10 @@ func (l grpcListener) Accept() (net.Conn, error) {
 	return grpcConn{client}, nil
 }
 
-// grpcConn is a connection of gRPC whose writes do not fail: a failing write closes the connection
-// instead, and the reader of gRPC sees its end. grpc-go 1.33 writes in a goroutine of its own. If
-// this goroutine ends first, the reader waits for it for hours, with some 100 KiB, once 50 replies
-// to PING or SETTINGS are to be written.
+// grpcConn is a gRPC connection whose writes return no error. A write that fails closes the
+// connection instead, so gRPC's reader sees the end of the connection. grpc-go 1.33 writes in a
+// separate goroutine. If this goroutine ended first while 50 replies to PING or SETTINGS were due,
+// the reader would wait for hours and keep about 100 KiB.
 type grpcConn struct{ *clientConn }
 
 func (c grpcConn) Write(bytes []byte) (int, error) {

@@ -10,14 +10,14 @@ import (
 	"time"
 )
 
-// open is how many connections of a listener are open.
+// open returns the number of open connections of a listener.
 func open(l *limitedListener) int {
 	l.mutex.Lock()
 	defer l.mutex.Unlock()
 	return l.open
 }
 
-// limited is a listener with a limit of open connections, its address, and the number of
+// limited returns a listener with a limit of open connections, its path, and the number of
 // connections that it has closed for others.
 func limited(t *testing.T, limit int) (*limitedListener, string, *int32) {
 	t.Helper()
@@ -28,7 +28,7 @@ func limited(t *testing.T, limit int) (*limitedListener, string, *int32) {
 	return l, path, &closed
 }
 
-// joins makes a connection to a limited listener, and gives both of its ends.
+// joins makes a connection to a limited listener, and returns both of its ends.
 func joins(t *testing.T, l *limitedListener, path string) (peer net.Conn, client *clientConn) {
 	t.Helper()
 	peer = dial(t, path)
@@ -39,8 +39,8 @@ func joins(t *testing.T, l *limitedListener, path string) (peer net.Conn, client
 	return peer, client
 }
 
-// isClosed reports whether the other end of a connection was closed; otherwise it has a byte to
-// read.
+// isClosed reports whether the listener has closed a connection. It writes a byte at the listener's
+// end, which peer reads if the connection is open.
 func isClosed(t *testing.T, peer net.Conn, client *clientConn) bool {
 	t.Helper()
 	client.Conn.Write([]byte{7})
@@ -52,8 +52,7 @@ func isClosed(t *testing.T, peer net.Conn, client *clientConn) bool {
 	return err != nil
 }
 
-// Where as many connections are open as can be, the next one closes the connection that has had no
-// call for the longest time.
+// At the limit, a new connection closes the connection that has had no call for the longest time.
 func TestConnectionThatMakesRoom(t *testing.T) {
 	rows := map[string]struct {
 		act    func(clients []*clientConn)
@@ -91,7 +90,7 @@ func TestConnectionThatMakesRoom(t *testing.T) {
 	}
 }
 
-// While each connection has a call, or had one just now, one more waits for room.
+// If each connection has a call, or had one just before, a new connection waits for room.
 func TestConnectionThatWaitsForRoom(t *testing.T) {
 	l, path, _ := limited(t, 1)
 	_, client := joins(t, l, path)
@@ -117,7 +116,7 @@ func TestConnectionThatWaitsForRoom(t *testing.T) {
 	}
 }
 
-// The end of a listener ends the waiting of a connection for room.
+// Closing a listener ends the wait of a connection for room.
 func TestEndWhileAConnectionWaitsForRoom(t *testing.T) {
 	l, path, _ := limited(t, 1)
 	_, client := joins(t, l, path)
@@ -143,7 +142,7 @@ func TestEndWhileAConnectionWaitsForRoom(t *testing.T) {
 	}
 }
 
-// A write of gRPC that fails closes the connection, and does not fail.
+// If a write of gRPC fails, it closes the connection, and returns no error.
 func TestWriteThatFails(t *testing.T) {
 	l, path, _ := limited(t, 1)
 	peer := dial(t, path)

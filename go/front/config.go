@@ -16,8 +16,8 @@ import (
 const getConfiguration = "/fomaheti.v1.Front/GetConfiguration"
 
 // configuration is the part of the configuration of csid that the front uses (docs/OPERATING.md,
-// "Configuration"): the room of pools and nodes. csid judges the file; only metrics and the answer
-// to getConfiguration are made from the values read here.
+// "Configuration"): the sizes of pools and the limits of nodes. csid itself checks the file. The
+// front uses the values only for metrics and for the answer to getConfiguration.
 type configuration struct {
 	Pools []pool `toml:"pool" json:"pools"`
 	Nodes []node `toml:"node" json:"nodes"`
@@ -34,9 +34,9 @@ type node struct {
 	MaxVolumes int64  `toml:"max_volumes" json:"maxVolumes"`
 }
 
-// readConfiguration reads a configuration, and refuses it if no metrics can be made from it.
+// readConfiguration reads the configuration in a file. It fails if no metrics can be made from it.
 func readConfiguration(path string) (*configuration, error) {
-	// In JSON a missing list is an empty one.
+	// In JSON a missing list must be [], and not null.
 	config := &configuration{Pools: []pool{}, Nodes: []node{}}
 	if _, err := toml.DecodeFile(path, config); err != nil {
 		return nil, err
@@ -44,7 +44,8 @@ func readConfiguration(path string) (*configuration, error) {
 	return config, config.check()
 }
 
-// check refuses names that would be no series, or the same series twice.
+// check returns an error if there is no pool, a name is missing or occurs twice, or a size or limit
+// is not positive. The metrics have one series for each name.
 func (c *configuration) check() error {
 	if len(c.Pools) == 0 {
 		return errors.New("there is no pool")
@@ -66,8 +67,8 @@ func (c *configuration) check() error {
 	return nil
 }
 
-// reply answers getConfiguration. Without --config the call is refused, as csid refuses a path that
-// it does not know.
+// reply returns the answer to getConfiguration. Without --config, c is nil and the call is refused
+// with UNIMPLEMENTED, as csid refuses an unknown path.
 func (c *configuration) reply() frames.Reply {
 	if c == nil {
 		return frames.Reply{Code: codes.Unimplemented, Text: "the front has no --config"}

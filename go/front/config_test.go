@@ -10,7 +10,7 @@ import (
 	"google.golang.org/grpc/codes"
 )
 
-// fileOf is the path of a file with a text.
+// fileOf makes a file with a text, and returns its path.
 func fileOf(t *testing.T, text string) string {
 	t.Helper()
 	path := filepath.Join(t.TempDir(), "config.toml")
@@ -20,8 +20,8 @@ func fileOf(t *testing.T, text string) string {
 	return path
 }
 
-// The sample of docs/OPERATING.md, whose pools and nodes are known, and keys that csid has and the
-// front does not need.
+// The pools and nodes of the sample in docs/OPERATING.md are read. Keys of csid that the front does
+// not need are skipped.
 func TestConfiguration(t *testing.T) {
 	_, sample, _ := strings.Cut(page(t, "docs/OPERATING.md"), "\n```\n")
 	sample, _, _ = strings.Cut(sample, "```\n")
@@ -41,7 +41,7 @@ func TestConfiguration(t *testing.T) {
 	}
 }
 
-// The configuration as csictl reads it.
+// The JSON of a configuration, which csictl reads.
 func TestConfigurationInJSON(t *testing.T) {
 	const pool, node = "[[pool]]\nname = \"p\"\nbytes = 1048576\n", "[[node]]\nid = \"n 1\"\nmax_volumes = 2\n"
 	rows := []struct{ text, want string }{

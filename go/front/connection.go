@@ -12,8 +12,8 @@ import (
 	"fomaheti/frames"
 )
 
-// The most calls that may be on their way over a connection, and the most bytes of their frames
-// together. A longer frame goes alone.
+// The greatest number of calls on their way over a connection, and the greatest total length of
+// their frames in bytes. A longer frame is sent alone.
 const (
 	maxSent      = 16
 	maxSentBytes = 64 << 10
@@ -23,40 +23,43 @@ const (
 // calls.
 const maxCopiedBytes = 4 << 10
 
-// errUnanswered is the end of a connection where a reply should begin. csid says on its own
-// standard error why it closes one.
+// errUnanswered is the error if csid closes the connection before a reply begins. csid logs the
+// reason on its own standard error.
 var errUnanswered = errors.New("the connection was closed unanswered: see the log of csid")
 
-// Why the front closes a connection itself: csid sent a reply to no call, or makes no more changes
-// over it.
+// The reasons why the front closes a connection itself. errUnasked: csid sent a reply without a
+// call. errSpoiled: csid refused a change, and makes no more changes over the connection.
 var (
 	errUnasked = errors.New("a reply came to no call")
 	errSpoiled = errors.New("a change was refused")
 )
 
 // connection is a connection to csid, which answers its calls in order. One goroutine reads the
-// replies and closes it. The mutex of the backend guards everything but the replies.
+// replies and closes the connection. The mutex of the backend guards all fields except replies and
+// sentCount.
 type connection struct {
 	socket  *net.UnixConn
 	raw     syscall.RawConn
 	replies *frames.Replies
-	// The calls on their way, in order, and the bytes of their frames. The count of the calls is
-	// also there for the goroutine that reads, which takes no mutex for it.
+	// The calls on their way, in order, and the total length of their frames in bytes. sentCount is
+	// the number of these calls. The goroutine that reads uses it without the mutex.
 	sent      []*call
 	sentBytes int
 	sentCount atomic.Int32
 	// Calls that are sent again over the next connection, in order.
 	again []*call
-	// The unwritten bytes of the calls on their way: the buffer from written on, and then a message
-	// that is not copied. While isWriting, a goroutine waits for the socket to take them, and no
-	// further call is sent.
+	// The unwritten bytes of the calls on their way: buffer from the index written on, and then
+	// message, which is a message that is too long to be copied. While isWriting is true, a
+	// goroutine writes these bytes and no further call is sent.
 	buffer    []byte
 	written   int
 	message   []byte
 	isWriting bool
-	// Since when csid has had nothing to answer before the first call on its way.
+	// When csid could begin with the first call on its way: when this call was sent, or when the
+	// reply to the call before it came.
 	begun time.Time
-	// Runs while the caller of the first call has given up, and ends the connection.
+	// The timer that ends the connection. It runs if the caller of the first call on its way has
+	// given the call up.
 	late *time.Timer
 	// Whether a call was sent, whether a reply came, whether csid makes no more changes (after a
 	// status 13), and whether nothing more can be written.
@@ -65,8 +68,8 @@ type connection struct {
 	why error
 }
 
-// connect connects to the socket of csid. It does not wait: where csid has no room for a
-// connection, it fails.
+// connect connects to the socket of csid. It does not wait. If csid has no room for a connection,
+// it fails.
 func connect(path string) (*connection, error) {
 	socket, err := net.DialUnix("unix", nil, &net.UnixAddr{Name: path, Net: "unix"})
 	if err != nil {
@@ -91,8 +94,8 @@ func (c *connection) next() (frames.Reply, error) {
 	return c.replies.Next()
 }
 
-// end has the reading goroutine close the connection. What csid wrote before is still read. Its
-// next write fails, so it looks at no further call.
+// end shuts the connection down, after which the goroutine that reads closes it. Bytes that csid
+// wrote before can still be read. The next write of csid fails, so csid looks at no further call.
 func (c *connection) end(why error) {
 	c.isBroken = true
 	if c.why == nil {
@@ -101,11 +104,12 @@ func (c *connection) end(why error) {
 	c.raw.Control(func(file uintptr) { syscall.Shutdown(int(file), syscall.SHUT_RDWR) })
 }
 
-// isOpen reports whether a call can be sent.
+// isOpen reports whether a call can be sent: the connection works, csid still makes changes over
+// it, and no goroutine writes the rest of a frame.
 func (c *connection) isOpen() bool { return !c.isSpoiled && !c.isBroken && !c.isWriting }
 
-// hasRoom reports whether a call can be sent after those on their way. Before the first reply of a
-// connection it cannot: csid may be closing each connection unanswered.
+// hasRoom reports whether a call can be sent after the calls on their way. Before the first reply
+// of a connection it returns false, since csid may close each connection without a reply.
 func (c *connection) hasRoom(one *call) bool {
 	return c.isOpen() && c.hasServed && len(c.sent) < maxSent && c.sentBytes+one.size <= maxSentBytes
 }
@@ -137,7 +141,8 @@ func (c *connection) takeFirst() *call {
 	return one
 }
 
-// takeBack removes the last call on its way, if no byte of it was written.
+// takeBack removes the last call on its way and returns it. None of its bytes may have been
+// written.
 func (c *connection) takeBack() *call {
 	one := c.last()
 	c.dropLast(one.size)
@@ -146,7 +151,8 @@ func (c *connection) takeBack() *call {
 	return one
 }
 
-// dropLast empties the last place of the calls on their way, after one of this size has gone.
+// dropLast makes the list of calls on their way one shorter, after a call with a frame of this size
+// was removed.
 func (c *connection) dropLast(size int) {
 	last := len(c.sent) - 1
 	c.sent[last] = nil
@@ -155,7 +161,7 @@ func (c *connection) dropLast(size int) {
 	c.sentCount.Store(int32(last))
 }
 
-// last is the last call on its way, or nil.
+// last returns the last call on its way, or nil.
 func (c *connection) last() *call {
 	if len(c.sent) == 0 {
 		return nil
@@ -168,7 +174,7 @@ func (c *connection) isUnwritten(one *call) bool {
 	return one != nil && one == c.last() && c.unwritten() >= one.size
 }
 
-// unwritten is the number of bytes that are left to write.
+// unwritten returns the number of bytes that are not written yet.
 func (c *connection) unwritten() int { return len(c.buffer) - c.written + len(c.message) }
 
 func (c *connection) stopLate() {
@@ -178,8 +184,8 @@ func (c *connection) stopLate() {
 	}
 }
 
-// write writes as much as the socket takes without waiting. It reports whether it need not be
-// called again: everything is written, or nothing more can be.
+// write writes as many bytes as the socket takes without waiting. It returns true if everything is
+// written, or if nothing more can be written. Otherwise it must be called again.
 func (c *connection) write(file uintptr) bool {
 	for c.unwritten() > 0 {
 		isBuffer, part := true, c.buffer[c.written:]
@@ -192,7 +198,7 @@ func (c *connection) write(file uintptr) bool {
 		case err == syscall.EAGAIN:
 			return false
 		case frames.IsClosing(err):
-			// The read that fails gives the reason.
+			// The goroutine that reads fails too, and has the reason.
 			c.end(nil)
 			return true
 		case err != nil:
@@ -208,11 +214,12 @@ func (c *connection) write(file uintptr) bool {
 	return true
 }
 
-// isUndone reports whether csid cannot have done the call at a place among those on their way,
-// after reading a reply failed with err. csid writes each reply before it looks at the next call,
-// so only the first call may be done. That one cannot be if it is alone and csid did not read all
-// of it: a part was not written, or the socket was reset, which it is if its peer closes it with
-// bytes unread.
+// isUndone reports whether csid cannot have carried out the call at this place among the calls on
+// their way, after reading a reply failed with err. csid writes each reply before it looks at the
+// next call, so it can have carried out only the first call. It has not carried out the first call
+// either if that is the only one and csid did not read all of it. This is so if a part was not
+// written, or if the socket was reset: a socket is reset if its peer closes it before reading all
+// bytes.
 func (c *connection) isUndone(place int, err error) bool {
 	if !frames.IsClosing(err) && err != io.ErrUnexpectedEOF {
 		return false
@@ -223,7 +230,7 @@ func (c *connection) isUndone(place int, err error) bool {
 	return len(c.sent) == 1 && (c.unwritten() > 0 || errors.Is(err, syscall.ECONNRESET))
 }
 
-// reason is why calls have no reply, after reading one failed with err.
+// reason returns why calls have no reply, after reading a reply failed with err.
 func (c *connection) reason(err error) error {
 	switch {
 	case c.why != nil:

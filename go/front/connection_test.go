@@ -11,7 +11,7 @@ import (
 
 var fromHex = fixtures.FromHex
 
-// listening is a socket of a csid, and its path.
+// listening returns a listener for a csid, and the path of its socket.
 func listening(t *testing.T) (net.Listener, string) {
 	t.Helper()
 	path := filepath.Join(t.TempDir(), "csid.sock")
@@ -23,7 +23,7 @@ func listening(t *testing.T) (net.Listener, string) {
 	return listener, path
 }
 
-// awaitBytes waits until `count` bytes of a call have come, and reads none of them.
+// awaitBytes waits until count bytes of a call have come, and reads none of them.
 func awaitBytes(conn net.Conn, count int) {
 	raw, err := conn.(*net.UnixConn).SyscallConn()
 	if err != nil {

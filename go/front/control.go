@@ -16,8 +16,8 @@ import (
 	"fomaheti/sockets"
 )
 
-// The bounds of the control socket: how long a peer may take until its next call is whole, and for
-// taking a reply.
+// The time limits of the control socket: for the peer to send its next call completely, and for the
+// peer to take a reply.
 const (
 	nextCallTime = time.Minute
 	takeTime     = 10 * time.Second
@@ -26,15 +26,15 @@ const (
 // The pause after a connection that could not be accepted.
 const acceptPause = time.Second
 
-// How often it is looked whether a peer that waits for a reply is still there.
+// The time between two checks that a peer still waits for its reply.
 const peerLookTime = 100 * time.Millisecond
 
-// viaControl is the word of log lines about calls that came over the control socket.
+// viaControl is the name of the control socket in log lines.
 const viaControl = "control"
 
-// control answers calls in the envelope of docs/PROTOCOL.md over a Unix socket, as csid does:
-// users of csictl need not wait until the front leaves csid's one connection. Each connection has
-// one call at a time, which waits like a gRPC call.
+// control answers calls in the envelope of docs/PROTOCOL.md over a Unix socket, as csid does. With
+// it, users of csictl need not wait until the front leaves its connection to csid. Each connection
+// has one call at a time, which waits like a gRPC call.
 type control struct {
 	handler *handler
 	// The answer to getConfiguration; nil without --config.
@@ -46,7 +46,7 @@ type control struct {
 	isEnded       bool
 }
 
-// startControl begins to answer at --control, if there is one.
+// startControl begins to serve the control socket. It returns nil without --control.
 func startControl(h *handler, asked options) (*control, error) {
 	if asked.control == "" {
 		return nil, nil
@@ -69,7 +69,7 @@ func (c *control) serve() {
 			return
 		}
 		if err != nil {
-			// The process has no file left, say.
+			// For example, the process may have no free file descriptor.
 			fmt.Fprintf(saying{c.handler.log, viaControl}, "taking a connection of --control: %v", err)
 			time.Sleep(acceptPause)
 		} else if !c.add(conn) {
@@ -103,14 +103,14 @@ func (c *control) remove(conn *clientConn) {
 	c.served.Done()
 }
 
-// close removes the socket. A nil control has none.
+// close closes and removes the socket. It does nothing if c is nil.
 func (c *control) close() {
 	if c != nil {
 		c.listener.Close()
 	}
 }
 
-// stop takes no further call. Those that run go on.
+// stop makes the control socket take no further calls. Running calls go on.
 func (c *control) stop() {
 	if c == nil {
 		return
@@ -132,7 +132,8 @@ func (c *control) wait() {
 }
 
 // answerAll answers the calls of a connection, in order, until the connection ends or a call gets
-// no reply. A fault of the envelope is answered as csid answers it, and does not reach csid.
+// no reply. A malformed frame is answered as csid answers it, without csid, and ends the
+// connection.
 func (c *control) answerAll(conn *clientConn) {
 	requests := frames.NewRequests(conn)
 	for c.awaits(conn) {
@@ -151,7 +152,7 @@ func (c *control) answerAll(conn *clientConn) {
 	}
 }
 
-// carriesOut carries a call out, and reports whether its peer has the reply.
+// carriesOut carries a call out, and reports whether the reply was written.
 func (c *control) carriesOut(conn *clientConn, request frames.Request) bool {
 	conn.begin()
 	defer conn.end()
@@ -162,7 +163,8 @@ func (c *control) carriesOut(conn *clientConn, request frames.Request) bool {
 	return err == nil && c.reply(conn, answer) == nil
 }
 
-// awaits sets the time of the next call, unless the front takes no further one.
+// awaits sets the time limit for the next call. It returns false if the front takes no further
+// calls.
 func (c *control) awaits(conn *clientConn) bool {
 	c.mutex.Lock()
 	defer c.mutex.Unlock()
@@ -175,8 +177,8 @@ func (c *control) reply(conn *clientConn, answer frames.Reply) error {
 	return err
 }
 
-// answer has a call done by csid. Without a reply of csid the caller gets none, as if csid itself
-// had left the call unanswered.
+// answer sends a call to csid, and logs and counts it. If csid gives no reply, the caller gets no
+// reply either.
 func (c *control) answer(conn *clientConn, request frames.Request) (frames.Reply, error) {
 	begin := time.Now()
 	ctx, cancel := context.WithCancel(context.Background())
@@ -214,8 +216,8 @@ func senderOf(conn *net.UnixConn) *sender {
 	return &sender{credentials.Uid, credentials.Pid}
 }
 
-// cancelGone cancels a context once the peer of a connection has closed it. A peer that has closed
-// its sending half alone waits for the reply.
+// cancelGone cancels a context as soon as the peer has closed its connection. A peer that has
+// closed only its sending half still waits for the reply.
 func cancelGone(ctx context.Context, cancel func(), conn *net.UnixConn) {
 	looks := time.NewTicker(peerLookTime)
 	defer looks.Stop()
@@ -232,7 +234,7 @@ func cancelGone(ctx context.Context, cancel func(), conn *net.UnixConn) {
 	}
 }
 
-// isGone reports whether a peer has closed its end: a send of no byte then fails.
+// isGone reports whether a peer has closed its end of a connection. Sending zero bytes then fails.
 func isGone(conn *net.UnixConn) bool {
 	raw, err := conn.SyscallConn()
 	if err != nil {

@@ -20,7 +20,7 @@ import (
 	"fomaheti/frames"
 )
 
-// written is what a log has so far.
+// written collects the lines of a log.
 type written struct {
 	mutex sync.Mutex
 	text  bytes.Buffer
@@ -38,7 +38,7 @@ func (w *written) String() string {
 	return w.text.String()
 }
 
-// controlled is a control socket before a csid, and what its log has.
+// controlled starts a control socket for a csid. It returns the path of the socket, and the log.
 func controlled(t *testing.T, csid string) (*control, string, *written) {
 	t.Helper()
 	asked := options{csid: csid, late: time.Minute, waiting: 1, control: filepath.Join(t.TempDir(), "control.sock")}
@@ -64,8 +64,8 @@ func dial(t *testing.T, path string) *net.UnixConn {
 
 const shortFrame = "0004 2f612f62 00 00000000"
 
-// Calls of one connection are answered in order with the bytes of csid, also on a connection whose
-// peer ends its writing at once.
+// Calls over one connection are answered in order with the bytes of csid, even if the peer ends its
+// writing at once.
 func TestControlCalls(t *testing.T) {
 	path, _ := csid(t, answering(fromHex(t, "09 0002 4142 00 00000000")))
 	c, socket, log := controlled(t, path)
@@ -84,7 +84,8 @@ func TestControlCalls(t *testing.T) {
 	}
 }
 
-// The front answers for its configuration itself, next to calls for csid, and logs nothing of it.
+// The front answers GetConfiguration without csid, and does not log the call. Other calls go to
+// csid.
 func TestConfigurationOverControl(t *testing.T) {
 	path, _ := csid(t, answering(notFound))
 	c, socket, log := controlled(t, path)
@@ -114,7 +115,7 @@ func TestConfigurationOverControl(t *testing.T) {
 	}
 }
 
-// A connection that has ended leaves its place to another one.
+// A connection that has ended makes room for another one.
 func TestManyControlConnections(t *testing.T) {
 	path, _ := csid(t, answering(notFound))
 	_, socket, _ := controlled(t, path)
@@ -128,7 +129,8 @@ func TestManyControlConnections(t *testing.T) {
 	}
 }
 
-// Peers without a whole call make room for a peer with one; peers whose calls run do not.
+// A peer without a complete call is closed to make room for another peer. A peer whose call runs is
+// not.
 func TestSilentControlPeers(t *testing.T) {
 	path, let := holding(t)
 	c, socket, _ := controlled(t, path)
@@ -141,7 +143,7 @@ func TestSilentControlPeers(t *testing.T) {
 		conn.Write(fromHex(t, shortFrame)[:i%2])
 		silent = append(silent, conn)
 	}
-	// The first one is closed for the last one: a reset where its byte was not read yet.
+	// The first silent peer was closed for the last one. It sees a reset if its byte was not read.
 	if got, err := io.ReadAll(silent[0]); err != nil && !frames.IsClosing(err) || len(got) > 0 {
 		t.Errorf("%x, %v", got, err)
 	}
@@ -152,7 +154,7 @@ func TestSilentControlPeers(t *testing.T) {
 	}
 }
 
-// A malformed envelope is refused as csid refuses it, and csid sees nothing of it.
+// A malformed frame is refused as csid refuses it, and csid sees nothing of it.
 func TestMalformedControlCall(t *testing.T) {
 	path, connections := csid(t, answering(notFound))
 	_, socket, log := controlled(t, path)
@@ -177,7 +179,7 @@ func TestMalformedControlCall(t *testing.T) {
 	}
 }
 
-// A call that csid does not answer is not answered.
+// A call to which csid gives no reply gets no reply from the front.
 func TestUnansweredControlCall(t *testing.T) {
 	path, _ := csid(t, func(net.Conn) {})
 	_, socket, log := controlled(t, path)
@@ -192,7 +194,8 @@ func TestUnansweredControlCall(t *testing.T) {
 	}
 }
 
-// A call whose peer goes while it waits is never sent; one whose peer waits for the reply alone is.
+// If the peer closes its connection while its call waits, the call is not sent. If the peer closes
+// only its sending half, the call is sent.
 func TestControlPeerThatGoes(t *testing.T) {
 	paths := make(chan string, 9)
 	path, _ := csid(t, func(conn net.Conn) {
@@ -226,8 +229,8 @@ func TestControlPeerThatGoes(t *testing.T) {
 	}
 }
 
-// Calls of the control socket and of gRPC are on their way together. If the connection ends, the
-// first of them gets no reply, and the other one gets its reply over the next connection.
+// Calls of the control socket and of gRPC can be on their way together. If the connection ends, the
+// first of them gets no reply, and the second gets its reply over the next connection.
 func TestControlCallOnTheWay(t *testing.T) {
 	for _, isControlFirst := range []bool{true, false} {
 		path, connections := concurrentCsid(t, func(conn net.Conn, number int32) {
@@ -277,7 +280,7 @@ func TestControlCallOnTheWay(t *testing.T) {
 	}
 }
 
-// holding is a csid that answers its first call once it is let.
+// holding starts a csid that answers its first call when the channel is closed.
 func holding(t *testing.T) (string, chan struct{}) {
 	t.Helper()
 	let := make(chan struct{})
@@ -301,7 +304,7 @@ func TestEndOfControl(t *testing.T) {
 	underWay(t, c.handler.backend, 1)
 	awaits(t, "two connections", func() bool { return open(c.listener) == 2 })
 	c.stop()
-	// The connection is reset where the byte was not read yet.
+	// The connection is reset if its byte was not read.
 	if got, err := io.ReadAll(idle); err != nil && !frames.IsClosing(err) || len(got) > 0 {
 		t.Errorf("of a part of a call: %x, %v", got, err)
 	}
@@ -315,8 +318,8 @@ func TestEndOfControl(t *testing.T) {
 	}
 }
 
-// A peer that keeps its connection after its reply is not waited for at the end, and a connection
-// that is accepted then is closed.
+// At the end the front does not wait for a peer that keeps its connection after its reply. It
+// closes a connection that it accepts then.
 func TestControlConnectionsAtTheEnd(t *testing.T) {
 	path, let := holding(t)
 	c, socket, _ := controlled(t, path)

@@ -10,7 +10,7 @@ import (
 	"google.golang.org/grpc/codes"
 )
 
-// reportedSeries has the labels of each series that a front reports.
+// reportedSeries returns the labels of each series that a front reports, by the name of the series.
 func reportedSeries(t *testing.T) map[string]map[string]bool {
 	t.Helper()
 	h := replying(t, "00 0000 00 00000005 0880808007")
@@ -56,8 +56,8 @@ var (
 	matchers = regexp.MustCompile(`(\w+)(=|!=|=~|!~)\\?"([^"\\]*)\\?"`)
 )
 
-// The dashboard, the alerts and the page name only metrics that exist, and the labels that these
-// have.
+// The dashboard, the alerts and the page name only metrics that exist, and only labels that these
+// metrics have.
 func TestMetricsThatAreNamed(t *testing.T) {
 	names := reportedSeries(t)
 	codeNames := map[string]bool{}
@@ -94,7 +94,7 @@ func TestMetricsThatAreNamed(t *testing.T) {
 	}
 }
 
-// isMethod reports whether a matcher of the label `method` is of methods that the front counts.
+// isMethod reports whether a matcher of the label `method` matches a method that the front counts.
 func isMethod(operator, value string) bool {
 	if strings.HasSuffix(operator, "~") {
 		pattern := regexp.MustCompile("^(?:" + value + ")$")
@@ -110,7 +110,7 @@ func isMethod(operator, value string) bool {
 	return methodLabel(value) == value || nodeMethods[value]
 }
 
-// The page has a row for each metric of the front's own, and each alert has one.
+// docs/DEPLOY.md has a row for each metric of the front itself, and for each alert.
 func TestPageOfMetrics(t *testing.T) {
 	text := page(t, "docs/DEPLOY.md")
 	for name := range reportedSeries(t) {

@@ -15,34 +15,35 @@ import (
 	"fomaheti/frames"
 )
 
-// How long a client may take until its connection speaks HTTP/2; it holds up a graceful end for no
-// longer.
+// greetingTime is how long a client may take to begin HTTP/2 on a new connection. Such a client
+// delays a graceful end for at most this time.
 const greetingTime = 5 * time.Second
 
-// How many calls one client may have at once.
+// maxWaitingCalls is the greatest number of calls that run at once over one connection of a client.
 const maxWaitingCalls = 256
 
-// What a call of a client may have sent before its message is received, and what all of them may
-// have on their way. They are the least that gRPC has, and stay so.
+// The flow-control windows of gRPC in bytes, for one call and for all calls of a client: the client
+// may send this much before the front reads it. Since both are set, gRPC does not enlarge them.
 const (
 	callWindow   = 64 << 10
 	clientWindow = 1 << 20
 )
 
-// The number of goroutines kept for calls. A new one must grow its stack for each call; further
-// calls get a new one all the same.
+// callWorkers is the number of goroutines that are kept for calls. They save the time in which a
+// new goroutine grows its stack. Further calls get new goroutines.
 const callWorkers = 32
 
-// What the names and values of the headers of one call may have, with 32 bytes for each (RFC 9113,
-// section 6.5.2). A call keeps them until it ends.
+// maxHeaderBytes is the greatest size of the headers of one call: their names, their values, and 32
+// bytes for each header (RFC 9113, section 6.5.2). A call keeps its headers in memory until it
+// ends.
 const maxHeaderBytes = 16 << 10
 
-// anyPings lets clients send PING at any time. For too many of them grpc-go 1.33 would end its
-// writer first (grpcConn). A MinTime of 0 would mean five minutes.
+// anyPings lets clients send PING at any time. With a limit, grpc-go 1.33 would end its writer
+// before its reader after too many PINGs (see grpcConn). A MinTime of 0 would mean five minutes.
 var anyPings = keepalive.EnforcementPolicy{MinTime: -1, PermitWithoutStream: true}
 
-// bytesCodec hands messages on as they are: Name is for the client of a node plugin, String for the
-// server.
+// bytesCodec passes messages on unchanged, as bytes. The client of a node plugin calls Name, and
+// the server calls String.
 type bytesCodec struct{}
 
 func (bytesCodec) Marshal(v interface{}) ([]byte, error)      { return *v.(*[]byte), nil }
@@ -50,28 +51,29 @@ func (bytesCodec) Unmarshal(data []byte, v interface{}) error { *v.(*[]byte) = d
 func (bytesCodec) String() string                             { return "bytes" }
 func (bytesCodec) Name() string                               { return "proto" }
 
-// The names of those who answer, in the texts of refusals.
+// The names of the two programs that answer calls, for the texts of refusals.
 const (
 	csidName       = "csid"
 	nodePluginName = "node plugin"
 )
 
-// handler answers every unary method by csid, except the Node service if there is a node plugin,
-// and Check of the health service with --health.
+// handler answers calls of every unary method with the replies of csid, with two exceptions. The
+// Node service is answered by the node plugin, if there is one. Check of the health service is
+// answered by the front, with --health.
 type handler struct {
 	backend *backend
-	// Answers the Node service; nil without --node.
+	// The client of the node plugin, which answers the Node service; nil without --node.
 	node     *nodePlugin
 	messages *messages
 	metrics  *metrics
 	log      *logger
-	// Has a value for each check of health over HTTP that asks csid.
+	// Holds a value for each health check over HTTP that runs.
 	checks chan struct{}
 	// Whether the health service of gRPC is answered, and whether each change is logged.
 	hasHealth  bool
 	logChanges bool
-	// Whether the front has --standby, and whether it waits for csid. The reason is reported when
-	// the wait begins, so refusals in the meantime have no lines.
+	// Whether the front has --standby, and whether it waits for csid. While it waits, it does not
+	// log refusals of its own calls, since it has logged why it waits.
 	standsBy  bool
 	isWaiting atomic.Bool
 }
@@ -106,7 +108,8 @@ func newServer(h *handler) *grpc.Server {
 	)
 }
 
-// handle answers one call of a client, counts it, and says why where it is refused.
+// handle answers one call of a client, counts it, and logs it if it was refused or is a change to
+// be logged.
 func (h *handler) handle(_ interface{}, stream grpc.ServerStream) error {
 	begin := time.Now()
 	path, _ := grpc.MethodFromServerStream(stream)
@@ -115,8 +118,8 @@ func (h *handler) handle(_ interface{}, stream grpc.ServerStream) error {
 	return err
 }
 
-// ended counts a call of a socket (the empty name means gRPC), and logs it if it was refused, or
-// if it was a change and changes are logged.
+// ended counts a call, and logs it if it was refused or if asked is not nil. socket is the name of
+// the socket, and is empty for gRPC.
 func (h *handler) ended(socket, path string, asked *change, why *status.Status, took time.Duration) {
 	h.metrics.ended(path, why.Code(), took)
 	if why.Code() != codes.OK {
@@ -126,7 +129,8 @@ func (h *handler) ended(socket, path string, asked *change, why *status.Status, 
 	}
 }
 
-// answer answers a call of a client, and gives the change that it asks for, where that is logged.
+// answer answers a call of a client. It also returns the change that the call asks for, or nil if
+// no change is to be logged.
 func (h *handler) answer(path string, stream grpc.ServerStream) (*change, error) {
 	if !frames.IsPath(path) {
 		return nil, status.Error(codes.Unimplemented, "unknown method")
@@ -153,8 +157,9 @@ func (h *handler) answer(path string, stream grpc.ServerStream) (*change, error)
 	return asked, stream.SendMsg(&body)
 }
 
-// answerByNode answers a call of the Node service. Its message is not counted with those that wait
-// for csid: maxNodeCalls bounds them, so that a plugin that hangs takes no room from csid.
+// answerByNode answers a call of the Node service. Its message does not count as one of those that
+// wait for csid. maxNodeCalls bounds such messages, so a plugin that hangs takes no room from the
+// calls of csid.
 func (h *handler) answerByNode(path string, stream grpc.ServerStream) error {
 	message, err := h.messages.read(stream)
 	if err != nil {
@@ -170,7 +175,8 @@ func (h *handler) answerByNode(path string, stream grpc.ServerStream) error {
 	return stream.SendMsg(&body)
 }
 
-// loggedChange is the change that a call asks for, where each is logged; otherwise nil.
+// loggedChange returns the change that a call asks for. It returns nil without --log-changes, and
+// for a method that changes no volumes.
 func (h *handler) loggedChange(path string, message, body []byte) *change {
 	if !h.logChanges {
 		return nil
@@ -188,7 +194,8 @@ func (h *handler) respond(ctx context.Context, path string, message []byte) ([]b
 	return h.ask(ctx, path, message)
 }
 
-// ask hands a call to csid, and gives the body of the reply, or what an orchestrator is answered.
+// ask sends a call to csid and returns the body of the reply. If csid refuses the call, it returns
+// the gRPC error for the orchestrator.
 func (h *handler) ask(ctx context.Context, path string, message []byte) ([]byte, error) {
 	answer, err := h.reply(ctx, path, message)
 	if err != nil {
@@ -203,7 +210,7 @@ func (h *handler) ask(ctx context.Context, path string, message []byte) ([]byte,
 	return answer.Body, nil
 }
 
-// reply hands a call to csid, and gives the reply as it is.
+// reply sends a call to csid and returns its reply unchanged.
 func (h *handler) reply(ctx context.Context, path string, message []byte) (frames.Reply, error) {
 	answer, err := h.backend.call(ctx, path, message)
 	if err == nil && isOpen(answer) {
@@ -212,13 +219,13 @@ func (h *handler) reply(ctx context.Context, path string, message []byte) (frame
 	return answer, err
 }
 
-// isOpen reports whether it is open after a reply whether a change was made.
+// isOpen reports whether csid may have made the change, or not, after this reply.
 func isOpen(answer frames.Reply) bool {
 	return answer.Code == codes.Internal && openReasons[answer.Text]
 }
 
-// downReason is the text of status 13 over a connection after its store refused a change. The call
-// changed nothing.
+// downReason is the text of status 13 for each change on a connection after the store refused an
+// earlier change. A call with this reply changed nothing.
 const downReason = "store is down"
 
 // isDown reports whether csid did not make a call because its store was down.
@@ -226,13 +233,13 @@ func isDown(answer frames.Reply) bool {
 	return answer.Code == codes.Internal && answer.Text == downReason
 }
 
-// openReasons are the texts of status 13 after which it is open whether a change was made. An
-// orchestrator is then answered UNAVAILABLE: sidecars take INTERNAL for a final answer, after which
-// they believe that none was.
+// openReasons are the texts of status 13 after which the change may have been made or not. An
+// orchestrator then gets UNAVAILABLE. Sidecars take INTERNAL as final, and would believe that no
+// change was made.
 var openReasons = map[string]bool{"out of memory": true, "store refused": true, downReason: true}
 
-// refusal is the answer to a call without a reply. An orchestrator takes its code as an open
-// outcome, and repeats the call.
+// refusal returns the gRPC error for a call without a reply. Its code tells an orchestrator that
+// the call may have been carried out or not, so the orchestrator repeats it.
 func refusal(ctx context.Context, who string, err error) error {
 	if ended := ended(ctx); ended != nil {
 		return status.FromContextError(ended).Err()
@@ -240,7 +247,8 @@ func refusal(ctx context.Context, who string, err error) error {
 	return status.Errorf(codes.Unavailable, "%s: %v", who, err)
 }
 
-// shownPath is a path as one word of a log line, cut where no frame could have it.
+// shownPath returns a path as one word of a log line. A path that no frame can have is cut after
+// frames.MaxPathBytes bytes and quoted.
 func shownPath(path string) string {
 	if frames.IsPath(path) {
 		return path

@@ -9,7 +9,8 @@ import (
 	"google.golang.org/grpc/status"
 )
 
-// checkHealth answers Check of gRPC's health service, for all of the plugin or one of its services.
+// checkHealth answers Check of gRPC's health service, for the plugin as a whole or for one of its
+// services.
 func (h *handler) checkHealth(ctx context.Context, message []byte) ([]byte, error) {
 	var asked grpc_health_v1.HealthCheckRequest
 	if err := proto.Unmarshal(message, &asked); err != nil {

@@ -12,28 +12,28 @@ import (
 	"google.golang.org/protobuf/encoding/protowire"
 )
 
-// The cost of listings for csid is bounded by the pause between two pages, of at most 100 volumes
-// each, and by the pause between the beginnings of two listings; after a failed listing it is
-// shorter.
+// The pauses between two pages of at most 100 volumes each, between the beginnings of two listings,
+// and after a failed listing. They bound the cost of listings for csid.
 const (
 	pagePause    = 100 * time.Millisecond
 	listingPause = time.Minute
 	failurePause = 10 * time.Second
 )
 
-// The most volumes that csid has (docs/OPERATING.md, "Limits"), and the most pages that are asked
-// for in one listing: ten times as many as those are in.
+// The greatest number of volumes of csid (docs/OPERATING.md, "Limits"), and the greatest number of
+// pages of one listing: ten times the number of full pages that all volumes need.
 const (
 	maxVolumes = 100_000
 	maxPages   = maxVolumes / 100 * 10
 )
 
-// listing is what all volumes take, by one walk over the pages of ListVolumes. Volumes that come or
-// go in the meantime are in it or not.
+// listing has the sums over all volumes, from one walk over the pages of ListVolumes. A volume that
+// is created or deleted during the walk may count or not.
 type listing struct {
 	endedAt time.Time
 	volumes int
-	// Of each pool, by the name in a volume's context, and of each node.
+	// The use of each pool, by its name in the contexts of volumes. The number of volumes that are
+	// attached at each node, by the node's id.
 	pools       map[string]poolUse
 	attachments map[string]int
 }
@@ -43,16 +43,16 @@ type poolUse struct {
 	bytes   int64
 }
 
-// listings lists all volumes again and again, and reports as metrics what the last whole listing
-// has next to what the configuration has room for.
+// listings lists all volumes again and again. As metrics it reports the sums of the last complete
+// listing, and the sizes and limits in the configuration.
 type listings struct {
 	handler *handler
 	config  *configuration
-	// The pauses of the constants, but in tests.
+	// The constants above, except in tests.
 	pagePause, listingPause, failurePause time.Duration
 	mutex                                 sync.Mutex
 	last                                  *listing
-	// Whether a listing has ended, whole or not.
+	// Whether a listing has ended, with success or with an error.
 	hasListed bool
 }
 
@@ -61,7 +61,7 @@ func newListings(h *handler, config *configuration) *listings {
 		failurePause: failurePause}
 }
 
-// run lists volumes until the context ends. A standby front does not ask: its csid may not serve.
+// run lists volumes until the context ends. While the front waits for csid, it makes no listing.
 func (l *listings) run(ctx context.Context) {
 	for ctx.Err() == nil {
 		next := l.failurePause
@@ -85,7 +85,8 @@ func pause(ctx context.Context, length time.Duration) {
 	}
 }
 
-// list walks over all pages, and keeps what they have. Why a page was refused is in the log.
+// list walks over all pages and keeps the sums. If a page is refused, it logs the reason, except at
+// the start and while the front waits for csid.
 func (l *listings) list(ctx context.Context) error {
 	begin, listed := time.Now(), &listing{pools: map[string]poolUse{}, attachments: map[string]int{}}
 	token := ""
@@ -118,9 +119,9 @@ func (l *listings) list(ctx context.Context) error {
 	return errors.New("the pages of ListVolumes have no end")
 }
 
-// isAtStart reports whether a failure is that of the first listing, for which csid was not there:
-// on a machine that boots csid makes its socket a moment later. The listing is repeated soon, and a
-// csid that is still away is then logged.
+// isAtStart reports whether the first listing failed because csid was not reachable. When a machine
+// boots, csid makes its socket a moment after the front starts. The listing is repeated soon, and
+// logs the reason if csid is still not reachable.
 func (l *listings) isAtStart(err error) bool {
 	return !l.hasListed && status.Code(err) == codes.Unavailable
 }
@@ -156,7 +157,8 @@ func (l *listing) addPage(body []byte) (token string, err error) {
 	return token, err
 }
 
-// addEntry adds the volume of an entry: field 1 is the volume, and field 1 of field 2 its nodes.
+// addEntry adds the volume of an entry. Field 1 of the entry is the volume. The ids of its nodes
+// are field 1 of field 2.
 func (l *listing) addEntry(entry []byte) error {
 	l.volumes++
 	return eachField(entry, func(number protowire.Number, kind protowire.Type, value []byte) error {
@@ -180,8 +182,8 @@ func (l *listing) addEntry(entry []byte) error {
 	})
 }
 
-// addVolume adds the bytes of a volume, its field 1, to its pool's, which the entry "pool" of the
-// context, its field 3, names.
+// addVolume adds a volume to the use of its pool. Field 1 of the volume is its size in bytes. Field
+// 3 is its context, whose entry "pool" names the pool.
 func (l *listing) addVolume(volume []byte) error {
 	var bytes uint64
 	var name string
@@ -229,8 +231,8 @@ func (l *listings) Describe(metrics chan<- *prometheus.Desc) {
 	}
 }
 
-// Collect reports what the configuration has, and once there was a whole listing what that has of
-// the pools and nodes of the configuration.
+// Collect reports the sizes and limits in the configuration. After the first complete listing, it
+// also reports how much of them is used.
 func (l *listings) Collect(metrics chan<- prometheus.Metric) {
 	report := func(desc *prometheus.Desc, value float64, labels ...string) {
 		metrics <- prometheus.MustNewConstMetric(desc, prometheus.GaugeValue, value, labels...)

@@ -15,9 +15,10 @@ import (
 	"fomaheti/frames"
 )
 
-// Entries of ListVolumes, worked out by hand from docs/PROTOCOL.md, "Messages": 'vol-1' has 1 MiB
-// of the pool p1 at the nodes n1 and n2, 'vol-2' 3 MiB of p2 at none and in no good condition, and
-// 'vol-3' 1 MiB of p1 at n1, with a further entry of its context and a topology.
+// Entries of ListVolumes, worked out by hand from docs/PROTOCOL.md, "Messages". vol-1 has 1 MiB in
+// the pool p1, and is at the nodes n1 and n2. vol-2 has 3 MiB in p2, is at no node, and has an
+// abnormal condition. vol-3 has 1 MiB in p1, is at n1, and has a further entry in its context and a
+// topology.
 const (
 	entry1 = "0a23 0a17 08808040 1205 766f6c2d31 1a0a 0a04706f6f6c 12027031 1208 0a026e31 0a026e32"
 	entry2 = "0a20 0a18 088080c001 1205 766f6c2d32 1a0a 0a04706f6f6c 12027032 1204 1202 0801"
@@ -28,8 +29,8 @@ const (
 var room = &configuration{[]pool{{"p1", 10485760, nil}, {"p2", 4194304, nil}, {"p3", 1048576, nil}},
 	[]node{{"n1", 2}, {"n3", 4}}}
 
-// paging is a csid that answers ListVolumes with these pages, each under its token in hexadecimal,
-// and notes the messages.
+// paging returns listings of a csid that answers ListVolumes with these pages, in hexadecimal, by
+// the message that asks for each. The channel gets the calls.
 func paging(t *testing.T, pages map[string]string) (*listings, chan string) {
 	t.Helper()
 	asked := make(chan string, 99)
@@ -53,7 +54,7 @@ func paging(t *testing.T, pages map[string]string) (*listings, chan string) {
 	return l, asked
 }
 
-// All pages are added up, as far as the last one, whose token is empty.
+// A listing adds up all pages, up to the last one, whose token is empty.
 func TestListing(t *testing.T) {
 	l, asked := paging(t, map[string]string{"": entry1 + "120131", "\x12\x011": entry2 + "120132", "\x12\x012": entry3})
 	l.pagePause = 20 * time.Millisecond
@@ -88,7 +89,8 @@ func TestListingThatFails(t *testing.T) {
 	}
 }
 
-// A csid that is away at the start has no line by the first listing, and has one by the second.
+// If csid is not reachable at the start, the first listing logs nothing, and the second one logs
+// the reason.
 func TestListingAtTheStart(t *testing.T) {
 	log := &written{}
 	h := newHandler(options{csid: filepath.Join(t.TempDir(), "absent"), late: time.Minute, waiting: 1},
@@ -102,7 +104,7 @@ func TestListingAtTheStart(t *testing.T) {
 	defer cancel()
 	go l.run(ctx)
 	awaits(t, "a line", func() bool { return strings.Contains(log.String(), listVolumes+" 14 ") })
-	// A refusal of csid has a line at once.
+	// A refusal by csid is logged at once.
 	path, _ := csid(t, answering(fromHex(t, "0d 0002 4142 00 00000000")))
 	h = newHandler(options{csid: path, late: time.Minute, waiting: 1}, newLogger(log, textLines))
 	if newListings(h, room).list(context.Background()) == nil || !strings.Contains(log.String(), listVolumes+" 13 ") {
@@ -122,7 +124,8 @@ func TestListingWithoutEnd(t *testing.T) {
 	}
 }
 
-// Pages come a pause apart, and so do listings; a standby front does not ask.
+// There is a pause between two pages, and between two listings. A front that waits for csid makes
+// no listing.
 func TestPaceOfListings(t *testing.T) {
 	l, asked := paging(t, map[string]string{"": "120131", "\x12\x011": ""})
 	l.pagePause, l.listingPause, l.failurePause = 30*time.Millisecond, 100*time.Millisecond, time.Millisecond
@@ -149,7 +152,8 @@ func TestPaceOfListings(t *testing.T) {
 	<-ended
 }
 
-// The series of each pool and node of the configuration; before the first listing only their room.
+// The series of each pool and node of the configuration. Before the first listing there are only
+// their sizes and limits.
 func TestMetricsOfListings(t *testing.T) {
 	l, _ := paging(t, map[string]string{"": entry1 + entry2 + entry3})
 	sizes := `

@@ -15,25 +15,25 @@ import (
 	"fomaheti/logqueue"
 )
 
-// The formats of lines.
+// The values of --log-format.
 const (
 	textLines = "text"
 	jsonLines = "json"
 )
 
-// logger writes what an operator should know, a line each: as text, or as one JSON object.
+// logger writes lines for the operator, as text or as one JSON object for each line.
 type logger struct {
 	lines  *log.Logger
 	isJSON bool
 	// Whether a line of text begins with its time and level.
 	isTimed bool
-	// Where lines wait until they are written, and what keeps down how many there are; nil in
+	// The lines that wait to be written, and the limit on the number of lines in a second; nil in
 	// tests.
 	queue *logqueue.Queue
 	limit *lineLimit
 }
 
-// entry is a line in JSON. What a line does not have is left out.
+// entry is a line in JSON. Empty fields are left out.
 type entry struct {
 	Time    time.Time `json:"time"`
 	Level   string    `json:"level"`
@@ -42,7 +42,7 @@ type entry struct {
 	Address string    `json:"address,omitempty"`
 	Reason  string    `json:"reason,omitempty"`
 	Dropped uint64    `json:"dropped,omitempty"`
-	// The lines that were left out, by their messages.
+	// The number of lines that were left out, by message.
 	LeftOut map[string]uint64 `json:"left_out,omitempty"`
 	// The socket of the calls that the line is about; empty for gRPC.
 	Socket string `json:"socket,omitempty"`
@@ -61,8 +61,8 @@ func newLogger(out io.Writer, format string) *logger {
 	return &logger{lines: log.New(out, "", 0), isJSON: format == jsonLines}
 }
 
-// newLog returns the log of the program. No line waits for its reader, also not the lines of
-// packages: gRPC's errors, and every other package's lines for Go's own log.
+// newLog returns the log of the program. Writing a line never waits for the reader of standard
+// error. This also holds for the lines of packages: gRPC's errors, and lines for Go's standard log.
 func newLog(out io.Writer, format string, isTimed bool) *logger {
 	queue := logqueue.New(out, func(count uint64) string {
 		var line strings.Builder
@@ -95,8 +95,8 @@ func (l *logger) write(text string, line entry) {
 	l.lines.Print(text)
 }
 
-// writeFew writes a line that clients may cause any number of times: ten in a second, and then the
-// number of the others.
+// writeFew writes a line that clients can cause any number of times. It writes at most linesASecond
+// such lines in a second. Then it counts them, and one line reports the counts.
 func (l *logger) writeFew(text string, line entry) {
 	if l.limit.allows(line.Message, time.Now()) {
 		l.write(text, line)
@@ -110,13 +110,13 @@ func (l *logger) end(limit time.Duration) {
 	l.queue.End(limit)
 }
 
-// leavesOut reports the lines that were left out, by their messages.
+// leavesOut logs how many lines were left out, by message.
 func (l *logger) leavesOut(counts map[string]uint64) {
 	text := fmt.Sprintf("lines left out, since more than %d came in a second: %s", linesASecond, shownCounts(counts))
 	l.write(text, entry{Level: logqueue.Warn, Message: "lines left out", LeftOut: counts})
 }
 
-// fails says why the front ends.
+// fails logs why the front ends.
 func (l *logger) fails(err error) {
 	l.write(err.Error(), entry{Level: logqueue.Error, Message: "the front ends", Error: err.Error()})
 }
@@ -126,17 +126,17 @@ func (l *logger) cutOff() {
 	l.write(text, entry{Level: logqueue.Error, Message: text})
 }
 
-// listens says where metrics are reported.
+// listens logs the address at which metrics are served.
 func (l *logger) listens(address string) {
 	l.write("metrics at "+address, entry{Level: logqueue.Info, Message: "metrics", Address: address})
 }
 
-// drops reports how many lines were dropped.
+// drops logs how many lines were dropped because standard error did not take them.
 func (l *logger) drops(count uint64) {
 	l.write(logqueue.Report(count), entry{Level: logqueue.Warn, Message: "lines dropped", Dropped: count})
 }
 
-// waits says why there is no socket yet, and isReady that it is made now.
+// waits logs why the front waits for csid, and isReady that csid is ready.
 func (l *logger) waits(why string) {
 	l.write("waits for csid: "+why, entry{Level: logqueue.Info, Message: "waits for csid", Reason: why})
 }
@@ -146,20 +146,20 @@ func (l *logger) isReady() {
 	l.write(text, entry{Level: logqueue.Info, Message: text})
 }
 
-// refuses reports a refused call, and its volume if changes are logged. Nothing more of its
-// message is logged: it may have secrets.
+// refuses logs a refused call, with its volume and node if changes are logged. No other part of the
+// message is logged, since it may hold secrets.
 func (l *logger) refuses(socket, path string, asked *change, why *status.Status, took time.Duration) {
 	l.writeFew(endedLine(entry{Level: logqueue.Warn, Message: "call refused", Socket: socket}, path, asked, why, took))
 }
 
-// changes reports a change that was made. It has a line in any case: there are no more of them than
-// csid makes.
+// changes logs a change that csid made. No limit applies to such lines, since there are no more of
+// them than changes.
 func (l *logger) changes(socket, path string, asked *change, took time.Duration) {
 	l.write(endedLine(entry{Level: logqueue.Info, Message: "change", Socket: socket}, path, asked,
 		status.New(codes.OK, ""), took))
 }
 
-// endedLine is the line of a call, as text and in JSON.
+// endedLine returns the line about a call, as text and as JSON.
 func endedLine(line entry, path string, asked *change, why *status.Status, took time.Duration) (string, entry) {
 	line.endedCall, line.change = &endedCall{shownPath(path), why.Code(), why.Message(), took.Milliseconds()}, asked
 	call := line.endedCall
@@ -167,14 +167,14 @@ func endedLine(line entry, path string, asked *change, why *status.Status, took 
 		asked.words()), line
 }
 
-// malformed reports a frame over a socket that is no call.
+// malformed logs a malformed frame that came over a socket.
 func (l *logger) malformed(socket string, fault error) {
 	l.writeFew(via(socket)+fault.Error(), entry{Level: logqueue.Warn, Message: "malformed call", Socket: socket,
 		Error: fault.Error()})
 }
 
-// closedFor gives what reports that a connection was closed for another one, where as many were
-// open as can be on the socket of an option.
+// closedFor returns a function that logs that a connection was closed for another one. option is
+// the option of the socket, and limit is the greatest number of its open connections.
 func (l *logger) closedFor(who, option string, limit int) func() {
 	return func() {
 		fmt.Fprintf(saying{l, who}, "a connection of %s without a call was closed for another one: %d were open",
@@ -182,7 +182,7 @@ func (l *logger) closedFor(who, option string, limit int) func() {
 	}
 }
 
-// via is how a line of text begins that is about a call over a socket.
+// via returns the beginning of a text line about a call over this socket. It is empty for gRPC.
 func via(socket string) string {
 	if socket == "" {
 		return ""
@@ -190,7 +190,8 @@ func via(socket string) string {
 	return socket + " "
 }
 
-// saying takes lines of others, and names these in JSON.
+// saying logs the lines of a package or of a part of the front. In JSON, who is the message and the
+// line is the error.
 type saying struct {
 	*logger
 	who string

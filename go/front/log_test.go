@@ -15,8 +15,7 @@ import (
 	"google.golang.org/grpc/status"
 )
 
-// What packages write on their own are lines of the front, and the last lines are written at its
-// end.
+// Lines of packages are lines of the front. The last lines are written at the end.
 func TestLinesOfPackages(t *testing.T) {
 	defer log.SetFlags(log.Flags())
 	defer log.SetOutput(log.Writer())
@@ -33,7 +32,7 @@ func TestLinesOfPackages(t *testing.T) {
 	}
 }
 
-// Lines of text with their time and level, for a standard error that is no journal.
+// Lines of text begin with their time and level if standard error is not the journal.
 func TestTimedLines(t *testing.T) {
 	defer log.SetFlags(log.Flags())
 	defer log.SetOutput(log.Writer())

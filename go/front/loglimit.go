@@ -8,16 +8,16 @@ import (
 	"time"
 )
 
-// How many lines about calls that were refused, and of packages, are written in a second. The
-// others are counted.
+// linesASecond is the greatest number of lines in a second about refused calls and from packages.
+// Further lines are counted.
 const linesASecond = 10
 
-// lineLimit lets ten lines in a second pass, and counts the others by their kinds. Once the second
-// is over it reports the counts; further lines are then only counted until a second has none.
+// lineLimit lets linesASecond lines pass in a second, and counts further lines by kind. At the end
+// of the second it reports the counts. Then no line passes until a second has no line.
 type lineLimit struct {
 	report func(counts map[string]uint64)
 	mutex  sync.Mutex
-	// When the second began, how many lines passed in it, and which ones did not.
+	// When the second began, how many lines passed in it, and how many lines of each kind did not.
 	begun  time.Time
 	passed int
 	counts map[string]uint64
@@ -27,7 +27,7 @@ func newLineLimit(report func(counts map[string]uint64)) *lineLimit {
 	return &lineLimit{report: report, counts: map[string]uint64{}}
 }
 
-// allows reports whether a line of a kind passes. A nil limit allows any.
+// allows reports whether a line of this kind passes. A nil limit lets any line pass.
 func (l *lineLimit) allows(kind string, now time.Time) bool {
 	if l == nil {
 		return true
@@ -62,7 +62,7 @@ func (l *lineLimit) finish(now time.Time) {
 	l.begun, l.passed, l.counts = now, linesASecond, map[string]uint64{}
 }
 
-// shownCounts is how many lines were counted, and how many of each kind.
+// shownCounts returns the total of the counts and the count of each kind, as text.
 func shownCounts(counts map[string]uint64) string {
 	total, kinds := uint64(0), []string{}
 	for kind, count := range counts {

@@ -6,13 +6,13 @@ import (
 	"time"
 )
 
-// counted is a limit, and what it reports.
+// counted returns a limit, and a channel that gets its reports.
 func counted() (*lineLimit, chan map[string]uint64) {
 	reports := make(chan map[string]uint64, 9)
 	return newLineLimit(func(counts map[string]uint64) { reports <- counts }), reports
 }
 
-// passed is how many of some lines of a kind pass at a time.
+// passed tries a number of lines of a kind at a time, and returns how many of them pass.
 func passed(l *lineLimit, lines int, kind string, now time.Time) (count int) {
 	for i := 0; i < lines; i++ {
 		if l.allows(kind, now) {
@@ -22,7 +22,7 @@ func passed(l *lineLimit, lines int, kind string, now time.Time) (count int) {
 	return count
 }
 
-// wantsCounts waits for a report.
+// wantsCounts waits for a report, and compares its counts.
 func wantsCounts(t *testing.T, reports <-chan map[string]uint64, want map[string]uint64) {
 	t.Helper()
 	select {
@@ -35,11 +35,11 @@ func wantsCounts(t *testing.T, reports <-chan map[string]uint64, want map[string
 	}
 }
 
-// Ten lines pass in a second, and the others are counted by kinds. After a second with counted
-// lines no line passes; after a second without lines ten do.
+// Ten lines pass in a second, and further lines are counted by kind. After a second with counted
+// lines no line passes. After a second without lines ten lines pass again.
 func TestLinesBeyondTen(t *testing.T) {
 	l, reports := counted()
-	// So late that no second is over before the test ends.
+	// This second is not over before the test ends.
 	begin := time.Now().Add(time.Hour)
 	l.finish(begin)
 	if count := passed(l, 8, "a", begin) + passed(l, 5, "b", begin) +
@@ -62,7 +62,7 @@ func TestLinesBeyondTen(t *testing.T) {
 	}
 }
 
-// The counts are reported once the second is over, also without a further line.
+// The counts are reported when the second is over, even if no further line comes.
 func TestReportOfLinesThatWereLeftOut(t *testing.T) {
 	l, reports := counted()
 	passed(l, 12, "a", time.Now())

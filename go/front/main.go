@@ -1,9 +1,11 @@
-// front answers gRPC over HTTP/2 on a Unix socket by a csid that listens on another one.
+// front answers gRPC calls (HTTP/2) on a Unix socket. It gets the replies from csid, which listens
+// on another socket.
 //
-// A call's path and bytes go on as one frame, and the reply's status, text and body come back. It
-// knows only the two messages that it asks csid for itself: Probe and GetCapacity, for monitoring,
-// and Probe while it is on standby. With --node the calls of the Node service go to a node plugin,
-// over gRPC and unread.
+// The front sends the path and the message of a call to csid as one frame. The status, text and
+// body of the reply come back. The front does not need to understand messages, with these
+// exceptions: it makes some calls itself (Probe, GetCapacity and ListVolumes), it answers the
+// health service, and with --log-changes it logs the names and ids in changes. With --node it sends
+// the calls of the Node service to a node plugin, over gRPC and unread.
 package main
 
 import (
@@ -24,7 +26,7 @@ import (
 	"fomaheti/sockets"
 )
 
-// Exit statuses. Those that csid has too have the same numbers there, but for 3.
+// The exit statuses. csid uses the same numbers for the same outcomes, except for 3.
 const (
 	done     = 0
 	cutOff   = 1
@@ -33,18 +35,18 @@ const (
 	noSocket = 7
 )
 
-// version is the repository's: go/front/build takes it from the file VERSION.
+// version is the version of the repository. go/front/build takes it from the file VERSION.
 var version = "unknown"
 
 // How long the end of the front waits for its last lines to be written.
 const lastLinesTime = time.Second
 
 func main() {
-	// A reader of standard error who has gone ends nothing.
+	// The front goes on if the reader of standard error is gone.
 	signal.Ignore(syscall.SIGPIPE)
 	useOneProcessor()
 	asked, err := readOptions(os.Args[1:], os.Getenv("CSI_ENDPOINT"), os.Stdout)
-	// Arguments are refused in one line, as by a command.
+	// A refusal of the arguments is one line without a time, as in any command.
 	log := newLog(os.Stderr, asked.logFormat, err == nil && !logqueue.HasJournal())
 	status := run(asked, err, log)
 	log.end(lastLinesTime)
@@ -52,15 +54,16 @@ func main() {
 }
 
 // useOneProcessor keeps all goroutines on one processor, unless GOMAXPROCS says otherwise. A call
-// passes through several that wait for one another, and waking one on another processor takes
-// longer than its work.
+// passes through several goroutines, one after the other. Waking a goroutine on another processor
+// takes longer than its work.
 func useOneProcessor() {
 	if os.Getenv("GOMAXPROCS") == "" {
 		runtime.GOMAXPROCS(1)
 	}
 }
 
-// run is all that the front does with the options that were read, or refused; and its status.
+// run runs the front with the options, or reports err, the reason why they were refused. It returns
+// the exit status.
 func run(asked options, err error, log *logger) int {
 	if errors.Is(err, flag.ErrHelp) {
 		return done
@@ -95,26 +98,27 @@ func run(asked options, err error, log *logger) int {
 	return f.serve(listener)
 }
 
-// front is what answers calls, and what ends it.
+// front has the parts of the program that answer calls, and the channels for the reasons to end.
 type front struct {
 	asked   options
 	log     *logger
 	handler *handler
 	control *control
 	stop    chan os.Signal
-	// Failures of what takes connections.
+	// Failures to take connections, for gRPC or at --metrics.
 	failed chan error
-	// That nothing was answered by csid. It is said with --standby alone, and never with --node.
+	// The error that csid gave no reply for the time of --standby. It comes only with --standby and
+	// without --node.
 	silent chan error
 }
 
-// fails says why the front ends, and gives its status.
+// fails logs why the front ends, and returns the exit status.
 func (f *front) fails(why error, status int) int {
 	f.log.fails(why)
 	return status
 }
 
-// serve answers calls until something ends that.
+// serve answers calls until the front fails or gets a signal to end. It returns the exit status.
 func (f *front) serve(listener net.Listener) int {
 	server := newServer(f.handler)
 	clients := limitListener(listener, maxClients, f.log.closedFor("gRPC", "--listen", maxClients))
@@ -138,8 +142,8 @@ func take(server *grpc.Server, listener net.Listener) error {
 	return errors.New("taking connections ended")
 }
 
-// end takes no further calls, and waits for those that run: for the grace, or until a further
-// signal.
+// end takes no further calls, and waits until the running calls end. It stops waiting after the
+// time of --grace or at a second signal. It returns the exit status.
 func (f *front) end(server *grpc.Server) int {
 	ended := make(chan struct{})
 	go func() {

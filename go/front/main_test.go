@@ -6,7 +6,7 @@ import (
 	"testing"
 )
 
-// One processor is what the front takes, unless GOMAXPROCS says how many.
+// The front uses one processor, unless GOMAXPROCS is set.
 func TestProcessors(t *testing.T) {
 	before := runtime.GOMAXPROCS(3)
 	defer runtime.GOMAXPROCS(before)

@@ -11,14 +11,15 @@ import (
 	"google.golang.org/grpc/status"
 )
 
-// How often it is looked whether a message is late.
+// lookTime is the time between two checks that a message is late.
 const lookTime = 50 * time.Millisecond
 
-// errLate ends a call whose message held up others. The received part of the message is dropped;
-// otherwise memory would have no bound.
+// errLate is the error of a call whose message came too slowly while other calls waited. The part
+// that was received is dropped. Otherwise memory would have no bound.
 var errLate = status.Error(codes.Unavailable, "the message did not come in time, and other calls wait")
 
-// messages bounds what the messages of all calls take that wait to be sent or for their replies.
+// messages bounds the total size of the messages of all calls that wait to be sent or wait for
+// their replies. Its limit is in bytes.
 type messages struct {
 	places *places
 	idle   chan *receiver
@@ -31,7 +32,7 @@ func newMessages(limit int) *messages {
 	return &messages{places: newPlaces(), idle: make(chan *receiver, maxReceived), limit: limit}
 }
 
-// read receives the message of a call, once there is a place for that.
+// read waits for a place, and then receives the message of a call.
 func (m *messages) read(stream grpc.ServerStream) ([]byte, error) {
 	client := clientOf(stream.Context())
 	if err := m.places.take(stream.Context(), client); err != nil {
@@ -41,7 +42,8 @@ func (m *messages) read(stream grpc.ServerStream) ([]byte, error) {
 	return m.inTime(func() ([]byte, error) { return onlyMessage(stream) })
 }
 
-// receive receives the message of a call, and counts it until it is given back.
+// receive receives the message of a call, and counts it until giveBack is called. It fails if there
+// is no room for the message.
 func (m *messages) receive(stream grpc.ServerStream) ([]byte, error) {
 	message, err := m.read(stream)
 	if err != nil {
@@ -54,8 +56,8 @@ func (m *messages) receive(stream grpc.ServerStream) ([]byte, error) {
 	return message, nil
 }
 
-// take counts a message, unless there is no room for it. An empty message, as Probe's, always has
-// room.
+// take counts a message of this length, and returns false if there is no room for it. There is
+// always room for an empty message, such as that of Probe.
 func (m *messages) take(bytes int) bool {
 	m.mutex.Lock()
 	defer m.mutex.Unlock()
@@ -72,8 +74,8 @@ func (m *messages) giveBack(message []byte) {
 	m.bytes -= len(message)
 }
 
-// receiver receives messages in a goroutine of its own, which is kept for the next one: a new
-// goroutine must grow its stack each time.
+// receiver receives messages in a separate goroutine, one after the other. A new goroutine for each
+// message would have to grow its stack each time.
 type receiver struct {
 	next    chan func() ([]byte, error)
 	done    chan struct{}
@@ -94,7 +96,7 @@ func (r *receiver) run() {
 	}
 }
 
-// receiver returns an idle receiver.
+// receiver returns an idle receiver, or a new one if none is idle.
 func (m *messages) receiver() *receiver {
 	select {
 	case r := <-m.idle:
@@ -114,8 +116,8 @@ func (m *messages) keep(r *receiver) {
 	}
 }
 
-// inTime returns the received message, unless it is late. Then the end of the call ends the
-// receiving, and the receiver is not used again.
+// inTime returns the received message, or errLate if it is late. Receiving a late message goes on
+// until the call ends, and its receiver is not used again.
 func (m *messages) inTime(receive func() ([]byte, error)) ([]byte, error) {
 	begin, r := time.Now(), m.receiver()
 	r.next <- receive
@@ -129,8 +131,8 @@ func (m *messages) inTime(receive func() ([]byte, error)) ([]byte, error) {
 	return message, err
 }
 
-// isDone lets the receiver go first, and reports whether it has the message: most have come whole
-// with the headers of their calls.
+// isDone lets the receiver run first, and reports whether it has the message. Most messages come
+// together with the headers of their calls.
 func (r *receiver) isDone() bool {
 	runtime.Gosched()
 	select {
@@ -141,7 +143,7 @@ func (r *receiver) isDone() bool {
 	}
 }
 
-// awaits reports whether a receiver is done before its message is late.
+// awaits waits for a receiver, and returns false if its message is late.
 func (m *messages) awaits(r *receiver, begin time.Time) bool {
 	looks := time.NewTicker(lookTime)
 	defer looks.Stop()
@@ -157,8 +159,8 @@ func (m *messages) awaits(r *receiver, begin time.Time) bool {
 	}
 }
 
-// onlyMessage receives the message of a call. A message that is too long is refused by RecvMsg,
-// before it is read.
+// onlyMessage receives the message of a call, and refuses a call that has no message or a second
+// one. RecvMsg refuses a message that is too long, before it reads the message.
 func onlyMessage(stream grpc.ServerStream) ([]byte, error) {
 	var message, second []byte
 	if err := stream.RecvMsg(&message); err == io.EOF {

@@ -25,7 +25,8 @@ func TestMessagesThatWait(t *testing.T) {
 	}
 }
 
-// A message that does not come ends its call only while another call waits, and no message comes.
+// A message that does not come ends its call only while another call waits and no other message
+// comes.
 func TestMessagesThatAreLate(t *testing.T) {
 	m := newMessages(10)
 	never := make(chan struct{})
@@ -66,8 +67,8 @@ func TestMessagesThatAreLate(t *testing.T) {
 	}
 }
 
-// A receiver is kept for the next message, without its last one. A receiver beyond the kept number
-// ends.
+// A receiver is kept for the next message, and does not keep the last one. If enough receivers are
+// kept, a further one ends.
 func TestReceiversThatAreKept(t *testing.T) {
 	m := newMessages(10)
 	if got, err := m.inTime(func() ([]byte, error) { return []byte("a"), io.EOF }); string(got) != "a" ||
@@ -92,7 +93,7 @@ func TestReceiversThatAreKept(t *testing.T) {
 	}
 }
 
-// The receiver of a message that is late receives no other one: it is not done.
+// The receiver of a late message is still busy, so it is not used for another message.
 func TestReceiverOfALateMessage(t *testing.T) {
 	m := newMessages(10)
 	fill(m.places, nil)

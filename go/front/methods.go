@@ -15,11 +15,11 @@ const (
 	unpublishVolume = controller + "ControllerUnpublishVolume"
 )
 
-// otherMethod is the label of each method that is not one of the table: a client can call any, and
-// each label is a series.
+// otherMethod is the label in the metrics for all methods that are not in the tables below. A
+// client can call any path, and each label is a series.
 const otherMethod = "other"
 
-// methods are those that csid answers (docs/PROTOCOL.md, "Paths").
+// methods are the methods that csid answers (docs/PROTOCOL.md, "Paths").
 var methods = map[string]bool{
 	identity + "GetPluginInfo":                true,
 	identity + "GetPluginCapabilities":        true,

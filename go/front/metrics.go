@@ -11,11 +11,11 @@ import (
 	"google.golang.org/grpc/codes"
 )
 
-// The prefix of the names of all metrics that are the front's own.
+// namespace is the prefix of the names of the front's own metrics.
 const namespace = "csid_front"
 
-// The bounds of the histogram, in seconds: from a call that csid answers at once to the greatest
-// deadlines of sidecars.
+// buckets are the bounds of the histogram in seconds, from a call that csid answers at once to the
+// longest deadlines of sidecars.
 var buckets = []float64{.001, .0025, .005, .01, .025, .05, .1, .25, .5, 1, 2.5, 5, 10, 30, 60}
 
 // metrics counts the calls of clients.
@@ -24,12 +24,12 @@ type metrics struct {
 	seconds  *prometheus.HistogramVec
 	waiting  prometheus.Gauge
 	refusals *prometheus.CounterVec
-	// The series of the methods of the table. A look-up by labels takes longer.
+	// The series of each known method, by its path. A look-up by labels would take longer.
 	series map[string]*series
 }
 
-// series has the series of one method: the answered calls by code, and their durations. The
-// durations begin with the first call.
+// series has the series of one method: the numbers of answered calls by code, and the durations.
+// The series of durations is made at the first call.
 type series struct {
 	calls   [codes.Unauthenticated + 1]prometheus.Counter
 	once    sync.Once
@@ -61,8 +61,8 @@ func newMetrics() *metrics {
 	return m
 }
 
-// begin reports the counters of some methods as 0: Prometheus sees no increase of a counter that
-// begins at 1.
+// begin makes the counters of some methods, with the value 0. Prometheus sees no increase of a
+// counter that begins at 1.
 func (m *metrics) begin(methods map[string]bool) {
 	for method := range methods {
 		own := &series{}
@@ -90,8 +90,8 @@ func (m *metrics) ended(path string, code codes.Code, took time.Duration) {
 	m.seconds.WithLabelValues(method).Observe(took.Seconds())
 }
 
-// newRegistry has all that is reported at /metrics; of pools and nodes nothing where there are no
-// listings.
+// newRegistry returns a registry with all metrics of the front. If listings is nil, there are no
+// metrics of pools, nodes and volumes.
 func newRegistry(h *handler, topologies []topology, listings *listings) *prometheus.Registry {
 	registry := prometheus.NewRegistry()
 	registry.MustRegister(
@@ -127,7 +127,8 @@ func standingBy(h *handler) prometheus.Collector {
 	})
 }
 
-// nodePluginUp asks the node plugin each time that it is collected.
+// nodePluginUp returns a gauge that is 1 if the node plugin is ready, and 0 otherwise. Each scrape
+// asks the plugin.
 func nodePluginUp(h *handler) prometheus.Collector {
 	return prometheus.NewGaugeFunc(prometheus.GaugeOpts{
 		Namespace: namespace, Name: "node_plugin_up", Help: "Whether the node plugin answered that it is ready.",
@@ -169,8 +170,8 @@ func buildInfo() prometheus.Collector {
 	return info
 }
 
-// csidCollector asks csid each time it is collected: whether it is ready, and how many bytes each
-// topology has.
+// csidCollector asks csid at each scrape whether it is ready, and how many bytes are free for each
+// topology.
 type csidCollector struct {
 	handler    *handler
 	topologies []topology
@@ -194,7 +195,7 @@ func (c *csidCollector) Describe(out chan<- *prometheus.Desc) {
 	out <- c.capacity
 }
 
-// Collect leaves out a topology without an answer of csid: the log says why.
+// Collect leaves out a topology if csid does not answer with its capacity. The log has the reason.
 func (c *csidCollector) Collect(out chan<- prometheus.Metric) {
 	ctx, cancel := context.WithTimeout(context.Background(), questionTime)
 	defer cancel()

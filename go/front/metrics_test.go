@@ -13,12 +13,12 @@ import (
 	"google.golang.org/grpc/codes"
 )
 
-// inFront is the handler of a front before a csid at this path.
+// inFront returns the handler of a front for the csid at this path.
 func inFront(path string) *handler {
 	return newHandler(options{csid: path, late: time.Minute, waiting: 1}, newLogger(io.Discard, textLines))
 }
 
-// The methods that have a label are those that csid answers.
+// The methods with a label are the methods in docs/PROTOCOL.md.
 func TestMethodsOfTheProtocol(t *testing.T) {
 	page, err := os.ReadFile("../../docs/PROTOCOL.md")
 	if err != nil {
@@ -56,7 +56,7 @@ func TestMethodLabel(t *testing.T) {
 	}
 }
 
-// Names and helps keep to Prometheus' conventions, and nothing is there twice.
+// The names and help texts follow Prometheus' conventions, and no metric occurs twice.
 func TestConventions(t *testing.T) {
 	_, path := listening(t)
 	h := inFront(path + ".absent")

@@ -12,26 +12,28 @@ import (
 	"google.golang.org/grpc/status"
 )
 
-// How many scrapes are answered at once, and how many requests for health: each asks csid.
+// The greatest numbers of scrapes and of health requests that are answered at once. Each of them
+// asks csid.
 const (
 	maxScrapes      = 4
 	maxHealthChecks = 4
 )
 
-// What a client of the monitor may take for its request, and the monitor for its answer. A
-// connection is kept between two scrapes, which may be a minute apart.
+// The time limits for a client's request, for the answer, and for a connection between two
+// requests. Scrapes may be a minute apart.
 const (
 	requestTime = 5 * time.Second
 	answerTime  = 2 * questionTime
 	keepTime    = 2 * time.Minute
 )
 
-// What the first line and the headers of a request may have: net/http reads 4 KiB more before it
-// refuses them. Ten thousand short lines would take some MiB as headers.
+// maxRequestBytes is the greatest size of the first line and the headers of a request. net/http
+// reads 4 KiB more before it refuses a request. Ten thousand short headers would take some MiB of
+// memory.
 const maxRequestBytes = 8 << 10
 
-// newMonitor serves monitoring: /metrics for Prometheus, /healthz for a liveness probe, and /livez
-// for the liveness probe of a standby front.
+// newMonitor returns the handler for monitoring: /metrics for Prometheus, /healthz for a liveness
+// probe, and /livez for the liveness probe of a front with --standby.
 func newMonitor(h *handler, topologies []topology, listings *listings) http.Handler {
 	mux := http.NewServeMux()
 	mux.Handle("/metrics", promhttp.HandlerFor(newRegistry(h, topologies, listings),
@@ -43,7 +45,8 @@ func newMonitor(h *handler, topologies []topology, listings *listings) http.Hand
 	return mux
 }
 
-// newMonitorServer serves a monitor, to clients that may send anything.
+// newMonitorServer returns the HTTP server for a monitor, with limits against clients that send too
+// much or too slowly.
 func newMonitorServer(monitor http.Handler, log *log.Logger) *http.Server {
 	return &http.Server{
 		Handler:        duringRequests(monitor),
@@ -74,8 +77,8 @@ func duringRequests(next http.Handler) http.Handler {
 	})
 }
 
-// startMonitor begins to answer at --metrics, if there is one. An end of it is reported as a
-// failure, since nothing ends it but the end of the front.
+// startMonitor begins to serve --metrics, if the option is given. If serving ends, the reason is
+// sent to failed, since only the end of the front should end it.
 func startMonitor(h *handler, asked options, failed chan<- error) error {
 	if asked.metrics == "" {
 		return nil
@@ -97,7 +100,7 @@ func startMonitor(h *handler, asked options, failed chan<- error) error {
 	return nil
 }
 
-// healthz reports whether a Probe succeeds, or why not.
+// healthz answers "ok" if a Probe succeeds, and otherwise 503 with the reason.
 func (h *handler) healthz(answer http.ResponseWriter, request *http.Request) {
 	if err := h.checkInTurn(request.Context(), h.isReady); err != nil {
 		http.Error(answer, status.Convert(err).Message(), http.StatusServiceUnavailable)
@@ -106,7 +109,8 @@ func (h *handler) healthz(answer http.ResponseWriter, request *http.Request) {
 	fmt.Fprintln(answer, "ok")
 }
 
-// checkInTurn asks by Probe, as soon as few enough others who watch do.
+// checkInTurn runs a check as soon as fewer than maxHealthChecks others run. It takes at most
+// questionTime.
 func (h *handler) checkInTurn(ctx context.Context, check func(context.Context) error) error {
 	ctx, cancel := context.WithTimeout(ctx, questionTime)
 	defer cancel()

@@ -8,7 +8,7 @@ import (
 	"time"
 )
 
-// asks is what a place of a monitor answers to a request whose time is limited.
+// asks returns the answer of a monitor to a request with a time limit.
 func asks(h *handler, path string, limit time.Duration) (status int, text string) {
 	ctx, cancel := context.WithTimeout(context.Background(), limit)
 	defer cancel()
@@ -17,8 +17,8 @@ func asks(h *handler, path string, limit time.Duration) (status int, text string
 	return answer.Code, answer.Body.String()
 }
 
-// Where as many checks of health ask csid as may at once, a further one waits. That csid hangs is
-// answered only where it was silent, since a check that waits for others says nothing of it.
+// If the greatest number of health checks run, a further one waits. If it gets no turn in time,
+// /livez reports that csid hangs only if csid was silent.
 func TestHealthChecksThatWait(t *testing.T) {
 	h := replying(t, "00 0000 00 00000000")
 	h.standsBy = true

@@ -11,17 +11,18 @@ import (
 	"fomaheti/frames"
 )
 
-// maxNodeCalls is the most calls of the Node service that run at once. Their messages take at most
-// 64 MiB, as much as those that wait for csid by default. A quarter of the calls that one client
-// can have at once: where the plugin hangs, three quarters are left for csid.
+// maxNodeCalls is the greatest number of calls of the Node service that run at once. Their messages
+// take at most 64 MiB, which is also the default limit for messages that wait for csid. One client
+// can have four times as many calls. So if the plugin hangs, three quarters of them are left for
+// csid.
 const maxNodeCalls = 64
 
-// maxNodeProbes is the most Probes that the plugin gets at once. They have places of their own, so
-// that a plugin with many volumes to mount does not look like a missing one.
+// maxNodeProbes is the greatest number of Probes that the plugin gets at once. Probes do not count
+// in maxNodeCalls, so that a plugin with many volumes to mount still answers them.
 const maxNodeProbes = 16
 
-// maxStatusBytes is the most that the headers of a reply may have, with the text and the details of
-// its status.
+// maxStatusBytes is the greatest size of the headers of a reply, which include the text and the
+// details of its status.
 const maxStatusBytes = 64 << 10
 
 var (
@@ -29,9 +30,9 @@ var (
 	errNodeProbed = status.Errorf(codes.Unavailable, "node plugin: %d Probes run already", maxNodeProbes)
 )
 
-// nodePlugin answers the Node service on a socket of its own. Each call has a connection of its
-// own, as a kubelet's calls have: there are few, each takes longer than a connection, and no call
-// meets a connection that ended with the plugin.
+// nodePlugin is the client of the node plugin, which answers the Node service on another socket.
+// Each call has a new connection, as a kubelet's calls have. Such calls are few, and take longer
+// than connecting. No call meets a connection that ended with the plugin.
 type nodePlugin struct {
 	path          string
 	calls, probes slots
@@ -41,8 +42,9 @@ func newNodePlugin(path string) *nodePlugin {
 	return &nodePlugin{path: path, calls: make(slots, maxNodeCalls), probes: make(slots, maxNodeProbes)}
 }
 
-// call hands a call of the Node service to the plugin, and returns its reply, or its status as it
-// is. If too many run already, the plugin does not see the call.
+// call sends a call of the Node service to the plugin. It returns the body of the reply, or the
+// status of the plugin unchanged. If maxNodeCalls run already, it returns errNodeBusy and sends
+// nothing.
 func (n *nodePlugin) call(ctx context.Context, path string, message []byte) ([]byte, error) {
 	if !n.calls.take() {
 		return nil, errNodeBusy
@@ -51,7 +53,8 @@ func (n *nodePlugin) call(ctx context.Context, path string, message []byte) ([]b
 	return n.invoke(ctx, path, message)
 }
 
-// probe asks the plugin by Probe.
+// probe sends Probe to the plugin. If maxNodeProbes run already, it returns errNodeProbed and sends
+// nothing.
 func (n *nodePlugin) probe(ctx context.Context, message []byte) ([]byte, error) {
 	if !n.probes.take() {
 		return nil, errNodeProbed
@@ -60,8 +63,8 @@ func (n *nodePlugin) probe(ctx context.Context, message []byte) ([]byte, error) 
 	return n.invoke(ctx, probe, message)
 }
 
-// invoke makes a call over a new connection. It is never sent twice: after UNAVAILABLE the plugin
-// may have done it.
+// invoke makes a call over a new connection. It never sends the call twice, since after UNAVAILABLE
+// the plugin may have carried it out.
 func (n *nodePlugin) invoke(ctx context.Context, path string, message []byte) ([]byte, error) {
 	conn, err := n.connect(ctx)
 	if err != nil {
@@ -73,8 +76,8 @@ func (n *nodePlugin) invoke(ctx context.Context, path string, message []byte) ([
 	return body, err
 }
 
-// connect waits until the plugin speaks HTTP/2 over a new connection, at most for questionTime. A
-// socket that is missing, or that has no listener, is reported at once.
+// connect makes a connection, and waits at most questionTime until the plugin speaks HTTP/2. It
+// fails at once if the socket is missing or has no listener.
 func (n *nodePlugin) connect(ctx context.Context) (*grpc.ClientConn, error) {
 	ctx, cancel := context.WithTimeout(ctx, questionTime)
 	defer cancel()
@@ -92,7 +95,7 @@ func (n *nodePlugin) connect(ctx context.Context) (*grpc.ClientConn, error) {
 		grpc.WithDefaultCallOptions(grpc.ForceCodec(bytesCodec{}), grpc.MaxCallRecvMsgSize(frames.MaxBodyBytes)))
 }
 
-// slots are places of calls that run at once.
+// slots limits how many calls run at once. A running call holds one of its places.
 type slots chan struct{}
 
 // take takes a place, and reports whether there was one.

@@ -24,7 +24,7 @@ usage: front --csid PATH [--listen PATH] [--node PATH] [--grace TIME] [--late TI
 // The most that --waiting can ask for, in MiB.
 const maxWaiting = 1 << 20
 
-// options is what the command line asks for.
+// options has the values of the command line.
 type options struct {
 	listen string
 	csid   string
@@ -34,26 +34,26 @@ type options struct {
 	late      time.Duration
 	waiting   int
 	logFormat string
-	// Whether each change has a line.
+	// Whether each change is logged.
 	logChanges bool
-	// Where calls are taken in csid's own envelope; nowhere if it is empty. A group that may
-	// connect there has a name or a number.
+	// The path of the control socket, empty without --control. controlGroup is the name or number
+	// of a group that may connect to it, or empty.
 	control      string
 	controlGroup string
-	// How long csid may answer nothing. Where it is 0 that has no bound, and the socket is made
-	// without csid.
+	// How long csid may give no reply before the front ends. 0 without --standby: then there is no
+	// limit, and the front makes its socket without waiting for csid.
 	standby time.Duration
 	health  bool
-	// Where metrics are reported; nowhere if it is empty.
+	// The HOST:PORT for metrics; empty without --metrics.
 	metrics    string
 	topologies []topology
-	// The room of pools and nodes; nil without --config.
+	// The sizes of pools and the limits of nodes; nil without --config.
 	configuration *configuration
 	version       bool
 }
 
-// readOptions reads the words that were given; endpoint is the value of CSI_ENDPOINT, and counts
-// where no --listen is given.
+// readOptions parses the arguments. endpoint is the value of CSI_ENDPOINT, which counts if --listen
+// is not given. Help is written to shown.
 func readOptions(given []string, endpoint string, shown io.Writer) (options, error) {
 	var asked options
 	flags := flag.NewFlagSet("front", flag.ContinueOnError)
@@ -96,7 +96,8 @@ func readOptions(given []string, endpoint string, shown io.Writer) (options, err
 	return checked(asked)
 }
 
-// checked refuses what cannot be meant, and gives the sockets as paths.
+// checked returns the options with sockets as paths. It fails if a value is out of range or options
+// contradict each other.
 func checked(asked options) (options, error) {
 	var err error
 	if asked.listen, err = socketPath(asked.listen, "--listen or CSI_ENDPOINT"); err != nil {
@@ -177,7 +178,7 @@ func checkMetrics(asked options) error {
 	return nil
 }
 
-// checkConfiguration refuses a configuration that nothing would show.
+// checkConfiguration refuses --config if neither --metrics nor --control is given to show it.
 func checkConfiguration(asked options) error {
 	if asked.configuration != nil && asked.control == "" {
 		return errors.New("--config: there is neither --metrics nor --control")
@@ -200,7 +201,8 @@ func (asked *options) setConfiguration(path string) (err error) {
 	return err
 }
 
-// addTopology takes one --metrics-topology. Each is one series, so none can be there twice.
+// addTopology adds the topology of one --metrics-topology. It refuses a topology that was given
+// before, since each is one series.
 func (asked *options) addTopology(name string) error {
 	added, err := readTopology(name)
 	if err != nil {
@@ -215,7 +217,8 @@ func (asked *options) addTopology(name string) error {
 	return nil
 }
 
-// socketPath is the path of a socket that is given as a path or as unix://PATH.
+// socketPath returns the path of a socket that is given as PATH, unix:PATH or unix://PATH. name is
+// the option, for errors.
 func socketPath(given, name string) (string, error) {
 	path := strings.TrimPrefix(given, "unix://")
 	if path == given {

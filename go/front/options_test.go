@@ -12,7 +12,7 @@ import (
 
 const sampleConfiguration = "[[pool]]\nname = \"p\"\nbytes = 1048576\n"
 
-// The options of `--csid c --listen l`, as `change` leaves them.
+// defaultsWith returns the options of `--csid c --listen l` after a change.
 func defaultsWith(change func(*options)) options {
 	opts := options{listen: "l", csid: "c", grace: 20 * time.Second, late: time.Minute, waiting: 64, logFormat: "text"}
 	change(&opts)

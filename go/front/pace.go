@@ -2,33 +2,35 @@ package main
 
 import "time"
 
-// csid opens and judges its whole file for each connection, also for an abandoned one. So
-// connections begin at least a pause apart, and the pause doubles with each connection without a
-// reply.
+// The least and the greatest pause between the beginnings of two connections. The pause doubles
+// after each connection without a reply. csid opens and checks its whole file for each connection,
+// even for one that is abandoned.
 const (
 	leastPause    = 100 * time.Millisecond
 	greatestPause = time.Second
 )
 
-// pace keeps connections apart.
+// pace has the time at which the last connection began, and the pause that must follow.
 type pace struct {
 	last  time.Time
 	pause time.Duration
 }
 
-// left is how long no connection may begin.
+// left returns how long the next connection must still wait. It is 0 or negative if the connection
+// may begin.
 func (p *pace) left() time.Duration { return time.Until(p.last.Add(p.pause)) }
 
 // begins records that a connection begins now.
 func (p *pace) begins() { p.last = time.Now() }
 
-// served notes that a reply came over the last connection: where it lasted the least pause, the
-// next one need not wait.
+// served records that a reply came over the last connection. The pause before the next connection
+// is then the least one.
 func (p *pace) served() {
 	p.pause = leastPause
 }
 
-// failed notes that the last connection, or the attempt at one, gave no reply.
+// failed records that the last connection, or the attempt to make it, gave no reply. The pause
+// doubles.
 func (p *pace) failed() {
 	p.pause *= 2
 	if p.pause < leastPause {

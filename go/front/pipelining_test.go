@@ -19,13 +19,13 @@ import (
 	"fomaheti/frames"
 )
 
-// The bytes of the frame of a call of a number, and of its reply.
+// The lengths in bytes of the frame of a numbered call, and of its reply.
 const (
 	numberedCall  = shortCall + 4
 	numberedReply = 8 + 4
 )
 
-// table is the changes that a csid made: the numbers of the calls, in order.
+// table has the changes that a csid made, as the numbers of their calls, in order.
 type table struct {
 	mutex sync.Mutex
 	made  []uint32
@@ -43,7 +43,7 @@ func (t *table) rows() []uint32 {
 	return append([]uint32(nil), t.made...)
 }
 
-// counts is how often each number is in a table.
+// counts returns how often each number is in a table.
 func (t *table) counts() map[uint32]int {
 	counts := map[uint32]int{}
 	for _, number := range t.rows() {
@@ -52,7 +52,7 @@ func (t *table) counts() map[uint32]int {
 	return counts
 }
 
-// numbered is the message of the call of a number, and the body of its reply.
+// numbered returns the message of the call with this number. The body of its reply is the same.
 func numbered(number uint32) []byte { return binary.BigEndian.AppendUint32(nil, number) }
 
 func okReply(number uint32) []byte { return frames.Reply{Body: numbered(number)}.Append(nil) }
@@ -92,14 +92,14 @@ func serves(conn net.Conn, made *table) {
 	}
 }
 
-// result is the outcome of the call of a number.
+// result is the outcome of a numbered call.
 type result struct {
 	number uint32
 	got    frames.Reply
 	err    error
 }
 
-// caller makes calls of numbers, and collects their outcomes.
+// caller makes numbered calls, and collects their outcomes.
 type caller struct {
 	b       *backend
 	results chan result
@@ -121,7 +121,7 @@ func (c *caller) begins(t *testing.T, ctx context.Context, number uint32) {
 	})
 }
 
-// all waits for the outcomes of that number of calls, and returns them by number.
+// all waits for the outcomes of this many calls, and returns them by number.
 func (c *caller) all(t *testing.T, calls int) map[uint32]result {
 	t.Helper()
 	all := map[uint32]result{}
@@ -139,7 +139,7 @@ func (c *caller) all(t *testing.T, calls int) map[uint32]result {
 	return all
 }
 
-// served waits until that number of calls have their own replies.
+// served waits until this many calls have their own replies.
 func (c *caller) served(t *testing.T, calls int) {
 	t.Helper()
 	for number, got := range c.all(t, calls) {
@@ -149,8 +149,8 @@ func (c *caller) served(t *testing.T, calls int) {
 	}
 }
 
-// onTheirWay is a backend with calls from 1 on their way over its first connection, which served
-// call 0, and the other end of that connection. Further connections are served.
+// onTheirWay is a backend whose first connection has served call 0 and has the calls from 1 on
+// their way. conn is the other end of this connection. Further connections are served.
 type onTheirWay struct {
 	*caller
 	conn        net.Conn
@@ -158,13 +158,13 @@ type onTheirWay struct {
 	connections *int32
 }
 
-// sends returns a backend with `count` calls on their way, some under contexts of their own.
+// sends returns a backend with count calls on their way. contexts has the contexts of some of them.
 func sends(t *testing.T, count int, contexts map[uint32]context.Context) *onTheirWay {
 	t.Helper()
 	return sendsBefore(t, count, contexts, serves)
 }
 
-// sendsBefore is sends with another way to serve further connections.
+// sendsBefore is like sends, but serves further connections with later.
 func sendsBefore(t *testing.T, count int, contexts map[uint32]context.Context,
 	later func(net.Conn, *table)) *onTheirWay {
 	t.Helper()
@@ -198,7 +198,7 @@ func sendsBefore(t *testing.T, count int, contexts map[uint32]context.Context,
 	return s
 }
 
-// concurrentCsid serves connections side by side. Their numbers begin at 1.
+// concurrentCsid plays a csid that serves several connections at once. Their numbers begin at 1.
 func concurrentCsid(t *testing.T, serve func(net.Conn, int32)) (path string, connections *int32) {
 	t.Helper()
 	listener, path := listening(t)
@@ -216,8 +216,9 @@ func concurrentCsid(t *testing.T, serve func(net.Conn, int32)) (path string, con
 	return path, connections
 }
 
-// ending is how a csid ends a connection. It reads some bytes of the calls, makes all changes of
-// whole calls, and answers them. The last whole call may be answered in part or not at all.
+// ending is a way in which a csid ends a connection. It reads some bytes of the calls, makes the
+// changes of all complete calls, and answers them. The last complete call may be answered in part
+// or not at all.
 type ending struct {
 	calls, reads  int
 	isUnanswered  bool
@@ -249,8 +250,8 @@ func (e ending) ends(s *onTheirWay) {
 	s.conn.Close()
 }
 
-// lost is the number of the call that gets no reply, or 0. It is the first call without a reply,
-// unless that one is alone and csid did not read all of it.
+// lost returns the number of the call that gets no reply, or 0. It is the first call without a
+// reply, unless this call is alone and csid did not read all of it.
 func (e ending) lost() uint32 {
 	whole := e.reads / numberedCall
 	switch {
@@ -265,7 +266,8 @@ func (e ending) lost() uint32 {
 	}
 }
 
-// endings are all endings for `count` calls: after each byte of the calls, and of each reply.
+// endings returns all endings for a number of calls: after each byte of the calls, and after each
+// byte of each reply.
 func endings(calls int) (all []ending) {
 	for reads := 0; reads <= calls*numberedCall; reads++ {
 		all = append(all, ending{calls: calls, reads: reads})
@@ -278,8 +280,8 @@ func endings(calls int) (all []ending) {
 	return all
 }
 
-// check checks that each call had one outcome, each change was made once, the lost call's at most
-// once, and all in the order of the calls.
+// check checks that each call had one outcome, and that each change was made once, in the order of
+// the calls. The change of the lost call may be missing.
 func (e ending) check(t *testing.T, s *onTheirWay) {
 	t.Helper()
 	results, counts := s.all(t, e.calls), s.made.counts()
@@ -333,8 +335,8 @@ func TestConnectionThatEnds(t *testing.T) {
 	}
 }
 
-// After a refused change the calls that were answered that the store is down are sent again, in
-// order and before a newer call. The others have their replies.
+// After a refused change, csid answers further changes that its store is down. These calls are sent
+// again, in order and before a newer call. All other calls have their replies.
 func TestCallsAfterARefusedChange(t *testing.T) {
 	for _, c := range []refusedChange{
 		{"the first", 1, false, 0},
@@ -357,8 +359,8 @@ func TestCallsAfterARefusedChange(t *testing.T) {
 	}
 }
 
-// Which call of 16 is refused, whether the call after it needs no store, and after how many further
-// replies csid ends the connection; with 0 the front ends it.
+// refusedChange says which of 16 calls is refused, whether the call after it needs no store, and
+// after how many further replies csid ends the connection. With 0 the front ends it.
 type refusedChange struct {
 	name      string
 	refused   uint32
@@ -366,12 +368,12 @@ type refusedChange struct {
 	ends      int
 }
 
-// Whether the call needs no store.
+// reads reports whether the call needs no store.
 func (c refusedChange) reads(number uint32) bool {
 	return c.readsNext && number == c.refused+1
 }
 
-// Answers the 16 calls as csid does, until it ends the connection.
+// answer answers the 16 calls as csid does, until csid ends the connection.
 func (c refusedChange) answer(t *testing.T, s *onTheirWay) {
 	for number := uint32(1); number <= 16; number++ {
 		if got, err := takeCall(s.conn); err != nil || got != number {
@@ -395,7 +397,7 @@ func (c refusedChange) answer(t *testing.T, s *onTheirWay) {
 	}
 }
 
-// Checks the result of each of the 17 calls, and how often its change was made.
+// check checks the result of each of the 17 calls, and how often its change was made.
 func (c refusedChange) check(t *testing.T, s *onTheirWay) {
 	results, counts := s.all(t, 17), s.made.counts()
 	for number := uint32(1); number <= 17; number++ {
@@ -422,8 +424,8 @@ func (c refusedChange) check(t *testing.T, s *onTheirWay) {
 func TestCallIsSentAgainOnce(t *testing.T) {
 	rows := []struct {
 		name string
-		// What csid writes to the third and the fourth call over the second connection, before it
-		// closes that; and the outcome of the fourth.
+		// What csid answers to the third and the fourth call over the second connection, before it
+		// closes this connection. want checks the outcome of the fourth call.
 		third, fourth []byte
 		want          func(result) bool
 	}{
@@ -465,7 +467,7 @@ func TestCallIsSentAgainOnce(t *testing.T) {
 	}
 }
 
-// Replies go to their calls in order, also if the first one takes long.
+// Replies go to their calls in order, even if the first reply takes long.
 func TestSlowReplyBeforeFastOnes(t *testing.T) {
 	s := sends(t, 16, nil)
 	time.Sleep(100 * time.Millisecond)
@@ -476,7 +478,7 @@ func TestSlowReplyBeforeFastOnes(t *testing.T) {
 	}
 }
 
-// serveOn serves `count` calls over the first connection.
+// serveOn serves a number of calls over the first connection.
 func serveOn(s *onTheirWay, calls int) {
 	for call := 0; call < calls; call++ {
 		number, err := takeCall(s.conn)
@@ -504,7 +506,7 @@ func givesUp(t *testing.T, numbers ...uint32) (contexts map[uint32]context.Conte
 }
 
 // A caller that gives up while its call is on its way is answered at once. The reply is dropped
-// when it comes, and the other calls have theirs over the same connection.
+// when it comes. The other calls get their replies over the same connection.
 func TestCallersThatGiveUpOnTheWay(t *testing.T) {
 	for _, gone := range [][]uint32{{1}, {5}, {16}, {1, 2, 3, 16}} {
 		contexts, giveUp := givesUp(t, gone...)
@@ -527,7 +529,7 @@ func TestCallersThatGiveUpOnTheWay(t *testing.T) {
 	}
 }
 
-// A deadline that passes while the call is on its way is seen at once.
+// A deadline that passes while a call is on its way ends the call at once.
 func TestDeadlineOnTheWay(t *testing.T) {
 	ctx, cancel := context.WithTimeout(context.Background(), 300*time.Millisecond)
 	defer cancel()
@@ -609,7 +611,7 @@ func TestLimitsOfCallsOnTheirWay(t *testing.T) {
 				}()
 			}
 			awaits(t, "20 calls", func() bool { waiting, sent := count(b); return waiting+sent == 20 })
-			// A reply has the others go out.
+			// After a reply the other calls are sent.
 			let <- struct{}{}
 			awaits(t, "calls go out", func() bool {
 				waiting, sent := count(b)
@@ -621,8 +623,8 @@ func TestLimitsOfCallsOnTheirWay(t *testing.T) {
 	}
 }
 
-// A new connection has one call on its way until its first reply: csid may be closing each
-// connection unanswered.
+// A new connection has one call on its way until its first reply, since csid may close each
+// connection without a reply.
 func TestNewConnectionHasOneCall(t *testing.T) {
 	let := make(chan struct{})
 	path, _ := concurrentCsid(t, func(conn net.Conn, _ int32) {
@@ -720,7 +722,7 @@ func TestLateReplyBeforeOtherCalls(t *testing.T) {
 	s.b.late = 50 * time.Millisecond
 	giveUp()
 	s.all(t, 2)
-	// What csid writes after the end of the connection fails, so that it looks at no further call.
+	// csid's next write fails after the end of the connection, so csid looks at no further call.
 	awaits(t, "the connection is closed", func() bool {
 		return kept(s.b) != nil && kept(s.b).socket != nil && atomic.LoadInt32(s.connections) == 2
 	})
@@ -763,7 +765,7 @@ func TestRepliesBeforeTheFrontEndsAConnection(t *testing.T) {
 	}
 }
 
-// A call that was given up is not late while a call before it is unanswered whose caller waits.
+// A call that was given up is not late while an earlier call has no reply and its caller waits.
 func TestGivenUpAfterAPatientCaller(t *testing.T) {
 	contexts, giveUp := givesUp(t, 2)
 	s := sends(t, 3, contexts)
@@ -778,7 +780,8 @@ func TestGivenUpAfterAPatientCaller(t *testing.T) {
 	}
 }
 
-// Once it is the first unanswered call, its reply must come in time.
+// When a call that was given up becomes the first call without a reply, its reply must come in
+// time.
 func TestGivenUpAfterACallThatIsAnswered(t *testing.T) {
 	contexts, giveUp := givesUp(t, 2)
 	s := sends(t, 3, contexts)
@@ -825,7 +828,7 @@ func endsAtRandom(t *testing.T, made *table, seed int64) string {
 			if source.Intn(200) == 0 {
 				time.Sleep(time.Duration(source.Intn(4)) * time.Millisecond)
 			}
-			// As csid, it looks at no further call once a reply cannot be written.
+			// Like csid, it looks at no further call after a reply that cannot be written.
 			if _, err := conn.Write(okReply(number)); err != nil {
 				return
 			}
@@ -834,7 +837,7 @@ func endsAtRandom(t *testing.T, made *table, seed int64) string {
 	return path
 }
 
-// How long calls are made while connections end at random; FRONT_STRESS says another time.
+// How long calls are made while connections end at random. FRONT_STRESS sets another time.
 var stressTime = func() time.Duration {
 	if asked, err := time.ParseDuration(os.Getenv("FRONT_STRESS")); err == nil {
 		return asked
@@ -877,8 +880,8 @@ func callsAtRandom(t *testing.T, b *backend, caller uint32, until time.Time, ans
 	}
 }
 
-// areOnce checks that the changes of a table include each answered one once, and perhaps others,
-// and that the changes of one caller are in its order.
+// areOnce checks that each answered change was made once, that no change was made twice, and that
+// the changes of each caller are in its order.
 func (t *table) areOnce(test *testing.T, answered *sync.Map) {
 	last, made := map[uint32]uint32{}, map[uint32]bool{}
 	for _, number := range t.rows() {
@@ -895,8 +898,9 @@ func (t *table) areOnce(test *testing.T, answered *sync.Map) {
 	})
 }
 
-// With many callers, and for every end of connections: an answered change was made once, any other
-// at most once, and the changes of one caller are made in its order, also the given up ones.
+// With many callers, and connections that end at random places, an answered change is made once,
+// and any other change at most once. The changes of one caller are made in its order, including the
+// calls that it gave up.
 func TestManyCallersOverConnectionsThatEnd(t *testing.T) {
 	seed, until := time.Now().UnixNano(), time.Now().Add(stressTime)
 	t.Logf("seed %d", seed)

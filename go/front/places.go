@@ -9,39 +9,41 @@ import (
 	"google.golang.org/grpc/status"
 )
 
-// How many messages are received at once: until one has come, it may be of any length.
+// maxReceived is the greatest number of messages that are received at once. The length of a message
+// is known only when all of it has come.
 const maxReceived = 16
 
-// How long a message may take while other calls wait for theirs to be received: placeTime, and only
-// shareTime while a call of a connection waits that has no place. Where no message at all came for
-// stillTime since one waits, all that are received have clients that hang, and are late.
+// The times after which a message is late while other calls wait for a place. Each message is late
+// after placeTime. While a connection waits that has no place at all, a message is late after
+// shareTime. If no message came for stillTime, all of them are late, since their clients hang.
 const (
 	placeTime = 5 * time.Second
 	shareTime = time.Second
 	stillTime = time.Second
 )
 
-// places are what calls have while their messages are received. A free one goes to the connection
-// that has the fewest, and there to the call that waits the longest, so that no connection keeps
-// the others out, however many calls it has.
+// places limits how many messages are received at once: a call holds a place while its message is
+// received. A free place goes to the connection with the fewest places, and there to the call that
+// has waited the longest. So no connection keeps the others out, however many calls it has.
 type places struct {
 	mutex  sync.Mutex
 	free   int
 	shares map[*clientConn]*share
-	// How many calls wait, and have ever waited. When the last message came, or the first of those
-	// that wait began to if that was later.
+	// How many calls wait for a place, and how many have begun to wait since the start. stillSince
+	// is the time at which the last message came, or at which the calls began to wait, if that was
+	// later.
 	waiting    int
 	numbers    uint64
 	stillSince time.Time
 }
 
-// share is what a connection has: places, and calls that wait for one.
+// share has the number of places that a connection holds, and its calls that wait for a place.
 type share struct {
 	held  int
 	queue list.List
 }
 
-// turn is a call that waits for a place, until it is closed.
+// turn is a call that waits for a place. The channel came is closed when the call gets the place.
 type turn struct {
 	number uint64
 	came   chan struct{}
@@ -51,7 +53,7 @@ func newPlaces() *places {
 	return &places{free: maxReceived, shares: map[*clientConn]*share{}}
 }
 
-// take waits for a place for a call of a connection.
+// take waits until a call of a connection gets a place. It fails if the context ends first.
 func (p *places) take(ctx context.Context, client *clientConn) error {
 	waits := p.begin(client)
 	if waits == nil {
@@ -88,7 +90,8 @@ func (p *places) begin(client *clientConn) *list.Element {
 	return own.queue.PushBack(&turn{p.numbers, make(chan struct{})})
 }
 
-// leave ends the waiting of a call. A place that it got in the meantime is given back.
+// leave ends the waiting of a call. If the call got a place in the meantime, the place is given
+// back.
 func (p *places) leave(client *clientConn, waits *list.Element) {
 	p.mutex.Lock()
 	defer p.mutex.Unlock()
@@ -124,7 +127,7 @@ func (p *places) handOn() {
 	close(next.queue.Remove(next.queue.Front()).(*turn).came)
 }
 
-// next is the share whose call has the next place. One at least has a call that waits.
+// next returns the share whose call gets the next place. At least one call must wait.
 func (p *places) next() (next *share) {
 	for _, one := range p.shares {
 		if one.queue.Len() > 0 && (next == nil || one.isBefore(next)) {
@@ -134,7 +137,8 @@ func (p *places) next() (next *share) {
 	return next
 }
 
-// isBefore reports whether the first call of a share has a place before another share's.
+// isBefore reports whether the first waiting call of a share gets a place before the first waiting
+// call of another share.
 func (s *share) isBefore(other *share) bool {
 	if s.held != other.held {
 		return s.held < other.held
@@ -151,14 +155,15 @@ func (p *places) forget(client *clientConn) {
 	}
 }
 
-// messageCame notes that a message was received.
+// messageCame records that a message was received.
 func (p *places) messageCame() {
 	p.mutex.Lock()
 	defer p.mutex.Unlock()
 	p.stillSince = time.Now()
 }
 
-// isLate reports whether a message that began to be received then holds up others.
+// isLate reports whether a message is late. begin is the time at which the front began to receive
+// it.
 func (p *places) isLate(begin time.Time) bool {
 	p.mutex.Lock()
 	defer p.mutex.Unlock()

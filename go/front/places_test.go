@@ -31,8 +31,8 @@ func has(waits *list.Element) bool {
 	}
 }
 
-// A message is late after 5 seconds, after a second where none came or where a connection waits
-// that has no place, and only where calls wait.
+// A message is late only if calls wait for a place. It is late after 5 seconds. It is late after a
+// second if no message came, or if a connection without a place waits.
 func TestLateness(t *testing.T) {
 	own, other := &clientConn{}, &clientConn{}
 	rows := []struct {
@@ -60,7 +60,7 @@ func TestLateness(t *testing.T) {
 	}
 }
 
-// The first waiting call begins the second without a message, and a further one does not.
+// The second without a message begins with the first waiting call, and not with a further one.
 func TestSecondWithoutAMessage(t *testing.T) {
 	p := newPlaces()
 	fill(p, nil)
@@ -75,8 +75,7 @@ func TestSecondWithoutAMessage(t *testing.T) {
 	}
 }
 
-// The call that waits is the one beyond those that are received; it waits no longer than its
-// context.
+// A call waits if all places are taken, and no longer than its context.
 func TestCallsThatWaitForAPlace(t *testing.T) {
 	p := newPlaces()
 	ctx, cancel := context.WithCancel(context.Background())
@@ -91,8 +90,8 @@ func TestCallsThatWaitForAPlace(t *testing.T) {
 	}
 }
 
-// A free place goes to the connection that has the fewest, and there to the call that waits the
-// longest.
+// A free place goes to the connection with the fewest places, and there to the call that has waited
+// the longest.
 func TestOrderOfPlaces(t *testing.T) {
 	a, b, c := &clientConn{}, &clientConn{}, &clientConn{}
 	names := map[*clientConn]string{a: "a", b: "b", c: "c"}
@@ -122,8 +121,8 @@ func TestOrderOfPlaces(t *testing.T) {
 	}
 }
 
-// A call that leaves hands on the place that it got in this moment. Nothing is kept of connections
-// that are gone.
+// If a call stops waiting just when it gets a place, the place goes to the next call. Nothing is
+// kept of connections without calls.
 func TestPlacesThatAreLeft(t *testing.T) {
 	first, second := &clientConn{}, &clientConn{}
 	p := newPlaces()

@@ -13,29 +13,31 @@ import (
 	"google.golang.org/protobuf/encoding/protowire"
 )
 
-// How long the front waits for csid where it asks for itself.
+// questionTime is how long the front waits for the reply to a call that it makes itself.
 const questionTime = 5 * time.Second
 
-// errNoMessage is of a body that csid cannot have meant.
+// errNoMessage is the error if the body of a reply is not a message.
 var errNoMessage = malformed(csidName)
 
 func malformed(who string) error {
 	return status.Errorf(codes.Unavailable, "%s: malformed reply: bad message", who)
 }
 
-// topology is what GetCapacity is asked for: it sums up the pools that serve it.
+// topology is a topology whose free bytes the metrics show. GetCapacity returns the sum over the
+// pools that serve it.
 type topology struct {
-	// As the command line has it: KEY=VALUE, and more of them after commas.
+	// The text on the command line: pairs KEY=VALUE, with commas between them.
 	name string
-	// The message of GetCapacity for it.
+	// The message of GetCapacity that asks for this topology.
 	message []byte
 }
 
 // everywhere is the topology that all pools serve.
 var everywhere topology
 
-// readTopology reads segments, and encodes the message: field 3 has each segment as a field 1 of
-// key 1 and value 2.
+// readTopology parses the segments of a topology, and encodes the message of GetCapacity. Field 3
+// of the message is the topology. Each segment is a field 1 of the topology, with the key as field
+// 1 and the value as field 2.
 func readTopology(name string) (topology, error) {
 	if !utf8.ValidString(name) {
 		return topology{}, errors.New("it is not UTF-8")
@@ -61,9 +63,8 @@ func bytesField(number protowire.Number, value []byte) []byte {
 	return protowire.AppendBytes(protowire.AppendTag(nil, number, protowire.BytesType), value)
 }
 
-// question hands a call of the front's own to csid, and gives field 1 of the reply. Where it is
-// refused that is logged, as it is of a client's call, unless the front waits for csid and said
-// why.
+// question makes a call of the front itself to csid. It returns the value of field 1 of the reply,
+// and whether the reply has this field. A refusal is logged, except while the front waits for csid.
 func (h *handler) question(ctx context.Context, path string, message []byte, kind protowire.Type) (value []byte,
 	is bool, err error) {
 	begin := time.Now()
@@ -77,8 +78,8 @@ func (h *handler) question(ctx context.Context, path string, message []byte, kin
 	return value, is, err
 }
 
-// isReady asks csid by Probe, and then the node plugin, if there is one. It returns why one of
-// them is not ready.
+// isReady asks csid by Probe, and then the node plugin, if there is one. It returns why one of them
+// is not ready, or nil.
 func (h *handler) isReady(ctx context.Context) error {
 	if err := h.isCsidReady(ctx); err != nil || h.node == nil {
 		return err
@@ -86,7 +87,7 @@ func (h *handler) isReady(ctx context.Context) error {
 	return h.isNodeReady(ctx)
 }
 
-// isCsidReady asks csid alone.
+// isCsidReady asks csid by Probe. It returns why csid is not ready, or nil.
 func (h *handler) isCsidReady(ctx context.Context) error {
 	wrapped, is, err := h.question(ctx, probe, nil, protowire.BytesType)
 	if err != nil || !is {
@@ -95,7 +96,8 @@ func (h *handler) isCsidReady(ctx context.Context) error {
 	return readyValue(csidName, wrapped)
 }
 
-// isNodeReady asks the node plugin alone. Where it is not ready that is logged.
+// isNodeReady asks the node plugin by Probe. It returns and logs why the plugin is not ready, or
+// returns nil.
 func (h *handler) isNodeReady(ctx context.Context) error {
 	begin := time.Now()
 	body, err := h.node.probe(ctx, nil)
@@ -108,8 +110,8 @@ func (h *handler) isNodeReady(ctx context.Context) error {
 	return err
 }
 
-// probeBoth answers Probe as csid does, unless csid is ready and the node plugin is not: then as
-// the node plugin does.
+// probeBoth answers Probe with the answer of csid. If csid is ready and the node plugin is not, it
+// gives the answer of the plugin instead.
 func (h *handler) probeBoth(ctx context.Context, message []byte) ([]byte, error) {
 	body, err := h.ask(ctx, probe, message)
 	if err != nil || readiness(csidName, body) != nil {
@@ -122,8 +124,8 @@ func (h *handler) probeBoth(ctx context.Context, message []byte) ([]byte, error)
 	return body, nil
 }
 
-// readiness says why a plugin is not ready, by the body of its reply to Probe. Where that says
-// neither, it is ready (CSI, "Probe").
+// readiness returns why a plugin is not ready, or nil, from the body of its reply to Probe. A
+// plugin whose reply does not have the field `ready` is ready (CSI, "Probe").
 func readiness(who string, body []byte) error {
 	wrapped, is, err := lastField(body, 1, protowire.BytesType)
 	if err != nil {
@@ -135,7 +137,7 @@ func readiness(who string, body []byte) error {
 	return readyValue(who, wrapped)
 }
 
-// readyValue says why a plugin is not ready, by the field `ready` of its reply.
+// readyValue returns why a plugin is not ready, or nil, from the field `ready` of its reply.
 func readyValue(who string, wrapped []byte) error {
 	ready, _ := protowire.ConsumeBytes(wrapped)
 	value, _, err := lastField(ready, 1, protowire.VarintType)
@@ -148,7 +150,8 @@ func readyValue(who string, wrapped []byte) error {
 	return nil
 }
 
-// capacity asks csid by GetCapacity. Where the answer has no number, it is 0.
+// capacity returns the free bytes of a topology, from GetCapacity. The result is 0 if the reply has
+// no number.
 func (h *handler) capacity(ctx context.Context, asked topology) (int64, error) {
 	value, _, err := h.question(ctx, getCapacity, asked.message, protowire.VarintType)
 	if err != nil {
@@ -158,7 +161,8 @@ func (h *handler) capacity(ctx context.Context, asked topology) (int64, error) {
 	return int64(bytes), nil
 }
 
-// lastField is the last field of a message with this number and wire type, without its tag.
+// lastField returns the value of the last field with this number and wire type, without the tag,
+// and whether the message has such a field.
 func lastField(message []byte, number protowire.Number, kind protowire.Type) (value []byte, is bool, err error) {
 	err = eachField(message, func(gotNumber protowire.Number, gotKind protowire.Type, got []byte) error {
 		if gotNumber == number && gotKind == kind {
@@ -172,7 +176,8 @@ func lastField(message []byte, number protowire.Number, kind protowire.Type) (va
 	return value, is, nil
 }
 
-// eachField hands on each field of a message, without its tag, until one is refused.
+// eachField calls take for each field of a message, with the field's value without its tag. It
+// stops at the first error of take.
 func eachField(message []byte, take func(number protowire.Number, kind protowire.Type, value []byte) error) error {
 	for len(message) > 0 {
 		number, kind, size := protowire.ConsumeTag(message)

@@ -9,7 +9,7 @@ import (
 	"time"
 )
 
-// soon is a context that ends before a test is given up.
+// soon returns a context that ends after 10 seconds.
 func soon(t *testing.T) context.Context {
 	t.Helper()
 	ctx, cancel := context.WithTimeout(context.Background(), 10*time.Second)
@@ -17,7 +17,8 @@ func soon(t *testing.T) context.Context {
 	return ctx
 }
 
-// answering reads calls without messages, and answers each the same.
+// answering returns a function that reads calls without messages, and answers each with the same
+// reply.
 func answering(reply []byte) func(net.Conn) {
 	return func(conn net.Conn) {
 		for head := make([]byte, 2); ; {
@@ -36,7 +37,7 @@ func replying(t *testing.T, frame string) *handler {
 	return inFront(path)
 }
 
-// The texts about a node plugin name it.
+// The reasons why a node plugin is not ready name the node plugin.
 func TestReadinessOfANodePlugin(t *testing.T) {
 	rows := []struct{ name, body, want string }{
 		{"ready", "0a020801", ""},

@@ -11,26 +11,26 @@ import (
 	"google.golang.org/protobuf/encoding/protowire"
 )
 
-// A delete and an unpublish are answered OK also where nothing is removed (docs/MACHINE.md,
-// "DeleteVolume", "ControllerUnpublishVolume"). So that the log has changes alone, the front looks
-// the volume up before such a call, where changes are logged: by a page of ListVolumes with one
-// entry, as csictl does.
+// csid answers a delete or an unpublish OK even if there is nothing to remove (docs/MACHINE.md,
+// "DeleteVolume", "ControllerUnpublishVolume"). The log should have only real changes. So if
+// changes are logged, the front looks the volume up before such a call, with a page of ListVolumes
+// that has one entry, as csictl does.
 
 // idPrefix is the first part of a volume's id, before its number in decimal.
 const idPrefix = "vol-"
 
-// lookUpTime is how long a call waits for the page. Without the page in time the call counts as a
-// change.
+// lookUpTime is how long a call waits for the page. If the page does not come in time, the call
+// counts as a change.
 const lookUpTime = time.Second
 
-// removal is what the front knows of a call before it is made.
+// removal is what the front knows about a delete or an unpublish before the call is made.
 type removal struct {
 	// Whether the call has nothing to remove.
 	isOfNothing bool
 }
 
-// made returns the change that a call made, or that was refused: nil if an answered call removed
-// nothing.
+// made returns the change that a call made, or that was refused. It returns nil if the call was
+// answered OK and removed nothing.
 func (r removal) made(asked *change, code codes.Code) *change {
 	if r.isOfNothing && code == codes.OK {
 		return nil
@@ -38,7 +38,7 @@ func (r removal) made(asked *change, code codes.Code) *change {
 	return asked
 }
 
-// removalOf looks up the volume of a call that removes something, where changes are logged.
+// removalOf looks up the volume of a delete or an unpublish, if changes are logged.
 func (h *handler) removalOf(ctx context.Context, path string, message []byte) removal {
 	if !h.logChanges || path != deleteVolume && path != unpublishVolume {
 		return removal{}
@@ -52,7 +52,7 @@ func (h *handler) removalOf(ctx context.Context, path string, message []byte) re
 	defer cancel()
 	body, err := h.ask(ctx, listVolumes, pageOf(number))
 	if err != nil {
-		// A token is refused if no volume had a number above it yet.
+		// csid refuses the token if no volume has been given a greater number yet.
 		return removal{isOfNothing: status.Code(err) == codes.Aborted && number > 1}
 	}
 	nodes, exists, err := nodesOf(body, id)
@@ -65,15 +65,16 @@ func (h *handler) removalOf(ctx context.Context, path string, message []byte) re
 	return removal{isOfNothing: !exists || !isPublished(nodes, string(fieldOf(message, 2)))}
 }
 
-// numberOf returns the number in the id of a volume.
+// numberOf returns the number in the id of a volume. isID is false if the text is not the id of a
+// volume.
 func numberOf(id string) (number uint64, isID bool) {
 	digits := strings.TrimPrefix(id, idPrefix)
 	number, err := strconv.ParseUint(digits, 10, 64)
 	return number, err == nil && number > 0 && id == idPrefix+strconv.FormatUint(number, 10)
 }
 
-// pageOf is the message of ListVolumes for one entry, which begins with the volume of a number: its
-// token is the number before.
+// pageOf returns the message of ListVolumes for a page with one entry, which begins with the volume
+// of this number. The token of the page is the number minus 1.
 func pageOf(number uint64) []byte {
 	message := protowire.AppendVarint(protowire.AppendTag(nil, 1, protowire.VarintType), 1)
 	if number > 1 {
@@ -82,8 +83,8 @@ func pageOf(number uint64) []byte {
 	return message
 }
 
-// nodesOf returns the nodes of a volume in a page of one entry, and whether the entry is the
-// volume's.
+// nodesOf returns the nodes of the volume in a page of one entry. exists is false if the entry is
+// missing or is not the volume with this id.
 func nodesOf(page []byte, id string) (nodes []string, exists bool, err error) {
 	entry := fieldOf(page, 1)
 	exists = entry != nil && string(fieldOf(fieldOf(entry, 1), 2)) == id
@@ -97,7 +98,8 @@ func nodesOf(page []byte, id string) (nodes []string, exists bool, err error) {
 	return nodes, exists, err
 }
 
-// isPublished reports whether a node is among nodes; the empty node is any.
+// isPublished reports whether nodes contains a node. If node is empty, it reports whether there are
+// any nodes.
 func isPublished(nodes []string, node string) bool {
 	for _, one := range nodes {
 		if node == "" || one == node {

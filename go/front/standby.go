@@ -14,7 +14,8 @@ import (
 	"fomaheti/sockets"
 )
 
-// How often csid is asked while its front waits for it, or hears nothing of it.
+// askingPause is the pause between two Probes while the front waits for csid, or while csid is
+// silent.
 const askingPause = time.Second
 
 // The bounds of --standby.
@@ -23,7 +24,7 @@ const (
 	mostStandby  = time.Hour
 )
 
-// standBy makes the socket once csid is ready, and serves until csid has answered nothing for the
+// standBy makes the socket when csid is ready, and serves until csid has given no reply for the
 // time of --standby. An orchestrator's sidecars wait for a missing socket, but end if their first
 // Probe is answered UNAVAILABLE. With a node plugin the socket exists from the start.
 func (f *front) standBy() int {
@@ -56,9 +57,9 @@ func (f *front) standBy() int {
 	return f.serve(listener)
 }
 
-// serveWhileItWaits makes the socket at once, and serves until it is asked to end. The node plugin
-// belongs to this machine, whichever csid serves; until csid is ready its own calls are answered
-// UNAVAILABLE.
+// serveWhileItWaits makes the socket at once, and serves until the front gets a signal to end. The
+// node plugin belongs to this machine, so its calls need no csid. Until csid is ready, the calls of
+// csid are answered UNAVAILABLE.
 func (f *front) serveWhileItWaits() int {
 	listener, err := sockets.Listen(f.asked.listen)
 	if err != nil {
@@ -69,7 +70,8 @@ func (f *front) serveWhileItWaits() int {
 	return f.serve(listener)
 }
 
-// follow waits for csid, and again each time that nothing was answered by it for the limit.
+// follow waits until csid is ready, and then until it has given no reply for the time limit. Then
+// it begins again. It does not return.
 func (h *handler) follow(limit time.Duration) {
 	for {
 		h.await(context.Background())
@@ -77,8 +79,7 @@ func (h *handler) follow(limit time.Duration) {
 	}
 }
 
-// life is the last time at which csid showed that it lives. Every reply shows that, with any
-// status.
+// life has the time of the last reply of csid, with any status.
 type life struct {
 	mutex sync.Mutex
 	shown time.Time
@@ -96,8 +97,8 @@ func (l *life) silence() time.Duration {
 	return time.Since(l.shown)
 }
 
-// await asks csid by Probe until it is ready, or the context ends. Why it waits is reported once,
-// and again where the reason is another one.
+// await asks csid by Probe until it is ready, or the context ends. It logs why it waits. If the
+// reason stays the same, it is logged once.
 func (h *handler) await(ctx context.Context) {
 	h.isWaiting.Store(true)
 	defer h.isWaiting.Store(false)
@@ -123,9 +124,9 @@ func (h *handler) await(ctx context.Context) {
 	}
 }
 
-// watch waits until nothing was answered by csid for so long, and says why. Each reply counts, so
-// that a Probe is asked only where none came for a third of that time, and one that waits after
-// other calls ends nothing while they are answered.
+// watch returns when csid has given no reply for the time limit, with the reason. Each reply
+// counts, so watch sends a Probe only if no reply came for a third of the limit. A Probe that waits
+// for other calls ends nothing while these calls get replies.
 func (h *handler) watch(limit time.Duration) error {
 	for why := ""; ; {
 		if pause := limit/3 - h.backend.life.silence(); pause > 0 {
@@ -136,11 +137,11 @@ func (h *handler) watch(limit time.Duration) error {
 		next := time.After(least(askingPause, limit/3))
 		left := limit - h.backend.life.silence()
 		if left < limit/10 {
-			// A front that hung itself asks once more before it believes that csid does.
+			// If the front itself hung, it asks once more before it decides that csid hangs.
 			left = limit / 10
 		}
 		err := soonReady(context.Background(), h.isCsidReady, left)
-		// A Probe that had no time for a connection says less than the one before it.
+		// A Probe that ran out of time has a weaker reason than the Probe before it.
 		if err != nil && (why == "" || status.Code(err) != codes.DeadlineExceeded) {
 			why = reason(err)
 		}
@@ -151,16 +152,16 @@ func (h *handler) watch(limit time.Duration) error {
 	}
 }
 
-// soonReady asks by Probe, and waits at most for the given time.
+// soonReady runs a check by Probe with a time limit.
 func soonReady(ctx context.Context, check func(context.Context) error, length time.Duration) error {
 	ctx, cancel := context.WithTimeout(ctx, length)
 	defer cancel()
 	return check(ctx)
 }
 
-// livez reports whether csid does anything. A csid that cannot serve, since another one has the
-// lock, closes each connection, and that is no fault; nor is a Probe that waits behind calls that
-// are answered.
+// livez answers 503 if csid hangs: a Probe timed out, and no reply came for questionTime. A csid
+// that closes each connection, since another csid has the lock, does not hang. A csid that answers
+// other calls before the Probe does not hang either.
 func (h *handler) livez(answer http.ResponseWriter, request *http.Request) {
 	err := h.checkInTurn(request.Context(), h.isCsidReady)
 	if status.Code(err) == codes.DeadlineExceeded && h.backend.life.silence() >= questionTime {
@@ -170,7 +171,7 @@ func (h *handler) livez(answer http.ResponseWriter, request *http.Request) {
 	fmt.Fprintln(answer, "ok")
 }
 
-// reason is why csid answered no Probe, after words that name csid already.
+// reason returns why csid answered no Probe, without the prefix that names csid.
 func reason(err error) string { return strings.TrimPrefix(status.Convert(err).Message(), "csid: ") }
 
 func least(one, other time.Duration) time.Duration {

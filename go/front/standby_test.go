@@ -14,8 +14,8 @@ import (
 	"time"
 )
 
-// While replies come a Probe may wait for longer than the limit, and once none comes the watch is
-// over. A machine that is too slow for a limit gets twice as long a one.
+// While replies come, a Probe may wait longer than the limit. When no reply comes, the watch ends.
+// If the machine is too slow for a limit, the test doubles the limit.
 func TestWatchOverABusyCsid(t *testing.T) {
 	for limit := 600 * time.Millisecond; ; limit *= 2 {
 		err := watchABusyCsid(t, limit)
@@ -30,7 +30,7 @@ func TestWatchOverABusyCsid(t *testing.T) {
 }
 
 func watchABusyCsid(t *testing.T, limit time.Duration) error {
-	// Between two replies a Probe is asked, and the calls before it take longer than the limit.
+	// A Probe is sent between two replies, and the calls before it take longer than the limit.
 	took, callers := 2*limit/5, 8
 	var isSilent atomic.Bool
 	path, _ := csid(t, func(conn net.Conn) {
@@ -64,8 +64,8 @@ func watchABusyCsid(t *testing.T, limit time.Duration) error {
 	return nil
 }
 
-// longWait lets so many callers call until the context ends. What it gives is closed once one of
-// them waited for longer than that.
+// longWait lets a number of callers make calls until the context ends. The channel is closed when
+// one of them has waited longer than length.
 func longWait(ctx context.Context, b *backend, callers int, length time.Duration) <-chan struct{} {
 	waited := make(chan struct{})
 	var once sync.Once
@@ -83,7 +83,7 @@ func longWait(ctx context.Context, b *backend, callers int, length time.Duration
 	return waited
 }
 
-// Each reply is a sign of life, also a refusal. A connection that is closed unanswered is none.
+// Each reply is a sign of life, even a refusal. A connection that is closed without a reply is not.
 func TestWatchOverClosedConnections(t *testing.T) {
 	const limit = 300 * time.Millisecond
 	refusals := int32(0)
@@ -99,7 +99,8 @@ func TestWatchOverClosedConnections(t *testing.T) {
 		"log of csid"; err == nil || err.Error() != want {
 		t.Errorf("%v, wanted %s", err, want)
 	}
-	// Seven Probes, each a third of the limit after the one before, and then none.
+	// Seven Probes get a reply, each a third of the limit after the one before. Then no Probe gets
+	// a reply.
 	if spent, least := time.Since(begin), 7*limit/3+limit; spent < least || spent > 2*least {
 		t.Errorf("it was over after %v", spent)
 	}
@@ -108,8 +109,8 @@ func TestWatchOverClosedConnections(t *testing.T) {
 	}
 }
 
-// A front that hung itself, so that it heard nothing for longer than the bound, asks before it
-// believes that csid does.
+// A front that hung itself, and so got no reply for longer than the limit, sends a Probe before it
+// decides that csid hangs.
 func TestWatchAfterAStandstill(t *testing.T) {
 	const limit = time.Minute
 	h := replying(t, "00 0000 00 00000000")
@@ -124,7 +125,7 @@ func TestWatchAfterAStandstill(t *testing.T) {
 	}
 }
 
-// A Probe has what is left of the bound, and no more.
+// A Probe may take the time that is left of the limit, and no more.
 func TestTimeOfAProbe(t *testing.T) {
 	const limit, left = 5 * time.Second, 500 * time.Millisecond
 	path, _ := csid(t, func(conn net.Conn) { io.Copy(io.Discard, conn) })
@@ -136,7 +137,7 @@ func TestTimeOfAProbe(t *testing.T) {
 	}
 }
 
-// While the front waits it asks once a second, however soon it is answered.
+// While the front waits, it sends one Probe a second, even if each is answered at once.
 func TestPauseWhileItWaits(t *testing.T) {
 	asked := int32(0)
 	ctx, cancel := context.WithCancel(context.Background())
@@ -154,7 +155,7 @@ func TestPauseWhileItWaits(t *testing.T) {
 	}
 }
 
-// answerOnce reads a Probe, and answers it.
+// answerOnce reads a Probe and answers it. It returns false if the connection has ended.
 func answerOnce(conn net.Conn, reply []byte) bool {
 	head := make([]byte, 2+len(probe)+1+4)
 	for got := 0; got < len(head); {
@@ -168,8 +169,9 @@ func answerOnce(conn net.Conn, reply []byte) bool {
 	return true
 }
 
-// A csid that closes connections is alive, and so is one that is not there: its supervisor knows.
-// One that hangs is not, and no front without --standby says any of it.
+// /livez reports that csid hangs only if csid takes connections and gives no reply. It answers OK
+// if csid closes connections, is not there, or answered just before. Without --standby there is no
+// /livez.
 func TestLiveness(t *testing.T) {
 	closing, _ := csid(t, func(net.Conn) {})
 	still := func(conn net.Conn) { conn.Read(make([]byte, 1)); time.Sleep(time.Second) }
@@ -202,8 +204,8 @@ func TestLiveness(t *testing.T) {
 	}
 }
 
-// While the front waits, what refuses its questions is reported by the line of that, and after it
-// each has a line again.
+// While the front waits, refusals of its own calls are not logged, since it has logged why it
+// waits. Afterwards each refusal is logged.
 func TestLinesWhileItWaits(t *testing.T) {
 	path, _ := csid(t, func(net.Conn) {})
 	var said strings.Builder

@@ -20,7 +20,7 @@ const (
 	startTime = 2 * time.Second
 )
 
-// redial limits the pause between attempts to connect to a second.
+// redial limits the pause between two attempts to connect: it is at most one second.
 var redial = grpc.ConnectParams{
 	Backoff: backoff.Config{
 		BaseDelay: 100 * time.Millisecond, Multiplier: 1.6, Jitter: 0.2, MaxDelay: time.Second,
@@ -33,8 +33,8 @@ var (
 	errNoVolume = status.Error(codes.NotFound, "volume not found")
 )
 
-// controller is a connection to the front. The plugin asks it for facts that are not in its
-// requests.
+// controller is a connection to the front. The plugin asks the front for facts that are not in the
+// requests of the orchestrator.
 type controller struct{ *grpc.ClientConn }
 
 func dial(socket string) (controller, error) {
@@ -46,9 +46,9 @@ func dial(socket string) (controller, error) {
 	return controller{conn}, err
 }
 
-// size returns the bytes of a volume. It requests a page of ListVolumes that starts after the
-// number before the volume's: if the volume exists, it comes first (docs/MACHINE.md, "A walk over
-// pages").
+// size returns the bytes of a volume. It asks for a page of ListVolumes with one entry, after the
+// volume's number minus 1. If the volume exists, this entry is the volume (docs/MACHINE.md, "A walk
+// over pages").
 func (c controller) size(ctx context.Context, id string) (int64, error) {
 	parts := volumeID.FindStringSubmatch(id)
 	if parts == nil {

@@ -16,8 +16,8 @@ import (
 	"google.golang.org/grpc/status"
 )
 
-// pageServer is a controller whose greatest number so far is last. It lists the volumes with these
-// numbers, with at most page volumes on a page.
+// pageServer plays a controller. It lists the volumes with these numbers, at most page of them on a
+// page. last is the greatest number that a volume has had.
 type pageServer struct {
 	numbers []int
 	last    int
@@ -150,7 +150,8 @@ func TestVolumes(t *testing.T) {
 	}
 }
 
-// A call waits for a controller that is about to start, also after one that found none.
+// A call waits for a controller that is about to start, even if an earlier call found no
+// controller.
 func TestControllerThatStartsLater(t *testing.T) {
 	started := startController(t, pageServer{[]int{1}, 1, 100}.list)
 	socket := filepath.Join(filepath.Dir(started), "later.sock")

@@ -36,7 +36,8 @@ func (devices) supports(use *capability, _ bool) error {
 	return nil
 }
 
-// create makes the file under another name first: a file with the volume's name has its full size.
+// create makes the file under another name first, so that a file with the volume's name always has
+// its full size.
 func (devices) create(data string, bytes int64) error {
 	unfinished := data + ".new"
 	file, err := files.Create(unfinished, 0o666)
@@ -236,9 +237,10 @@ func attached(data string) (string, error) {
 	return output("losetup", "--noheadings", "--output", "NAME", "--associated", data)
 }
 
-// detach detaches a file from its loop device. If another program has the device open, such as a
-// blkid that probes all devices, the kernel detaches it only when that program closes it, so detach
-// waits. If the file was detached earlier in this way, losetup reports that there is no file.
+// detach detaches a file from its loop device. Another program may have the device open, such as a
+// blkid that probes all devices. Then the kernel detaches the file only when that program closes
+// the device, so detach waits. If the file was detached earlier in this way, losetup reports that
+// there is no file.
 func detach(data, device string) error {
 	err := command("losetup", "--detach", device)
 	for end := time.Now().Add(detachTime); ; time.Sleep(detachTime / 100) {

@@ -91,7 +91,8 @@ func TestStagingFolderOfDevices(t *testing.T) {
 	testStagingFolder(t, newDeviceSession(t))
 }
 
-// A mounted volume has ext4, the size of the controller, and the flags of its mount.
+// A mounted volume has the file system ext4, the size that the controller reports, and the flags of
+// its mount.
 func TestMountedVolume(t *testing.T) {
 	t.Parallel()
 	s := newDeviceSession(t)

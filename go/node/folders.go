@@ -53,7 +53,8 @@ func (folders) unpublish(data, target string) error {
 	return unlink(data, target)
 }
 
-// usage returns the usage of the file system with the folder: a volume has no limit of its own.
+// usage returns the usage of the file system that has the folder, since a volume here has no size
+// limit. It returns nil if the volume is not at the path.
 func (folders) usage(data, path string) (*usage, error) {
 	for _, candidate := range []string{path, stagingLink(path)} {
 		if ok, err := isLinkTo(candidate, data); err != nil {

@@ -28,8 +28,8 @@ const (
 	unitBytes                = 1
 )
 
-// stagingMode is the mode of a staging folder that is missing: as a kubelet makes it, for the user
-// of the plugin and its group.
+// stagingMode is the mode with which a missing staging folder is made. It gives access to the
+// plugin's user and group, as a kubelet does.
 const stagingMode = 0o750
 
 // storage keeps the data of volumes and makes them available at paths. A repeated call changes
@@ -94,8 +94,8 @@ func method[Q, R any](name string, answer func(*plugin, context.Context, *Q) (*R
 	return grpc.MethodDesc{MethodName: name, Handler: handle}
 }
 
-// alone makes the calls of several methods one at a time. Probe and what the plugin is are answered
-// while one of them runs.
+// alone wraps a method. Only one call of all wrapped methods runs at a time. The other methods,
+// such as Probe, are answered in the meantime.
 func alone[Q, R any](
 	answer func(*plugin, context.Context, *Q) (*R, error),
 ) func(*plugin, context.Context, *Q) (*R, error) {
@@ -136,8 +136,8 @@ func (p *plugin) getCapabilities(context.Context, *empty) (*nodeCapabilities, er
 	}}, nil
 }
 
-// stage makes the data of a volume if it has none, in the size that the controller has, and stages
-// it, in a folder that is made where it is missing.
+// stage stages a volume. If the volume has no data yet, stage first makes its data, in the size
+// that the controller reports. It also makes the staging folder if the folder is missing.
 func (p *plugin) stage(ctx context.Context, request *stageRequest) (*empty, error) {
 	if err := checkPlace(request.VolumeID, "staging_target_path", request.StagingPath); err != nil {
 		return nil, err
@@ -163,14 +163,15 @@ func (p *plugin) stage(ctx context.Context, request *stageRequest) (*empty, erro
 			return nil, err
 		}
 	}
-	// The orchestrator should have made it (CSI, "NodeStageVolume"), but Docker Swarm does not.
+	// The orchestrator should have made the folder (CSI, "NodeStageVolume"), but Docker Swarm does
+	// not.
 	if err := os.MkdirAll(request.StagingPath, stagingMode); err != nil {
 		return nil, err
 	}
 	return new(empty), p.storage.stage(data, request.StagingPath, request.Capability, readOnly)
 }
 
-// dataOf returns the path of a volume's data. Its context names the pool.
+// dataOf returns the path of a volume's data. The context of the volume names the pool.
 func (p *plugin) dataOf(request *stageRequest) (string, error) {
 	pool := request.VolumeContext["pool"]
 	if pool == "" {

@@ -51,7 +51,7 @@ func TestReadme(t *testing.T) {
 	runSession(t, run, sessionOf(t, readme))
 }
 
-// They have it without devices too, except those about the device.
+// Without devices the commands have the same output, except the commands about the device.
 func TestReadmeWithoutDevices(t *testing.T) {
 	t.Parallel()
 	var steps []step

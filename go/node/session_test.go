@@ -90,7 +90,7 @@ func newSession(t *testing.T, words ...string) *session {
 	return s
 }
 
-// startNode starts the node plugin. It replaces the socket of one that was killed.
+// startNode starts the node plugin, which replaces the socket of a killed one.
 func (s *session) startNode(t *testing.T) {
 	t.Helper()
 	s.node = start(t, "NODE_PLUGIN", "out/node-plugin", s.at("node.sock"), s.words...)
@@ -98,7 +98,8 @@ func (s *session) startNode(t *testing.T) {
 
 func (s *session) at(name string) string { return filepath.Join(s.folder, name) }
 
-// call makes a call and returns its output. AT/ stands for the folder in both.
+// call makes a call and returns its output. AT/ stands for the session's folder in the message and
+// in the output.
 func (s *session) call(socket, method, message string) string {
 	var out, log strings.Builder
 	message = strings.ReplaceAll(message, "AT/", s.folder+"/")
@@ -134,7 +135,7 @@ const (
 	noVolume         = "node-plugin: NotFound: volume not found"
 )
 
-// attachedRows are the calls by which an orchestrator gets a volume of 4 MiB for this node.
+// attachedRows returns the calls with which an orchestrator gets a volume of 4 MiB for this node.
 func attachedRows(as string) []row {
 	return []row{
 		{controllerSocket, "CreateVolume",
@@ -190,8 +191,8 @@ func (s *session) isEmpty(t *testing.T) {
 	}
 }
 
-// testLife calls what an orchestrator calls for a volume from its creation to its deletion, most
-// calls twice. A file in the volume outlasts a restart of the plugin.
+// testLife makes the calls of an orchestrator for a volume, from its creation to its deletion, most
+// of them twice. A file in the volume outlasts a restart of the plugin.
 func testLife(t *testing.T, s *session) {
 	s.run(t, attachedRows(asMount)...)
 	s.run(t, publishRow(ofMount, "").answers(notStaged))
@@ -216,7 +217,7 @@ func TestLifeInFolders(t *testing.T) {
 	testLife(t, newSession(t, "--without-devices"))
 }
 
-// An orchestrator that knows the front's socket alone reaches Identity, Controller and Node there.
+// An orchestrator that knows only the front's socket reaches Identity, Controller and Node over it.
 func TestOneSocket(t *testing.T) {
 	t.Parallel()
 	s := newSession(t, "--without-devices")
@@ -227,7 +228,7 @@ func TestOneSocket(t *testing.T) {
 			s.run(t, row)
 		}
 	}
-	// Name and version are those of csid, and so is the first capability, of a controller.
+	// The name, the version and the first capability, a controller service, come from csid.
 	here(row{"", "GetPluginInfo", "", `{"name":"pools.example.org","vendor_version":"1.0.0"}`},
 		row{"", "GetPluginCapabilities", "", `{"capabilities":[{"service":{"type":1}},{"service":{"type":2}}]}`},
 		row{"", "Probe", "", `{"ready":{"value":true}}`},
@@ -316,7 +317,8 @@ func TestWhatThePluginIs(t *testing.T) {
 		row{nodeSocket, "CreateVolume", "", "node-plugin: Unimplemented: unknown service csi.v1.Controller"})
 }
 
-// refusals are calls of the node plugin, without the braces of their messages, and their output.
+// refusals returns calls of the node plugin, without the braces of their messages, and their
+// output.
 func refusals() []struct{ method, message, want string } {
 	const (
 		stage, unstage     = "NodeStageVolume", "NodeUnstageVolume"
@@ -472,7 +474,7 @@ func (s *session) wantEndAtOnce(t *testing.T) {
 	}
 }
 
-// The statistics of a folder are those of its file system.
+// The statistics of a volume in a folder are the statistics of the folder's file system.
 func TestStatsOfFolders(t *testing.T) {
 	t.Parallel()
 	s := newSession(t, "--without-devices")

@@ -12,8 +12,8 @@ import (
 
 var dataName = regexp.MustCompile(`^(vol-[1-9][0-9]*)\.(img|img\.new|d)$`)
 
-// sweep prints the data of volumes that the controller no longer lists. With --remove it removes
-// them.
+// sweep prints the paths of the data of volumes that the controller does not list. With --remove it
+// also removes these data.
 func sweep(args []string, out io.Writer) error {
 	found := pools{}
 	flags := flag.NewFlagSet("sweep", flag.ContinueOnError)
@@ -47,7 +47,7 @@ func sweep(args []string, out io.Writer) error {
 }
 
 // unlistedData returns the paths of data of unlisted volumes. It reads the folders before it lists
-// the volumes: data made in between belong to volumes that the list may lack.
+// the volumes. Otherwise it could find data of a volume that was created after the list was made.
 func unlistedData(front controller, in pools) ([]string, error) {
 	var all []string
 	for _, folder := range in {

@@ -1,4 +1,5 @@
-//! The pools and nodes of the configuration, as a front with `--config` answers them on its control socket.
+//! Asks the server for its configuration: the pools and nodes, and how much each can hold. Only a front with
+//! `--config` answers this call, on its control socket.
 
 ghost use Rattle.std.specs.Prelude.{◌≡◌};
 ghost use Rattle.csictl.specs.Configuration.{configuration_path};
@@ -15,20 +16,21 @@ use std::alloc::{AllocError, Global};
 pub(crate) struct Place {
     /// The name of the pool, or the id of the node.
     pub(crate) name: Text,
-    /// The topology of the pool, if it has segments; empty for a node.
+    /// The topology of the pool. It is empty for a pool without segments, and for a node.
     pub(crate) topology: Items<Map>,
-    /// The bytes of the pool, or the most volumes of the node.
+    /// The size of the pool in bytes, or the greatest number of volumes that the node can have.
     pub(crate) most: i64,
 }
 
-/// The pools and nodes of a configuration, in its order.
+/// The pools and nodes of a configuration, in the order of the reply.
 #[derive(Drop)]
 pub(crate) struct Configuration {
     pub(crate) pools: Vec<Place>,
     pub(crate) nodes: Vec<Place>,
 }
 
-// The name in a list of places, and the number that bounds each place.
+// The keys in the JSON object: the key of a list of places, and the keys of the name and the limit of each
+// place.
 #[derive(Clone, Copy)]
 struct Keys {
     list: &'static str,
@@ -69,7 +71,7 @@ fn list_of<'v>(value: &'v Value, key: &str) -> Option<&'v Vec<Value>> {
     }
 }
 
-// The segments in an object of texts.
+// Reads segments from a JSON object. Each value of the object must be a text.
 fn segments_of(alloc: Global, value: &Value) -> Result<Map, Failure> {
     let mut segments = Map::new(alloc);
     let Some(object) = value.as_object() else {
@@ -85,7 +87,8 @@ fn segments_of(alloc: Global, value: &Value) -> Result<Map, Failure> {
     Ok(segments)
 }
 
-// The topology of a place: one with its segments, if it has segments.
+// Returns the topology of a place, which has the segments of the place. The list is empty if there are no
+// segments.
 fn topology_of(alloc: Global, value: &Value) -> Result<Items<Map>, Failure> {
     let mut topology = Vec::new(alloc);
     if let Some(segments) = value.get("segments") {
@@ -125,7 +128,7 @@ fn places_of(alloc: Global, value: &Value, keys: Keys) -> Result<Vec<Place>, Fai
     Ok(places)
 }
 
-// The configuration in the body of a reply, an object of JSON.
+// Parses the configuration in the body of a reply, which is a JSON object.
 fn configuration_of(alloc: Global, body: &[u8]) -> Result<Configuration, Failure> {
     let Ok(text) = str::from_utf8(body) else {
         return Err(Failure::BadBody);
@@ -141,14 +144,14 @@ fn configuration_of(alloc: Global, body: &[u8]) -> Result<Configuration, Failure
     })
 }
 
-// The path of the call, which the front itself answers (docs/DEPLOY.md, "The control socket").
+// Returns the path of the call. The front answers it without `csid` (docs/DEPLOY.md, "The control socket").
 fn path() -> &'static str
     ensures { result.now ≡ configuration_path }
 {
     "/fomaheti.v1.Front/GetConfiguration"
 }
 
-// The frame of the call, whose message is empty.
+// Makes the frame of the call. Its message is empty.
 #[tactic(auto, using(crate::proofs::Paths::is_call))]
 fn frame(alloc: Global) -> Result<Vec<u8>, AllocError> {
     let mut frame = Vec::new(alloc);
@@ -166,8 +169,8 @@ fn has(places: &[Place], name: &str) -> bool {
 }
 
 impl Configuration {
-    /// Asks the server for its configuration. `None` if the server refuses the call, as `csid` does, and a
-    /// front without `--config`.
+    /// Asks the server for its configuration. Returns `None` if the server refuses the call: `csid` does, and
+    /// so does a front without `--config`.
     ///
     /// # Errors
     ///
@@ -188,7 +191,8 @@ impl Configuration {
     ///
     /// # Errors
     ///
-    /// [`Failure::NoPool`] or [`Failure::NoNode`] if it has not; also if memory is refused.
+    /// Returns [`Failure::NoPool`] or [`Failure::NoNode`] for the first of the two that the configuration
+    /// does not have, and [`Failure::NoMemory`] if memory is refused.
     pub(crate) fn check(
         &self,
         alloc: Global,

@@ -1,4 +1,5 @@
-//! The ends of the program, and the exit status of each.
+//! The ways in which the program ends: its failures, with their lines for standard error, and its exit
+//! statuses.
 
 ghost use Rattle.std.specs.Prelude.{◌≡◌, false, IsTrue};
 ghost use Rattle.csictl.specs.Statuses.{ended_status, failure_status};
@@ -88,7 +89,7 @@ pub(crate) enum Failure {
     /// A pair of a key and a value has no `=`.
     #[error("a pair without '=': write KEY=VALUE,KEY=VALUE")]
     NotPair,
-    /// The message has more than 1,048,576 bytes, which is the limit of a frame.
+    /// The message has more than 1,048,576 bytes, which is the greatest length of a message in a frame.
     #[error("the message has more than 1048576 bytes")]
     TooLong,
     /// A line of a file of vectors is not a vector.
@@ -167,7 +168,8 @@ impl Failure {
         }
     }
 
-    /// The failure of a write to standard output; [`Failure::ReaderGone`] if its reader has closed it.
+    /// Returns the failure of a write to standard output: [`Failure::ReaderGone`] if its reader has closed
+    /// it.
     pub(crate) fn output(alloc: Global, error: &io::Error) -> Failure {
         match error.kind() {
             ErrorKind::BrokenPipe => Failure::ReaderGone,
@@ -175,7 +177,7 @@ impl Failure {
         }
     }
 
-    /// The failure of the file or socket with this name.
+    /// Returns a failure with the name of a file or socket, and the reason `why`.
     pub(crate) fn named<T: Display>(alloc: Global, name: &str, why: &T) -> Failure {
         match cause(alloc, name, why) {
             Ok(cause) => Failure::System(cause),

@@ -1,4 +1,4 @@
-//! Groups volumes by node or by pool.
+//! Groups volumes by node or by pool, for `csictl nodes`, `csictl pools` and `csictl status`.
 
 use crate::configuration::{Configuration, Place};
 use crate::json::{put, topologies};
@@ -17,30 +17,32 @@ pub(crate) enum GroupedBy {
     Pool,
 }
 
-// The volumes that are published to one node, or are in one pool with one topology.
+// The sums of the volumes that are published to one node or are in one pool. A pool that the configuration
+// does not have has one group for each topology of its volumes.
 #[derive(Drop)]
 struct Group {
     // The id of the node or the name of the pool; empty if a volume does not say its pool.
     name: Text,
-    // The topologies of the volumes, as a word and as JSON; empty for a node.
+    // The topologies of the pool, as one word and as a JSON array. For a node, the word is `-` and the array
+    // is empty.
     topology: String,
     topology_value: Value,
-    // The bytes of the pool or the most volumes of the node; `None` if no configuration is known, or if the
-    // configuration does not have the pool or the node.
+    // The size of the pool in bytes, or the greatest number of volumes of the node. `None` without a
+    // configuration, and for a pool or node that the configuration does not have.
     most: Option<i64>,
     volumes: u64,
     bytes: i64,
     ids: Vec<Text>,
 }
 
-/// Groups of volumes: those of the configuration in its order, if it is known, and then others in the order
-/// of the first volume of each group.
+/// Volumes in groups. The groups of the configuration come first, in its order, if a configuration is known.
+/// Other groups follow in the order in which their first volumes were counted.
 #[derive(Drop)]
 pub(crate) struct Groups {
     by: GroupedBy,
-    // Whether a configuration is known.
+    // True if a configuration is known.
     is_configured: bool,
-    // Whether the ids of the volumes are kept.
+    // True if the ids of the volumes are kept.
     are_ids_kept: bool,
     groups: Vec<Group>,
 }
@@ -70,13 +72,14 @@ impl Group {
         })
     }
 
-    // Returns true if a volume with this pool or node and this topology is of the group. A pool of the
-    // configuration has one topology.
+    // Returns true if a volume of this pool or node with this topology counts in the group. In a group of the
+    // configuration, volumes count with any topology.
     fn is_of(&self, name: &str, topology: &str) -> bool {
         self.name.as_str() == name && (self.most.is_some() || self.topology.as_str() == topology)
     }
 
-    // Counts a volume.
+    // Adds a volume to the sums, and keeps its id if `is_id_kept` is true. Without a volume, adds a volume of
+    // 0 bytes with an empty id.
     fn count(
         &mut self,
         alloc: Global,
@@ -101,7 +104,8 @@ impl Group {
         self.ids.clear();
     }
 
-    // The bytes that a pool of the configuration has free.
+    // Returns the free bytes of a pool: its size minus the sizes of its volumes. The result is negative if
+    // the volumes have more bytes. Returns `None` if the size of the pool is not known.
     fn free(&self) -> Option<i64> {
         match self.most {
             Some(most) => Some(most.saturating_sub(self.bytes)),
@@ -109,7 +113,7 @@ impl Group {
         }
     }
 
-    // The ids of the volumes, with commas between them; `-` if there are none.
+    // Writes the kept ids of the volumes with commas between them, or `-` if there are none.
     fn ids_word(&self, alloc: Global) -> Result<String, AllocError> {
         let mut out = String::new(alloc);
         for id in &self.ids {
@@ -119,7 +123,7 @@ impl Group {
         or_dash(out)
     }
 
-    // The most volumes of a node; `-` if it is not known.
+    // Writes the greatest number of volumes of a node, or `-` if it is not known.
     fn most_word(&self, alloc: Global) -> Result<String, AllocError> {
         match self.most {
             Some(most) => format!(in alloc; "{most}"),
@@ -127,8 +131,8 @@ impl Group {
         }
     }
 
-    // The row of a node: its id, the number of its volumes, the most that it can have if a configuration is
-    // known, and the ids of the volumes if they are kept.
+    // Makes the row of a node: its id and the number of its volumes. If a configuration is known, the
+    // greatest number of volumes follows. If `has_ids` is true, the ids of the volumes follow.
     fn node_row(
         &self,
         alloc: Global,
@@ -147,8 +151,8 @@ impl Group {
         Ok(row)
     }
 
-    // The row of a pool: its name, its topology, the number of its volumes, and the sum of their sizes; then
-    // its free bytes and its size, if a configuration is known.
+    // Makes the row of a pool: its name, its topology, the number of its volumes and the sum of their sizes.
+    // If a configuration is known, the free bytes and the size of the pool follow.
     fn pool_row(&self, alloc: Global, is_configured: bool) -> Result<Vec<String>, AllocError> {
         let mut row = Vec::new(alloc);
         row.push(word(alloc, self.name.as_str())?)?;
@@ -170,7 +174,8 @@ impl Group {
         Ok(Value::Array(array))
     }
 
-    // The members that nodes and pools share.
+    // Makes a JSON object with the members that nodes and pools share: the id or name, under the key `name`,
+    // the number of volumes, and the sum of their bytes.
     fn sums(&self, alloc: Global, name: &str) -> Result<Map<String, Value>, AllocError> {
         let mut object = Map::new(alloc);
         let text = Value::try_from_str(alloc, self.name.as_str())?;
@@ -219,7 +224,8 @@ impl Taker for Groups {
 }
 
 impl Groups {
-    /// Groups without volumes: one for each pool or node of the configuration, if it is known.
+    /// Makes a group without volumes for each pool or node of the configuration. Without a configuration,
+    /// there are no groups yet.
     ///
     /// # Errors
     ///
@@ -257,7 +263,7 @@ impl Groups {
         Ok(())
     }
 
-    // Counts a volume in its group, if there is one. Returns whether there is.
+    // Counts a volume in its group. Returns false if the group does not exist.
     fn is_counted(
         &mut self,
         alloc: Global,
@@ -275,7 +281,7 @@ impl Groups {
         Ok(false)
     }
 
-    // Counts a volume in its group. If the group does not exist, begins it with this volume.
+    // Counts a volume in its group. If the group does not exist, makes it first.
     fn add(
         &mut self,
         alloc: Global,
@@ -304,8 +310,8 @@ impl Groups {
         Ok(())
     }
 
-    /// Counts a volume: in the group of each of its nodes, or in the group of its pool. Volumes whose context
-    /// names no pool are grouped by their topology alone.
+    /// Counts a volume in the group of each of its nodes, or in the group of its pool. Volumes whose context
+    /// names no pool are grouped by their topology alone. An entry without a volume does not count in a pool.
     ///
     /// # Errors
     ///
@@ -320,7 +326,7 @@ impl Groups {
         }
     }
 
-    // The headings of the columns.
+    // Returns the headings of the table.
     fn headings(&self) -> &'static [&'static str] {
         match (self.by, self.is_configured, self.are_ids_kept) {
             (GroupedBy::Node, false, true) => &["NODE", "VOLUMES", "IDS"],
@@ -341,7 +347,7 @@ impl Groups {
         }
     }
 
-    /// A table with a heading, and a line for each group.
+    /// Writes a table with a line of headings and a line for each group.
     ///
     /// # Errors
     ///
@@ -354,7 +360,7 @@ impl Groups {
         table.text(alloc)
     }
 
-    /// The groups as an array of JSON.
+    /// Writes the groups as a JSON array.
     ///
     /// # Errors
     ///
@@ -370,7 +376,7 @@ impl Groups {
         Ok(Value::Array(array))
     }
 
-    /// An object of JSON with the groups, under `nodes` or `pools`.
+    /// Writes a JSON object with one member, the array of the groups. Its key is `nodes` or `pools`.
     ///
     /// # Errors
     ///

@@ -1,4 +1,4 @@
-//! Recognises a server of HTTP/2 by its first bytes.
+//! Recognises an HTTP/2 server by its first bytes.
 
 ghost use Rattle.std.specs.Prelude.{◌≡◌};
 ghost use Rattle.csictl.specs.Http2.{begins_http2};

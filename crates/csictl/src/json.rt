@@ -1,4 +1,4 @@
-//! Writes replies as JSON, in the mapping of proto3. Each field of a message is written, also if it has its
+//! Writes replies as JSON, in the mapping of proto3. Each field of a message is written, even if it has its
 //! default value.
 
 use command_line::MODE_NAMES;
@@ -11,8 +11,8 @@ use std::alloc::{AllocError, Global};
 
 type Json = Result<Value, AllocError>;
 
-// The names of the numbers of an enumeration (CSI specification, 'GetPluginCapabilities',
-// 'ControllerGetCapabilities').
+// The names of the values of two enumerations. The index of a name is its value (CSI specification,
+// 'GetPluginCapabilities', 'ControllerGetCapabilities').
 const SERVICES: [&str; 4] = [
     "UNKNOWN",
     "CONTROLLER_SERVICE",

@@ -26,8 +26,8 @@ pub(crate) enum What {
     Volume,
 }
 
-// Keeps the entries of the volume in `--id`, at the node in `--node` and in the pool in `--pool`, if these
-// are given.
+// Removes the entries that the options do not select. `--id` selects a volume by its id, `--node` by a node
+// that it is published to, and `--pool` by its pool. If several options are given, a volume must match each.
 fn select(arguments: &ArgMatches<'_>, entries: &mut Vec<Entry>) {
     if let Some(id) = arguments.get_str("id") {
         entries.retain(|entry| has_id(entry, id));
@@ -85,7 +85,7 @@ fn volume_text(
     }
 }
 
-// The volumes that the options select, with a line for each, or as one line of JSON.
+// Writes the volumes that the options select, as a table or, with `--json`, as one line of JSON.
 fn volumes_shown(
     alloc: Global,
     arguments: &ArgMatches<'_>,
@@ -100,8 +100,8 @@ fn volumes_shown(
     }
 }
 
-// Checks that the pool in `--pool` and the node in `--node` are of the configuration, if these are given and
-// the server answers its configuration.
+// Checks that the configuration has the pool in `--pool` and the node in `--node`. Checks nothing if neither
+// option is given, or if the server does not return its configuration.
 fn check_filter(
     alloc: Global,
     arguments: &ArgMatches<'_>,
@@ -118,7 +118,7 @@ fn check_filter(
     }
 }
 
-// Shows why a listing was refused.
+// Shows the refusal of a page of ListVolumes.
 fn refused(
     rt: &HostRuntime,
     arguments: &ArgMatches<'_>,
@@ -128,7 +128,8 @@ fn refused(
     show(rt, Method::ListVolumes, &reply.as_reply(), is_json)
 }
 
-// Shows volumes, or the volume that is asked for.
+// Shows the volumes that the options select. For [`What::Volume`], shows the one volume with the id in the
+// arguments.
 fn list_volumes(
     rt: &HostRuntime,
     what: What,
@@ -159,7 +160,8 @@ fn list_volumes(
     Ok(Ended::Done)
 }
 
-// Shows the nodes or the pools, also empty ones where the server answers its configuration.
+// Shows the nodes or the pools. If the server returns its configuration, nodes and pools without volumes are
+// shown too.
 fn list_groups(
     rt: &HostRuntime,
     by: GroupedBy,
@@ -188,7 +190,8 @@ fn list_groups(
 ///
 /// - the socket is not found, or an argument is malformed
 /// - a call is not answered
-/// - a reply is malformed or not a page, or the pages have no end
+/// - a reply is malformed, or is not a page or a configuration
+/// - the pages have no end
 /// - for [`What::Volume`]: no volume has the id in the arguments
 /// - for [`What::Volumes`]: the configuration does not have the pool or the node in the arguments
 /// - writing fails, or memory is refused

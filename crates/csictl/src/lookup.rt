@@ -11,8 +11,9 @@ use csi_rules::number_of_id;
 use csi_types::{Entry, Method, Text};
 use std::alloc::{AllocError, Global};
 
-// Returns the token of the page that begins with this volume, which is the number before the volume's own.
-// For a text that is not an id, returns the empty token, whose page begins with the first volume.
+// Returns the token of the page that begins with this volume: the volume's number minus 1, in decimal. For
+// volume 1, and for a text that is not an id, returns the empty token, whose page begins with the first
+// volume.
 fn token_before(alloc: Global, id: &str) -> Result<Text, AllocError> {
     let before = number_of_id(id).unwrap_or(0).saturating_sub(1);
     if before == 0 {

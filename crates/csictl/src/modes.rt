@@ -9,8 +9,8 @@ struct Name {
     mode: i32,
 }
 
-// The names of the CSI specification ('CreateVolume'), as listings show them and with hyphens, and the long
-// and short names of Kubernetes for the modes that its sidecars ask for.
+// The names of access modes: the names of the CSI specification ('CreateVolume'), in capital letters and with
+// hyphens, and the long and short names of Kubernetes.
 const NAMES: [Name; 22] = [
     Name {
         text: "single-node-writer",

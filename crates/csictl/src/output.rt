@@ -1,9 +1,10 @@
-//! Standard output, for the commands that write through a crate that does not say why a write failed.
+//! Standard output that remembers why a write failed. `csictl show` and `csictl vectors` need it, since they
+//! write through crates that report only that a write failed.
 
 use crate::failure::Failure;
 use std::io::{self, ErrorKind, Write};
 
-/// Standard output, which remembers whether its reader has gone.
+/// Standard output, which remembers if its reader has closed it.
 #[derive(Drop)]
 pub(crate) struct Output<'a> {
     rt: &'a HostRuntime,
@@ -11,12 +12,13 @@ pub(crate) struct Output<'a> {
 }
 
 impl<'a> Output<'a> {
-    /// Standard output, whose reader has not gone as far as is known.
+    /// Makes an output on which no write has failed yet.
     pub(crate) fn new(rt: &'a HostRuntime) -> Output<'a> {
         Output { rt, is_gone: false }
     }
 
-    /// The failure of the last write.
+    /// Returns the failure of the last failed write: [`Failure::ReaderGone`] if the reader has closed
+    /// standard output, otherwise [`Failure::WriteFailed`].
     pub(crate) fn failure(&self) -> Failure {
         if self.is_gone {
             Failure::ReaderGone

@@ -20,7 +20,7 @@ const FULL_PAGE: i32 = 0;
 
 /// A taker of the entries of a listing, one after the other.
 pub(crate) trait Taker {
-    /// Forgets the entries so far, as a listing that begins again gives all of its entries again.
+    /// Forgets all entries. The listing begins again, and will give all entries again.
     fn restart(&mut self);
 
     /// Takes the next entry.
@@ -46,13 +46,14 @@ impl Taker for Vec<Entry> {
 pub(crate) enum Walked {
     /// The entries of all pages were taken.
     All,
-    /// A page is refused.
+    /// The server refused a page for another reason than its token.
     Refused(ReceivedReply),
     /// The server refused a page because its token is not valid, or no longer valid.
     Outdated(ReceivedReply),
 }
 
-// The entries and the next token of a page. Nothing fails here, since a response is moved.
+// Returns the entries and the next token of a page, or `None` if the response is not a page. The response is
+// moved, so no call here can fail.
 fn parts(response: Response) -> Option<(Items<Entry>, Text)> {
     match response {
         Response::List { entries, token } => Some((entries, token)),
@@ -68,8 +69,9 @@ fn take_all<T: Taker>(alloc: Global, entries: Items<Entry>, taker: &mut T) -> Re
     Ok(())
 }
 
-// Takes the entries in the body of the page that begins at a token, and returns the token of the next page,
-// which is empty after the last page. Fails if the body is not a page, or if the two tokens are the same.
+// Takes the entries in the body of a page, and returns the token of the next page, which is empty after the
+// last page. `token` is the token of this page. Fails if the body is not a page, or if the next page would
+// have the same token.
 fn take_page<T: Taker>(
     alloc: Global,
     body: &[u8],
@@ -107,7 +109,7 @@ fn refused(reply: ReceivedReply, token: &Text) -> Walked {
     }
 }
 
-// Asks for one page after the other.
+// Asks for all pages once, and gives their entries to the taker.
 fn walk_once<T: Taker>(
     alloc: Global,
     line: &mut SocketLine<'_>,

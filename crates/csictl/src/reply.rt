@@ -53,7 +53,7 @@ pub(crate) fn line(alloc: Global, value: &Value) -> Result<String, AllocError> {
 /// # Errors
 ///
 /// If the body is not a response of the method, writing fails, or memory is refused. The first line is shown
-/// before the body is decoded.
+/// even if the body is malformed.
 pub(crate) fn show_lines(
     rt: &HostRuntime,
     method: Method,

@@ -7,7 +7,7 @@ use clap::ArgMatches;
 use csi_client::{ShowEnd, show_all};
 use csi_types::Method;
 
-// How the program ends after it showed replies on this output.
+// Returns the end of the program after it showed replies on this output.
 fn outcome(end: ShowEnd, output: &Output<'_>) -> Result<Ended, Failure> {
     match end {
         ShowEnd::Done(is_refused) => Ok(Ended::with(is_refused)),

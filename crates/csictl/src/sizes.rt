@@ -96,7 +96,8 @@ fn tenths_of(number: &str) -> Option<u64> {
         .checked_add(number_of(tenth)?)
 }
 
-// Returns a number of units in bytes, or `None` if the result is not a whole number of bytes.
+// Returns a number of units in bytes. Returns `None` if the text is not a number, or the result is not a
+// whole number of bytes below 2^63.
 fn units_of(number: &str, unit: u64) -> Option<i64> {
     let number = number.strip_suffix(' ').unwrap_or(number);
     if let Some(units) = number_of(number) {

@@ -1,4 +1,4 @@
-//! Finds the socket of the server, also if the arguments do not name it.
+//! Finds the socket of the server, even if the arguments do not name it.
 
 use crate::failure::Failure;
 use clap::ArgMatches;

@@ -1,5 +1,5 @@
-//! `csictl status`: what the server is, whether it is ready, how many volumes it has, and what its pools and
-//! nodes have room for.
+//! Runs `csictl status`: shows the server's name and version, whether it is ready, how many volumes it has,
+//! and the use of its pools and nodes.
 
 use crate::call::show;
 use crate::configuration::Configuration;
@@ -24,23 +24,23 @@ use std::alloc::{AllocError, Global};
 // The calls that return the name of the server and whether it is ready.
 const SERVER_CALLS: [Method; 2] = [Method::GetPluginInfo, Method::Probe];
 
-// The status of a server.
+// What `csictl status` shows.
 #[derive(Drop)]
 struct Status {
-    // The name of the plugin, as GetPluginInfo returns it. Its version follows.
+    // The name and the version of the plugin, from GetPluginInfo.
     name: Text,
     version: Text,
     is_ready: bool,
     volumes: u64,
-    // The sum of the sizes of the volumes.
+    // The sum of the sizes of the volumes, in bytes.
     bytes: i64,
     // The number of attachments: pairs of a volume and a node that the volume is published to.
     attachments: u64,
-    // What the pools and the nodes of the configuration have, if it is known.
+    // The use of the pools and nodes, or `None` if the server does not return its configuration.
     places: Option<Places>,
 }
 
-// The pools and the nodes of a configuration, with their volumes.
+// The sums of the volumes of each pool, and of each node.
 #[derive(Drop)]
 struct Places {
     pools: Groups,
@@ -71,7 +71,7 @@ impl Places {
         self.nodes.count(alloc, entry)
     }
 
-    // A table of the pools and one of the nodes, each after an empty line.
+    // Writes a table of the pools and a table of the nodes, each after an empty line.
     fn text(&self, alloc: Global) -> Result<String, AllocError> {
         let pools = self.pools.text(alloc)?;
         let nodes = self.nodes.text(alloc)?;
@@ -117,8 +117,8 @@ impl Status {
         }
     }
 
-    // Notes the response to one of the calls. If the response to Probe does not have the field `ready`, the
-    // server is ready (CSI specification, 'Probe').
+    // Takes the values of a response to GetPluginInfo or Probe. If the response to Probe does not have the
+    // field `ready`, the server is ready (CSI specification, 'Probe').
     fn take(&mut self, response: Response) -> Result<(), Failure> {
         match response {
             Response::PluginInfo { name, version } => {
@@ -134,7 +134,7 @@ impl Status {
         }
     }
 
-    // The lines of the server and of the sums of its volumes.
+    // Writes the lines about the server itself, and the lines with the sums over all volumes.
     fn sums_text(&self, alloc: Global) -> Result<String, AllocError> {
         let name = word(alloc, self.name.as_str())?;
         let version = word(alloc, self.version.as_str())?;
@@ -159,7 +159,7 @@ impl Status {
         Ok(text)
     }
 
-    // The members of an object of JSON that say what the server is and the sums of its volumes.
+    // Makes a JSON object with the server's name, version and readiness, and the sums over all volumes.
     fn sums(&self, alloc: Global) -> Result<Map<String, Value>, AllocError> {
         let mut object = Map::new(alloc);
         let name = Value::try_from_str(alloc, self.name.as_str())?;
@@ -184,7 +184,7 @@ impl Status {
     }
 }
 
-// Makes the calls about the server itself. Returns the first refusal, or `None` if all calls are answered OK.
+// Calls GetPluginInfo and Probe. Returns the first refusal, or `None` if both calls are answered OK.
 fn ask_server(
     alloc: Global,
     status: &mut Status,
@@ -201,7 +201,8 @@ fn ask_server(
     Ok(None)
 }
 
-// Makes all calls of `csictl status` over one connection.
+// Makes all calls of `csictl status` over one connection. A refused call for the configuration is no refusal
+// of the command.
 fn ask(alloc: Global, line: &mut SocketLine<'_>) -> Result<Outcome, Failure> {
     let mut status = Status::new(alloc);
     if let Some((method, reply)) = ask_server(alloc, &mut status, line)? {
@@ -219,12 +220,12 @@ fn ask(alloc: Global, line: &mut SocketLine<'_>) -> Result<Outcome, Failure> {
 }
 
 /// Asks a server for its name, version, readiness, configuration and volumes over one connection, and shows
-/// them; or the first refusal.
+/// them. If GetPluginInfo, Probe or ListVolumes is refused, shows the refusal.
 ///
 /// # Errors
 ///
-/// If the socket is not found, a call is not answered, a reply is malformed, writing fails, or memory is
-/// refused.
+/// If the socket is not found, an argument or a reply is malformed, a call is not answered, the pages have no
+/// end, writing fails, or memory is refused.
 pub(crate) fn run(rt: &HostRuntime, arguments: &ArgMatches<'_>) -> Result<Ended, Failure> {
     let patience = Patience::of(arguments)?;
     let path = socket::find(rt, arguments)?;

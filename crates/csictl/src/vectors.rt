@@ -7,7 +7,7 @@ use csi_vectors::{VectorsEnd, run_vectors};
 use std::alloc::Global;
 use std::fs::File;
 
-// The end of the program after a run over a file of vectors.
+// Returns the end of the program after a run over a file of vectors.
 fn outcome(
     alloc: Global,
     path: &str,

@@ -24,7 +24,7 @@ pub(crate) fn pairs_word(alloc: Global, pairs: &Map) -> Result<String, AllocErro
     or_dash(out)
 }
 
-/// Topologies as one word, with semicolons between them; `-` if there are none.
+/// Writes topologies as one word, with semicolons between them, or `-` if there are none.
 ///
 /// # Errors
 ///

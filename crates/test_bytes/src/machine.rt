@@ -65,15 +65,15 @@ impl Bench {
         Ok(format!(in alloc; "{count}")?)
     }
 
-    // Begins anew with a configuration and a new keeper without volumes.
+    // Begins again, with the configuration that the words name and a new keeper without volumes.
     fn begin(&mut self, alloc: Global, words: &str) -> Result<String, RowFault> {
         let bench = begun(alloc, words)?;
         *self = bench;
         Ok(String::from_str(alloc, "begun")?)
     }
 
-    // Makes a request many times. The answer has the number of requests that were done, and the last reply
-    // that was not OK.
+    // Makes a request many times. The answer has the number of requests that succeeded, and the last reply
+    // that was a refusal.
     fn answer_many(&mut self, alloc: Global, words: &str) -> Result<String, RowFault> {
         let (times, rest) = first_word(words)?;
         let (name, notation) = first_word(rest)?;

@@ -1,4 +1,4 @@
-//! Answers rows that are calls over a socket. Each call has a connection of its own to a server over one
+//! Answers rows that are calls over a socket. Each call has a new connection to a server. All calls use one
 //! keeper in memory.
 
 use crate::client::lines_of;
@@ -27,7 +27,8 @@ pub(crate) struct Calls<'a> {
 }
 
 impl AnswerRow for Calls<'_> {
-    // Returns the lines of the reply to a row's call, or to the first bytes of its frame.
+    // Returns the lines of the reply to a row's call. A row that begins with `part N` sends only the first N
+    // bytes of the call's frame.
     fn answer_row(&mut self, rt: &HostRuntime, row: &str) -> Result<RowAnswer, RowFault> {
         let alloc = rt.alloc();
         let (most, call) = match row.strip_prefix("part ") {

@@ -169,7 +169,7 @@ impl Line for Script<'_> {
     }
 }
 
-// Calls over a scripted line. The answer has the word for the last result, and the counts of the line.
+// Makes a call over a scripted line. The answer has the word for the last result, and the counts of the line.
 fn call_answer(alloc: Global, words: &[&str]) -> Result<String, RowFault> {
     let tries: u32 = number_at(words, 1)?;
     if tries < 1 || tries > 10 || words.len() < 3 {

@@ -15,7 +15,8 @@ ghost use Rattle.std.specs.Prelude.{◌≡◌, ◌<◌, ◌++◌, [], IfOk, IfSo
 use std::alloc::{AllocError, AllocFailed, Global};
 use std::str;
 
-// The limit of the nesting of parentheses and brackets, which is at most 11 deep.
+// The greatest number of parts that are inside each other: 11 parentheses or brackets, and a part in the
+// innermost of them.
 const DEEPEST: u8 = 12;
 
 /// The reason why a text cannot be parsed as bytes.

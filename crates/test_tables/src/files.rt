@@ -62,9 +62,9 @@ impl<D: TestDisk> Bench<D> {
         Ok(format!(in alloc; "{outcome}: {}", bytes_text(alloc, &replies)?)?)
     }
 
-    // Serves calls like `serve`, but each read of one byte of the database file returns it with some bits
-    // flipped. The byte is at a distance, which the row gives, after the first occurrence of a text. The
-    // files stay unchanged.
+    // Serves calls like `serve`, but each read of one byte of the database file flips some of its bits. The
+    // row gives a text, a distance and the bits. The byte is at this distance after the beginning of the
+    // first such text in the file. The files stay unchanged.
     fn lie(&mut self, alloc: Global, row: &str) -> Result<String, RowFault> {
         let (lie, calls) = row.split_once(" / ").ok_or(RowFault::NotRow)?;
         let words = words_of(alloc, lie)?;

@@ -66,8 +66,8 @@ fn begin<T: Drop>(
     Ok(String::from_str(alloc, "begun")?)
 }
 
-// Makes the tables a second time, which is refused, and shows the next number that the returned connection
-// still has. Then replaces the tables by new tables.
+// Makes the tables a second time over the same connection, which is refused. Returns the next number in the
+// tables of the returned connection. Replaces the tables by new tables.
 fn remake<S: Alter + Drop>(
     alloc: Global,
     tables: &mut Tables<S>,

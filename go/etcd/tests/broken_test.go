@@ -98,7 +98,7 @@ func TestBrokenRows(t *testing.T) {
 			}
 		})
 	}
-	// Keys next to those of the plugin, and keys below its lock, are not rows.
+	// Keys next to the keys of the plugin, and keys below its lock, are not rows.
 	for _, key := range []string{name, name + "0", name + ".other/meta", name + "-/volumes/7", name + "/lock/x"} {
 		put(t, client, key, "x")
 	}

@@ -137,7 +137,7 @@ func (d *driver) compare(read rows) error {
 	return nil
 }
 
-// difference returns the rows of one that other does not have.
+// difference returns the rows that one has and other does not have.
 func difference(one, other rows) rows {
 	found := rows{}
 	for key, value := range one {

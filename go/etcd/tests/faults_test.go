@@ -61,8 +61,8 @@ func TestCutOff(t *testing.T) {
 	wantRows(t, d, p)
 }
 
-// A change of unknown outcome is never made after the next reading, even if etcd receives it only
-// then: one of two connections to etcd is slow.
+// A change with an unknown outcome is never made after the next reading, even if etcd receives the
+// change only then. For this, one of two connections to etcd is slow.
 func TestLateChange(t *testing.T) {
 	t.Parallel()
 	for i := 0; i < 2; i++ {
@@ -76,7 +76,7 @@ func TestLateChange(t *testing.T) {
 	}
 }
 
-// lateChange lets a change reach etcd after the reading of all rows that follows it.
+// lateChange lets a change reach etcd only after the next reading of all rows.
 func lateChange(t *testing.T, cluster *clusters.Cluster, p program, l *storeConn, slow *proxy) {
 	t.Helper()
 	// Calls use both connections in turn. A call over the slow one waits there, and the proxy drops
@@ -170,7 +170,7 @@ func (f *filling) add(t *testing.T) (isFull bool) {
 	params := "\x22\x84\x08" + strings.Repeat("x", 1028)
 	reply, err := f.l.call(commitPath, addVolumeWith(f.next, fmt.Sprintf("a%d", f.next), 1<<20, "p", "", params))
 	if err != nil {
-		// etcd answered that it has no space, and had made the change. Then there is no reply.
+		// etcd made the change, but answered that it has no space. Then there is no reply.
 		f.l = f.p.dial(t)
 		read, _, err := f.l.readAll()
 		if err != nil || read["meta"] != fmt.Sprintf("2 %d", f.next+1) {
@@ -314,7 +314,7 @@ func (r *restored) restore(t *testing.T) {
 	member.Start(t)
 }
 
-// raise raises the revision of etcd above that of the answers.
+// raise raises the revision of etcd above the revision of the last answer.
 func (r *restored) raise(t *testing.T) {
 	t.Helper()
 	for revision(t, r.client) < r.answered+10 {
@@ -331,7 +331,8 @@ func (r *restored) wantFile(t *testing.T, want int64) {
 	})
 }
 
-// wantRefusal waits until the program reports the older snapshot, and refuses calls for it.
+// wantRefusal waits until the program reports the older snapshot, and checks that calls are refused
+// for this reason.
 func (r *restored) wantRefusal(t *testing.T, p program) {
 	t.Helper()
 	want := fmt.Sprintf("%d was answered: it was restored from an older snapshot, and volumes may be missing; "+
@@ -355,8 +356,9 @@ func wantEnd(t *testing.T, p program) {
 	}
 }
 
-// An etcd that was restored from a snapshot older than an answer is refused: by the program that
-// gave the answer, and by one that has its revision from the file, until --accept-older is set.
+// An etcd that was restored from a snapshot older than an answer is refused until --accept-older is
+// set. The program that gave the answer refuses it, and so does a program that has the revision
+// from the file.
 func TestOlderSnapshot(t *testing.T) {
 	t.Parallel()
 	cluster, folder := clusters.Start(t, 1), processes.Folder(t)
@@ -388,8 +390,8 @@ func TestOlderSnapshot(t *testing.T) {
 	r.accepted(t)
 }
 
-// refusedWhileWaiting checks the refusal if the program only waits when it first asks etcd, and the
-// revision was raised when its turn comes.
+// refusedWhileWaiting checks the refusal by a program that waits for the lock when it first asks
+// etcd. When its turn comes, the revision has risen above the answers.
 func (r *restored) refusedWhileWaiting(t *testing.T) {
 	t.Helper()
 	if err := os.WriteFile(r.file, []byte(fmt.Sprintf("%d\n", r.answered)), 0o600); err != nil {
@@ -406,7 +408,8 @@ func (r *restored) refusedWhileWaiting(t *testing.T) {
 	second.Kill()
 }
 
-// accepted checks that a program with --accept-older leads, and later ones without it.
+// accepted checks that a program with --accept-older leads, and that later programs lead without
+// it.
 func (r *restored) accepted(t *testing.T) {
 	t.Helper()
 	third := r.start(t, "--accept-older").waitLeading(t)

@@ -78,8 +78,8 @@ func (p program) firstChangeTime(t *testing.T) time.Time {
 	return time.Now()
 }
 
-// If the lock is taken by hand, the old program confirms its lead for no question that was sent
-// after the new one's first OK.
+// The lock is taken by hand. The old program does not confirm its lead if the question is sent
+// after the new program's first OK.
 func TestLockTakenByHand(t *testing.T) {
 	t.Parallel()
 	cluster := clusters.Start(t, 3)
@@ -132,7 +132,7 @@ func TestLockTakenWhileCutOff(t *testing.T) {
 	first.waitLog(t, "leads no more: its key is gone\n")
 }
 
-// Two stacks whose lock is taken by hand: no list lacks a volume that the other stack had created
+// The lock of two stacks is taken by hand. No list lacks a volume that the other stack created
 // before the list was requested.
 func TestListsWhileLockIsTaken(t *testing.T) {
 	t.Parallel()

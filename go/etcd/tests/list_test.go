@@ -27,8 +27,8 @@ n     1        1 MiB
 const listedNone = "ID  NAME  POOL  SIZE  CAPABILITIES  PARAMETERS  MUTABLE  NODES\n\nPOOL  VOLUMES  SIZE\n\nNODE  " +
 	"VOLUMES  SIZE\n"
 
-// Rows in etcd are listed: all of them, or those of a name, a pool or a node. Broken rows are
-// refused.
+// --list shows the volumes in etcd: all of them, or the volumes with a name, of a pool or at a
+// node. Broken rows are refused.
 func TestList(t *testing.T) {
 	t.Parallel()
 	cluster := clusters.Start(t, 1)
@@ -148,8 +148,8 @@ func TestListAsOfFile(t *testing.T) {
 	}
 }
 
-// While a program makes changes, a list of several pages is of one revision: each new volume but
-// the last is at its node.
+// While a program makes changes, a list of several pages shows one revision: each new volume except
+// the last one is at its node.
 func TestListOfOneRevision(t *testing.T) {
 	t.Parallel()
 	const before = 20000

@@ -56,8 +56,8 @@ func (all times) String() string {
 		all.mean().Round(time.Microsecond), all.at(0.99).Round(time.Microsecond))
 }
 
-// measurePairs measures calls that add volumes, and the bare transaction of each. Both take turns,
-// so that they meet the same disk.
+// measurePairs measures calls that add volumes, and the same transactions made directly in etcd.
+// They alternate, so that both meet the same disk.
 func measurePairs(t *testing.T, count int, client *clientv3.Client, add func(number uint64, volumeName string)) (adds,
 	bare times) {
 	t.Helper()
@@ -93,7 +93,7 @@ func ratios(these, others times) string {
 		float64(these.mean())/float64(others.mean()))
 }
 
-// A change through csid-etcd, compared with its bare transaction.
+// A change through csid-etcd, compared with its transaction made directly in etcd.
 func TestMeasureChanges(t *testing.T) {
 	count := measureCount(t)
 	for _, members := range []int{1, 3} {
@@ -143,7 +143,7 @@ func dialProbed(t *testing.T, csid *processes.Process) *storeConn {
 	return l
 }
 
-// A CreateVolume of csid over csid-etcd, compared with its bare transaction.
+// A CreateVolume of csid over csid-etcd, compared with its transaction made directly in etcd.
 func TestMeasureCreates(t *testing.T) {
 	count := measureCount(t)
 	for _, members := range []int{1, 3} {
@@ -276,8 +276,8 @@ func TestMeasureMoves(t *testing.T) {
 		imported.Round(10*time.Millisecond), exported.Round(10*time.Millisecond))
 }
 
-// The question whether csid-etcd leads, which csid asks before it answers a call that only reads.
-// It is compared with the read of a key.
+// csid asks csid-etcd whether it leads before it answers a call that only reads. This question is
+// compared with the read of a key.
 func TestMeasureQuestions(t *testing.T) {
 	count := measureCount(t)
 	for _, members := range []int{1, 3} {

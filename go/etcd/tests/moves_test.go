@@ -272,8 +272,8 @@ func wantPartialImport(t *testing.T, cluster *clusters.Cluster, p *processes.Pro
 	}
 }
 
-// A candidate in the middle of an import ends it, as does an end of etcd. csid refuses the rows
-// that were written until somebody removes them.
+// If a csid-etcd starts in the middle of an import, the import ends. It also ends if etcd ends.
+// csid refuses the rows that were written until somebody removes them.
 func TestImportStopped(t *testing.T) {
 	t.Parallel()
 	lines, count := manyLines(30000)
@@ -334,7 +334,7 @@ func TestImportStopped(t *testing.T) {
 		"volumes 30000, attachments 15000, next number 30001, format 2\n", "")
 }
 
-// Of several imports at once, each of other rows, one succeeds, and the others write nothing.
+// Several imports with different rows run at once. One succeeds, and the others write nothing.
 func TestImportsAtOnce(t *testing.T) {
 	t.Parallel()
 	cluster := clusters.Start(t, 1)

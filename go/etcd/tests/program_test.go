@@ -135,8 +135,8 @@ func TestBeforeTheFirstAnswer(t *testing.T) {
 	l.wantRefused(t, addVolume(1, "a"), codes.FailedPrecondition, want)
 }
 
-// If etcd does not answer, a signal waits for the running change, as long as that may take. A
-// second signal does not wait.
+// If etcd does not answer, the program waits for the running change after a signal. After a second
+// signal it ends at once.
 func TestEndWithoutEtcd(t *testing.T) {
 	t.Parallel()
 	cluster := clusters.Start(t, 1)

@@ -156,7 +156,8 @@ func TestMalformedFrame(t *testing.T) {
 	}
 }
 
-// setMutable compares that the row is still the one that it read: no change is lost among others.
+// setMutable compares that the row has not changed since it read the row, so no other change is
+// lost.
 func TestChangedMeanwhile(t *testing.T) {
 	t.Parallel()
 	cluster, _, l := startLeading(t)

@@ -33,7 +33,7 @@ type ruleCase struct {
 	want string
 }
 
-// store replaces the rows in etcd by those of the case.
+// store replaces the rows in etcd by the rows of the case.
 func (c ruleCase) store(t *testing.T, client *clientv3.Client) {
 	t.Helper()
 	ops := []clientv3.Op{clientv3.OpPut(name+"/meta", fmt.Sprintf(`{"format_no":2,"next_number":%d}`, c.next))}
@@ -85,8 +85,8 @@ func ruleCases() []ruleCase {
 	}
 }
 
-// csid refuses rows in etcd that break a rule of docs/TABLES.md as it refuses those of a file: it
-// names the row and answers no call. Once they are fixed, it serves without a restart.
+// csid refuses rows in etcd that break a rule of docs/TABLES.md, as it refuses such rows in a file:
+// it names the row and answers no call. Once the rows are fixed, csid serves without a restart.
 func TestRowsThatBreakRules(t *testing.T) {
 	t.Parallel()
 	cluster := clusters.Start(t, 1)

@@ -221,7 +221,7 @@ func (r *rotation) trust(t *testing.T, trusted ...*authority) {
 	}
 }
 
-// replace replaces a certificate and its key by those of the second authority.
+// replace replaces a certificate and its key by the files of the second authority.
 func (r *rotation) replace(t *testing.T, name string) {
 	t.Helper()
 	for _, file := range []string{name + ".pem", name + ".key"} {
@@ -272,7 +272,7 @@ func newUserCluster(t *testing.T) *userCluster {
 	return &userCluster{cluster, filepath.Join(processes.Folder(t), "password")}
 }
 
-// args are the arguments of a csid-etcd with the user.
+// args returns the arguments of a csid-etcd with the user.
 func (u *userCluster) args(more ...string) []string {
 	return append([]string{"--user", "csid", "--password-file", u.password}, more...)
 }
@@ -285,7 +285,7 @@ func (u *userCluster) write(t *testing.T, text string) {
 	}
 }
 
-// refused is the end of a line about a refused password.
+// refused returns the end of a line about a refused password.
 func (u *userCluster) refused() string {
 	return "etcdserver: authentication failed, invalid user ID or password (" + u.Endpoints() + ")\n"
 }
@@ -322,9 +322,9 @@ func TestUser(t *testing.T) {
 	u.move(t)
 }
 
-// changePassword changes the password twice: while nothing else ends a lease, and together with a
-// restart of etcd, which forgets all tokens. p leads, and takes each password from the file, as
-// does a program that waits.
+// changePassword changes the password twice: once while nothing else ends a lease, and once
+// together with a restart of etcd, which forgets all tokens. The leading program p and a waiting
+// program take each password from the file.
 func (u *userCluster) changePassword(t *testing.T, p program) {
 	t.Helper()
 	waiting := start(t, u.Endpoints(), u.args("--lease", "600")...)

@@ -223,7 +223,7 @@ func (f *fleet) noteID(id, volumeName string) {
 // heldVolume is a volume of a caller, as the replies describe it.
 type heldVolume struct{ volumeName, id, node, params string }
 
-// caller has volumes that no other caller uses, so the replies determine what must be there.
+// caller has volumes that no other caller uses, so the replies determine what must be in etcd.
 type caller struct {
 	*fleet
 	number  int
@@ -344,9 +344,9 @@ func storedRows(client *clientv3.Client) (all []string, next int, err error) {
 	return all, next, nil
 }
 
-// watchRows reads the rows again and again. At no revision may the pool be overcommitted, a name be
-// there twice, a number reach the next one, or an attachment have no volume or be a volume's second
-// one.
+// watchRows reads the rows again and again, and checks them at each revision. The volumes must fit
+// in the pool. No name may occur twice. Each number must be below the next number. Each attachment
+// must have a volume, and be the only attachment of this volume.
 func watchRows(t *testing.T, client *clientv3.Client, ctx context.Context) (checks int) {
 	for ; ctx.Err() == nil; time.Sleep(50 * time.Millisecond) {
 		all, next, err := storedRows(client)
@@ -397,7 +397,7 @@ func (f *fleet) leader(client *clientv3.Client) *stack {
 	return nil
 }
 
-// kills returns the number of kills: a few in the gate.
+// kills returns the number of kills, from the environment variable KILLS, or 10 without it.
 func kills(t *testing.T) int {
 	t.Helper()
 	stdout := os.Getenv("KILLS")
@@ -411,8 +411,8 @@ func kills(t *testing.T) int {
 	return count
 }
 
-// victim is what is killed. With isBound, the csid-etcd of its stack is then told to end, as by a
-// unit that is bound to it.
+// victim is a program to kill. With isBound, the csid-etcd of its stack is then told to end, as
+// systemd does if the unit of csid-etcd is bound to the unit of the victim.
 type victim struct {
 	name    string
 	isBound bool
@@ -431,7 +431,7 @@ const (
 	leadingMember = "leader of etcd"
 )
 
-// member returns the member that a victim means, or nil for another victim.
+// member returns the member of etcd to kill, or nil if the victim is another program.
 func (f *fleet) member(who victim, random *rand.Rand) *clusters.Member {
 	switch who.name {
 	case anyMember:
@@ -442,8 +442,8 @@ func (f *fleet) member(who victim, random *rand.Rand) *clusters.Member {
 	return nil
 }
 
-// While eight callers make calls to two stacks, the serving stack loses its csid-etcd, its csid or
-// its front again and again, or etcd loses one of its three members.
+// Eight callers make calls to two stacks. Again and again the serving stack loses its csid-etcd,
+// its csid or its front, or etcd loses one of its three members.
 func TestStacks(t *testing.T) {
 	help, err := exec.Command(processes.CsidProgram(t), "serve", "--help").Output()
 	if err != nil || !strings.Contains(string(help), "--log") {

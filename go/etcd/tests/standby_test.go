@@ -55,8 +55,8 @@ func (p program) wantWaiting(t *testing.T, holder string) {
 	l.Close()
 }
 
-// A waiting program refuses calls at once. It leads within the lease and 2 s after the leading one
-// is killed, and at once after that one has ended.
+// A waiting program refuses calls at once. It leads within the lease and 2 s after the leading
+// program is killed, and at once after the leading program has ended.
 func TestStandby(t *testing.T) {
 	t.Parallel()
 	cluster := clusters.Start(t, 3)
@@ -212,8 +212,8 @@ func TestEnd(t *testing.T) {
 	}
 }
 
-// A program whose key somebody deletes loses the lock, and gets it again by another key. The value
-// of the key is --id.
+// If somebody deletes the key of a program, the program loses the lock, and gets it again with
+// another key. The value of the key is --id.
 func TestLockTakenAway(t *testing.T) {
 	t.Parallel()
 	cluster, p, l := startLeading(t)
@@ -232,7 +232,7 @@ func TestLockTakenAway(t *testing.T) {
 	p.waitLeadingSince(t, before)
 	second := p.dial(t)
 	second.wantReply(t, readPath, "", codes.OK, "0a04 0802 1001 2200")
-	// The key is put again by hand: the next change is refused, and the one after it is made after
+	// The key is put again by hand. The next change is refused. The change after it is made, after
 	// a fence.
 	lines = strings.Split(cluster.Ctl(t, "get", "--prefix", name+"/lock/"), "\n")
 	cluster.Ctl(t, "put", "--ignore-lease", lines[0], "other")
@@ -245,8 +245,8 @@ func TestLockTakenAway(t *testing.T) {
 	p.waitLog(t, "leads no more")
 	third := p.dial(t)
 	third.mustCommit(t, addVolume(2, "b"))
-	// The key is put without its lease: the program leads again by another key, and leaves none at
-	// its end.
+	// The key is put without its lease. The program leads again with another key, and leaves no key
+	// at its end.
 	lines = strings.Split(cluster.Ctl(t, "get", "--prefix", name+"/lock/"), "\n")
 	before = len(p.Log.String())
 	cluster.Ctl(t, "put", lines[0], "other")

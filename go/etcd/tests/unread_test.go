@@ -43,8 +43,9 @@ func (p program) waitConfirmsLead(t *testing.T) {
 	})
 }
 
-// A program whose standard error accepts no line answers, keeps the lock, and gives it up and waits
-// for it as any other program. It drops lines, and reports their number once somebody reads.
+// A program whose standard error accepts no line answers calls and keeps the lock. It gives up the
+// lock and waits for it like any other program. It drops lines, and reports their number when
+// somebody reads.
 func TestUnreadLog(t *testing.T) {
 	t.Parallel()
 	pipe := processes.NewFullPipe(t)

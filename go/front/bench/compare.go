@@ -6,14 +6,15 @@ import (
 	"path/filepath"
 )
 
-// Where files of tables are compared: on the disk of temporary files, and in memory.
+// The folders in which csid and the driver keep their files: on the disk of temporary files, and in
+// memory.
 var folders = []struct{ name, path string }{{"disk", os.TempDir()}, {"tmpfs", "/dev/shm"}}
 
-// The numbers of callers next to a driver, in rising order.
+// The numbers of callers in the comparison with a driver, in ascending order.
 var comparedCallers = []int{1, 8, 64}
 
-// compare measures each work through the front and csid, and by a driver in Go: the same calls by
-// the same callers, in rounds that take turns.
+// compare measures each work through the front and csid, and with a driver in Go. Both get the same
+// calls from the same number of callers, in rounds that alternate.
 func compare(csid, front, driver string, rounds int) error {
 	for i, folder := range folders {
 		if err := compareIn(folder.path, folder.name, csid, front, driver, rounds, i == 0); err != nil {
@@ -23,8 +24,8 @@ func compare(csid, front, driver string, rounds int) error {
 	return nil
 }
 
-// compareIn compares over files of tables in a folder; work that changes nothing only where that is
-// asked for.
+// compareIn compares with files in one folder. Work that changes nothing is measured only if isAll
+// is true.
 func compareIn(path, name, csid, front, driver string, rounds int, isAll bool) error {
 	folder, err := os.MkdirTemp(path, "front")
 	if err != nil {

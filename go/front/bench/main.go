@@ -1,6 +1,7 @@
-// bench measures calls through the front next to the same calls to csid alone over its socket, or
-// next to a driver in Go (bench/front runs it), and how service comes back after a stop of csid,
-// and under callers who give up (go/front/stalls does).
+// bench measures calls through the front. It compares them with the same calls to csid alone, or
+// with a driver in Go; bench/front runs these measurements. It also measures how service comes back
+// after a stop of csid, and how callers with short deadlines are served; go/front/stalls runs
+// these.
 //
 // usage: bench calls CSID FRONT [ROUNDS]
 //
@@ -47,13 +48,13 @@ max_volumes = 1000
 
 const controller = "/csi.v1.Controller/"
 
-// caller makes calls, and gives their bodies.
+// caller makes calls and returns the bodies of the replies.
 type caller interface {
 	call(path string, message []byte) ([]byte, error)
 }
 
-// work is what is measured: calls number i of a caller, how many they are, and whether they change
-// volumes.
+// work is work that is measured. do makes the calls of turn i of a caller; their number is calls.
+// changes is true if they change volumes.
 type work struct {
 	name    string
 	calls   int
@@ -92,7 +93,7 @@ func createAndDelete(c caller, caller, i int) error {
 	return wants(c, controller+"DeleteVolume", volume, []byte{})
 }
 
-// create makes a volume, and gives field 1 of the messages that name it.
+// create makes a volume, and returns its id as field 1 of a message.
 func create(c caller, caller, i int) ([]byte, error) {
 	name := fmt.Sprintf("pvc-%d-%d", caller, i)
 	message := append([]byte{0x0a, byte(len(name))}, name...)
@@ -111,11 +112,11 @@ func create(c caller, caller, i int) ([]byte, error) {
 // readonly is the body of ControllerPublishVolume: the context "readonly", "false".
 var readonly = []byte("\x0a\x11\x0a\x08readonly\x12\x05false")
 
-// pageEntries is the most entries of a page.
+// pageEntries is the greatest number of entries of a page.
 const pageEntries = 10
 
-// entries is the number of entries of a page, each of which is a field 1. Those of the next token
-// count too.
+// entries returns the number of fields of a page: its entries, and the token of the next page if
+// there is one.
 func entries(page []byte) (count int) {
 	for len(page) > 0 {
 		size, varint := binary.Uvarint(page[1:])
@@ -128,8 +129,8 @@ func entries(page []byte) (count int) {
 	return count
 }
 
-// mix is the life of a volume: it is made, published, listed with up to nine others, unpublished
-// and deleted. A page that is full may not have the volume of this caller.
+// mix makes a volume, publishes it, lists it with up to nine others, unpublishes it and deletes it.
+// A full page may not have the volume of this caller.
 func mix(c caller, caller, i int) error {
 	volume, err := create(c, caller, i)
 	if err != nil {
@@ -180,14 +181,14 @@ func (d *direct) call(path string, message []byte) ([]byte, error) {
 	return body, err
 }
 
-// bytesCodec sends and receives messages as they are.
+// bytesCodec passes messages on unchanged, as bytes.
 type bytesCodec struct{}
 
 func (bytesCodec) Marshal(v interface{}) ([]byte, error)      { return v.([]byte), nil }
 func (bytesCodec) Unmarshal(data []byte, v interface{}) error { *v.(*[]byte) = data; return nil }
 func (bytesCodec) Name() string                               { return "proto" }
 
-// sidecar is a gRPC connection of a caller's own.
+// sidecar is a caller with its own gRPC connection.
 type sidecar struct{ *grpc.ClientConn }
 
 func (s sidecar) call(path string, message []byte) (body []byte, err error) {
@@ -204,13 +205,14 @@ func newSidecar(socket string) (caller, error) {
 	return sidecar{conn}, err
 }
 
-// round is what one round of some work took: calls a second, and the times of calls in order.
+// round is the result of one round: the calls a second, and the times of calls in ascending order.
+// The time of a call is the time of its turn, divided by the number of calls of the turn.
 type round struct {
 	rate  float64
 	times []time.Duration
 }
 
-// measure lets the callers do the work in rounds of a second, and shows the best of them.
+// measure lets the callers do the work in rounds of a second, and prints the best round.
 func measure(name string, w work, callers []caller, rounds int) error {
 	best, err := bestRounds(w, [][]caller{callers}, rounds)
 	if err != nil {
@@ -224,8 +226,8 @@ func measure(name string, w work, callers []caller, rounds int) error {
 	return nil
 }
 
-// bestRounds lets each of some groups of callers do the work in rounds of a second, in turn, and
-// gives the best round of each.
+// bestRounds lets groups of callers do the work in turn, in rounds of a second. It returns the best
+// round of each group.
 func bestRounds(w work, groups [][]caller, rounds int) ([]round, error) {
 	best := make([]round, len(groups))
 	for i := 0; i < rounds; i++ {
@@ -310,10 +312,10 @@ func startCsid(program, folder, socket, tables string) (*exec.Cmd, error) {
 	return start(socket, program, words...)
 }
 
-// The callers of each work next to csid alone, at most.
+// maxCallers is the greatest number of callers in the comparison with csid alone.
 const maxCallers = 8
 
-// newCallers returns callers, each with a connection of its own.
+// newCallers returns callers, each with its own connection.
 func newCallers(socket string, count int) (callers []caller, err error) {
 	for len(callers) < count {
 		each, err := newSidecar(socket)
@@ -387,7 +389,7 @@ func run(program, front string, rounds int) error {
 	return throughFront(front, socket, folder, rounds)
 }
 
-// rounds is the number of rounds that the words ask for.
+// rounds returns the number of rounds in the arguments, or 5 if there is none.
 func rounds(words []string) (int, error) {
 	if len(words) == 0 {
 		return 5, nil
@@ -399,11 +401,11 @@ func rounds(words []string) (int, error) {
 	return count, nil
 }
 
-// errWords is of a command line that is not understood.
+// errWords is the error for a command line that is not valid.
 var errWords = errors.New("usage: bench calls CSID FRONT [ROUNDS]; bench driver CSID FRONT DRIVER [ROUNDS]; bench " +
 	"stop|quiet CSID FRONT FILE; bench hasty CSID FRONT")
 
-// do does what the words ask for.
+// do runs the measurement that the arguments name.
 func do(words []string) error {
 	if len(words) < 3 {
 		return errWords

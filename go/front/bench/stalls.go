@@ -16,7 +16,8 @@ import (
 	"google.golang.org/grpc/codes"
 )
 
-// The figures of a stop, and the figures of callers with short deadlines.
+// The settings of the three measurements: a stop of csid, callers with short deadlines, and quiet
+// peers.
 const (
 	stopCallers   = 100
 	stopDeadline  = 10 * time.Second
@@ -29,22 +30,22 @@ const (
 	quietPeers    = 1000
 )
 
-// How long a stop may cost service beyond itself and one opening of the file, and how long it is
-// waited for.
+// allowed is how long service may be missing after a stop, in addition to one opening of the file.
+// waited is how long the bench waits for service.
 const (
 	allowed = 2 * time.Second
 	waited  = 90 * time.Second
 )
 
-// repeating is a caller that makes volumes and deletes them, each call under a deadline, and
-// repeats those that are lost.
+// repeating is a caller that creates and deletes volumes. Each call has a deadline, and is repeated
+// if it fails.
 type repeating struct {
 	*grpc.ClientConn
 	number   int
 	deadline time.Duration
-	// When a call of it was done at last, in nanoseconds.
+	// When its last successful call ended, in nanoseconds since 1970.
 	served int64
-	// How many calls were done, and how many were not.
+	// The number of successful calls, and the number of failed ones.
 	done, lost int64
 }
 
@@ -61,7 +62,7 @@ func (r *repeating) run(ctx context.Context) {
 	}
 }
 
-// repeat makes a call until it is done, and gives the body.
+// repeat makes a call until it succeeds, and returns the body of the reply.
 func (r *repeating) repeat(ctx context.Context, path string, message []byte) (body []byte) {
 	for ctx.Err() == nil {
 		limited, cancel := context.WithTimeout(ctx, r.deadline)
@@ -82,7 +83,7 @@ func (r *repeating) repeat(ctx context.Context, path string, message []byte) (bo
 	return nil
 }
 
-// crowd is callers that repeat until it ends.
+// crowd is a number of callers that make calls until the function end is called.
 type crowd struct {
 	callers []*repeating
 	end     func()
@@ -116,7 +117,7 @@ func newCrowd(socket string, callers int, deadline time.Duration) (*crowd, error
 	return c, nil
 }
 
-// counts is how many calls were done and lost so far.
+// counts returns the numbers of successful and of failed calls so far.
 func (c *crowd) counts() (done, lost int64) {
 	for _, each := range c.callers {
 		done += atomic.LoadInt64(&each.done)
@@ -125,7 +126,7 @@ func (c *crowd) counts() (done, lost int64) {
 	return done, lost
 }
 
-// servedSince is how many callers had a call done since then.
+// servedSince returns how many callers had a successful call after begin.
 func (c *crowd) servedSince(begin time.Time) (callers int) {
 	for _, each := range c.callers {
 		if atomic.LoadInt64(&each.served) > begin.UnixNano() {
@@ -135,8 +136,8 @@ func (c *crowd) servedSince(begin time.Time) (callers int) {
 	return callers
 }
 
-// until waits until `count` callers had a call answered since then, and returns how long that
-// took.
+// until waits until a number of callers had a successful call after begin, and returns how long
+// that took.
 func (c *crowd) until(begin time.Time, callers int) (time.Duration, error) {
 	for time.Since(begin) < waited {
 		if c.servedSince(begin) >= callers {
@@ -147,7 +148,7 @@ func (c *crowd) until(begin time.Time, callers int) (time.Duration, error) {
 	return 0, fmt.Errorf("%d of %d callers were served in %v", c.servedSince(begin), len(c.callers), waited)
 }
 
-// behindFront starts csid over a file and a front, and lets something be done before both.
+// behindFront starts csid with a file of tables, and a front for it, and then calls do.
 func behindFront(program, front, tables string, do func(csid *os.Process, csidSocket, socket string) error) error {
 	folder, err := os.MkdirTemp("", "front")
 	if err != nil {
@@ -173,9 +174,11 @@ func behindFront(program, front, tables string, do func(csid *os.Process, csidSo
 	return do(csid.Process, csidSocket, socket)
 }
 
-// opening is how long csid takes from a connection to its first reply, where it has no other one.
+// opening returns how long csid takes from a new connection to its first reply, if there is no
+// other connection.
 func opening(socket string) (time.Duration, error) {
-	// The first one waits after that by which the socket was looked for.
+	// This first connection waits for the end of the connection with which start looked for the
+	// socket.
 	if _, err := firstReply(socket); err != nil {
 		return 0, err
 	}
@@ -193,7 +196,8 @@ func firstReply(socket string) (time.Duration, error) {
 	return time.Since(begin), err
 }
 
-// stop stops csid for a while under callers that repeat, and returns when they were served again.
+// stop stops csid for stopTime while callers repeat their calls, and prints when they were served
+// again.
 func stop(csid *os.Process, csidSocket, socket string) error {
 	opened, err := opening(csidSocket)
 	if err != nil {
@@ -219,7 +223,7 @@ func stop(csid *os.Process, csidSocket, socket string) error {
 	return comesBack(crowd, opened)
 }
 
-// comesBack returns when callers were served again, and whether that is soon enough.
+// comesBack prints when callers were served again. It fails if this was too late.
 func comesBack(crowd *crowd, opened time.Duration) error {
 	begin := time.Now()
 	first, err := crowd.until(begin, 1)
@@ -242,8 +246,8 @@ func comesBack(crowd *crowd, opened time.Duration) error {
 	return nil
 }
 
-// crowdIn connects peers to csid that each send the same and then nothing more, and gives what
-// closes them.
+// crowdIn connects peers to csid. Each of them sends the same bytes and then nothing more. The
+// function end closes their connections.
 func crowdIn(socket string, peers int, sent []byte) (end func(), err error) {
 	var conns []net.Conn
 	end = func() {
@@ -257,14 +261,14 @@ func crowdIn(socket string, peers int, sent []byte) (end func(), err error) {
 			return end, err
 		}
 		conns = append(conns, conn)
-		// csid may have closed it by then.
+		// csid may have closed the connection already.
 		conn.Write(sent)
 	}
 	return end, nil
 }
 
-// quiet returns how long a call waits after peers that stay and send nothing, or garbage: one over
-// a connection of its own, and then the front's first one.
+// quiet prints how long a call waits after peers that stay connected and send nothing, or garbage.
+// It measures a call over a new connection to csid, and then the first call of the front.
 func quiet(_ *os.Process, csidSocket, socket string) error {
 	opened, err := opening(csidSocket)
 	if err != nil {
@@ -300,7 +304,8 @@ func quiet(_ *os.Process, csidSocket, socket string) error {
 	return nil
 }
 
-// hasty compares callers with short deadlines to patient ones.
+// hasty compares callers with short deadlines to patient callers. It fails if they get less than
+// half of the calls a second.
 func hasty(_ *os.Process, _, socket string) error {
 	rates := map[time.Duration]float64{}
 	for _, deadline := range []time.Duration{time.Minute, hastyDeadline} {

@@ -14,7 +14,7 @@ import (
 	"./processes"
 )
 
-// behindSlow is a front before a fake csid that answers its first call once it is let.
+// behindSlow starts a front for a fake csid that answers its first call when the channel is closed.
 func behindSlow(t *testing.T) (*fake, *processes.Process, chan struct{}) {
 	t.Helper()
 	let := make(chan struct{})
@@ -22,8 +22,8 @@ func behindSlow(t *testing.T) (*fake, *processes.Process, chan struct{}) {
 	return csid, processes.StartFront(t, csid.socket), let
 }
 
-// A deadline ends a call that csid does not answer; the next one goes over the same connection, and
-// does not get the late reply.
+// A deadline ends a call that csid does not answer. The next call goes over the same connection,
+// and does not get the late reply.
 func TestDeadline(t *testing.T) {
 	t.Parallel()
 	csid, process, let := behindSlow(t)
@@ -39,8 +39,8 @@ func TestDeadline(t *testing.T) {
 	csid.dropsLate(t, front, let)
 }
 
-// dropsLate lets csid send the reply to a call that was given up, while the next call waits for
-// that.
+// dropsLate lets csid send the reply to a call that was given up, while the next call waits. It
+// checks that the next call gets its own reply.
 func (f *fake) dropsLate(t *testing.T, front *client, let chan struct{}) {
 	t.Helper()
 	calls, _ := f.seen()
@@ -52,14 +52,15 @@ func (f *fake) dropsLate(t *testing.T, front *client, let chan struct{}) {
 	}
 }
 
-// gaveUp reports whether the front logged that a call ended by its deadline or its caller: a client
-// whose deadline is over cancels its call, which the front may learn before its own clock says so.
+// gaveUp reports whether the front logged that a call ended by its deadline or its caller. A client
+// whose deadline is over cancels its call, which the front may see before its own clock reaches the
+// deadline.
 func gaveUp(front *processes.Process, path string) bool {
 	log := front.Log.String()
 	return strings.Contains(log, "front: "+path+" 4 ") || strings.Contains(log, "front: "+path+" 1 ")
 }
 
-// So does a caller that gives up without a deadline.
+// A cancelled call ends like a call whose deadline has passed.
 func TestCancelledCall(t *testing.T) {
 	t.Parallel()
 	let := make(chan struct{})
@@ -75,7 +76,7 @@ func TestCancelledCall(t *testing.T) {
 	csid.dropsLate(t, front, let)
 }
 
-// And so does one whose connection goes away.
+// A call whose client closes its connection ends like a cancelled call.
 func TestClientThatGoesAway(t *testing.T) {
 	t.Parallel()
 	csid, process, let := behindSlow(t)
@@ -88,7 +89,7 @@ func TestClientThatGoesAway(t *testing.T) {
 	csid.dropsLate(t, newClient(t, process.Socket), let)
 }
 
-// A late reply that is none, breaks off, or has something after it ends the connection, as ever.
+// A late reply that is malformed, incomplete or followed by further bytes ends the connection.
 func TestLateReplyThatIsWrong(t *testing.T) {
 	t.Parallel()
 	rows := map[string]step{
@@ -117,7 +118,7 @@ func TestLateReplyThatIsWrong(t *testing.T) {
 	}
 }
 
-// A late reply is waited for so long, and then the next call has a new connection.
+// If a late reply does not come within the time of --late, the next call has a new connection.
 func TestLateReplyThatNeverComes(t *testing.T) {
 	t.Parallel()
 	csid := startFake(t, step{write: okFrame("")}, step{mute: true})
@@ -133,8 +134,8 @@ func TestLateReplyThatNeverComes(t *testing.T) {
 	csid.sees(t, "/a/b ", "/a/c ", probe+" ")
 }
 
-// Callers that all give up cost csid one call and no connection, and once it goes on the next call
-// is served.
+// If all callers give up, csid gets only one of their calls, and keeps its connection. The next
+// call is served when csid goes on.
 func TestCallersThatAllGiveUp(t *testing.T) {
 	t.Parallel()
 	let := make(chan struct{})
@@ -150,7 +151,7 @@ func TestCallersThatAllGiveUp(t *testing.T) {
 	csid.dropsLate(t, front, let)
 }
 
-// What speaks no HTTP/2, or says nothing, is nobody's trouble but its own.
+// A client that speaks no HTTP/2, or sends nothing, does not disturb other clients.
 func TestClientThatSpeaksNothing(t *testing.T) {
 	t.Parallel()
 	csid := startFake(t)
@@ -167,8 +168,8 @@ func TestClientThatSpeaksNothing(t *testing.T) {
 	newClient(t, process.Socket).wants(t, probe, "", ok(ready))
 }
 
-// A call that was given up while half of its frame was written is written to its end, and leaves no
-// half frame before the next one.
+// If a call is given up when half of its frame is written, the rest of the frame is written before
+// the next call.
 func TestHalfFrame(t *testing.T) {
 	t.Parallel()
 	listening := make(chan struct{})
@@ -188,8 +189,8 @@ func TestHalfFrame(t *testing.T) {
 	}
 }
 
-// A call that waits for others ends with its own deadline, or when its caller gives up, and csid
-// never sees it.
+// A call that waits for other calls ends at its deadline, or when its caller gives up. csid never
+// sees it.
 func TestWaitingForTheTurn(t *testing.T) {
 	t.Parallel()
 	first := runCall(t, "/a/first")
@@ -212,7 +213,8 @@ func TestWaitingForTheTurn(t *testing.T) {
 	}
 }
 
-// What no frame can have is refused in the front: csid never sees it, and its stream goes on.
+// The front refuses a path or a message that no frame can have. csid never sees the call, and its
+// connection stays.
 func TestWhatNoFrameCanHave(t *testing.T) {
 	t.Parallel()
 	csid, front := behindFront(t)
@@ -222,8 +224,7 @@ func TestWhatNoFrameCanHave(t *testing.T) {
 		strings.Repeat("a/", 5000)} {
 		front.wants(t, path, "", unknown)
 	}
-	// HTTP/2 has no such bytes, and a path of one part is none of gRPC: they don't come as far as
-	// the front's own check.
+	// HTTP/2 or gRPC refuses these paths before the front checks them.
 	for _, path := range []string{"/a/\x7f", "/a/\x00", "/a/\n", "/a"} {
 		if got := front.call(t, path, ""); got.code == codes.OK {
 			t.Errorf("%q: %v", path, got)
@@ -240,7 +241,7 @@ func TestWhatNoFrameCanHave(t *testing.T) {
 	csid.sees(t, longest+" "+strings.Repeat("00", 1048576))
 }
 
-// A compressed message is refused by gRPC, so none can grow as it is read.
+// gRPC refuses a compressed message, so no message can grow when it is read.
 func TestCompressedMessage(t *testing.T) {
 	t.Parallel()
 	csid, front := behindFront(t)
@@ -275,8 +276,8 @@ func TestOneMessageACall(t *testing.T) {
 	csid.sees(t, "/a/b 01")
 }
 
-// Each refused call is one line, with its path, code, text and milliseconds, and never its message;
-// done ones are none.
+// Each refused call has one line, with its path, code, text and milliseconds, and never its
+// message. Calls with OK have no line.
 func TestLog(t *testing.T) {
 	t.Parallel()
 	csid := startFake(t, step{write: okFrame("")}, step{write: refusalFrame(9, "volume is in use")}, step{close: true})

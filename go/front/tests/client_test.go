@@ -1,5 +1,5 @@
-// Package tests runs the built front as a process: before the built csid, and before a csid of its
-// own that breaks the rules.
+// Package tests runs the built front as a process, with the built csid, or with a fake csid that
+// breaks the rules.
 package tests
 
 import (
@@ -25,7 +25,8 @@ const (
 	ready      = "0a020801"
 )
 
-// bytesCodec sends and receives messages as they are: Name is for a client, String for a server.
+// bytesCodec passes messages on unchanged, as bytes. A client calls Name, and a server calls
+// String.
 type bytesCodec struct{}
 
 func (bytesCodec) Marshal(v interface{}) ([]byte, error)      { return v.([]byte), nil }
@@ -33,7 +34,7 @@ func (bytesCodec) Unmarshal(data []byte, v interface{}) error { *v.(*[]byte) = d
 func (bytesCodec) Name() string                               { return "proto" }
 func (bytesCodec) String() string                             { return "bytes" }
 
-// answer is what a call came to: the body in hexadecimal, or a code and a text.
+// answer is the result of a call: the body in hexadecimal, or a code and a text.
 type answer struct {
 	code codes.Code
 	text string
@@ -44,7 +45,7 @@ func ok(body string) answer { return answer{codes.OK, "", strings.ReplaceAll(bod
 
 func refused(code codes.Code, text string) answer { return answer{code, text, ""} }
 
-// client is an orchestrator's sidecar, as far as the front can say.
+// client is a gRPC connection to a front, as an orchestrator's sidecar has it.
 type client struct{ *grpc.ClientConn }
 
 func newClient(t *testing.T, socket string) *client {
@@ -76,7 +77,7 @@ func (c *client) send(ctx context.Context, path string, message []byte) answer {
 
 func hexOf(body []byte) string { return hex.EncodeToString(body) }
 
-// call makes a call with a message in hexadecimal, and no deadline that matters.
+// call makes a call with a message in hexadecimal. Its deadline is processes.Patience.
 func (c *client) call(t *testing.T, path, message string) answer {
 	t.Helper()
 	ctx, cancel := context.WithTimeout(context.Background(), processes.Patience)
@@ -92,7 +93,7 @@ func (c *client) wants(t *testing.T, path, message string, want answer) {
 	}
 }
 
-// isLost makes a call whose outcome must stay open, so that an orchestrator repeats it.
+// isLost makes a call, and checks that its outcome is open: an orchestrator must repeat the call.
 func (c *client) isLost(t *testing.T, path, message string) {
 	t.Helper()
 	if got := c.call(t, path, message); got.code != codes.Unavailable || !strings.HasPrefix(got.text, "csid: ") {
@@ -102,7 +103,7 @@ func (c *client) isLost(t *testing.T, path, message string) {
 
 var fromHex = fixtures.FromHex
 
-// soon is a context for so long.
+// soon returns a context that ends after this time.
 func soon(t *testing.T, length time.Duration) context.Context {
 	t.Helper()
 	ctx, cancel := context.WithTimeout(context.Background(), length)

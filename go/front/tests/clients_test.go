@@ -16,7 +16,7 @@ import (
 	"./processes"
 )
 
-// goroutines is how many goroutines a front has.
+// goroutines returns the number of goroutines of a front.
 func goroutines(t *testing.T, monitor string) int {
 	t.Helper()
 	_, text := get(t, monitor+"/metrics")
@@ -28,7 +28,7 @@ func goroutines(t *testing.T, monitor string) int {
 	return number
 }
 
-// repeated is a frame that the front must answer, many times over.
+// repeated returns 1,000 frames that write makes, each of which the front must answer.
 func repeated(write func(*http2.Framer)) []byte {
 	var out bytes.Buffer
 	framer := http2.NewFramer(&out, nil)
@@ -38,8 +38,8 @@ func repeated(write func(*http2.Framer)) []byte {
 	return out.Bytes()
 }
 
-// floods sends frames on many connections one after the other, reads nothing, and closes each: at
-// once, or when the front has read no further for a while.
+// floods opens many connections one after the other, sends frames on each, and reads nothing. It
+// closes each at once or, if isEndless is true, when the front has read no further for a while.
 func floods(t *testing.T, socket string, frames []byte, isEndless bool) {
 	t.Helper()
 	connections := 300
@@ -60,8 +60,7 @@ func floods(t *testing.T, socket string, frames []byte, isEndless bool) {
 	}
 }
 
-// Of connections that send what must be answered again and again nothing is left once they are
-// closed.
+// Connections that send frames which must be answered leave nothing after they are closed.
 func TestConnectionsThatFlood(t *testing.T) {
 	t.Parallel()
 	process, monitor := watched(t, startFake(t).socket)
@@ -109,8 +108,8 @@ func TestClientThatPings(t *testing.T) {
 	}
 }
 
-// At most 256 connections are open. Those without a call make room for one that has one, and a
-// connection whose call runs stays.
+// At most 256 connections are open. A connection without a call is closed to make room for another
+// one, and a connection whose call runs stays.
 func TestConnectionsOfClients(t *testing.T) {
 	t.Parallel()
 	const connections, most = 400, 256
@@ -129,7 +128,7 @@ func TestConnectionsOfClients(t *testing.T) {
 	call.ends(t)
 }
 
-// Peers of the control socket that send no call, or a part of one, do not keep out those that do.
+// Peers of the control socket that send no complete call do not keep other peers out.
 func TestSilentPeersOfTheControlSocket(t *testing.T) {
 	t.Parallel()
 	process, socket := controlled(t, startFake(t).socket)

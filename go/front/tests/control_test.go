@@ -17,7 +17,7 @@ import (
 	"fomaheti/frames"
 )
 
-// controlled is a front with a control socket, and the path of that.
+// controlled starts a front with a control socket, and returns the path of the control socket.
 func controlled(t *testing.T, csid string, words ...string) (*processes.Process, string) {
 	t.Helper()
 	path := filepath.Join(processes.Folder(t), "control.sock")
@@ -25,7 +25,7 @@ func controlled(t *testing.T, csid string, words ...string) (*processes.Process,
 }
 
 // control makes a call in csid's envelope as csictl does: it ends its writing, and reads one reply.
-// An error is an end without one.
+// It returns an error if the connection ends without a reply.
 func control(t *testing.T, socket string, frame []byte) (frames.Reply, error) {
 	t.Helper()
 	conn, err := net.DialUnix("unix", nil, &net.UnixAddr{Name: socket, Net: "unix"})
@@ -47,8 +47,8 @@ func frameOf(t *testing.T, path, message string) []byte {
 	return append(frames.AppendRequestHead(nil, path, len(bytes)), bytes...)
 }
 
-// Calls of the control socket and of gRPC are about the same volumes, while the front keeps csid's
-// one connection.
+// Calls of the control socket and of gRPC see the same volumes, while the front keeps its
+// connection to csid.
 func TestControlSocket(t *testing.T) {
 	t.Parallel()
 	csid := processes.StartCsid(t)
@@ -92,7 +92,7 @@ func TestControlSocket(t *testing.T) {
 	csid.WantsStartAlone(t)
 }
 
-// csictl itself is served by the control socket.
+// csictl can use the control socket.
 func TestControlSocketByClient(t *testing.T) {
 	t.Parallel()
 	program := processes.ClientProgram()
@@ -108,7 +108,7 @@ func TestControlSocketByClient(t *testing.T) {
 	}
 }
 
-// A call of the control socket waits for others as any, and those of gRPC wait for it.
+// A call of the control socket waits for other calls, and calls of gRPC wait for it.
 func TestTurnOfControl(t *testing.T) {
 	t.Parallel()
 	let := make(chan struct{})
@@ -137,7 +137,8 @@ func TestTurnOfControl(t *testing.T) {
 	}
 }
 
-// While csid is away a call is closed unanswered. At its end the front removes the socket.
+// Without csid, the connection of a call is closed without a reply. At its end the front removes
+// the socket.
 func TestControlWithoutCsid(t *testing.T) {
 	t.Parallel()
 	process, socket := controlled(t, filepath.Join(processes.Folder(t), "absent.sock"), "--log-format", "json")

@@ -34,8 +34,8 @@ const (
 	volume2 = "0a25 088080c001 1205 766f6c2d32 1a0a 0a04706f6f6c 12027032 2a0b 0a09 0a047a6f6e65 120162"
 )
 
-// The calls of a day of an orchestrator, under the sample configuration (docs/OPERATING.md), and
-// their answers. A row goes over the volumes of the rows before it.
+// Calls of an orchestrator under the sample configuration (docs/OPERATING.md), and their answers. A
+// row sees the volumes of the rows before it.
 var callsOfVolumes = []struct {
 	path, message string
 	want          answer
@@ -87,8 +87,8 @@ var callsOfVolumes = []struct {
 	{probe + "/", "", refused(codes.Unimplemented, "unknown method")},
 	{"/~/" + strings.Repeat("~", 125), "", refused(codes.Unimplemented, "unknown method")},
 	{"/~/" + strings.Repeat("~", 126), "", refused(codes.Unimplemented, "unknown method")},
-	// One unknown field of 1,048,576 bytes: its tag, a length of three bytes, and so many
-	// bytes. Then one of a byte more.
+	// A message with one unknown field, of 1,048,576 bytes in all. Then a message that is one byte
+	// longer.
 	{probe, "7a fcff3f" + strings.Repeat("78", 1048572), ok(ready)},
 	{probe, "7a fdff3f" + strings.Repeat("78", 1048573),
 		refused(codes.ResourceExhausted, "grpc: received message larger than max (1048577 vs. 1048576)")},
@@ -116,7 +116,7 @@ name = "p1"
 bytes = 1099511627776
 `
 
-// create makes a volume of a name of fewer than 128 bytes, and gives its id.
+// create creates a volume with a name of fewer than 128 bytes, and returns its id.
 func create(ctx context.Context, front *client, name string) (string, answer) {
 	message := append([]byte{0x0a, byte(len(name))}, name...)
 	message = append(message, 0x1a, 6, 0x0a, 0, 0x1a, 2, 8, 1)
@@ -127,8 +127,8 @@ func create(ctx context.Context, front *client, name string) (string, answer) {
 
 var volumeID = regexp.MustCompile(`vol-[0-9]+`)
 
-// list gives the ids of all volumes, page after page: a page that begins after the last volume is
-// empty.
+// list returns the ids of all volumes. It reads page after page, until a page that begins after the
+// last volume is empty.
 func list(t *testing.T, front *client) (ids []string) {
 	t.Helper()
 	for token := ""; ; {
@@ -146,13 +146,14 @@ func list(t *testing.T, front *client) (ids []string) {
 	}
 }
 
-// book is the volumes that callers were answered, by name.
+// book has the ids of the volumes that callers got, by name.
 type book struct {
 	mutex sync.Mutex
 	ids   map[string]string
 }
 
-// note notes a volume that was reported, and says so where the name had another one before.
+// note records the id that a caller got for a name. It fails the test if the name had another id
+// before.
 func (b *book) note(t *testing.T, name, id string) {
 	b.mutex.Lock()
 	defer b.mutex.Unlock()
@@ -165,7 +166,7 @@ func (b *book) note(t *testing.T, name, id string) {
 	b.ids[name] = id
 }
 
-// isListed compares the volumes that were reported with those that exist: each once, and no others.
+// isListed checks that exactly the volumes in the book exist, each once.
 func (b *book) isListed(t *testing.T, front *client) {
 	t.Helper()
 	stand := map[string]bool{}
@@ -187,7 +188,7 @@ func (b *book) isListed(t *testing.T, front *client) {
 	}
 }
 
-// Callers who share names are answered the same volume, and each name has one.
+// Callers that use the same names get the same volumes, and each name has one volume.
 func TestConcurrentCallers(t *testing.T) {
 	t.Parallel()
 	const callers, names = 8, 40
@@ -213,8 +214,8 @@ func TestConcurrentCallers(t *testing.T) {
 	told.isListed(t, newClient(t, socket))
 }
 
-// createThrough makes volumes while csid is killed and started again several times. A caller is
-// answered an open outcome at worst, and repeats.
+// createThrough creates volumes while csid is killed and started again several times. If the
+// outcome of a call is open, its caller repeats it. No other error may occur.
 func createThrough(t *testing.T, csid *processes.Server, socket string) *book {
 	const callers, names, kills = 4, 150, 3
 	told, lost, made := &book{}, int32(0), int32(0)
@@ -253,7 +254,8 @@ func createThrough(t *testing.T, csid *processes.Server, socket string) *book {
 	return told
 }
 
-// A csid that is killed costs the calls of that time; the front finds the next one on its own.
+// If csid is killed, only the calls of that moment are lost. The front connects to the next csid by
+// itself.
 func TestCsidThatIsKilled(t *testing.T) {
 	t.Parallel()
 	csid := processes.NewServer(t, roomy).Start(t)
@@ -267,7 +269,7 @@ func TestCsidThatIsKilled(t *testing.T) {
 	})
 }
 
-// Callers who give up at any moment, and repeat, still get each volume once.
+// Callers that give up at any moment, and repeat their calls, still get each volume once.
 func TestImpatientCallers(t *testing.T) {
 	t.Parallel()
 	const callers, names = 4, 20
@@ -299,8 +301,8 @@ func TestImpatientCallers(t *testing.T) {
 	told.isListed(t, newClient(t, socket))
 }
 
-// A csid that hangs for a while is met by no further connection, and serves every caller once it
-// goes on.
+// If csid hangs for a while, the front makes no further connection. When csid goes on, all callers
+// are served.
 func TestCsidThatStandsStill(t *testing.T) {
 	t.Parallel()
 	const callers, still = 20, 1500 * time.Millisecond
@@ -334,7 +336,7 @@ func TestCsidThatStandsStill(t *testing.T) {
 	csid.WantsStartAlone(t)
 }
 
-// A csid that was killed and started again between two calls costs none.
+// If csid is killed and started again between two calls, no call is lost.
 func TestCsidThatIsStartedAgain(t *testing.T) {
 	t.Parallel()
 	csid := processes.StartCsid(t)
@@ -347,7 +349,7 @@ func TestCsidThatIsStartedAgain(t *testing.T) {
 	front.wants(t, probe, "", ok(ready))
 }
 
-// While there is no csid, calls are answered so at once, and it may come later than the front.
+// Without csid, calls are refused at once. csid may start after the front.
 func TestCsidThatIsAway(t *testing.T) {
 	t.Parallel()
 	csid := processes.NewServer(t, "")
@@ -360,7 +362,8 @@ func TestCsidThatIsAway(t *testing.T) {
 	front.isLost(t, probe, "")
 }
 
-// Ten thousand calls leave no more memory taken and no more files open than two thousand did.
+// After ten thousand calls, the front has no more memory and no more open files than after two
+// thousand.
 func TestTenThousandCalls(t *testing.T) {
 	t.Parallel()
 	csid := processes.StartCsid(t)
@@ -393,8 +396,8 @@ func TestTenThousandCalls(t *testing.T) {
 	calls(10000)
 }
 
-// A connection that csid closes as idle costs no call, also where that is just when the next one is
-// sent; and who else waits is served in the meantime.
+// If csid closes an idle connection, no call is lost, even if one is sent just then. Another client
+// of csid is served in the meantime.
 func TestIdleConnection(t *testing.T) {
 	t.Parallel()
 	folder := processes.Folder(t)

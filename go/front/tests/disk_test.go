@@ -16,10 +16,10 @@ import (
 	"./processes"
 )
 
-// How soon service must be back once a fault has passed.
+// How soon service must be back after a fault has passed.
 const soonBack = 2 * time.Second
 
-// smallDisk is a folder with so many bytes.
+// smallDisk mounts a file system with this number of bytes, and returns its folder.
 func smallDisk(t *testing.T, bytes int) string {
 	t.Helper()
 	if os.Geteuid() != 0 {
@@ -33,7 +33,7 @@ func smallDisk(t *testing.T, bytes int) string {
 	return path
 }
 
-// fill takes all the room of a disk, until the file is removed.
+// fill makes a file that takes all the room of a disk.
 func fill(t *testing.T, path string) {
 	t.Helper()
 	file, err := os.Create(path)
@@ -48,7 +48,8 @@ func fill(t *testing.T, path string) {
 	}
 }
 
-// back creates a volume of a name again and again, and says its id and how long it took.
+// back tries to create a volume until it succeeds. It returns the volume's id and how long that
+// took.
 func back(t *testing.T, front *client, name string) (string, time.Duration) {
 	t.Helper()
 	for begin := time.Now(); ; time.Sleep(10 * time.Millisecond) {
@@ -62,9 +63,9 @@ func back(t *testing.T, front *client, name string) (string, time.Duration) {
 	}
 }
 
-// While the disk is full each change is reported to be open, and what needs none is answered. Once
-// there is room again service is back, though nobody started anything again, and the rows are those
-// of the volumes that were reported.
+// While the disk is full, the outcome of each change is open, and calls without a change are
+// answered. When there is room again, service is back without a restart, and exactly the reported
+// volumes exist.
 func TestFullDisk(t *testing.T) {
 	t.Parallel()
 	disk := smallDisk(t, 1<<20)
@@ -97,8 +98,8 @@ func TestFullDisk(t *testing.T) {
 	told.isListed(t, front)
 }
 
-// refusedCreates creates volumes on a full disk, and gives the names of those that were refused: a
-// few still have room in what the log has.
+// refusedCreates creates volumes on a full disk, and returns the names of the refused ones. A few
+// others still have room in the log of SQLite.
 func refusedCreates(t *testing.T, front *client, round int, told *book) (names []string) {
 	t.Helper()
 	for i := 0; i < 50 && len(names) < 3; i++ {
@@ -116,7 +117,7 @@ func refusedCreates(t *testing.T, front *client, round int, told *book) (names [
 	return names
 }
 
-// inject has the next system calls of these names, from the next one on, fail once in a process.
+// inject makes the next system call with one of these names fail once in a process.
 func inject(t *testing.T, p *processes.Process, calls, fault string) {
 	t.Helper()
 	program, err := exec.LookPath("strace")
@@ -158,8 +159,8 @@ func isTraced(t *testing.T, id int) bool {
 	return !strings.Contains(string(text), "\nTracerPid:\t0\n")
 }
 
-// A write or a sync that fails once costs the change that it was for, or leaves it open, and
-// nothing else.
+// If a write or a sync fails once, its change is refused or has an open outcome, and nothing else
+// is affected.
 func TestFaultOfTheDisk(t *testing.T) {
 	t.Parallel()
 	for calls, fault := range map[string]string{"fdatasync": "EIO", "pwrite64": "ENOSPC"} {

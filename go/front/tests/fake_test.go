@@ -26,22 +26,22 @@ type step struct {
 	mute bool
 }
 
-// fake represents a csid: it serves one connection at a time, and takes a step a frame; once there
-// are no more it is ready.
+// fake plays a csid. It serves one connection at a time, and takes a step for each frame. After the
+// last step it answers each call with the body of a Probe that is ready.
 type fake struct {
-	// Where it listens; where that is empty, in a folder of its own.
+	// The path of its socket. If it is empty, the socket is in a new folder.
 	socket string
 	mutex  sync.Mutex
 	steps  []step
 	// The messages of the frames that were read, in hexadecimal, after their paths.
 	calls []string
-	// How many connections came to an end, and how many bytes of a frame were left when the last
-	// one did.
+	// The number of connections that have ended, and the number of bytes of an incomplete frame at
+	// the end of the last one.
 	ends int
 	rest int
-	// Until this is closed nothing is read from a connection; nil does not hold up anything.
+	// Nothing is read from a connection until this channel is closed, if it is not nil.
 	deaf <-chan struct{}
-	// Closes each connection unread.
+	// If set, each connection is closed before anything is read.
 	closes bool
 }
 
@@ -50,14 +50,15 @@ func startFake(t *testing.T, steps ...step) *fake {
 	return (&fake{steps: steps}).start(t)
 }
 
-// behindFront is a front before a fake csid that takes these steps, and a client of it.
+// behindFront starts a fake csid with these steps and a front for it. It returns the fake csid and
+// a client of the front.
 func behindFront(t *testing.T, steps ...step) (*fake, *client) {
 	t.Helper()
 	csid := startFake(t, steps...)
 	return csid, newClient(t, processes.StartFront(t, csid.socket).Socket)
 }
 
-// running is a call that csid got and answers once it is let.
+// running is a call that csid has read. csid answers it when the channel let is closed.
 type running struct {
 	csid    *fake
 	process *processes.Process
@@ -77,7 +78,7 @@ func runCall(t *testing.T, path string) *running {
 	return call
 }
 
-// ends lets csid answer, and the call then has that answer.
+// ends lets csid answer, and checks the reply to the call.
 func (r *running) ends(t *testing.T) {
 	t.Helper()
 	close(r.let)
@@ -150,7 +151,7 @@ func (f *fake) answer(conn net.Conn, call string) bool {
 	return !next.close
 }
 
-// readFrame reads one frame, and gives how many bytes of it came.
+// readFrame reads one frame, and returns how many bytes of it came.
 func readFrame(in io.Reader) (call string, size int, err error) {
 	head := make([]byte, 2)
 	if size, err = io.ReadFull(in, head); err != nil {
@@ -166,14 +167,14 @@ func readFrame(in io.Reader) (call string, size int, err error) {
 	return string(path[:len(path)-5]) + " " + hex.EncodeToString(message), size + count, err
 }
 
-// seen is the calls that were read, and the connections that ended.
+// seen returns the calls that were read, and the number of connections that have ended.
 func (f *fake) seen() (calls []string, ends int) {
 	f.mutex.Lock()
 	defer f.mutex.Unlock()
 	return append([]string(nil), f.calls...), f.ends
 }
 
-// messagesOf are the messages of the calls of a method, in hexadecimal.
+// messagesOf returns the messages of the calls of a method, in hexadecimal.
 func (f *fake) messagesOf(path string) (messages []string) {
 	calls, _ := f.seen()
 	for _, call := range calls {
@@ -191,7 +192,7 @@ func (f *fake) sees(t *testing.T, want ...string) {
 	}
 }
 
-// ended waits until so many connections came to an end.
+// ended waits until count connections have ended.
 func (f *fake) ended(t *testing.T, count int) {
 	t.Helper()
 	processes.Eventually(t, "the end of a connection to csid", func() bool {
@@ -200,7 +201,7 @@ func (f *fake) ended(t *testing.T, count int) {
 	})
 }
 
-// called waits until so many calls were read.
+// called waits until count calls were read.
 func (f *fake) called(t *testing.T, count int) {
 	t.Helper()
 	processes.Eventually(t, "a call at csid", func() bool {
@@ -209,7 +210,7 @@ func (f *fake) called(t *testing.T, count int) {
 	})
 }
 
-// okFrame and refusalFrame spell replies (docs/PROTOCOL.md, "Envelope").
+// okFrame and refusalFrame return replies as frames (docs/PROTOCOL.md, "Envelope").
 func okFrame(body string) []byte {
 	all, err := hex.DecodeString(strings.ReplaceAll(body, " ", ""))
 	if err != nil {

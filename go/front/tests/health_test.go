@@ -12,7 +12,7 @@ import (
 	"./processes"
 )
 
-// health asks the health service by its own client.
+// health is a client of gRPC's health service.
 type health struct {
 	grpc_health_v1.HealthClient
 }
@@ -36,7 +36,7 @@ func (h health) wants(t *testing.T, service string, want grpc_health_v1.HealthCh
 	}
 }
 
-// Check follows csid, for all of the plugin and for its two services.
+// Check reports whether csid serves, for the plugin as a whole and for its two services.
 func TestHealth(t *testing.T) {
 	t.Parallel()
 	const serving, notServing = grpc_health_v1.HealthCheckResponse_SERVING,
@@ -60,8 +60,7 @@ func TestHealth(t *testing.T) {
 	}
 }
 
-// A csid that hangs does not serve, and that is reported within a short time, but not before 5
-// seconds.
+// If csid hangs, Check answers NOT_SERVING within a short time, but not before 5 seconds.
 func TestHealthWhileCsidStandsStill(t *testing.T) {
 	t.Parallel()
 	csid := startFake(t, step{mute: true})
@@ -73,7 +72,7 @@ func TestHealthWhileCsidStandsStill(t *testing.T) {
 	}
 }
 
-// Watch is answered as csid answers any method that it does not know. So is Check without --health
+// Watch is answered as csid answers any unknown method. So is Check without --health
 // (TestCallsOfVolumes).
 func TestHealthThatIsNotAnswered(t *testing.T) {
 	t.Parallel()
@@ -88,7 +87,7 @@ func TestHealthThatIsNotAnswered(t *testing.T) {
 	}
 }
 
-// A Check without meaning is refused, counted and logged as any call.
+// A malformed Check is refused, counted and logged like any call.
 func TestMalformedHealthCheck(t *testing.T) {
 	t.Parallel()
 	process, monitor := watched(t, startFake(t).socket, "--health")

@@ -19,7 +19,7 @@ import (
 	"./processes"
 )
 
-// objects is each line of a log in JSON, without its time.
+// objects returns the lines of a log in JSON, without their times.
 func objects(t *testing.T, p *processes.Process) (all []map[string]interface{}) {
 	t.Helper()
 	for in := json.NewDecoder(strings.NewReader(p.Log.String())); ; {
@@ -38,8 +38,8 @@ func objects(t *testing.T, p *processes.Process) (all []map[string]interface{}) 
 	}
 }
 
-// Lines in JSON hold what those of text do: what is refused, where metrics are, and how the front
-// ends.
+// Lines in JSON say the same as lines of text: which calls are refused, where metrics are, and how
+// the front ends.
 func TestLogInJSON(t *testing.T) {
 	t.Parallel()
 	csid := startFake(t, step{write: refusalFrame(9, "volume is in use")}, step{mute: true})
@@ -83,9 +83,9 @@ func TestLogInJSON(t *testing.T) {
 	}
 }
 
-// With --log-changes each call that changes volumes is a line, done or refused, with the name or
-// the id of its volume and its node, and nothing else of the message; calls that change none have
-// none.
+// With --log-changes each call that changes volumes has a line, even if it is refused. The line has
+// the name or the id of the volume and the node, and nothing else of the message. Other calls have
+// no line.
 func TestLogOfChanges(t *testing.T) {
 	t.Parallel()
 	const secrets = "2a07 0a0168 12027077"
@@ -124,20 +124,20 @@ func TestLogOfChanges(t *testing.T) {
 // 'n1'.
 const vol1AtN1 = "0a0f 0a07 1205 766f6c2d31 1204 0a026e31"
 
-// A delete and an unpublish that remove nothing are no changes, and have no line.
+// A delete or an unpublish that removes nothing has no line.
 func TestLogOfRemovalsOfNothing(t *testing.T) {
 	t.Parallel()
 	const vol2, n2 = "0a05 766f6c2d32", "1202 6e32"
 	csid := startFake(t,
-		// No volume is there; another one is; the volume is there, but not at n2.
+		// The look-up finds no volume, then another volume, and then the volume, but not at n2.
 		step{write: okFrame("")}, step{write: okFrame("")},
 		step{write: okFrame(vol1AtN1)}, step{write: okFrame("")},
 		step{write: okFrame(vol1AtN1)}, step{write: okFrame("")},
 		// No volume had this number yet.
 		step{write: refusalFrame(10, "bad starting token")}, step{write: okFrame("")},
-		// An id that csid does not give is not looked up.
+		// A text that is not an id of csid is not looked up.
 		step{write: okFrame("")},
-		// A refusal has its line. So has a call before which csid did not say what is there.
+		// A refused call has a line. So does a call whose look-up was refused.
 		step{write: okFrame("")}, step{write: refusalFrame(9, "volume is in use")},
 		step{write: refusalFrame(13, "out of memory")}, step{write: okFrame("")})
 	process, socket := controlled(t, csid.socket, "--log-changes")
@@ -159,8 +159,8 @@ func TestLogOfRemovalsOfNothing(t *testing.T) {
 	if got != want {
 		t.Errorf("logged %q", got)
 	}
-	// The page of one entry that begins with the volume: max_entries is 1, and the token is the
-	// number before the volume's.
+	// The page has one entry and begins with the volume: max_entries is 1, and the token is the
+	// volume's number minus 1.
 	if pages := csid.messagesOf(controller + "ListVolumes"); !reflect.DeepEqual(pages,
 		[]string{"0801", "0801120131", "0801", "0801120131", "0801", "0801"}) {
 		t.Errorf("csid was asked for %q", pages)
@@ -186,7 +186,7 @@ func TestLinesWithoutJournal(t *testing.T) {
 	}
 }
 
-// What the HTTP server of --metrics says on its own is a line as any other.
+// Errors of the HTTP server of --metrics are lines of the front.
 func TestLogOfTheHTTPServer(t *testing.T) {
 	t.Parallel()
 	process, monitor := watched(t, startFake(t).socket)
@@ -197,7 +197,7 @@ func TestLogOfTheHTTPServer(t *testing.T) {
 	}
 }
 
-// unread is a front whose standard error takes no line, and the address of its metrics.
+// unread starts a front with this standard error, and returns it with the URL of its metrics.
 func unread(t *testing.T, csid string, errors *os.File) (*processes.Process, string) {
 	t.Helper()
 	free, err := net.Listen("tcp", "127.0.0.1:0")
@@ -212,12 +212,12 @@ func unread(t *testing.T, csid string, errors *os.File) (*processes.Process, str
 	return processes.Start(t, socket, command).Answers(t), "http://" + monitor
 }
 
-// Calls are answered, whoever reads standard error: one who does not read, or has gone. Lines that
-// find no room are dropped and counted, and reported once somebody reads.
+// Calls are answered even if nobody reads standard error, or if the reader has gone. Lines for
+// which there is no room are dropped and counted, and their number is written when somebody reads.
 func TestUnreadLog(t *testing.T) {
 	t.Parallel()
 	const calls = 1100
-	// Of a pipe that is not read one line is being written, that of metrics, and 1,024 more wait.
+	// Without a reader, one line is being written, the line about metrics, and 1,024 lines wait.
 	pipe := processes.NewFullPipe(t)
 	table := []struct {
 		name    string
@@ -250,8 +250,8 @@ func TestUnreadLog(t *testing.T) {
 	}
 }
 
-// Of lines about calls that are refused ten are written in a second, and then how many more there
-// were; changes that were made have lines all the same.
+// Ten lines about refused calls are written in a second, and then the number of the others. Changes
+// always have their lines.
 func TestManyLines(t *testing.T) {
 	t.Parallel()
 	const calls = 200
@@ -284,7 +284,7 @@ func TestManyLines(t *testing.T) {
 	}
 }
 
-// An end with a reason does not wait long for one who does not read it.
+// The end of the front does not wait long if nobody reads its last line.
 func TestUnreadEnd(t *testing.T) {
 	t.Parallel()
 	for name, errors := range map[string]*os.File{"not read": processes.NewFullPipe(t).Out,
@@ -300,8 +300,8 @@ func TestUnreadEnd(t *testing.T) {
 	}
 }
 
-// Why a front does not start is a line in JSON once its arguments are read; what is wrong with
-// these is text.
+// The reason why a front does not start is a line in JSON. If the arguments are refused, the line
+// is text.
 func TestStartsThatFailInJSON(t *testing.T) {
 	t.Parallel()
 	socket := filepath.Join(processes.Folder(t), "absent", "csi.sock")

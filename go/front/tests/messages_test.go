@@ -20,8 +20,8 @@ import (
 	"./processes"
 )
 
-// Beyond the bound of the messages that wait a call is refused at once; one without a message never
-// is, and after the call that held the room there is room again.
+// A call is refused at once if its message and the waiting messages exceed the limit. A call with
+// an empty message is never refused. When an earlier call ends, there is room again.
 func TestMessagesThatWait(t *testing.T) {
 	t.Parallel()
 	first, second := make(chan struct{}), make(chan struct{})
@@ -51,7 +51,7 @@ func TestMessagesThatWait(t *testing.T) {
 	}
 }
 
-// The room of a call is there again however it ended: refused, lost or given up.
+// The room of a message is free again after its call was refused, lost or given up.
 func TestRoomBehindCallsThatFail(t *testing.T) {
 	t.Parallel()
 	let := make(chan struct{})
@@ -81,9 +81,9 @@ func TestRoomBehindCallsThatFail(t *testing.T) {
 	}
 }
 
-// Many clients with many great messages take no more memory than the bound and what gRPC has on the
-// way. Those that have room are served, and the others are refused: for want of room, or because
-// they came too slowly, as they do where other programs have the processors.
+// Many clients with many long messages take no more memory than the limit and the buffers of gRPC.
+// Calls with room are served. The others are refused: for want of room, or because their messages
+// came too slowly on a busy machine.
 func TestManyGreatMessages(t *testing.T) {
 	t.Parallel()
 	const clients, calls, room = 8, 256, 64
@@ -127,9 +127,9 @@ func TestManyGreatMessages(t *testing.T) {
 	t.Logf("%d MiB, %d calls came too slowly", taken>>20, late)
 }
 
-// Callers that never send their messages, as many as a client can have, hold up the others for a
-// while at most, and take no room. Those that nobody waits after are served themselves once they
-// send them.
+// Callers that never send their messages, as many as a client can have, delay other callers only
+// for a while, and take no room. If no other call waits, such a caller is served when it sends its
+// message.
 func TestMessagesThatNeverCome(t *testing.T) {
 	t.Parallel()
 	const calls, places = 256, 16
@@ -178,10 +178,10 @@ func TestMessagesThatNeverCome(t *testing.T) {
 	}
 }
 
-// silentClient has calls that send no message, and makes a new one for each that ends.
+// silentClient makes calls that send no message. When one of them ends, it makes a new one.
 type silentClient struct {
 	front *client
-	// Calls that have begun, and those of them that the front has ended.
+	// The number of calls that have begun, and of those that the front has ended.
 	begun, ended int32
 }
 
@@ -197,8 +197,8 @@ func (c *silentClient) call(ctx context.Context) {
 	}
 }
 
-// Calls that send no message make room for one of another client that does, which need not wait
-// until they have all ended, nor for those that come in their place.
+// Calls that send no message make room for a call of another client. This call waits neither for
+// the end of all of them nor for the calls that replace them.
 func TestCallsWithoutAMessageThatComeAgain(t *testing.T) {
 	t.Parallel()
 	const clients, calls, probes = 4, 250, 3
@@ -225,15 +225,15 @@ func TestCallsWithoutAMessageThatComeAgain(t *testing.T) {
 	for i := 0; i < probes; i++ {
 		front.wants(t, probe, "", ok(ready))
 	}
-	// Each probe needs one place, and each second without a message empties 16. In the order of all
-	// calls it would wait for a thousand.
+	// Each probe needs one place, and each second without a message empties 16. If places went to
+	// calls in their order, a probe would wait for a thousand calls.
 	if count := ended() - before; count >= clients*calls {
 		t.Errorf("%d calls ended before %d probes were answered", count, probes)
 	}
 }
 
-// Calls that announce a great message, send a part of it, and go, again and again: no room is kept
-// for what does not come.
+// Calls announce a long message, send a part of it and end, again and again. The front keeps no
+// room for the parts that do not come.
 func TestMessagesThatAreAnnounced(t *testing.T) {
 	t.Parallel()
 	const turns, clients, calls = 2, 4, 256
@@ -254,13 +254,15 @@ func TestMessagesThatAreAnnounced(t *testing.T) {
 			conn.Close()
 		}
 	}
-	// 140 to 290 MiB, by when Go collects its garbage; with room for each message 420 to 1,050.
+	// The memory depends on when Go collects its garbage. With room for each announced message it
+	// would be above this limit.
 	if taken := process.ResidentBytes(t); taken > 384<<20 {
 		t.Errorf("the front takes %d MiB", taken>>20)
 	}
 }
 
-// A call whose headers are too long ends before csid sees it; one whose headers are not is served.
+// A call whose headers are too long ends before csid sees it. A call with shorter headers is
+// served.
 func TestHeadersThatAreTooLong(t *testing.T) {
 	t.Parallel()
 	csid := startFake(t)
@@ -278,8 +280,8 @@ func TestHeadersThatAreTooLong(t *testing.T) {
 	csid.sees(t, "/a/short ", "/a/then ")
 }
 
-// How many calls a client may have, what of a message it may send before that is received, and how
-// long its headers may be, is reported as it connects.
+// When a client connects, the front sends its limits: the number of calls, the window for a
+// message, and the length of headers.
 func TestBoundsOfAClient(t *testing.T) {
 	t.Parallel()
 	conn, framer := speak(t, processes.StartFront(t, startFake(t).socket).Socket)
@@ -299,7 +301,7 @@ func TestBoundsOfAClient(t *testing.T) {
 	}
 }
 
-// Of calls with long headers, as no client of gRPC sends them, nothing is kept.
+// Calls with very long headers, which no gRPC client sends, leave nothing in memory.
 func TestManyLongHeaders(t *testing.T) {
 	t.Parallel()
 	const calls, fields = 50, 4000
@@ -317,7 +319,7 @@ func TestManyLongHeaders(t *testing.T) {
 	csid.sees(t, probe+" ")
 }
 
-// speak makes a connection that speaks HTTP/2 by hand.
+// speak makes a connection, and returns it with a framer of HTTP/2.
 func speak(t *testing.T, socket string) (net.Conn, *http2.Framer) {
 	t.Helper()
 	conn, err := net.Dial("unix", socket)
@@ -333,7 +335,7 @@ func speak(t *testing.T, socket string) (net.Conn, *http2.Framer) {
 	return conn, framer
 }
 
-// writeCall writes the headers of a call, with so many further fields of 1,000 bytes.
+// writeCall writes the headers of a call, with a number of further fields of 1,000 bytes each.
 func writeCall(framer *http2.Framer, stream uint32, fields int) {
 	var block bytes.Buffer
 	encoder := hpack.NewEncoder(&block)

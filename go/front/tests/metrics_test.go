@@ -22,14 +22,14 @@ import (
 
 const getCapacity = controller + "GetCapacity"
 
-// watched is a front that serves metrics, and where it does.
+// watched starts a front that serves metrics, and returns their URL.
 func watched(t *testing.T, csid string, words ...string) (*processes.Process, string) {
 	t.Helper()
 	front := processes.StartFront(t, csid, append([]string{"--metrics", "127.0.0.1:0"}, words...)...)
 	return front, monitorOf(t, front)
 }
 
-// monitorOf is where a front serves metrics.
+// monitorOf returns the URL at which a front serves metrics.
 func monitorOf(t *testing.T, front *processes.Process) string {
 	t.Helper()
 	var told []string
@@ -41,7 +41,7 @@ func monitorOf(t *testing.T, front *processes.Process) string {
 	return "http://" + told[1]
 }
 
-// get is the status and the text that are answered at a place.
+// get returns the status and the text of the answer at a URL.
 func get(t *testing.T, url string) (int, string) {
 	t.Helper()
 	client := http.Client{Timeout: processes.Patience}
@@ -57,8 +57,8 @@ func get(t *testing.T, url string) (int, string) {
 	return answer.StatusCode, string(text)
 }
 
-// series is each series that a front reports itself, with its value; the parts of histograms only
-// by their counts.
+// series returns the value of each series of the front itself. Of histograms it returns only the
+// counts.
 func series(t *testing.T, monitor string) map[string]string {
 	t.Helper()
 	status, text := get(t, monitor+"/metrics")
@@ -72,7 +72,7 @@ func series(t *testing.T, monitor string) map[string]string {
 	return all
 }
 
-// wantsSeries compares all series whose names begin so.
+// wantsSeries compares all series whose names begin with prefix.
 func wantsSeries(t *testing.T, got map[string]string, prefix string, want map[string]string) {
 	t.Helper()
 	for name, value := range got {
@@ -87,7 +87,7 @@ func wantsSeries(t *testing.T, got map[string]string, prefix string, want map[st
 	}
 }
 
-// counted is the series that are not 0.
+// counted returns the series that are not 0.
 func counted(all map[string]string) map[string]string {
 	some := map[string]string{}
 	for name, value := range all {
@@ -143,7 +143,7 @@ func TestMetrics(t *testing.T) {
 		`csid_front_available_capacity_bytes{topology="zone=a"}`: "0",
 	})
 	for name, value := range map[string]string{
-		// One more after each reply with status 13.
+		// There is one more connection after each reply with status 13.
 		"csid_front_connections_total":         "3",
 		"csid_front_connection_failures_total": "0",
 		"csid_front_waiting_calls":             "0",
@@ -159,7 +159,7 @@ func TestMetrics(t *testing.T) {
 	})
 }
 
-// What can be foreseen begins at 0, so that its first increase is seen.
+// Series that are known from the start begin at 0, so that their first increase is seen.
 func TestMetricsBeforeAnyCall(t *testing.T) {
 	t.Parallel()
 	_, monitor := watched(t, startFake(t).socket)
@@ -174,11 +174,11 @@ func TestMetricsBeforeAnyCall(t *testing.T) {
 			t.Errorf("%s is %q", name, got[name])
 		}
 	}
-	// Without --standby it is not reported: the alerts count the fronts that have it.
+	// Without --standby this series is not reported. The alerts count the fronts that report it.
 	wantsSeries(t, got, "csid_front_standing_by", nil)
 }
 
-// The version is reported, and what Go and the process take.
+// The version and the metrics of Go and of the process are reported.
 func TestMetricsOfTheProcess(t *testing.T) {
 	t.Parallel()
 	number, err := os.ReadFile("../../../VERSION")
@@ -196,7 +196,7 @@ func TestMetricsOfTheProcess(t *testing.T) {
 	}
 }
 
-// Methods that are none add no series but one for each code, however many a client calls.
+// However many unknown methods a client calls, they add only one series for each code.
 func TestMetricsOfInventedMethods(t *testing.T) {
 	t.Parallel()
 	process, monitor := watched(t, startFake(t).socket)
@@ -214,8 +214,8 @@ func TestMetricsOfInventedMethods(t *testing.T) {
 	}
 }
 
-// While csid hangs, who watches learns so within a short time, and which calls wait; the histogram
-// has how long they took.
+// While csid hangs, the metrics show that, and how many calls wait, within a short time. Afterwards
+// the histogram has the durations of these calls.
 func TestMetricsWhileCsidStandsStill(t *testing.T) {
 	t.Parallel()
 	let := make(chan struct{})
@@ -258,7 +258,8 @@ func TestMetricsWhileCsidStandsStill(t *testing.T) {
 	}
 }
 
-// A capacity that is not reported in time is left out, and the scrape is answered all the same.
+// If csid does not answer with a capacity in time, the capacity is left out, and the scrape is
+// answered.
 func TestMetricsWithoutACapacityInTime(t *testing.T) {
 	t.Parallel()
 	_, monitor := watched(t, startFake(t, step{write: okFrame(ready)}, step{mute: true}).socket)
@@ -267,7 +268,7 @@ func TestMetricsWithoutACapacityInTime(t *testing.T) {
 	wantsSeries(t, got, "csid_front_available_capacity_bytes", nil)
 }
 
-// While csid hangs, scrapes beyond the fourth are turned away.
+// While csid hangs, scrapes beyond the fourth are refused.
 func TestScrapesAtOnce(t *testing.T) {
 	t.Parallel()
 	_, monitor := watched(t, startFake(t, step{mute: true}).socket)
@@ -298,7 +299,8 @@ func dialMonitor(t *testing.T, monitor string) net.Conn {
 	return conn
 }
 
-// A client that never sends its whole request is closed, also one that sends a line now and then.
+// The connection of a client that does not send its whole request is closed, even if the client
+// sends a line now and then.
 func TestSilentScrape(t *testing.T) {
 	t.Parallel()
 	_, monitor := watched(t, startFake(t).socket)
@@ -318,7 +320,7 @@ func TestSilentScrape(t *testing.T) {
 	}
 }
 
-// A request may have some headers, and one with more is refused.
+// A request may have 7 KiB of headers, and a request with 16 KiB is refused.
 func TestHeadersOfARequest(t *testing.T) {
 	t.Parallel()
 	_, monitor := watched(t, startFake(t).socket)
@@ -332,7 +334,7 @@ func TestHeadersOfARequest(t *testing.T) {
 	}
 }
 
-// Headers that do not end take no memory, however many connections have them.
+// Headers that do not end take little memory, even on many connections.
 func TestHeadersThatDoNotEnd(t *testing.T) {
 	t.Parallel()
 	const connections, lines = 40, 170000
@@ -347,14 +349,15 @@ func TestHeadersThatDoNotEnd(t *testing.T) {
 		conn.Write(headers.Bytes())
 		io.Copy(io.Discard, conn)
 	})
-	// 489 MiB where a request may have 1 MiB.
+	// If a request could have 1 MiB of headers, the front would take more.
 	if taken := process.ResidentBytes(t); taken > 128<<20 {
 		t.Errorf("the front takes %d MiB", taken>>20)
 	}
 	get(t, monitor+"/metrics")
 }
 
-// At most 64 connections are open, and those that ask nothing make room for one that does.
+// At most 64 connections are open. A connection without a request is closed to make room for
+// another one.
 func TestConnectionsToMetrics(t *testing.T) {
 	t.Parallel()
 	const connections, most = 200, 64
@@ -368,7 +371,7 @@ func TestConnectionsToMetrics(t *testing.T) {
 		return strings.Contains(process.Log.String(),
 			"\nfront: a connection of --metrics without a call was closed for another one: 64 were open\n")
 	})
-	// One more waits for room.
+	// One more connection may wait for room.
 	if open := process.OpenFiles(t) - before; open > most+1 {
 		t.Errorf("%d connections are open", open)
 	}
@@ -377,8 +380,8 @@ func TestConnectionsToMetrics(t *testing.T) {
 	}
 }
 
-// The sample configuration has 10 MiB in zone a and 4 MiB in zone b. 1 MiB is taken there, and 3
-// MiB here.
+// The sample configuration has 10 MiB in zone a and 4 MiB in zone b. A volume of 1 MiB is created
+// in zone a, and a volume of 3 MiB in zone b.
 func TestMetricsOfPools(t *testing.T) {
 	t.Parallel()
 	process, monitor := watched(t, processes.StartCsid(t).Socket(), "--metrics-topology", "zone=a",
@@ -394,8 +397,8 @@ func TestMetricsOfPools(t *testing.T) {
 	})
 }
 
-// What 205 volumes on three pages take of a pool of 1 TiB, and one of them of a node, as a front
-// finds it at its start.
+// A front that starts finds 205 volumes on three pages. It reports what they take of a pool of 1
+// TiB, and one attachment of a node.
 func TestMetricsOfListings(t *testing.T) {
 	t.Parallel()
 	const volumes = 205
@@ -454,7 +457,7 @@ func TestHealthOverHTTP(t *testing.T) {
 	}
 }
 
-// A front whose metrics cannot be reported does not start, and leaves no socket.
+// A front that cannot serve metrics does not start, and leaves no socket.
 func TestMetricsThatCannotBeTold(t *testing.T) {
 	t.Parallel()
 	csid := startFake(t)
@@ -478,7 +481,7 @@ func TestMetricsThatCannotBeTold(t *testing.T) {
 	}
 }
 
-// A call that the front refuses without csid is counted, too.
+// A call that the front refuses without csid is counted too.
 func TestMetricsOfGreatMessages(t *testing.T) {
 	t.Parallel()
 	process, monitor := watched(t, startFake(t).socket)

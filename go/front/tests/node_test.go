@@ -25,11 +25,10 @@ import (
 
 const nodeService = "/csi.v1.Node/"
 
-// respond is how a node plugin answers a call.
+// respond answers a call of a node plugin.
 type respond func(ctx context.Context, path string, message []byte) ([]byte, error)
 
-// nodePlugin plays a node plugin: it answers each method over gRPC, and keeps the calls that it
-// got.
+// nodePlugin plays a node plugin. It answers each method over gRPC, and records its calls.
 type nodePlugin struct {
 	socket string
 	server *grpc.Server
@@ -83,7 +82,7 @@ func (n *nodePlugin) sees(t *testing.T, want ...string) {
 	}
 }
 
-// called waits until the node plugin has so many calls.
+// called waits until the node plugin has got count calls.
 func (n *nodePlugin) called(t *testing.T, count int) {
 	t.Helper()
 	processes.GoesOn(t, "calls at the node plugin", count, func() int { return len(n.seen()) })
@@ -98,7 +97,7 @@ func replies(t *testing.T, want answer) respond {
 	}
 }
 
-// hangs answers a call once its caller has given it up.
+// hangs answers a call only after its caller has given it up.
 func hangs(ctx context.Context, _ string, _ []byte) ([]byte, error) {
 	<-ctx.Done()
 	return nil, status.FromContextError(ctx.Err()).Err()
@@ -109,15 +108,16 @@ func nodeSocket(t *testing.T) string {
 	return filepath.Join(processes.Folder(t), "node.sock")
 }
 
-// startBoth is a front before a fake csid that is ready and a node plugin, and a client of it.
+// startBoth starts a fake csid that is ready, a node plugin, and a front for both. It also returns
+// a client of the front.
 func startBoth(t *testing.T, answers respond) (*fake, *nodePlugin, *client) {
 	t.Helper()
 	csid, plugin := startFake(t), startNode(t, nodeSocket(t), answers)
 	return csid, plugin, newClient(t, processes.StartFront(t, csid.socket, "--node", plugin.socket).Socket)
 }
 
-// A call of the Node service reaches the node plugin byte by byte, and its reply or status the
-// caller.
+// A call of the Node service reaches the node plugin unchanged. Its reply or status reaches the
+// caller unchanged.
 func TestNodeCalls(t *testing.T) {
 	t.Parallel()
 	const stage = nodeService + "NodeStageVolume"
@@ -148,7 +148,7 @@ func TestNodeCalls(t *testing.T) {
 	}
 }
 
-// The details of a status come as the plugin gave them.
+// The caller gets the details of a status unchanged.
 func TestDetailsOfANodeCall(t *testing.T) {
 	t.Parallel()
 	given, err := status.New(codes.Internal, "mount failed").
@@ -164,7 +164,7 @@ func TestDetailsOfANodeCall(t *testing.T) {
 	}
 }
 
-// Who answers a call is decided by its service.
+// The service of a call decides whether csid or the node plugin answers it.
 func TestWhoAnswersACall(t *testing.T) {
 	t.Parallel()
 	const ofCsid, ofNode = "0a0463736964", "0a046e6f6465"
@@ -185,7 +185,8 @@ func TestWhoAnswersACall(t *testing.T) {
 	}
 }
 
-// Without --node, and over the control socket, csid does not know a call of the Node service.
+// Without --node, and over the control socket, a call of the Node service goes to csid, which does
+// not know it.
 func TestNodeCallsOfCsid(t *testing.T) {
 	t.Parallel()
 	const info, unknown = nodeService + "NodeGetInfo", "unknown method"
@@ -201,7 +202,7 @@ func TestNodeCallsOfCsid(t *testing.T) {
 	plugin.sees(t)
 }
 
-// The plugin has the deadline of the caller, and the caller is answered by then.
+// The plugin gets the deadline of the caller, and the caller has an answer by then.
 func TestDeadlineOfANodeCall(t *testing.T) {
 	t.Parallel()
 	const length = 500 * time.Millisecond
@@ -219,7 +220,7 @@ func TestDeadlineOfANodeCall(t *testing.T) {
 	}
 }
 
-// The plugin learns that a caller gives up, or goes away.
+// The plugin learns that a caller gives up, or closes its connection.
 func TestNodeCallThatIsGivenUp(t *testing.T) {
 	t.Parallel()
 	for _, name := range []string{"cancelled", "gone"} {
@@ -252,7 +253,7 @@ func TestNodeCallThatIsGivenUp(t *testing.T) {
 	}
 }
 
-// isAway makes a call that the node plugin does not get, which is reported at once.
+// isAway makes a call that does not reach the node plugin, and checks that it is refused at once.
 func isAway(t *testing.T, front *client) {
 	t.Helper()
 	begin := time.Now()
@@ -265,7 +266,7 @@ func isAway(t *testing.T, front *client) {
 	}
 }
 
-// A node plugin may come after the front, and be started again: the next call reaches it.
+// A node plugin may start after the front, and may be started again. The next call reaches it.
 func TestNodePluginThatIsStartedAgain(t *testing.T) {
 	t.Parallel()
 	socket := nodeSocket(t)
@@ -276,7 +277,7 @@ func TestNodePluginThatIsStartedAgain(t *testing.T) {
 		front.wants(t, nodeService+"NodeGetInfo", "", ok("01"))
 		plugin.server.Stop()
 	}
-	// A socket that nobody listens on, as a plugin leaves it that was killed.
+	// A socket without a listener, as a killed plugin leaves it.
 	listener, err := net.ListenUnix("unix", &net.UnixAddr{Name: socket, Net: "unix"})
 	if err != nil {
 		t.Fatal(err)
@@ -286,7 +287,7 @@ func TestNodePluginThatIsStartedAgain(t *testing.T) {
 	isAway(t, front)
 }
 
-// A call that runs when the plugin ends is UNAVAILABLE, and is not sent to the next one.
+// A call that runs when the plugin ends gets UNAVAILABLE, and is not sent to the next plugin.
 func TestNodePluginThatEndsInACall(t *testing.T) {
 	t.Parallel()
 	_, plugin, front := startBoth(t, hangs)
@@ -301,7 +302,7 @@ func TestNodePluginThatEndsInACall(t *testing.T) {
 	next.sees(t)
 }
 
-// mute is a socket on which nothing is ever answered.
+// mute returns the path of a socket on which no call is answered.
 func mute(t *testing.T) string {
 	t.Helper()
 	socket := nodeSocket(t)
@@ -313,7 +314,7 @@ func mute(t *testing.T) string {
 	return socket
 }
 
-// While a node plugin says nothing, or answers no call, those of csid go on.
+// While a node plugin sends nothing, or answers no call, the calls of csid go on.
 func TestNodePluginThatHangs(t *testing.T) {
 	t.Parallel()
 	silent := mute(t)
@@ -348,8 +349,8 @@ func TestNodePluginThatHangs(t *testing.T) {
 	})
 }
 
-// At most 64 calls are at the node plugin at once. One more is refused at once; csid and Probe are
-// not held up, nor is their room taken.
+// At most 64 calls run at the node plugin. One more is refused at once. Calls of csid and Probe do
+// not wait for them, and lose no room to them.
 func TestTooManyNodeCalls(t *testing.T) {
 	t.Parallel()
 	const most = 64
@@ -382,7 +383,8 @@ func TestTooManyNodeCalls(t *testing.T) {
 	front.wants(t, stage, "", ok(""))
 }
 
-// A message or a reply that is too long is refused, a message before the plugin has it.
+// A message that is too long is refused before the plugin gets it. A reply that is too long is
+// refused too.
 func TestNodeMessagesThatAreTooLong(t *testing.T) {
 	t.Parallel()
 	_, plugin, front := startBoth(t, replies(t, ok("")))
@@ -394,7 +396,8 @@ func TestNodeMessagesThatAreTooLong(t *testing.T) {
 		refused(codes.ResourceExhausted, "grpc: received message larger than max (4194305 vs. 4194304)"))
 }
 
-// Probe is answered as csid does, but where csid is ready and the node plugin is not.
+// Probe has the answer of csid. If csid is ready and the node plugin is not, it has the answer of
+// the node plugin.
 func TestProbeOfBoth(t *testing.T) {
 	t.Parallel()
 	const notReady, nothing, other = "0a020800", "", "0a020801 1001"
@@ -431,7 +434,7 @@ func TestProbeOfBoth(t *testing.T) {
 	}
 }
 
-// Where one of the two is away, Probe is UNAVAILABLE, with the reason.
+// If csid or the node plugin is not reachable, Probe is UNAVAILABLE, with the reason.
 func TestProbeOfOneThatIsAway(t *testing.T) {
 	t.Parallel()
 	absent := nodeSocket(t)
@@ -449,8 +452,8 @@ func TestProbeOfOneThatIsAway(t *testing.T) {
 	}
 }
 
-// The health of the whole plugin is both programs', and a service's the health of the program that
-// answers it.
+// The plugin as a whole and its Identity service are healthy if both programs are. The Controller
+// service depends on csid alone, and the Node service on the node plugin alone.
 func TestHealthOfBoth(t *testing.T) {
 	t.Parallel()
 	const (
@@ -490,7 +493,7 @@ func TestHealthOfBoth(t *testing.T) {
 	}
 }
 
-// Calls of the Node service are counted and logged as other calls. Without --node they have no
+// Calls of the Node service are counted and logged like other calls. Without --node they have no
 // series.
 func TestMetricsOfNodeCalls(t *testing.T) {
 	t.Parallel()
@@ -523,8 +526,8 @@ func TestMetricsOfNodeCalls(t *testing.T) {
 	}
 }
 
-// A standby front serves the Node service from its start, whether csid serves or not, and does not
-// end when csid falls silent.
+// A front with --standby and --node serves the Node service from its start, even if csid does not
+// serve. It does not end when csid is silent.
 func TestNodeWhileTheFrontStandsBy(t *testing.T) {
 	t.Parallel()
 	path := filepath.Join(processes.Folder(t), "csid.sock")
@@ -566,7 +569,7 @@ func TestNodeWhileTheFrontStandsBy(t *testing.T) {
 	}
 }
 
-// A call that runs at the node plugin has the grace where the front is asked to end.
+// A call that runs at the node plugin may go on for the grace when the front gets a signal to end.
 func TestNodeCallHasTheGrace(t *testing.T) {
 	t.Parallel()
 	let, came := make(chan struct{}), make(chan answer, 1)

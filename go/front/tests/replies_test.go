@@ -12,7 +12,7 @@ import (
 // text is the longest text of a reply.
 var text = strings.Repeat(" ~", 512)
 
-// Every status but 13, and the greatest parts of a reply, come back as they are.
+// Every status except 13, and replies with the longest text or body, come back unchanged.
 func TestEveryReplyComesBack(t *testing.T) {
 	t.Parallel()
 	rows := []struct {
@@ -47,8 +47,8 @@ func TestEveryReplyComesBack(t *testing.T) {
 	}
 }
 
-// Behind status 13 the next call has a new connection, since csid makes no change any more over the
-// old one. Of its three texts the outcome is open, so they are UNAVAILABLE.
+// After status 13 the next call has a new connection, since csid makes no more changes over the old
+// one. With three texts of status 13 the outcome is open, so the answer is UNAVAILABLE.
 func TestRefusedChange(t *testing.T) {
 	t.Parallel()
 	rows := []struct {
@@ -77,8 +77,8 @@ func TestRefusedChange(t *testing.T) {
 	}
 }
 
-// losesOneCall has one call lost by what csid does with it; csid gets it once, and the next call
-// over another connection.
+// losesOneCall makes a call that is lost because of a step of csid. It checks that csid gets the
+// call once, and the next call over another connection.
 func losesOneCall(t *testing.T, does step) {
 	t.Helper()
 	csid, front := behindFront(t, does)
@@ -89,8 +89,8 @@ func losesOneCall(t *testing.T, does step) {
 	csid.sees(t, "/a/b 01", probe+" ")
 }
 
-// eachLosesOneCall does so with each of these replies, after which csid closes the connection, or
-// doesn't.
+// eachLosesOneCall calls losesOneCall with each of these replies. If closes is true, csid closes
+// the connection after the reply.
 func eachLosesOneCall(t *testing.T, replies map[string][]byte, closes bool) {
 	t.Helper()
 	for name, reply := range replies {
@@ -102,8 +102,8 @@ func eachLosesOneCall(t *testing.T, replies map[string][]byte, closes bool) {
 	}
 }
 
-// A reply that breaks a rule, or breaks off, leaves the outcome open, and ends the connection: the
-// next call has a new one.
+// After a malformed or incomplete reply the outcome is open. The connection ends, and the next call
+// has a new one.
 func TestMalformedReplies(t *testing.T) {
 	t.Parallel()
 	rows := map[string][]byte{
@@ -119,8 +119,8 @@ func TestMalformedReplies(t *testing.T) {
 	eachLosesOneCall(t, rows, false)
 }
 
-// A connection that breaks in a call leaves the outcome open, and the front doesn't send the call
-// again on its own.
+// If a connection ends during a call, the outcome is open, and the front does not send the call
+// again.
 func TestConnectionThatBreaks(t *testing.T) {
 	t.Parallel()
 	rows := map[string][]byte{
@@ -134,8 +134,8 @@ func TestConnectionThatBreaks(t *testing.T) {
 	eachLosesOneCall(t, rows, true)
 }
 
-// A connection that csid closes instead of a reply is reported as that, also where it read nothing
-// of the call.
+// If csid closes the connection instead of a reply, the error says so, even if csid read nothing of
+// the call.
 func TestUnansweredCall(t *testing.T) {
 	t.Parallel()
 	unanswered := refused(codes.Unavailable, "csid: the connection was closed unanswered: see the log of csid")
@@ -152,7 +152,7 @@ func TestUnansweredCall(t *testing.T) {
 	}
 }
 
-// What comes unasked after a good reply is no reply of the next call.
+// A second reply after a good one is not the reply to the next call.
 func TestReplyThatNobodyAskedFor(t *testing.T) {
 	t.Parallel()
 	csid, front := behindFront(t, step{write: append(okFrame("01"), okFrame("02")...)})
@@ -161,7 +161,7 @@ func TestReplyThatNobodyAskedFor(t *testing.T) {
 	csid.ended(t, 1)
 }
 
-// A connection that csid closed between two calls costs no call anything.
+// If csid closes a connection between two calls, no call is lost.
 func TestConnectionThatEndsBetweenCalls(t *testing.T) {
 	t.Parallel()
 	csid, front := behindFront(t, step{write: okFrame("01"), close: true}, step{write: okFrame("02"), close: true})

@@ -21,8 +21,8 @@ max_volumes = 1000
 // oneCall is the path of a call, and its message in hexadecimal digits.
 type oneCall struct{ path, message string }
 
-// lives are the calls of so many volumes, in order. Of four volumes one is at the end, and one is
-// published.
+// lives returns the calls for a number of volumes, in order. Of four volumes, two are deleted at
+// the end, one stays, and one stays published.
 func lives(volumes int) (calls []oneCall) {
 	text := func(field byte, text string) string { return fmt.Sprintf("%02x%02x%x", field, len(text), text) }
 	const mode1 = "1a060a001a020801"
@@ -42,8 +42,8 @@ func lives(volumes int) (calls []oneCall) {
 	return calls
 }
 
-// A lone client repeats each call until it is answered, while csid is killed and started again: it
-// gets the replies of the same calls without a kill, and leaves the same volumes.
+// One client repeats each call until it is answered, while csid is killed and started again. It
+// gets the same replies as without kills, and leaves the same volumes.
 func TestRepeatedCallsOverKills(t *testing.T) {
 	t.Parallel()
 	const volumes, kills = 160, 24

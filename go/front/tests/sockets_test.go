@@ -15,7 +15,7 @@ import (
 	"./processes"
 )
 
-// deadSocket makes a socket that nobody answers on, as a program leaves that was killed.
+// deadSocket makes a socket without a listener, as a killed program leaves it.
 func deadSocket(t *testing.T) string {
 	t.Helper()
 	path := filepath.Join(processes.Folder(t), "csi.sock")
@@ -28,14 +28,14 @@ func deadSocket(t *testing.T) string {
 	return path
 }
 
-// frontAt is a front that is to listen there.
+// frontAt starts a front with this socket, and does not wait for it.
 func frontAt(t *testing.T, csid, socket string) *processes.Process {
 	t.Helper()
 	return processes.Start(t, socket, exec.Command(processes.FrontProgram(t), "--csid", csid, "--listen", socket))
 }
 
-// refuses waits until a front ends with the status of a socket that cannot be made, and one line
-// about it.
+// refuses waits until a front ends because its socket cannot be made, and checks its status and its
+// one line.
 func refuses(t *testing.T, p *processes.Process, status int, part string) {
 	t.Helper()
 	if got := p.Status(t); got != status {
@@ -89,7 +89,8 @@ func TestSocketThatCannotBeMade(t *testing.T) {
 	refuses(t, frontAt(t, "csid.sock", filepath.Join(processes.Folder(t), strings.Repeat("a", 120))), 7, "aaa")
 }
 
-// Of fronts that start together over a dead socket exactly one gets it, and keeps it.
+// Several fronts start together where a dead socket is. Exactly one of them gets the socket, and
+// keeps it.
 func TestFrontsThatStartTogether(t *testing.T) {
 	t.Parallel()
 	csid, socket := startFake(t), deadSocket(t)
@@ -127,7 +128,7 @@ func TestEndpoint(t *testing.T) {
 	refuses(t, processes.Start(t, "", command), 2, "no Unix socket")
 }
 
-// After SIGTERM the call that runs is answered, no further one is taken, and the socket is gone.
+// After SIGTERM the running call is answered, no further call is taken, and the socket is gone.
 func TestTermDuringACall(t *testing.T) {
 	t.Parallel()
 	running := runCall(t, "/a/b")
@@ -144,7 +145,8 @@ func TestTermDuringACall(t *testing.T) {
 	running.csid.sees(t, "/a/b ")
 }
 
-// A socket of another front, which is where that of the first was, outlives the first.
+// If another front has replaced the socket of a front, the end of the first front does not remove
+// the new socket.
 func TestTermBehindAnotherFront(t *testing.T) {
 	t.Parallel()
 	csid := startFake(t)
@@ -160,7 +162,7 @@ func TestTermBehindAnotherFront(t *testing.T) {
 	newClient(t, second.Socket).wants(t, probe, "", ok(ready))
 }
 
-// Either signal ends a front on which no call runs.
+// SIGTERM and SIGINT end a front on which no call runs.
 func TestTermWithoutACall(t *testing.T) {
 	t.Parallel()
 	for _, asked := range []os.Signal{syscall.SIGTERM, syscall.SIGINT} {
@@ -179,8 +181,8 @@ func TestTermWithoutACall(t *testing.T) {
 	}
 }
 
-// A client that never says anything has no call, so it cuts none off, and does not use up the
-// grace.
+// A client that sends nothing has no call. So the front ends with status 0, and does not wait for
+// the grace.
 func TestTermWithAClientThatSaysNothing(t *testing.T) {
 	t.Parallel()
 	process := processes.StartFront(t, startFake(t).socket, "--grace", "1h")
@@ -196,7 +198,8 @@ func TestTermWithAClientThatSaysNothing(t *testing.T) {
 	}
 }
 
-// A call that never ends holds the front up no longer than its grace, or until a second signal.
+// A call that never ends delays the end of the front by the grace at most, or until a second
+// signal.
 func TestTermWithACallThatNeverEnds(t *testing.T) {
 	t.Parallel()
 	for name, grace := range map[string]string{"grace": "300ms", "second signal": "1h"} {
@@ -224,7 +227,7 @@ func TestTermWithACallThatNeverEnds(t *testing.T) {
 	}
 }
 
-// A call that was given up holds nothing up at the end, though its reply did not come.
+// A call that was given up does not delay the end of the front, even if its reply did not come.
 func TestTermWhileAReplyIsLate(t *testing.T) {
 	t.Parallel()
 	csid := startFake(t, step{mute: true})
@@ -241,7 +244,7 @@ func TestTermWhileAReplyIsLate(t *testing.T) {
 	}
 }
 
-// The version is the repository's, and so is that of csid.
+// The front and csid print the version of the repository.
 func TestVersion(t *testing.T) {
 	t.Parallel()
 	number, err := os.ReadFile("../../../VERSION")
@@ -256,7 +259,7 @@ func TestVersion(t *testing.T) {
 	}
 }
 
-// Who asks for help is shown it, and that is no fault.
+// --help prints the usage, and the exit status is 0.
 func TestHelp(t *testing.T) {
 	t.Parallel()
 	said, err := exec.Command(processes.FrontProgram(t), "--help").Output()
@@ -265,8 +268,8 @@ func TestHelp(t *testing.T) {
 	}
 }
 
-// A lock that another process keeps on the folder of a socket, with the right to read it alone,
-// holds up neither a start, beyond a second, nor an end.
+// Another process that can only read the folder of a socket may lock it. This delays a start by a
+// second at most, and an end not at all.
 func TestFolderThatStaysLocked(t *testing.T) {
 	t.Parallel()
 	socket := filepath.Join(processes.Folder(t), "csi.sock")

@@ -14,8 +14,8 @@ import (
 	"./processes"
 )
 
-// standingBy is a front with --standby before a csid that may be there later. Where its socket is
-// to be, a former front has left its own.
+// standingBy starts a front with --standby for a csid that may start later. At the path of the
+// front's socket there is a dead socket.
 func standingBy(t *testing.T, csid, length string, words ...string) *processes.Process {
 	t.Helper()
 	socket := deadSocket(t)
@@ -30,7 +30,8 @@ func says(t *testing.T, p *processes.Process, line string) {
 		func() bool { return strings.Contains(p.Log.String(), line+"\n") })
 }
 
-// closings is steps that close so many connections unanswered: more than are made within a second.
+// closings returns steps that close 50 connections without a reply, more than the front makes
+// within a second.
 func closings() (all []step) {
 	for len(all) < 50 {
 		all = append(all, step{close: true})
@@ -38,8 +39,8 @@ func closings() (all []step) {
 	return all
 }
 
-// Until csid is ready there is no socket: the file of a former one stays, and who watches the front
-// is answered.
+// Until csid is ready, the front makes no socket: the file of an earlier one stays. Metrics and
+// health are answered.
 func TestStandbyWaits(t *testing.T) {
 	t.Parallel()
 	path := filepath.Join(processes.Folder(t), "csid.sock")
@@ -84,7 +85,7 @@ func TestStandbyWaits(t *testing.T) {
 	wantsSeries(t, series(t, monitor), "csid_front_standing_by", map[string]string{"csid_front_standing_by": "0"})
 }
 
-// A front that waits ends when it is asked to, and has touched nothing.
+// A front that waits ends at a signal, and has not touched the socket.
 func TestTermWhileItWaits(t *testing.T) {
 	t.Parallel()
 	for name, csid := range map[string]*fake{"closed": {closes: true}, "mute": {steps: []step{{mute: true}}}} {
@@ -114,8 +115,8 @@ func TestTermWhileItWaits(t *testing.T) {
 	}
 }
 
-// A front whose socket, or whose address of metrics, is another one's ends as it does without
-// --standby, and says why.
+// If another front has the socket or the address of metrics, the front ends as without --standby,
+// and logs the reason.
 func TestStandbyThatFindsAnother(t *testing.T) {
 	t.Parallel()
 	csid := startFake(t)
@@ -137,8 +138,8 @@ func TestStandbyThatFindsAnother(t *testing.T) {
 	newClient(t, other.Socket).wants(t, probe, "", ok(ready))
 }
 
-// Where csid closes each connection for so long, the front ends, and its socket is gone. A
-// connection that is closed is no sign of life.
+// If csid closes each connection for the time of --standby, the front ends and removes its socket.
+// A closed connection is no sign of life.
 func TestStandbyEnds(t *testing.T) {
 	t.Parallel()
 	csid := startFake(t, append([]step{{write: okFrame(ready), close: true}}, closings()...)...)
@@ -164,7 +165,7 @@ func TestStandbyEnds(t *testing.T) {
 		t.Errorf("logged %v", got[last])
 	}
 	for _, line := range got[1:last] {
-		// One Probe may have had no time for a connection.
+		// One Probe may have run out of time.
 		if line["level"] != "warn" || line["message"] != "call refused" || line["path"] != probe ||
 			line["code"] == 14.0 && line["text"] != "csid: "+reason {
 			t.Errorf("logged %v", line)
@@ -172,7 +173,7 @@ func TestStandbyEnds(t *testing.T) {
 	}
 }
 
-// A call that runs when the front ends has the grace, and no further one is taken.
+// A call that runs when the front ends may go on for the grace. No further call is taken.
 func TestStandbyEndsDuringACall(t *testing.T) {
 	t.Parallel()
 	for name, grace := range map[string]string{"answered": "1m", "cut off": "200ms"} {
@@ -211,7 +212,8 @@ func TestStandbyEndsDuringACall(t *testing.T) {
 	}
 }
 
-// Where nobody calls, Probes keep the front, a third of its time apart.
+// Without calls, the front sends a Probe every third of the limit, and their replies keep it
+// running.
 func TestStandbyWithoutCalls(t *testing.T) {
 	t.Parallel()
 	csid := startFake(t)

@@ -5,7 +5,7 @@ use std::alloc::Global;
 use std::fmt::Write;
 use test_kit::RowFault;
 
-// A number above the number of volumes of any row.
+// The greatest number of volumes that the text shows. No stream has more.
 const MOST_VOLUMES: u32 = 100_000;
 
 /// Returns the State of a keeper as a text: the number that the next volume gets, and each volume with all

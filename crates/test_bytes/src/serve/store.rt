@@ -63,8 +63,9 @@ impl Trials<'_> {
         Err(RowFault::Refused("the store was asked too often"))
     }
 
-    // Returns the index after `call`, which is the call that was refused last. Fails if `call` is neither the
-    // call that was refused before nor the next call that asks the store.
+    // Returns the index after `call`, the call of the stream that was refused. `seen` is the index after the
+    // call that was refused before. Fails unless `call` is that call again, or the next call that asks the
+    // store.
     fn seen_with(&self, seen: usize, call: usize) -> Result<usize, RowFault> {
         let next = call.saturating_add(1);
         if next == seen || self.first_asking(seen) == Some(call) {
@@ -168,8 +169,8 @@ impl Trials<'_> {
         })
     }
 
-    /// Returns how many calls of the stream, counted from the first, were answered as without a refusal.
-    /// These are the calls whose replies `written` begins with; it has the bytes that the server wrote.
+    /// Returns the number of calls, from the first call on, whose replies `written` begins with. These calls
+    /// were answered as without a refusal. `written` has the bytes that the server wrote.
     pub(super) fn answered(&self, written: &[u8]) -> usize {
         let mut answered = 0;
         for call in 0..self.stream.calls.len() {

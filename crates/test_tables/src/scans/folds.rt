@@ -1,4 +1,4 @@
-//! A fold that shows the rows of a scan.
+//! Shows the rows of a scan. A fold is a value that takes the rows of a scan one after the other.
 
 use crate::cells::put_row;
 use csi_sql::Fold;

@@ -29,8 +29,8 @@ impl Scan {
         }
     }
 
-    /// Passes each row of the scan to a fold, or fails with [`RowFault::Refused`] if the database has other
-    /// tables.
+    /// Passes each row of the scan to a fold. Fails with [`RowFault::Refused`] if the database has other
+    /// tables, or a read of it fails.
     pub(crate) fn over<S: Alter, F: Fold>(
         self,
         conn: &mut IdleConnection<S>,

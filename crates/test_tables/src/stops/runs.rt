@@ -152,8 +152,9 @@ impl Wanted<'_> {
         outcome_of::<D>(self.alloc, self.config, &opened, self.call)
     }
 
-    /// Starts again over the files that a stop left, and makes the same call. Returns the outcome, or fails
-    /// with [`RowFault::Differs`] if the files cannot be opened or their tables not adopted.
+    /// Starts again over the files that a stop left, and makes the same call. Returns the outcome. Fails with
+    /// [`RowFault::Differs`] if the files cannot be opened, if the tables are not adopted, or if a run of
+    /// `csi_files` after a trouble gives another reply.
     pub(crate) fn find<D: TestDisk>(
         &self,
         stop: Stop,

@@ -1,5 +1,4 @@
-// Package clusters runs clusters of etcd on loopback for tests. Each member has a folder of its
-// own.
+// Package clusters runs clusters of etcd on loopback for tests. Each member has its own folder.
 package clusters
 
 import (
@@ -113,7 +112,7 @@ func (m *Member) Start(t *testing.T) {
 	m.Current = processes.Start(t, "", command)
 }
 
-// Kill sends SIGKILL to a member.
+// Kill sends SIGKILL to a member, and waits for its end.
 func (m *Member) Kill() { m.Current.Kill() }
 
 // Restore replaces the data of a stopped member by a snapshot. The cluster must have one member.
@@ -162,7 +161,7 @@ func (c *Cluster) WaitReady(t *testing.T) {
 	})
 }
 
-// Client returns a client of the cluster without TLS. It is closed at the end of the test.
+// Client returns a client of the cluster, without TLS. The client is closed at the end of the test.
 func (c *Cluster) Client(t *testing.T) *clientv3.Client {
 	t.Helper()
 	client, err := clientv3.New(clientv3.Config{Endpoints: strings.Split(c.Endpoints(), ","),

@@ -1,8 +1,8 @@
 //go:build cgo
 
 // driver is a CSI controller as it is usually written in Go: grpc-go with generated messages, over
-// a file of SQLite by database/sql. It answers the calls that bench/front makes, and promises what
-// csid does: a change is synchronised before it is answered OK.
+// a file of SQLite by database/sql. It answers the calls that bench/front makes. Like csid, it
+// synchronises a change to disk before it answers OK.
 //
 // usage: driver SOCKET FILE
 package main
@@ -61,7 +61,7 @@ func open(path string) (*driver, error) {
 	if err != nil {
 		return nil, err
 	}
-	// An exclusive lock is one connection's.
+	// Only one connection can have the exclusive lock.
 	database.SetMaxOpenConns(1)
 	if _, err := database.Exec(schema); err != nil {
 		return nil, err
@@ -88,7 +88,7 @@ func open(path string) (*driver, error) {
 	return d, nil
 }
 
-// change makes a change in a transaction, which is undone where it fails.
+// change makes a change in a transaction, and rolls the transaction back if the change fails.
 func (d *driver) change(make func(tx *sql.Tx) error) error {
 	d.mutex.Lock()
 	defer d.mutex.Unlock()
@@ -135,7 +135,7 @@ func (d *driver) CreateVolume(_ context.Context, asked *csi.CreateVolumeRequest)
 	return &csi.CreateVolumeResponse{Volume: volume(number, bytes)}, nil
 }
 
-// create makes a volume, or finds the one of this name.
+// create makes a volume, or finds the volume with this name.
 func (d *driver) create(tx *sql.Tx, name string, bytes int64) (number int64, err error) {
 	var has int64
 	err = tx.Stmt(d.volumeOfName).QueryRow(name).Scan(&number, &has)
@@ -164,7 +164,7 @@ func volume(number, bytes int64) *csi.Volume {
 		VolumeContext: map[string]string{"pool": pool}}
 }
 
-// numberOf is the number of a volume's id; 0 where it is none.
+// numberOf returns the number in a volume's id, or 0 if the text is not an id.
 func numberOf(id string) int64 {
 	number, err := strconv.ParseInt(strings.TrimPrefix(id, "vol-"), 10, 64)
 	if err != nil {
@@ -200,7 +200,7 @@ func either(err, other error) error {
 	return other
 }
 
-// nodes is where a volume is published.
+// nodes returns the nodes at which a volume is published.
 func (d *driver) nodes(tx *sql.Tx, number int64) (nodes []string, err error) {
 	rows, err := tx.Stmt(d.nodesOf).Query(number)
 	if err != nil {

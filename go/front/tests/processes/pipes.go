@@ -8,8 +8,8 @@ import (
 	"testing"
 )
 
-// FullPipe is a pipe whose capacity is used up by ends of lines, and that nobody reads before Read:
-// whoever writes to it waits.
+// FullPipe is a pipe that is full of newlines. A program that writes to it must wait until Read is
+// called.
 type FullPipe struct {
 	Out *os.File
 	in  *os.File
@@ -29,7 +29,7 @@ func NewFullPipe(t *testing.T) *FullPipe {
 			t.Fatal(err)
 		}
 	}
-	// A program that is given the pipe waits as one does that a shell starts.
+	// The pipe blocks a program that writes to it, as the pipes of a shell do.
 	for _, end := range ends {
 		if err := syscall.SetNonblock(end, false); err != nil {
 			t.Fatal(err)
@@ -40,19 +40,19 @@ func NewFullPipe(t *testing.T) *FullPipe {
 	return p
 }
 
-// Read begins to read, also what is written later, and waits for a text.
+// Read begins to read the pipe in the background, and waits until it has read a text.
 func (p *FullPipe) Read(t *testing.T, text string) {
 	t.Helper()
 	go io.Copy(&p.log, p.in)
 	Eventually(t, text, func() bool { return strings.Contains(p.log.String(), text) })
 }
 
-// Lines is what was read so far, without what the pipe was filled with.
+// Lines returns the lines that were read so far, without the newlines that filled the pipe.
 func (p *FullPipe) Lines() []string {
 	return strings.Split(strings.TrimSuffix(strings.TrimLeft(p.log.String(), "\n"), "\n"), "\n")
 }
 
-// ClosedPipe is a pipe whose reader has gone.
+// ClosedPipe returns the writing end of a pipe whose reading end is closed.
 func ClosedPipe(t *testing.T) *os.File {
 	t.Helper()
 	in, out, err := os.Pipe()

@@ -17,14 +17,14 @@ import (
 	"time"
 )
 
-// The lines of a program begin with its name, as where the journal keeps them.
+// With JOURNAL_STREAM set, the lines of a program have no time, as if they went to the journal.
 func init() { os.Setenv("JOURNAL_STREAM", "8:1") }
 
 // Patience is how long anything may take before a test gives it up.
 const Patience = time.Minute
 
-// pathOf is the path that a variable of the environment says, otherwise one from the top of the
-// repository on.
+// pathOf returns the path in an environment variable. If the variable is not set, it returns the
+// path otherwise, below the top of the repository.
 func pathOf(variable, otherwise string) string {
 	if path := os.Getenv(variable); path != "" {
 		return path
@@ -33,7 +33,7 @@ func pathOf(variable, otherwise string) string {
 	return filepath.Join(filepath.Dir(here), "../../../..", otherwise)
 }
 
-// program is the path of a program that must be there.
+// program returns the path of a program, and fails the test if the program does not exist.
 func program(t *testing.T, variable, otherwise string) string {
 	t.Helper()
 	path := pathOf(variable, otherwise)
@@ -43,16 +43,16 @@ func program(t *testing.T, variable, otherwise string) string {
 	return path
 }
 
-// FrontProgram is the path of the built front, CsidProgram that of the built csid, EtcdProgram that
-// of the built csid-etcd.
+// FrontProgram, CsidProgram and EtcdProgram return the paths of the built front, csid and
+// csid-etcd.
 func FrontProgram(t *testing.T) string { return program(t, "FRONT", "go/front/out/front") }
 func CsidProgram(t *testing.T) string  { return program(t, "CSID", "crates/csid/out/csid") }
 func EtcdProgram(t *testing.T) string  { return program(t, "CSID_ETCD", "go/etcd/out/csid-etcd") }
 
-// ClientProgram is the path where a built csictl would be.
+// ClientProgram returns the path of the built csictl, which may not exist.
 func ClientProgram() string { return pathOf("CSICTL", "crates/csictl/out/csictl") }
 
-// ErrorLog is what a process wrote to standard error so far.
+// ErrorLog collects the lines that a process writes to standard error.
 type ErrorLog struct {
 	mutex sync.Mutex
 	text  bytes.Buffer
@@ -70,7 +70,7 @@ func (l *ErrorLog) String() string {
 	return l.text.String()
 }
 
-// Process is a program that runs; it is killed at the end of the test.
+// Process is a running program. It is killed at the end of the test.
 type Process struct {
 	*exec.Cmd
 	Socket string
@@ -78,7 +78,7 @@ type Process struct {
 	Ended  chan struct{}
 }
 
-// Start starts a program that is to answer on a socket. Its log is empty where the command says
+// Start starts a program that will answer on a socket. Its Log stays empty if the command has
 // another standard error.
 func Start(t *testing.T, socket string, command *exec.Cmd) *Process {
 	t.Helper()
@@ -97,13 +97,13 @@ func Start(t *testing.T, socket string, command *exec.Cmd) *Process {
 	return p
 }
 
-// Kill ends a process without a warning, and waits for its end.
+// Kill kills a process with SIGKILL, and waits for its end.
 func (p *Process) Kill() {
 	p.Process.Kill()
 	<-p.Ended
 }
 
-// Status is the exit status of a process that ends on its own.
+// Status waits until a process has ended by itself, and returns its exit status.
 func (p *Process) Status(t *testing.T) int {
 	t.Helper()
 	select {
@@ -138,7 +138,7 @@ func IsAnswered(socket string) bool {
 	return err == nil
 }
 
-// Eventually waits until that is so.
+// Eventually waits until is returns true. It fails the test after Patience, with a line about what.
 func Eventually(t *testing.T, what string, is func() bool) {
 	t.Helper()
 	for end := time.Now().Add(Patience); time.Now().Before(end); time.Sleep(2 * time.Millisecond) {
@@ -149,7 +149,8 @@ func Eventually(t *testing.T, what string, is func() bool) {
 	t.Fatalf("waited in vain for %s", what)
 }
 
-// GoesOn waits until a count is so much, however long that takes, as long as it grows.
+// GoesOn waits until a count reaches wanted. It fails the test only if the count does not grow for
+// Patience.
 func GoesOn(t *testing.T, what string, wanted int, count func() int) {
 	t.Helper()
 	last, end := -1, time.Now()
@@ -167,7 +168,7 @@ func GoesOn(t *testing.T, what string, wanted int, count func() int) {
 	}
 }
 
-// Together runs so many callers at once, and waits for them.
+// Together runs a number of callers at once, and waits until all of them have ended.
 func Together(callers int, call func(caller int)) {
 	var all sync.WaitGroup
 	for caller := 0; caller < callers; caller++ {
@@ -180,7 +181,8 @@ func Together(callers int, call func(caller int)) {
 	all.Wait()
 }
 
-// Folder is a folder of the test's own. Its path is short, since that of a socket must be.
+// Folder makes a folder, which is removed at the end of the test. Its path is short, since the path
+// of a socket must be short.
 func Folder(t *testing.T) string {
 	t.Helper()
 	path, err := os.MkdirTemp("", "front")
@@ -191,8 +193,8 @@ func Folder(t *testing.T) string {
 	return path
 }
 
-// StartFront starts a front before the socket of a csid, with further words of its command line,
-// and waits until it answers.
+// StartFront starts a front for the csid at a socket, with further arguments, and waits until the
+// front answers.
 func StartFront(t *testing.T, csid string, words ...string) *Process {
 	t.Helper()
 	socket := filepath.Join(Folder(t), "csi.sock")
@@ -200,16 +202,17 @@ func StartFront(t *testing.T, csid string, words ...string) *Process {
 		append([]string{"--csid", csid, "--listen", socket}, words...)...)).Answers(t)
 }
 
-// Server is a place for a csid, which may be killed and started again there.
+// Server has the folder and the configuration of a csid. The csid can be killed and started again
+// with the same files.
 type Server struct {
 	folder string
 	config string
-	// The file of the volumes; an empty one means one in the folder.
+	// The file of the volumes. If it is empty, the file is volumes.db in the folder.
 	Tables  string
 	Current *Process
 }
 
-// HasTables reports whether csid keeps volumes in a file.
+// HasTables reports whether the built csid keeps volumes in a file (--tables).
 func HasTables(t *testing.T) bool {
 	t.Helper()
 	help, err := exec.Command(CsidProgram(t), "serve", "--help").Output()
@@ -219,7 +222,8 @@ func HasTables(t *testing.T) bool {
 	return strings.Contains(string(help), "--tables")
 }
 
-// NewServer is a place for a csid with a configuration; an empty one means the sample.
+// NewServer makes a Server for a csid with this configuration. An empty text stands for the sample
+// configuration.
 func NewServer(t *testing.T, config string) *Server {
 	t.Helper()
 	s := &Server{folder: Folder(t)}
@@ -232,7 +236,7 @@ func NewServer(t *testing.T, config string) *Server {
 	return s
 }
 
-// Socket is where the csid of this place listens.
+// Socket returns the path of the socket on which this csid listens.
 func (s *Server) Socket() string { return filepath.Join(s.folder, "csid.sock") }
 
 // Start starts a csid, and waits until it answers.
@@ -253,7 +257,8 @@ func (s *Server) Start(t *testing.T) *Server {
 	return s
 }
 
-// Kill ends csid without a warning. It leaves its socket, which no csid takes over.
+// Kill kills csid with SIGKILL, and removes the socket that csid leaves, since csid replaces no
+// socket.
 func (s *Server) Kill(t *testing.T) {
 	t.Helper()
 	s.Current.Kill()
@@ -268,7 +273,7 @@ func StartCsid(t *testing.T) *Server {
 	return NewServer(t, "").Start(t)
 }
 
-// WantsStartAlone wants that csid said what its new tables have, and nothing else.
+// WantsStartAlone checks that csid has logged only the lines about its new tables.
 func (s *Server) WantsStartAlone(t *testing.T) {
 	t.Helper()
 	tables := filepath.Join(s.folder, "volumes.db")
@@ -279,7 +284,7 @@ func (s *Server) WantsStartAlone(t *testing.T) {
 	}
 }
 
-// Terminate asks a process to end.
+// Terminate sends SIGTERM to a process.
 func (p *Process) Terminate(t *testing.T) {
 	t.Helper()
 	if err := p.Process.Signal(syscall.SIGTERM); err != nil {
@@ -287,7 +292,8 @@ func (p *Process) Terminate(t *testing.T) {
 	}
 }
 
-// OpenFiles counts the open files of a process, ResidentBytes what it has in memory.
+// OpenFiles returns the number of open files of a process, and ResidentBytes the bytes that it has
+// in memory.
 func (p *Process) OpenFiles(t *testing.T) int {
 	t.Helper()
 	files, err := os.ReadDir(fmt.Sprintf("/proc/%d/fd", p.Process.Pid))

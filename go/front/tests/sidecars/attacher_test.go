@@ -5,7 +5,7 @@ import (
 	"testing"
 )
 
-// attacher is csi-attacher.
+// attacher plays csi-attacher.
 type attacher struct{ *sidecar }
 
 func startAttacher(t *testing.T, socket string) *attacher {
@@ -13,7 +13,7 @@ func startAttacher(t *testing.T, socket string) *attacher {
 	return &attacher{startSidecar(t, socket)}
 }
 
-// attach publishes a volume at a node, with the context that its persistent volume keeps.
+// attach publishes a volume to a node, with the context that its persistent volume keeps.
 func (a *attacher) attach(id, node string, context map[string]string) (map[string]string, error) {
 	got := &publishVolumeResponse{}
 	request := &publishVolumeRequest{VolumeID: id, NodeID: node, VolumeCapability: a.volumeCapability(),
@@ -27,8 +27,8 @@ func (a *attacher) detach(id, node string) error {
 		&empty{})
 }
 
-// list is the nodes of each volume, by its id, over pages of so many entries; 0 leaves their length
-// to the driver.
+// list returns the nodes of each volume, by its id. It reads pages of pageLength entries; 0 leaves
+// the length to the driver.
 func (a *attacher) list(pageLength int32) (map[string][]string, error) {
 	all, token := map[string][]string{}, ""
 	for {

@@ -15,7 +15,7 @@ import (
 	"../processes"
 )
 
-// How far the life of a claim's volume goes.
+// The stages in the life of a claim's volume.
 const (
 	provisioned = iota
 	attached
@@ -24,8 +24,8 @@ const (
 	stages
 )
 
-// ledger is what exists by what the sidecars were answered: the node of each volume by its id, ""
-// for none.
+// ledger has the volumes that exist according to the replies to the sidecars: by the id of each,
+// its node, or "" if it is at no node.
 type ledger struct {
 	mutex sync.Mutex
 	nodes map[string]string
@@ -43,7 +43,7 @@ func (l *ledger) strike(id string) {
 	delete(l.nodes, id)
 }
 
-// cluster is the sidecars of one cluster, and what is in it.
+// cluster has the sidecars of one cluster, and its volumes.
 type cluster struct {
 	*provisioner
 	*attacher
@@ -56,14 +56,14 @@ func startCluster(t *testing.T, socket string) *cluster {
 		ledger: ledger{nodes: map[string]string{}}}
 }
 
-// lead leads the volume of a claim so far, and writes down what was answered.
+// lead brings the volume of a claim to a stage of its life, and records the replies.
 func (k *cluster) lead(c claim, stage int) error {
 	v, err := k.provision(c)
 	if err != nil {
 		return err
 	}
 	k.note(v.VolumeID, "")
-	// csi-provisioner asks again where it could not write the persistent volume down.
+	// csi-provisioner repeats the call if it could not save the persistent volume.
 	again, err := k.provision(c)
 	if err != nil {
 		return err
@@ -93,8 +93,8 @@ func (k *cluster) lead(c claim, stage int) error {
 	return nil
 }
 
-// workers has several workers of a sidecar take the claims, each those of its turn, and waits for
-// them.
+// workers runs several workers of a sidecar, and waits until they end. Each takes its share of the
+// claims.
 func workers(count int, claims []claim, take func(i int, c claim)) {
 	processes.Together(count, func(worker int) {
 		for i := worker; i < len(claims); i += count {
@@ -103,8 +103,8 @@ func workers(count int, claims []claim, take func(i int, c claim)) {
 	})
 }
 
-// killUntil kills csid and starts it again, each time 100 to 300 ms after it answers, until
-// something is over, and returns how often.
+// killUntil kills csid and starts it again until over is closed, each time 100 to 300 ms after csid
+// answers. It returns the number of kills.
 func killUntil(t *testing.T, csid *processes.Server, front string, random *rand.Rand,
 	over <-chan struct{}) (kills int) {
 	t.Helper()
@@ -120,8 +120,8 @@ func killUntil(t *testing.T, csid *processes.Server, front string, random *rand.
 	}
 }
 
-// While csid is killed again and again, claims get, attach, detach and delete their volumes: each
-// that was answered exists once as it was answered, and nothing else does.
+// While csid is killed again and again, volumes of claims are created, attached, detached and
+// deleted. At the end exactly the volumes exist that the replies promise.
 func TestKills(t *testing.T) {
 	t.Parallel()
 	const count, wantedKills = 400, 5
@@ -154,7 +154,7 @@ func TestKills(t *testing.T) {
 	wantsListed(t, k.attacher, k.nodes)
 }
 
-// Two provisioners that both take themselves for the leader make one volume a claim, and delete it
+// Two provisioners both act as the leader. They create one volume for each claim, and delete it
 // together.
 func TestTwoProvisioners(t *testing.T) {
 	t.Parallel()
@@ -198,8 +198,8 @@ func TestTwoProvisioners(t *testing.T) {
 	wantsListed(t, leaders[1].attacher, map[string]string{})
 }
 
-// cancelEach begins a create for each claim, and cancels it within some milliseconds. It returns
-// how many calls were answered nevertheless.
+// cancelEach begins a create for each claim, and cancels it within a few milliseconds. It returns
+// how many calls were answered before that.
 func (k *cluster) cancelEach(t *testing.T, claims []claim, random *rand.Rand) (answered int) {
 	t.Helper()
 	for i, c := range claims {
@@ -218,9 +218,9 @@ func (k *cluster) cancelEach(t *testing.T, claims []claim, random *rand.Rand) (a
 	return answered
 }
 
-// A claim that is deleted while its volume is made: the call is cancelled, and the volume may be
-// made nevertheless. So csi-provisioner repeats the call until it is over, and deletes what came.
-// Nothing is left.
+// Claims are deleted while their volumes are created. The call is cancelled, but the volume may be
+// created all the same. So csi-provisioner repeats the call until it has a final answer, and
+// deletes the volume. Nothing is left at the end.
 func TestClaimsThatAreDeletedEarly(t *testing.T) {
 	t.Parallel()
 	const count = 80

@@ -11,7 +11,7 @@ import (
 	"../processes"
 )
 
-// Two pools of 1 GiB, one a zone, and a node in each.
+// A pool of 1 GiB and a node in each of two zones.
 const twoZones = `name = "pools.example.org"
 vendor_version = "1.0.0"
 default_bytes = 1048576
@@ -36,15 +36,15 @@ id = "worker-b"
 max_volumes = 1000
 `
 
-// startDriver starts a csid with a front before it, and gives the socket of the front.
+// startDriver starts a csid and a front for it. It returns the csid and the socket of the front.
 func startDriver(t *testing.T, config string) (*processes.Server, string) {
 	t.Helper()
 	csid := processes.NewServer(t, config).Start(t)
 	return csid, processes.StartFront(t, csid.Socket()).Socket
 }
 
-// wantsListed compares what csi-attacher is answered, volume by volume, with the nodes that a test
-// says; "" is a volume at no node.
+// wantsListed compares the nodes of each volume, as csi-attacher lists them, with want. There the
+// node "" means that the volume is at no node.
 func wantsListed(t *testing.T, a *attacher, want map[string]string) {
 	t.Helper()
 	got, err := a.list(0)
@@ -62,8 +62,8 @@ func wantsListed(t *testing.T, a *attacher, want map[string]string) {
 	}
 }
 
-// A sidecar that starts before csid ends at once, as csi-lib-utils has it, and comes up once csid
-// is there. What it asks at the start is what decides which calls it makes.
+// A sidecar that starts before csid ends at once, as csi-lib-utils does, and starts well after csid
+// is there. The capabilities that it asks for at its start decide which calls it makes.
 func TestStart(t *testing.T) {
 	t.Parallel()
 	csid := processes.NewServer(t, twoZones)
@@ -88,8 +88,8 @@ func TestStart(t *testing.T) {
 	}
 }
 
-// The life of a claim's volume: made in the zone of its pod, attached, detached and deleted, each
-// of them twice, since sidecars repeat what was done when they start again.
+// The life of a claim's volume: it is created in the zone of its pod, attached, detached and
+// deleted. Each call is made twice, since sidecars repeat calls after a restart.
 func TestLifeOfAClaim(t *testing.T) {
 	t.Parallel()
 	_, socket := startDriver(t, twoZones)
@@ -123,7 +123,7 @@ func TestLifeOfAClaim(t *testing.T) {
 	wantsListed(t, a, map[string]string{})
 }
 
-// twice does what must give the same again.
+// twice calls a function twice, which must succeed both times.
 func twice(t *testing.T, what string, does func() error) {
 	t.Helper()
 	for i := 0; i < 2; i++ {
@@ -133,8 +133,8 @@ func twice(t *testing.T, what string, does func() error) {
 	}
 }
 
-// A volume that is attached is not deleted, nor attached elsewhere: both are final errors, and
-// leave the attachment.
+// An attached volume is not deleted, and not attached to another node. Both errors are final, and
+// the attachment stays.
 func TestFinalErrors(t *testing.T) {
 	t.Parallel()
 	_, socket := startDriver(t, twoZones)

@@ -3,7 +3,7 @@ package sidecars
 // The messages of the calls below, with the field numbers of the specification's csi.proto. Debian
 // packages no generated code of it.
 
-// empty is each message without fields.
+// empty is a message without fields.
 type empty struct{}
 
 type getPluginInfoResponse struct {
@@ -142,7 +142,7 @@ type int64Value struct {
 	Value int64 `protobuf:"varint,1,opt,name=value,proto3"`
 }
 
-// What the codec of grpc-go asks of the messages of calls.
+// The methods that the codec of grpc-go needs.
 
 func (m *empty) Reset()       { *m = empty{} }
 func (*empty) String() string { return "empty" }

@@ -15,7 +15,8 @@ const (
 // The zones of the cluster.
 var zones = []string{"a", "b"}
 
-// provisioner is csi-provisioner, with the identity that it writes into the context of each volume.
+// provisioner plays csi-provisioner. identity is the text that it writes into the context of each
+// volume.
 type provisioner struct {
 	*sidecar
 	identity string
@@ -27,11 +28,11 @@ type claim struct {
 	bytes int64
 	// The zone of the node that was selected for its pod.
 	zone string
-	// Whether no other zone will do, which csi-provisioner says with --strict-topology.
+	// Whether only this zone is allowed, as with --strict-topology of csi-provisioner.
 	strict bool
 }
 
-// newClaims are claims of 1 to 4 MiB, less some bytes, by turns in both zones.
+// newClaims returns claims of 1 to 4 MiB, less up to 999 bytes, in the two zones in turn.
 func newClaims(random *rand.Rand, count int) (claims []claim) {
 	for i := 0; i < count; i++ {
 		claims = append(claims, claim{uid: newUID(random), bytes: int64(i%4+1)*mebibyte - int64(random.Intn(1000)),
@@ -46,8 +47,8 @@ func newUID(random *rand.Rand) string {
 	return fmt.Sprintf("%x-%x-%x-%x-%x", b[:4], b[4:6], b[6:8], b[8:10], b[10:])
 }
 
-// volumeCapability is what ReadWriteOnce and a file system become for a driver that knows, or does
-// not know, SINGLE_NODE_MULTI_WRITER.
+// volumeCapability returns the capability for ReadWriteOnce with a file system. Its mode depends on
+// whether the driver knows SINGLE_NODE_MULTI_WRITER.
 func (s *sidecar) volumeCapability() *volumeCapability {
 	mode := int32(modeSingleNodeWriter)
 	if s.controller[singleNodeMultiWriter] {
@@ -57,8 +58,8 @@ func (s *sidecar) volumeCapability() *volumeCapability {
 		AccessMode: &accessMode{Mode: mode}}
 }
 
-// requirements are the zones of the cluster, the preferred ones from the selected one on; of a
-// strict claim the selected one alone.
+// requirements returns the zones of the cluster. The preferred zones begin with the selected one. A
+// strict claim has only the selected zone.
 func (c claim) requirements() *topologyRequirement {
 	all := []*topology{zoneTopology(c.zone)}
 	if c.strict {
@@ -88,7 +89,7 @@ func startProvisioner(t *testing.T, socket string) *provisioner {
 	return &provisioner{s, "1700000000000-8081-" + s.driver}
 }
 
-// createRequest is the same for each try of a claim.
+// createRequest returns the request for a claim, which is the same at each try.
 func (p *provisioner) createRequest(c claim) *createVolumeRequest {
 	return &createVolumeRequest{
 		Name:                      "pvc-" + c.uid,
@@ -99,7 +100,7 @@ func (p *provisioner) createRequest(c claim) *createVolumeRequest {
 	}
 }
 
-// provision creates the volume of a claim, and looks at the answer as csi-provisioner does.
+// provision creates the volume of a claim, and checks the answer as csi-provisioner does.
 func (p *provisioner) provision(c claim) (*volume, error) {
 	got := &createVolumeResponse{}
 	if err := p.repeat(controller+"CreateVolume", p.createRequest(c), got); err != nil {
@@ -108,7 +109,7 @@ func (p *provisioner) provision(c claim) (*volume, error) {
 	return got.Volume, c.accepts(got.Volume)
 }
 
-// accepts says why a volume that was answered is none for the claim.
+// accepts returns why a volume does not fit the claim, or nil.
 func (c claim) accepts(v *volume) error {
 	switch {
 	case v == nil:
@@ -125,7 +126,7 @@ func (p *provisioner) remove(id string) error {
 	return p.repeat(controller+"DeleteVolume", &deleteVolumeRequest{VolumeID: id}, &empty{})
 }
 
-// persistentContext is what a persistent volume keeps of the context of a volume, for the calls of
+// persistentContext returns the context that a persistent volume keeps for the calls of
 // csi-attacher.
 func (p *provisioner) persistentContext(v *volume) map[string]string {
 	all := map[string]string{provisionerIdentity: p.identity}
@@ -135,7 +136,7 @@ func (p *provisioner) persistentContext(v *volume) map[string]string {
 	return all
 }
 
-// capacity asks for the room of a topology segment.
+// capacity asks for the free bytes of a zone.
 func (p *provisioner) capacity(zone string) (*getCapacityResponse, error) {
 	got := &getCapacityResponse{}
 	request := &getCapacityRequest{Parameters: map[string]string{"tier": "gold"},

@@ -1,6 +1,6 @@
 // Package sidecars makes the calls of Kubernetes' csi-provisioner and csi-attacher to the built
-// front before the built csid: in their order, with their deadlines and repeats, and reading codes
-// as they do. The pauses between repeats are shorter, so that the tests end.
+// front and the built csid. It makes them in the sidecars' order, with their deadlines and repeats,
+// and reads codes as they do. The pauses between repeats are shorter, so that the tests end.
 package sidecars
 
 import (
@@ -26,26 +26,26 @@ const (
 )
 
 var (
-	// How many times slower csid is than a proved one: one that checks contracts while it runs
-	// takes seconds for a connection. All times grow by it.
+	// The factor for all times. It is 1 for a proved csid. A csid that checks contracts at run time
+	// needs more, since it takes seconds for a connection.
 	slowness = factor("CSID_SLOWNESS")
 
-	// The deadlines of deploy/kubernetes.yaml (--timeout), and of csi-attacher for what it asks at
-	// its start.
+	// The deadlines of calls: in deploy/kubernetes.yaml (--timeout), and in csi-attacher for the
+	// calls at its start.
 	callTimeout  = 30 * time.Second * slowness
 	shortTimeout = time.Second * slowness
 
-	// A sidecar repeats after 1 s, then twice as long, up to 5 minutes; kubelet starts a container
-	// again after 10 s.
+	// The pauses, which are shorter than in Kubernetes. There a sidecar repeats a call after 1 s,
+	// then after twice as long, up to 5 minutes, and a kubelet restarts a container after 10 s.
 	firstPause   = 10 * time.Millisecond * slowness
 	longestPause = 320 * time.Millisecond * slowness
 	restartPause = 100 * time.Millisecond * slowness
 
-	// How long a sidecar may take for one thing, with all repeats, before a test gives it up.
+	// How long a sidecar may take for one call, with all repeats, before the test fails.
 	patience = processes.Patience * slowness
 )
 
-// factor is a whole number of the environment, else 1.
+// factor returns the number in an environment variable, or 1 if the variable is not set.
 func factor(variable string) time.Duration {
 	text := os.Getenv(variable)
 	if text == "" {
@@ -77,18 +77,18 @@ const (
 	modeSingleNodeMultiWriter = 7
 )
 
-// sidecar is a process of a sidecar that has come up: its connection, and what it asked at the
+// sidecar is a sidecar that has started: its connection, and the capabilities that it got at its
 // start.
 type sidecar struct {
 	*grpc.ClientConn
 	driver     string
 	plugin     map[int32]bool
 	controller map[int32]bool
-	// How many calls were made once more, since they might not have been over.
+	// The number of calls that were repeated because their outcome was open.
 	repeats int32
 }
 
-// startSidecar starts a sidecar as kubelet does: where its start fails, again and again.
+// startSidecar starts a sidecar as a kubelet does: if the start fails, it starts the sidecar again.
 func startSidecar(t *testing.T, socket string) *sidecar {
 	t.Helper()
 	for end := time.Now().Add(patience); ; time.Sleep(restartPause) {
@@ -102,7 +102,7 @@ func startSidecar(t *testing.T, socket string) *sidecar {
 	}
 }
 
-// comeUp is the start of a sidecar, up to the error with which it ends.
+// comeUp runs the start of a sidecar. It returns the error with which the sidecar ends.
 func comeUp(t *testing.T, socket string) (*sidecar, error) {
 	t.Helper()
 	conn, err := grpc.Dial("unix:"+socket, grpc.WithInsecure(), grpc.WithBlock(), grpc.WithTimeout(patience))
@@ -126,8 +126,8 @@ func (s *sidecar) ask(length time.Duration, path string, request, response inter
 	return s.Invoke(ctx, path, request, response)
 }
 
-// probeForever waits until the driver is ready. A deadline that is over is waited out, any other
-// error ends the sidecar.
+// probeForever waits until the driver is ready. After a deadline it tries again. Any other error
+// ends the sidecar.
 func (s *sidecar) probeForever() error {
 	for {
 		got := &probeResponse{}
@@ -176,8 +176,8 @@ func (s *sidecar) capabilities(path string) (map[int32]bool, error) {
 	return set, nil
 }
 
-// isFinal reports whether a call that ended so is over: after other errors it may still go on in
-// the driver.
+// isFinal reports whether a call with this error has ended in the driver too. After other errors
+// the call may still run there.
 func isFinal(err error) bool {
 	state, is := status.FromError(err)
 	if !is {
@@ -190,7 +190,7 @@ func isFinal(err error) bool {
 	return true
 }
 
-// repeat makes a call until it is done or over, with pauses that grow.
+// repeat makes a call until it succeeds or has a final error, with pauses that grow.
 func (s *sidecar) repeat(path string, request, response interface{}) error {
 	end, pause := time.Now().Add(patience), firstPause
 	for {

@@ -9,7 +9,7 @@ import (
 	"../processes"
 )
 
-// wantsCapacity compares what is free in a zone.
+// wantsCapacity checks the free bytes of a zone.
 func (p *provisioner) wantsCapacity(t *testing.T, zone string, want int64) {
 	t.Helper()
 	got, err := p.capacity(zone)
@@ -18,8 +18,8 @@ func (p *provisioner) wantsCapacity(t *testing.T, zone string, want int64) {
 	}
 }
 
-// poll asks for what is free in each zone until something is over, and returns how often; it is
-// never less than nothing or more than a pool has.
+// poll asks for the free bytes of each zone until over is closed, and returns how often it asked.
+// It checks that they are never negative and never more than the bytes of a pool.
 func (p *provisioner) poll(t *testing.T, pool int64, over <-chan struct{}) (polls int) {
 	t.Helper()
 	for ; ; polls++ {
@@ -43,9 +43,9 @@ func (p *provisioner) poll(t *testing.T, pool int64, over <-chan struct{}) (poll
 	}
 }
 
-// GetCapacity while volumes come and go. In zone b the callers have volumes of 2, 4, 2 and 4 MiB,
-// for which there is no room together: a create that is refused is repeated until others were
-// deleted. In each zone four volumes of 1 MiB stand in the end.
+// GetCapacity while volumes are created and deleted. In zone b the callers have volumes of 2, 4, 2
+// and 4 MiB, which do not all fit at once. A refused create is repeated until other volumes were
+// deleted. At the end each zone has four volumes of 1 MiB.
 func TestCapacity(t *testing.T) {
 	t.Parallel()
 	const count, callers, pool = 96, 8, 8 * mebibyte
@@ -84,7 +84,7 @@ func TestCapacity(t *testing.T) {
 	}
 }
 
-// churn attaches and detaches the volume of a claim so many times.
+// churn creates the volume of a claim, and attaches and detaches it in each round.
 func (k *cluster) churn(c claim, rounds int) error {
 	v, err := k.provision(c)
 	for ; err == nil && rounds > 0; rounds-- {
@@ -95,9 +95,9 @@ func (k *cluster) churn(c claim, rounds int) error {
 	return err
 }
 
-// reconcile walks over all pages, and compares the nodes that it is answered: the volumes that
-// exist throughout are where they are, and the others, by their ids, at the node of their claims or
-// at none.
+// reconcile walks over all pages, and checks the nodes of each volume. Volumes that exist
+// throughout must be listed at their nodes. The other volumes must be in others, which maps their
+// ids to nodes: each is listed at its node or at none.
 func (k *cluster) reconcile(t *testing.T, pageLength int32, others map[string]string) {
 	t.Helper()
 	got, err := k.list(pageLength)
@@ -118,8 +118,9 @@ func (k *cluster) reconcile(t *testing.T, pageLength int32, others map[string]st
 	}
 }
 
-// What csi-attacher compares its attachments with, while others come and go: no attachment that
-// exists throughout is missing, and none is shown that never was.
+// csi-attacher compares its attachments with this list, while other volumes are attached and
+// detached. No attachment that exists throughout is missing, and no attachment is listed that never
+// existed.
 func TestReconciliation(t *testing.T) {
 	t.Parallel()
 	const standing, churning, rounds = 20, 4, 20
@@ -127,7 +128,8 @@ func TestReconciliation(t *testing.T) {
 	_, socket := startDriver(t, twoZones)
 	k, claims, others := startCluster(t, socket), newClaims(random, standing+churning), map[string]string{}
 	for i, c := range claims {
-		// Each sixth volume is one that comes and goes, and of the others half are attached.
+		// Each sixth volume is attached and detached again and again. Of the other volumes, half
+		// are attached.
 		if i%6 == 5 {
 			v, err := k.provision(c)
 			if err != nil {

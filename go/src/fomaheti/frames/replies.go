@@ -28,10 +28,11 @@ type Reply struct {
 	Body []byte
 }
 
-// Malformed is an error: a reply that breaks a rule of the envelope.
+// Malformed is the error for a reply that breaks a rule of the envelope. Its value names the part
+// of the reply, such as "text length".
 type Malformed string
 
-// Error names the part that breaks the rule.
+// Error returns the line about the part that breaks the rule.
 func (part Malformed) Error() string { return "malformed reply: bad " + string(part) }
 
 // IsPath reports whether a frame can have the path.
@@ -207,8 +208,8 @@ func inside(err error) error {
 	return err
 }
 
-// IsClosing reports whether the peer closed the connection: by an end if it had read everything, or
-// else by a reset or a broken pipe.
+// IsClosing reports whether the peer closed the connection. The error is io.EOF if the peer had
+// read everything, and otherwise a reset or a broken pipe.
 func IsClosing(err error) bool {
 	return err == io.EOF || errors.Is(err, syscall.ECONNRESET) || errors.Is(err, syscall.EPIPE)
 }

@@ -35,7 +35,7 @@ func TestRequestHead(t *testing.T) {
 	}
 }
 
-// Await takes no byte of the reply, and returns the end of a connection as it is.
+// Await takes no byte of the reply, and returns the end of a connection unchanged.
 func TestAwait(t *testing.T) {
 	replies := NewReplies(bytes.NewReader(fromHex(t, "05 0000 00 00000000")))
 	for i := 0; i < 2; i++ {

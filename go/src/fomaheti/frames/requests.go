@@ -113,7 +113,7 @@ func (r *Requests) within(err error) error {
 // isShown reports whether a text may have the character.
 func isShown(character byte) bool { return 0x20 <= character && character <= 0x7e }
 
-// Append appends a reply as a frame. Its text must be allowed in a frame; Text makes it so.
+// Append appends a reply as a frame. Use Text to make a text that is allowed in a frame.
 func (answer Reply) Append(frame []byte) []byte {
 	frame = append(frame, byte(answer.Code), byte(len(answer.Text)>>8), byte(len(answer.Text)))
 	frame = append(frame, answer.Text...)

@@ -1,5 +1,5 @@
-// Package logqueue writes log lines without making their author wait: standard error may be a pipe
-// without a reader.
+// Package logqueue writes log lines in the background, so that the program never waits for the
+// reader of standard error. Standard error may be a pipe without a reader.
 package logqueue
 
 import (
@@ -17,9 +17,9 @@ func Report(count uint64) string {
 	return fmt.Sprintf("lines dropped, since standard error did not take them: %d", count)
 }
 
-// Queue holds lines until a goroutine of its own writes them. It drops and counts a line if there
-// is no room, or if the write fails. Once it can write again, it writes the number of dropped lines
-// at their place.
+// Queue holds lines until its goroutine writes them. It drops and counts a line if there is no
+// room, or if the write fails. When it can write again, it writes the number of dropped lines in
+// their place.
 type Queue struct {
 	out io.Writer
 	// Returns the line that reports dropped lines.
@@ -28,7 +28,8 @@ type Queue struct {
 	mutex   sync.Mutex
 	changed *sync.Cond
 	waiting []line
-	// The lines dropped after the last waiting one and not reported yet, and all dropped lines.
+	// The number of lines that were dropped after the last waiting line and are not reported yet,
+	// and the number of all dropped lines.
 	unreported, dropped uint64
 	// Set if the last write failed. Then a report waits for the next line, so that the queue does
 	// not write again and again to a reader that has gone.
@@ -37,7 +38,7 @@ type Queue struct {
 	ended     chan struct{}
 }
 
-// line is a waiting line, and the number of lines dropped between the one before and it.
+// line is a waiting line, and the number of lines that were dropped just before it.
 type line struct {
 	text          []byte
 	droppedBefore uint64
@@ -138,7 +139,8 @@ func (q *Queue) write(next line) {
 	q.wrote(err == nil, unreported, dropped)
 }
 
-// wrote notes the result of a write: the lines left to report, and whether its line was dropped.
+// wrote records the result of a write. unreported is the number of dropped lines before this line
+// that are still to be reported. dropped is 1 if this line was dropped, otherwise 0.
 func (q *Queue) wrote(isGood bool, unreported, dropped uint64) {
 	q.mutex.Lock()
 	defer q.mutex.Unlock()

@@ -5,7 +5,7 @@ import (
 	"time"
 )
 
-// The levels of lines: error if the program ends for it.
+// The levels of lines. A line has the level error if it says why the program ends.
 const (
 	Info  = "info"
 	Warn  = "warn"
@@ -16,7 +16,8 @@ const (
 // line: systemd sets JOURNAL_STREAM then (systemd.exec(5)).
 func HasJournal() bool { return os.Getenv("JOURNAL_STREAM") != "" }
 
-// Stamp returns how a line of text begins that the journal does not keep: its time and its level.
+// Stamp returns the time and the level with which a line of text begins if it does not go to the
+// journal.
 func Stamp(now time.Time, level string) string {
 	return now.UTC().Format(time.RFC3339) + " " + level + " "
 }

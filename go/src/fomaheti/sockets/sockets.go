@@ -125,7 +125,7 @@ func (s *Socket) remove() {
 	}
 }
 
-// openFolder opens the folder of a file. A lock on it ends when it is closed.
+// openFolder opens the folder of a file. A lock on the folder ends when the result is closed.
 func openFolder(path string) (*os.File, error) {
 	return os.Open(filepath.Dir(path))
 }
