@@ -96,11 +96,11 @@ fn merge_field<P, M: Message<P>>(
     Ok(())
 }
 
-/// The offset at which the bytes stop being a list of good fields, if they do. It takes no memory.
+/// Returns the offset of the first field that is not good, or `None` if the bytes are a list of good fields.
+/// Takes no memory.
 ///
-/// Returns the offset of the first field that is not good, or `None` if all fields are good. A field is good
-/// if it is well-formed. If its number belongs to a text or an embedded message, its payload must be
-/// well-formed too.
+/// A field is good if it is well-formed. If its number belongs to a text or an embedded message, its payload
+/// must be well-formed too.
 pub fn first_fault<P, M: Message<P>>(bytes: &[u8]) -> Option<usize>
     ensures { MatchOption result (AreGood (GoodField (Good M.schema)) bytes.now)
         (IsRefusedAt (GoodField (Good M.schema)) bytes.now) }
