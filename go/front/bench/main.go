@@ -115,16 +115,20 @@ var readonly = []byte("\x0a\x11\x0a\x08readonly\x12\x05false")
 // pageEntries is the greatest number of entries of a page.
 const pageEntries = 10
 
-// entries returns the number of fields of a page: its entries, and the token of the next page if
-// there is one.
+// entryTag is the tag of an entry in a page: field 1 of ListVolumesResponse.
+const entryTag = 0x0a
+
+// entries returns the number of entries in a page.
 func entries(page []byte) (count int) {
 	for len(page) > 0 {
 		size, varint := binary.Uvarint(page[1:])
 		if varint <= 0 || uint64(len(page)-1-varint) < size {
 			return count
 		}
+		if page[0] == entryTag {
+			count++
+		}
 		page = page[1+varint+int(size):]
-		count++
 	}
 	return count
 }
