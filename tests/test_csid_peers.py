@@ -106,8 +106,9 @@ class PeersTest(CsidTest):
         self.assertTrue(any(self.count_late(5) == 5 for _ in range(10)))
 
     def test_peer_with_nothing_new_is_closed_at_once_where_others_wait(self):
-        """The first peer keeps the others waiting for a second. The peers after it have no time left, and are
-        closed before each next call."""
+        """21 peers send one call each, and stay connected. The first one keeps the others waiting for a
+        second. No time is left to the others: each is answered, and closed at once since no further call of
+        it has come."""
         first, begin = self.connect(frame(PROBE)), time.monotonic()
         others = [self.connect(frame(PROBE)) for _ in range(20)]
         self.assertEqual([peer.recv(4096) for peer in [first] + others], [READY] * 21)

@@ -44,7 +44,8 @@ class RightsTest(CsidTest):
             return list(lines)
 
     def modes(self, lines, path):
-        """Returns the modes of a file or a socket, in order."""
+        """Returns the modes that the file or socket at `path` got by the system calls in `lines`, the oldest
+        first. Fails if there is none."""
         steps = [found for line in lines if (found := MADE.search(line) or CHANGED.search(line))]
         modes = [int(step[2], 8) for step in steps if step[1] == path]
         self.assertNotEqual(modes, [], path)

@@ -25,8 +25,9 @@ type lease struct {
 	expiry time.Duration
 }
 
-// sinceBoot returns the time since the machine started. This clock goes on while the machine
-// sleeps, as etcd's clock elsewhere does. The clock of package time stops.
+// sinceBoot returns the time since this machine started, including the time in which it slept. The
+// clock of package time stops during sleep, but an etcd on another machine goes on counting the time
+// of the lease.
 func sinceBoot() time.Duration {
 	var now unix.Timespec
 	if err := unix.ClockGettime(unix.CLOCK_BOOTTIME, &now); err != nil {

@@ -31,7 +31,7 @@ func refuse(format string, args ...interface{}) refusal {
 // call gets no reply.
 type unknownOutcome struct{ err error }
 
-// Error implements error.
+// Error returns a line that the outcome of a change is unknown, with the reason.
 func (o unknownOutcome) Error() string {
 	return "it is not known whether it was made: " + o.err.Error()
 }

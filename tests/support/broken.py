@@ -165,7 +165,8 @@ END, WHOLE, MOST = 1, 4, 16384
 
 
 def string(text):
-    """Returns the text of a header (RFC 7541, section 5.2)."""
+    """Returns a name or a value of a header as a string literal without Huffman coding: its length, and then
+    its bytes (RFC 7541, section 5.2)."""
     return (bytes([len(text)]) if len(text) < 127 else b"\x7f" + v.varint(len(text) - 127)) + text
 
 

@@ -50,9 +50,10 @@ fn size_by(sizes: &Sizes, required: u64, limit: u64) -> Option<u64>
 /// Returns the size in bytes of a new volume for the requested range (CSI specification, 'CreateVolume',
 /// `CapacityRange`).
 ///
-/// If the range requires a size, the result is this size, rounded up to a multiple of 1 MiB. Otherwise the
-/// result is the default size. If the limit, rounded down to a multiple of 1 MiB, is smaller than the default
-/// size, the result is the rounded limit. A required size or a limit of 0 or below counts as absent.
+/// If the range requires a size, the result is the required size, rounded up to a multiple of 1 MiB. If the
+/// range has only a limit, the result is the smaller of the default size and the limit, rounded down to a
+/// multiple of 1 MiB. With neither, or without a range, the result is the default size. A required size or a
+/// limit of 0 or below counts as absent.
 ///
 /// Returns `None` if this size is 0, above the limit or above the greatest size of a volume.
 pub fn size(sizes: &Sizes, range: &Option<CapacityRange>) -> Option<u64>

@@ -53,12 +53,13 @@ fn start_change(health: &mut Health, is_current: bool) -> Result<(), StoreFault>
 
 /// A keeper that reads from a keeper in memory, and passes each change to a change store first.
 ///
-/// The State is the State of the change store, and a stop leaves what the change store leaves. After a failed
-/// change, also for lack of memory, each further call returns `Down`.
+/// Its State is the State of the change store, and a stop leaves what a stop of the change store leaves. If
+/// the change store fails to make a change, also for lack of memory, the keeper is down: each further call
+/// returns `Down`.
 ///
-/// If the change store made a change but the memory has no room for it, the call still returns `Ok`. The
-/// memory is then out of date, so each further read returns `Refused` until the keeper is opened again. The
-/// next change is refused before it is passed to the change store, and brings the keeper down.
+/// If the change store made a change but the keeper in memory did not, the call still returns `Ok`. The
+/// keeper in memory is then out of date: each read returns `Refused`. The next change returns `Refused` too,
+/// is not passed to the change store, and brings the keeper down.
 pub struct Through<M, D> {
     memory: M,
     change_store: D,

@@ -75,7 +75,8 @@ pub(crate) type Remote = Through<MemKeeper, RemoteChangeStore<ChangeStorePeer>>;
 pub(crate) struct OpenChangeStore {
     /// The keeper over which calls are answered.
     pub(crate) keeper: Remote,
-    /// The connection to the change store, on which it is asked if it leads.
+    /// A handle of the connection to the change store. It serves to ask whether the change store leads.
+    /// `keeper` has other handles of the same connection.
     pub(crate) stream: TimedStream,
     /// True if a frame was sent to the change store since the last reply to a client.
     pub(crate) is_asked: Rc<Cell<bool>>,

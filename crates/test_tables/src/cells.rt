@@ -5,8 +5,9 @@ use sqlite::types::ValueRef;
 use std::alloc::{AllocError, Global};
 use std::str;
 
-/// Returns the cell with index `at` of a row as a text, or `none` if the row has no such cell. A cell is a
-/// number, a text between quotation marks, bytes in hexadecimal after an x, `real` or `NULL`.
+/// Returns the text for the cell with index `at` of a row, or `none` if the row has no such cell. An integer
+/// is written in decimal, and a text between single quotation marks (`'not UTF-8'` if it is not UTF-8). Bytes
+/// are written as `x` and hexadecimal digits, each real number as the word `real`, and a null as `NULL`.
 pub(crate) fn cell_text(alloc: Global, row: &Row, at: usize) -> Result<String, AllocError> {
     match row.get_ref(at) {
         Ok(ValueRef::Int(number)) => format!(in alloc; "{number}"),

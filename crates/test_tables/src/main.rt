@@ -1,6 +1,7 @@
-//! Answers rows about tables: statements and scans over tables, the constraints of rows, the volume machine
-//! over tables, the adoption of tables, tables in files whose disk stopped in a call, and runs over files.
-//! The head of each section in this crate's file `stdin` describes the rows of the section.
+//! Answers the rows of this crate's file `stdin`. Such a row is a line of the test (`test_kit`). The rows are
+//! about statements and scans over tables, the constraints on stored rows, the volume machine over tables,
+//! the adoption of tables, tables in files whose disk stopped in a call, and runs over files. The head of
+//! each section in `stdin` describes the lines of the section.
 #![tactic(auto)]
 
 mod adoption;

@@ -44,7 +44,8 @@ impl fmt::Display for Seen {
     }
 }
 
-/// The place of the stop in the runs of a row.
+/// The part of a run in which the disk stops or has a trouble, and whether the disk also stops in the next
+/// start. All runs of one row of the test have the same `Way`.
 #[derive(Clone, Copy)]
 pub(crate) enum Way {
     /// The disk stops at any time from the opening to the end of the call. The next start does not stop.

@@ -192,8 +192,9 @@ func (r *Replies) peekBodyLength(code codes.Code, textBytes int) (int, error) {
 	return int(size), nil
 }
 
-// inside turns the error of a read into the error of Next: an end is clean only before the first
-// byte of a reply.
+// inside returns the error of Next for an error in the head of a reply. If no byte of the reply has
+// come, this is the same error, such as io.EOF. If the peer closed the connection after the first
+// byte, it is io.ErrUnexpectedEOF. Other errors are unchanged.
 func (r *Replies) inside(err error) error {
 	if r.in.Buffered() == 0 {
 		return err
