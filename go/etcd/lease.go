@@ -26,8 +26,8 @@ type lease struct {
 }
 
 // sinceBoot returns the time since this machine started, including the time in which it slept. The
-// clock of package time stops during sleep, but an etcd on another machine goes on counting the time
-// of the lease.
+// clock of package time stops during sleep, but an etcd on another machine goes on counting the
+// time of the lease.
 func sinceBoot() time.Duration {
 	var now unix.Timespec
 	if err := unix.ClockGettime(unix.CLOCK_BOOTTIME, &now); err != nil {

@@ -123,8 +123,9 @@ func adjacent() (rows []attachment) {
 }
 
 // The pages of a walk over long rows have all rows once, in order and at one revision. No page is
-// longer than the body of a frame may be, even if rows fill a page to the last byte. After each page,
-// the revision at which the rows were read is noted as a revision that csid got in an answer.
+// longer than the body of a frame may be, even if rows fill a page to the last byte. After each
+// page, the revision at which the rows were read is noted as a revision that csid got in an
+// answer.
 func TestPages(t *testing.T) {
 	for size, count := range map[int]uint64{1 << 19: 10, 1 << 20: 8} {
 		t.Run(fmt.Sprintf("%d rows of %d bytes", count, size), func(t *testing.T) {

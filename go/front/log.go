@@ -190,8 +190,8 @@ func via(socket string) string {
 	return socket + " "
 }
 
-// saying is a writer that logs each line of a library, or of a part of the front, as a warning. In a
-// JSON line, the name in the field who becomes "message", and the written line becomes "error".
+// saying is a writer that logs each line of a library, or of a part of the front, as a warning. In
+// a JSON line, the name in the field who becomes "message", and the written line becomes "error".
 type saying struct {
 	*logger
 	who string

@@ -304,8 +304,8 @@ func (e ending) check(t *testing.T, s *onTheirWay) {
 	}
 }
 
-// However csid ends a connection, at most one call fails: the first one whose reply had not come. The
-// front sends the calls after it again, and no change is made twice.
+// However csid ends a connection, at most one call fails: the first one whose reply had not come.
+// The front sends the calls after it again, and no change is made twice.
 func TestConnectionThatEnds(t *testing.T) {
 	for _, calls := range []int{1, 2, 16} {
 		calls := calls

@@ -15,9 +15,9 @@ func refuse(format string, args ...interface{}) error {
 	return usageError{fmt.Errorf(format, args...)}
 }
 
-// serveOptions are the options of `serve`: the sockets of the node plugin and of the front, the name
-// of the plugin, what is reported about this node, the folder of each pool, and how volumes are
-// stored.
+// serveOptions are the options of `serve`: the sockets of the node plugin and of the front, the
+// name of the plugin, what is reported about this node, the folder of each pool, and how volumes
+// are stored.
 type serveOptions struct {
 	listen     string
 	controller string
