@@ -19,7 +19,7 @@ use Rattle.csi_keeper.specs.Lookup.{node_of, pool_named}
 use Rattle.csi_keeper.specs.State.{State, sizes, attached_at}
 use Rattle.csi_keeper.specs.Texts.{Text}
 
--- what a volume may be used as: in order, at least one, each supported
+-- the capability keys of a volume: in order, at least one, each supported
 pub record AreKeys (keys : List CapKey) : Type 0 where
   pub ordered : AreOrdered keys
   pub some : 1 ≤ length keys

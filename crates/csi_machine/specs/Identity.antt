@@ -13,7 +13,7 @@ plugin_info config = respond (response.PluginInfo config.plugin.name config.plug
 abbrev pub plugin_capabilities : Plan
 plugin_capabilities = respond (response.PluginCapabilities (Some (pos 1) ∷ Some (pos 2) ∷ []))
 
--- ready
+-- the plugin is ready
 abbrev pub probe : Plan
 probe = respond (response.Probe (Some true))
 

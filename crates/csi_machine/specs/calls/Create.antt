@@ -21,8 +21,8 @@ use Rattle.csi_rules.specs.Topology.{is_reachable, terms}
 
 -- a volume of the name exists
 
--- the volume, whose pool has these segments, is as the request asks; a mutable parameter that is given must
--- be as it is now
+-- the existing volume, whose pool has these segments, fits the request; a mutable parameter that is given
+-- must be as it is now
 abbrev pub is_compatible : TextMap → Volume → CreateVolume → Bool
 is_compatible segments v r =
     is_reachable segments r.topology && has_size v.bytes r.range && have_keys v.caps r.capabilities && same_map v.params r.parameters
