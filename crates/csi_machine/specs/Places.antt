@@ -1,4 +1,4 @@
--- Entries of a listing. The context and the topology of each pool are made once.
+-- Entries of a listing. The context and the topology of each pool are encoded once.
 use Rattle.std.specs.Prelude.{◌≡◌, ℕ, List, [], ◌∷◌, Some, codes}
 use Rattle.std.specs.FinMap.{empty, insert}
 use Rattle.std.specs.List.{AllByRecursion}
