@@ -110,8 +110,8 @@ map_row k m = Strings k (spelled canon_map_entry (entries m))
 abbrev pub presence_row : ℕ → Bool → Row
 presence_row k b = Strings k (presence b)
 
--- ---- what has an encoding: texts in UTF-8, numbers in the range of their type, and payloads whose length is
--- a varint
+-- ---- values that have an encoding: texts in UTF-8, numbers in the range of their type, and payloads whose
+-- length is a varint
 
 abbrev pub FitsText : List ℕ → Type 0
 FitsText t = IsUtf8 t × (length t < 2 ^ 64)
