@@ -95,8 +95,8 @@ lead_frame = frame (record { path = path_of Lead; message = [] })
 
 -- ---- a reply
 
--- Status 0 alone says that the change was made. Any other outcome is a refusal, also if it is not known
--- whether the change was made.
+-- Only status 0 says that the change was made. Without memory for the reply the answer is `NoMemory`. Any
+-- other outcome is a refusal, also if it is not known whether the change was made.
 abbrev pub answer_of : Received → Result (Unit {0}) StoreFault
 answer_of (Reply r) = if r.status == 0 then Ok tt else Err Refused
 answer_of Nothing = Err Refused

@@ -40,7 +40,8 @@ plan config s (request.List r) = list_volumes config s r
 plan config s (request.Capacity r) = capacity config s r
 plan config s (request.Modify r) = modify s r
 
--- whether a request is answered by a plan that is made for it; the others are answered as they are read
+-- true if a plan is made for the request and then carried out; each other request is answered by a function
+-- of its own
 abbrev pub is_planned : Request → Bool
 is_planned request.PluginInfo = true
 is_planned request.PluginCapabilities = true
