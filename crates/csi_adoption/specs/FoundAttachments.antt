@@ -44,7 +44,7 @@ pub record FoundAttachments (config : Config) (volumes : FinMap nat_cmp Volume) 
   pub each : (n : ℕ) (node : Text) (a : Attachment) → get attachments (n, node) ≡ Some a → StandsAmong config volumes n node a
   -- any two attachments of a volume coexist
   pub beside : (n : ℕ) (d e : Text) (a b : Attachment) → get attachments (n, d) ≡ Some a → get attachments (n, e) ≡ Some b → (d ≡ e → ⊥) → coexist a b ≡ true
-  -- no node holds more volumes than it can
+  -- no node holds more volumes than it may
   pub nodes : (m : Node) → Has config.nodes m → length (map (λ e. e.0.0) (filter (λ e. bytes_eq e.0.1 m.id) (entries attachments))) ≤ m.max_volumes
 
 -- ---- laws

@@ -86,7 +86,7 @@ meta_judged meta.None = no_meta
 meta_judged (meta.One m) = row_judged m.key m.format m.next
 meta_judged meta.Many = no_meta
 
--- ---- what the scans show
+-- ---- the findings of the scans
 
 -- the first row that does not pass, named by the integer and the text of two columns
 abbrev pub first_named : ℕ → ℕ → (Row → Bool) → List Row → Option RowName

@@ -178,8 +178,7 @@ live_start method s a e open_ = subst (λ (x : ReplyFramerState). Live method []
 pub read_failed : (method : Option Method) (read : List ℕ) (AtEnd : Type 0) (s : ReplyFramerState) (a b : Option (List ℕ)) (refused : Bool) → Live method read s a b refused → Ended method read AtEnd a b ReadFailed
 read_failed method read AtEnd s a b refused h = (h.replies, s.held, h.wrote, h.unfinished)
 
--- a fact that does not mention the end of the input holds at any offset, and so does a fact shown at this
--- offset
+-- the end of a run stays true with a weaker statement about the end of the input
 pub ended_at : (method : Option Method) (read : List ℕ) (Was AtEnd : Type 0) (a b : Option (List ℕ)) (end : ShowEnd) → (Was → AtEnd) → Ended method read Was a b end → Ended method read AtEnd a b end
 ended_at method read Was AtEnd a b (Done refused) f h = (h.0, h.1, h.2, f h.3)
 ended_at method read Was AtEnd a b (Malformed x) f h = (h.0, h.1, h.2, h.3, (λ e. f (h.4 e)), h.5)

@@ -37,7 +37,8 @@ module _ (config : Config) where
     pub reported : (c : ℕ) → heard c ++ z.unheard c ≡ said (st c) ++ answers_in config x c order
     pub last : t ≡ after_operations config x order
 
-  -- and the order keeps the real-time order of the tries to come, in this session and in later ones
+  -- as `Goes`, and the order keeps the real-time order of the tries to come, in this session and in later
+  -- ones
   record Ends (x : State) (cs : Clients) (refusals : Refusals) (st : Status) (heard : ℕ → List Report) (t : State) (ts : List ClientTry) (sessions : List (List ClientTry)) : Type 0 where
     pub order : List Operation
     pub unfinished : Unfinished

@@ -227,7 +227,7 @@ module _ (rows : List Row) (r : Row) (next : LastAttachment) (number : as_intege
   neither_is true b e = (refl, e)
   neither_is false b e = absurd (true≢false e)
 
-  -- and a row that is not admitted conflicts with some other
+  -- a row that is not admitted conflicts with an earlier row
   pub apart_from_one : (last : Option LastAttachment) → AreCovered last rows → admits last next ≡ false → list_any (λ e. are_apart e r) rows ≡ true
   apart_from_one None led not_fine = absurd (true≢false not_fine)
   apart_from_one (Some l) led not_fine =

@@ -32,8 +32,8 @@ module _ {D : Type 0} {g : disk.Ghosts D} where
   files_of (NotClosed served error now) = Some (now.log, now.db)
 
 module _ {D : Type 0} (g : disk.Ghosts D) where
-  -- Each outcome of a crash, and so what the files read as, is a database that the connection may have left.
-  -- All of them have pages of one size.
+  -- Each outcome of a crash, and so the contents of the files, is a database that the connection may have
+  -- left. All of them have pages of one size.
   pub record IsLeft (conn : Held (FileStore D g)) (files : Files D) : Type 0 where
     pub clean : AreClean g files.log files.db → HasCleanDisk (file_state conn)
     pub size : ℕ

@@ -54,6 +54,6 @@ pub record IsInvariant (config : Config) (s : State) : Type 0 where
   -- any two attachments of a volume coexist
   pub beside : (n : ℕ) (d e : Text) (a b : Attachment) → get s.attachments (n, d) ≡ Some a → get s.attachments (n, e) ≡ Some b → (d ≡ e → ⊥)
       → coexist a b ≡ true
-  -- no node holds more volumes than it can
+  -- no node holds more volumes than it may
   pub nodes : (m : Node) → Has config.nodes m → length (attached_at s m.id) ≤ m.max_volumes
   pub few : len s.volumes ≤ MAX_VOLUMES

@@ -10,7 +10,7 @@ pub record Model (S : Type 0) : Type 1 where
   pub refusals : ℕ
   -- the states that a stop at this moment may leave
   pub survivors : S → Type 0
-  -- what a stop at this moment leaves is one of the survivors
+  -- a stop at this moment leaves one of the survivors
   pub tied : Type 0
   -- the store answers nothing until it is opened again
   pub is_down : Bool

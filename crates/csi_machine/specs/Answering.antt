@@ -1,4 +1,4 @@
--- What a request does to a keeper, by the plan that the State gives it.
+-- The effect of a request on a keeper, by the plan that the State gives the request.
 use Rattle.std.specs.Prelude.{◌≡◌, ◌⊎◌, true, ℕ, ◌≤◌, ◌++◌, List, [], Result, Ok, Err, None, IsSome, IsTrue, IfSome, IfOk, IfErr, OnOk, OnErr}
 use Rattle.csi_types.specs.declared.reason.Reason.{Reason}
 use Rattle.csi_types.specs.declared.responses.Response.{Response}

@@ -1,5 +1,4 @@
--- What a create must ask for to be given what GetCapacity offers (CSI specification, 'GetCapacity',
--- maximum_volume_size).
+-- The request of a create that GetCapacity offers (CSI specification, 'GetCapacity', maximum_volume_size).
 use Rattle.std.specs.Prelude.{◌≡◌, ℕ, pos, ◌<◌, Option, Some, None}
 use Rattle.std.specs.FinMap.{empty}
 use Rattle.csi_types.specs.Maps.{TextMap}

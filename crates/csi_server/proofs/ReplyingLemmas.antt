@@ -176,7 +176,7 @@ refusal_ends read AtEnd f held holds then_ ReadFailed h prompt at_end r = absurd
 refusal_ends read AtEnd f held holds then_ TurnsSpent h prompt at_end r = absurd r
 refusal_ends read AtEnd f held holds then_ NoMemory h prompt at_end r = absurd r
 
--- a broken run without a claim about the end of the input is also a broken run with one
+-- a run that broke before the end of the input is also a broken run if the end may have been found
 pub broken_at : (read : List ℕ) (held holds : Option (List ℕ)) (AtEnd : Type 0) → Broken read ⊥ held holds → Broken read AtEnd held holds
 broken_at read held holds AtEnd h = record {
   calls = h.calls;

@@ -280,7 +280,7 @@ cut_fault m start now s read held holds then_ AtEnd f h at_end w = record {
   written = subst (λ (x : List ℕ). Appends held then_ x) (ap (λ (x : List ℕ). x ++ w.0) (append-nil (replies m s h.events))) (Appends-trans held holds then_ (replies m s h.events ++ []) w.0 h.written w.2);
 }
 
--- a cut without a claim about the end of the input is also a cut with one
+-- a cut before the end of the input is also a cut if the end may have been found
 pub cut_at : {S : Type 0} (m : Machine S) (start now : Model S) (s : S) (read : List ℕ) (held holds : Option (List ℕ)) (AtEnd : Type 0) → CutOff m start now s read ⊥ held holds → CutOff m start now s read AtEnd held holds
 cut_at m start now s read held holds AtEnd h = record {
   events = h.events;

@@ -17,7 +17,7 @@ use Rattle.csi_server.specs.Machine.{Event, Mark, Unmarked, OutOfMemory, StoreRe
 use Rattle.csi_server.specs.Machine.{step as call_step}
 use Rattle.csi_server.specs.Volumes.{volumes, IsPending}
 
--- ---- what a call asks for
+-- ---- the request that a call asks for
 
 abbrev pub unless_refused : Request → Option Reason → Option Request
 unless_refused r None = Some r
@@ -91,7 +91,7 @@ heard_by (Some r) StoreRefused is_heard reply = []
 heard_by (Some r) StoreDown is_heard reply = []
 
 -- The replies that the client heard to its requests: the machine's replies to the calls that ask for a
--- request, were not refused inside and were heard.
+-- request and were not refused inside, if the client heard them.
 abbrev pub heard_of : Config → State → List Exchange → List ReplyBytes
 heard_of config s [] = []
 heard_of config s (x ∷ xs) =

@@ -68,8 +68,8 @@ module _ (idle : Option Duration) (left : ℕ) (now : Instant) where
   abbrev pub IsSilent : FirstBytes → Type 0
   IsSilent first = IsIdle idle now first ⊎ ((left ≡ 0) × (seconds CALL_SECONDS ≤ passed first.since now))
 
-  -- Why a connection without a call ends at a look: its peer was silent or slow for too long, or the
-  -- connection failed.
+  -- The reason why a connection without a call ends at a look: its peer was silent or slow for too long, or
+  -- the connection failed.
   abbrev pub Ends : FirstBytes → Ending → Type 0
   Ends first Idle = IsSilent first
   Ends first Slow = IsSlow now first

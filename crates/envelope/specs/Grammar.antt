@@ -23,7 +23,7 @@ abbrev pub spelling : (kind : FrameKind) → Item kind → List ℕ
 spelling Calls call = frame call
 spelling Replies r = reply r
 
--- ---- what the table of each kind allows
+-- ---- the limits of the table of each kind
 
 -- how many bytes come before the length of the text
 abbrev pub lead : FrameKind → ℕ
@@ -54,7 +54,7 @@ least_byte Replies = 32
 abbrev pub IsGoodByte : FrameKind → ℕ → Type 0
 IsGoodByte kind byte = (least_byte kind ≤ byte) × (byte ≤ 126)
 
--- ---- what the bytes give
+-- ---- the values that the bytes give
 
 -- the length that the two bytes before the text give
 unfoldable pub text_length : FrameKind → List ℕ → ℕ

@@ -19,7 +19,7 @@ use Rattle.csi_rules.specs.Size.{size, has_size}
 use Rattle.csi_keeper.specs.State.{State, named}
 use Rattle.csi_rules.specs.Topology.{is_reachable, terms}
 
--- a volume of the name exists
+-- a volume with the name exists
 
 -- the existing volume, whose pool has these segments, fits the request; a mutable parameter that is given
 -- must be as it is now
@@ -35,7 +35,7 @@ again_at segments r v =
 abbrev pub again : Config → CreateVolume → Volume → Plan
 again config r v = again_at (segments_at config v.pool) r v
 
--- no volume of the name exists
+-- no volume with the name exists
 
 abbrev pub made : CreateVolume → ℕ → ℕ → Pool → Volume
 made r number bytes pool = record {

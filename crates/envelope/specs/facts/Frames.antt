@@ -281,7 +281,7 @@ abbrev pub body_of : (kind : FrameKind) → Item kind → List ℕ
 body_of Calls call = call.message
 body_of Replies r = r.body
 
--- the text and the body with their lengths, and what follows them
+-- the text and the body with their lengths, and the bytes after them
 unfoldable pub block : List ℕ → List ℕ → List ℕ → List ℕ
 block text body more = to_be_bytes w16 (length text) ++ (text ++ (0 ∷ (to_be_bytes w32 (length body) ++ (body ++ more))))
 

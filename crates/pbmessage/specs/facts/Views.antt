@@ -1,4 +1,4 @@
--- What one more field changes in the views.
+-- The views after one more field.
 use Rattle.std.proofs.Common.{◌≡◌, ℕ, Bool, true, false, cond, eqb, List, [], ◌∷◌, ◌++◌, reverse, ℤ, of_z, to_z, ◌<◌, ◌^◌, Option, None, Some, refl}
 use Rattle.std.proofs.Common.{sym, ap, ◌∙◌, Result, Ok, Err, OnOk}
 use Rattle.std.specs.List.{filter_map, cons_option}
