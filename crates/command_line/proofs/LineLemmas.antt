@@ -21,7 +21,7 @@ one_shown f before cs c old new o n =
     let e : flat_map f (cs ++ c ∷ []) ≡ flat_map f cs ++ f c = flat_map-append f cs (c ∷ []) ∙ ap (λ (x : List ℕ). flat_map f cs ++ x) (append-nil (f c)) in
     more before (flat_map f cs) (f c) old new o n ∙ ap (λ (x : List ℕ). before ++ encode_utf8_all x) (sym e)
 
--- of a text one more character was read
+-- one more character of a text was read
 pub one_of_text : (cs : List ℕ) (c : ℕ) (left rest text : List ℕ) → encode_utf8_all cs ++ left ≡ text → left ≡ encode_utf8 c ++ rest
     → encode_utf8_all (cs ++ c ∷ []) ++ rest ≡ text
 one_of_text cs c left rest text whole first =

@@ -1,14 +1,14 @@
--- What a program says on standard error, as one line.
+-- The line that a program writes on standard error.
 use Rattle.std.specs.Prelude.{ℕ, List, [], ◌∷◌, ◌++◌, if◌then◌else◌, chars, codes, encode_utf8_all}
 use Rattle.std.specs.Char.{is_control}
 use Rattle.std.specs.Char.Escape.{escape_default}
 use Rattle.std.specs.List.{flat_map}
 
--- a character of a line: a control is escaped, as `\n` or `\u{1b}`
+-- a character of a line: a control character is escaped, as `\n` or `\u{1b}`
 abbrev pub shown : ℕ → List ℕ
 shown character = if is_control character then escape_default character else character ∷ []
 
--- a text with each control escaped
+-- a text with each control character escaped
 abbrev pub shown_text : List ℕ → List ℕ
 shown_text text = encode_utf8_all (flat_map shown (chars text))
 

@@ -2,11 +2,11 @@
 use Rattle.std.specs.Prelude.{ℕ, ◌/◌, ◌%◌, ◌^◌, ◌==◌, ◌&&◌, nat_lt, List, [], ◌∷◌, ◌++◌, Option, Some, None, codes, decimal, if◌then◌else◌}
 use Rattle.command_line.specs.declared.sizes.Unit.{Unit}
 
--- how many halves of a unit a size is: more than one, with no byte left
+-- the number of halves of a unit in a size, if there is more than one and no byte is left over
 abbrev pub halves_or_none : ℕ → ℕ → Option ℕ
 halves_or_none bytes half = if nat_lt 1 (bytes / half) && bytes % half == 0 then Some (bytes / half) else None
 
--- the decimal of a number of halves
+-- the decimal place of a number of halves: `.5`, or nothing
 abbrev pub half : ℕ → List ℕ
 half halves = if halves % 2 == 0 then [] else codes ".5"
 
@@ -14,7 +14,7 @@ half halves = if halves % 2 == 0 then [] else codes ".5"
 abbrev pub halves_text : ℕ → List ℕ → List ℕ
 halves_text halves unit = decimal (halves / 2) ++ (half halves ++ (codes " " ++ unit))
 
--- a count of halves of this unit; if the count is not exact, the text in another way
+-- the text of a number of halves of this unit, or another text if there is no such number
 abbrev pub in_unit : Option ℕ → List ℕ → List ℕ → List ℕ
 in_unit (Some halves) unit otherwise = halves_text halves unit
 in_unit None unit otherwise = otherwise

@@ -1,4 +1,4 @@
--- The exit statuses of a program whose arguments do not say what to do.
+-- The exit statuses for the faults of a program's arguments.
 use Rattle.std.specs.Prelude.{ℕ}
 use Rattle.command_line.specs.declared.command.ArgumentsFault.{ArgumentsFault}
 use Rattle.command_line.specs.declared.command.ArgumentsFault.TheVariants.{NotText, Refused, WriteFailed, NoMemory}

@@ -6,7 +6,7 @@ abbrev pub or_dash : List ℕ → List ℕ
 or_dash [] = 45 ∷ []
 or_dash (byte ∷ rest) = byte ∷ rest
 
--- a mark after what there is, if there is something
+-- a text with a mark after it; an empty text stays empty
 abbrev pub after_mark : List ℕ → List ℕ → List ℕ
 after_mark [] mark = []
 after_mark (byte ∷ rest) mark = (byte ∷ rest) ++ mark

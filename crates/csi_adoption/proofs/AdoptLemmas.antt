@@ -1,4 +1,4 @@
--- What adoption promises, from the judgement of the rows.
+-- The promises of adoption, from the judgement of the rows.
 use Rattle.std.proofs.Common.{◌≡◌, ◌≢◌, ◌∙◌, inl, inr, refl, sym, ap, subst, arith, ◌≤◌, true, false, true≢false, None, IsTrue}
 use Rattle.sqlite.specs.Effect.{Database}
 use Rattle.sqlite.specs.Held.{Held, state}
@@ -27,7 +27,7 @@ use Rattle.csi_adoption.specs.Judging.{IsFaultOf}
 
 -- ---- a connection that was settled
 
--- only committed changes are seen, and a stop leaves no more
+-- only committed changes are seen, and a stop leaves nothing more
 pub record IsSettled {S : Type 0} (g : Ghosts S) (old new : Held S) : Type 0 where
   pub clean : conn_doubt g old ≤ conn_doubt g new
   pub was_open : HasCleanDisk (state g new) → IsTrue (state g new).is_open → IsTrue (state g old).is_open
@@ -161,7 +161,7 @@ module _ {S : Type 0} (g : Ghosts S) (config : Config) (conn two : Held S) (sett
         unlimited = made.limit ∙ settled.unlimited;
       }
 
-  -- a failure to make them
+  -- a failure to make the tables
   pub is_unmade : (back : Held S) (fault : AdoptFault) → back.in_transaction ≡ false → is_failure fault ≡ true → (HasCleanDisk (state g back) → IsUndone (state g two) (state g back))
       → Survives (state g two) (state g back) (LeavesFrom no_schema MakesTables (state g two))
       → AdoptionFails g conn back fault → IsUnadopted g config conn fault back

@@ -1,4 +1,4 @@
--- What a keeper left is adopted.
+-- Tables that a keeper left are adopted.
 use Rattle.std.proofs.Common.{◌≡◌, ◌∙◌, inl, inr, sym, ap, subst, arith, IsTrue}
 use Rattle.sqlite.specs.Effect.{Database}
 use Rattle.sqlite.specs.Held.{Held, state}

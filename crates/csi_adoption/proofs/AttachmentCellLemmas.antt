@@ -1,4 +1,4 @@
--- What the cells of an attachment's row say, and how SQL compares them.
+-- The values in the cells of an attachment's row, and how SQL compares them.
 use Rattle.std.proofs.Common.{◌≡◌, ◌∙◌, refl, sym, ap, zero, suc, ℕ, ℤ, pos, negsuc, cond, Bool, true, false, List, [], ◌∷◌, Option, Some, None, IsUtf8, bytes_eq, Less, is_eq}
 use Rattle.std.specs.Cmp.{int_cmp_total}
 use Rattle.std.specs.Cmp.Lexicographic.{nat_list_cmp_total}
@@ -117,7 +117,7 @@ bytes_of bytes k (Some ks) e = go (bytes_eq (caps_bytes ks) bytes) refl e
     go false is e = absurd (cc)
     go true is e = sym ((bytes_eq-Decides (caps_bytes ks) bytes).0 is) ∙ ap caps_bytes (only_is ks k e)
 
--- the bytes that say one key are the canonical ones
+-- bytes that mean one key are its canonical bytes
 key_is : (v : Value) (k : CapKey) → option_and_then key_in (as_blob v) ≡ Some k → v ≡ Blob (caps_bytes (k ∷ []))
 key_is Null k e = absurd (cc)
 key_is (Int n) k e = absurd (cc)

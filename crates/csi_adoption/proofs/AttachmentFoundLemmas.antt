@@ -59,18 +59,18 @@ mapped_alike : {A B : Type 0} (f g : A → B) (xs : List A) → ((x : A) → Has
 mapped_alike f g [] same = refl
 mapped_alike f g (x ∷ xs) same = λ i. same x (inl refl) i ∷ mapped_alike f g xs (λ y has. same y (inr has)) i
 
--- one of a list of the configuration
+-- a fact of all items of a list is a fact of an item of the configuration's list
 pub all_listed : {X : Type 0} (P : X → Type 0) (xs : List X) (x : X) → AllByRecursion P xs → listing.Has xs x → P x
 all_listed P [] x all has = absurd has
 all_listed P (y ∷ xs) x all (inl same) = subst P same all.0
 all_listed P (y ∷ xs) x all (inr later) = all_listed P xs x all.1 later
 
--- ---- what a row says
+-- ---- the attachment of a row
 
 spare : CapKey
 spare = record { kind = Block; mode = 0 }
 
--- the attachment that a row after its rowid says
+-- the attachment that a row with its rowid in front represents
 said : Row → AttachmentKey × Attachment
 said x = (
   (unwrap_or (as_number (column x 1)) 0, unwrap_or (as_text (column x 2)) []),
@@ -130,7 +130,7 @@ module _ (attachment_agrees : (config : Config) (rowid : Value) (e : AttachmentK
   says : (x : Row) → Has rows x → Says config volumes x (said x)
   says x has = let r = shown_row x has in subst (λ y. Says config volumes y (said y)) (sym r.2) (says_row r.0 r.1)
 
-  -- ---- no two rows say one place
+  -- ---- no two rows represent the same place
 
   apart_rows : (a b : Row) → Has (db 3) a → Has (db 3) b → value_cmp (column a 0) (column b 0) ≡ Less → (said (keyed_attachment a)).0 ≡ (said (keyed_attachment b)).0 → ⊥
   apart_rows a b left right less same =
@@ -190,7 +190,7 @@ module _ (attachment_agrees : (config : Config) (rowid : Value) (e : AttachmentK
   supported : AllByRecursion (λ e. is_supported_key e.1.cap ≡ true) (entries found)
   supported = each_found _ (λ x has. (says x has).supported)
 
-  -- as one of the rows by their numbers
+  -- each attachment is in one of the rows that are ordered by number
   place_shown : (e : AttachmentKey × Attachment) → Has (entries found) e → Has places (attachment_entry e)
   place_shown e has =
       let r = row_of e has in
@@ -234,13 +234,13 @@ module _ (attachment_agrees : (config : Config) (rowid : Value) (e : AttachmentK
     nodes = nodes_found;
   }
 
--- the same, over the rows that two scans show
+-- as above, for the rows that two scans show
 pub attachments_found : ((config : Config) (rowid : Value) (e : AttachmentKey × Attachment) → AttachmentAgrees config rowid e) → ((e : AttachmentKey × Attachment) (own : List CapKey) → OwnerAgrees e own)
     → ((e f : AttachmentKey × Attachment) → PairAgrees e f) → AttachmentsAreFound
 attachments_found attachment_agrees owner_agrees pair_agrees config next db volumes volumes_in_order rows owned places sound shown are stored each order pass known owned_are owned_pass places_are none =
     found_attachments attachment_agrees owner_agrees pair_agrees config next db volumes rows owned places sound order pass known
     (subst (λ xs. IsPermutation xs (map seen_volume (db 1))) (sym are) (IsPermutation-sym _ _ shown.same)) stored each owned_are owned_pass places_are none
 
--- with a State that has these volumes it is attached
+-- the attachment is attached in a State that has these volumes
 pub is_attached : (config : Config) (s : State) (n : ℕ) (node : Bytes) (a : Attachment) → StandsAmong config s.volumes n node a → IsAttached config s n node a
 is_attached config s n node a h = record { at = h.at; known = h.known; volume = h.volume; stands = h.stands; cap = h.cap }

@@ -1,4 +1,4 @@
--- Finite maps that are made of entries with keys of their own.
+-- Finite maps that are made of entries with different keys.
 use Rattle.std.proofs.Common.{◌≡◌, ◌∙◌, refl, sym, subst, inl, inr, cond, true, false, List, [], ◌∷◌, map, Some, None, Ordering, IsPermutation}
 use Rattle.std.specs.Cmp.{IsTotalOrder}
 use Rattle.std.specs.FinMap.{FinMap, entries, find, get, insert, from_entries, entries-insert, get-entries, get-from_entries, IsAntisymmetric}
@@ -13,15 +13,15 @@ use Rattle.sqlite_trees.proofs.ListLemmas.{IsPermutation-same}
 use Rattle.csi_tables.specs.facts.Entries.{has_permuted, put_fresh}
 use Rattle.csi_keeper.specs.facts.Finite.{all_entries, none_listed, none_some, same_some, tied}
 
--- ---- one of a permuted list
+-- ---- an item of a permuted list
 
--- what one list shows, the other does
+-- an item of one list has an item with the same value in the other
 pub shown_by : {A B C : Type 0} (f : A → C) (g : B → C) (xs : List A) (ys : List B) → IsPermutation (map f xs) (map g ys) → (y : B) → Has ys y → (x : A) × Has xs x × (g y ≡ f x)
 shown_by f g xs ys same y has = has_mapped f xs (g y) (has_permuted (map f xs) (map g ys) (g y) same (mapped_has g ys y has))
 
 -- ---- entries
 
--- no two entries have one key
+-- no two entries have the same key
 abbrev pub AreApart : {K X : Type 0} → List (K × X) → Type 0
 AreApart es = IsAscending (λ e f. e.0 ≡ f.0 → ⊥) es
 

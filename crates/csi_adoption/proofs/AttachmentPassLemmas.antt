@@ -45,7 +45,7 @@ use Rattle.csi_adoption.proofs.AttachmentMapLemmas.{got_has, has_got, shown_by}
 use Rattle.csi_adoption.proofs.PlaceLemmas.{apart_permuted, ascending_has, keys_rise, less_equal}
 use Rattle.csi_adoption.proofs.AttachmentRowLemmas.{counted, owned_is}
 
--- each of a list of the configuration
+-- each item of a list of the configuration
 all_of_listed : {X : Type 0} (P : X → Type 0) (xs : List X) → ((x : X) → listing.Has xs x → P x) → AllByRecursion P xs
 all_of_listed P [] each = tt
 all_of_listed P (x ∷ xs) each = (each x (inl refl), all_of_listed P xs (λ y has. each y (inr has)))

@@ -60,7 +60,7 @@ pub record OwnedRow (volumes : FinMap nat_cmp Volume) (r : Row) : Type 0 where
   pub stands : get volumes number ≡ Some volume
   pub stored : IsStored (number, volume)
   pub is : column r 1 ≡ number_value number
-  -- the capability that it says is one of the volume's own
+  -- the capability of the row is one of the volume's capabilities
   pub cap : (k : CapKey) → column r 3 ≡ Blob (caps_bytes (k ∷ [])) → FitCaps (k ∷ []) → is_supported_key k ≡ true → has_key volume.caps (Some k) ≡ true
 
 with_cap : CapKey → AttachmentKey × Attachment
@@ -69,7 +69,7 @@ with_cap k = ((0, []), record { node = []; cap = k; readonly = false })
 no_cap : CapKey
 no_cap = record { kind = Block; mode = 0 }
 
--- the constraint of an attachment with its volume goes by two cells
+-- the constraint of an attachment with its volume depends on two cells
 says_own : Value → Value → Bool
 says_own cap caps = are_some_and (λ key ks. has_key ks (Some key)) (option_and_then key_in (as_blob cap)) (option_and_then keys_in (as_blob caps))
 
@@ -85,7 +85,7 @@ owned_is agrees r v k ks cap caps fit good fits all = owned_cells r v k ks cap c
 module _ (agrees : (e : AttachmentKey × Attachment) (own : List CapKey) → OwnerAgrees e own) (volumes : FinMap nat_cmp Volume) (attached volumes_in_order : List Row)
     (listed : IsPermutation (map volume_entry (entries volumes)) (map seen_volume volumes_in_order)) (stored : AllByRecursion IsStored (entries volumes))
     (kept : (n : ℕ) (v : Volume) → get volumes n ≡ Some v → AreKeys v.caps) where
-  -- a volume has each attachment's number
+  -- for each attachment there is a volume with its number
   pub numbered : (owned : List Row) → IsPermutation (owners attached volumes_in_order) owned → list_all is_owned owned ≡ true → (r : Row) → Has attached r → is_integer (column r 1) ≡ true → OwnedRow volumes r
   numbered owned same all r has kind =
       let found = each_owned is_owned (agrees (with_cap no_cap) []).unowned attached volumes_in_order owned same all r has in
@@ -103,7 +103,7 @@ module _ (agrees : (e : AttachmentKey × Attachment) (own : List CapKey) → Own
         cap = λ k cell fit good. sym (owned_is agrees r found.0 k e.0.1.caps cell caps fit good says.caps (kept e.0.0 e.0.1 stands)) ∙ found.3;
       }
 
--- ---- no two attachments have one place
+-- ---- no two attachments have the same place
 
 table_of_attachments : Table
 table_of_attachments = record attachments { tree = 3 }
@@ -151,7 +151,7 @@ at_node id (e ∷ es) = sum_by-cons (added_by 1 id One) (attachment_entry e) (ma
     go false true same more = absurd (cc)
     go false false same more = omega (arith, more)
 
--- the rows that a scan shows count what the entries count
+-- the rows that a scan shows have the same count as the entries
 pub counted : (es : List (AttachmentKey × Attachment)) (table rows : List Row) → IsPermutation (map attachment_entry es) (map seen_attachment table) → IsPermutation (map keyed_attachment table) rows
     → (id : Bytes) → sum_by (added_by 2 id One) rows ≡ length (map (λ e. e.0.0) (filter (λ e. bytes_eq e.0.1 id) es))
 counted es table rows listed shown id =

@@ -26,7 +26,7 @@ always (Ok x) p = p
 always (Err e) p = tt
 
 module _ {S : Type 0} (g : Ghosts S) where
-  -- clean after a scan, clean before it
+  -- a disk that is clean after a scan was clean before it
   pub clean_before : {X E : Type 0} (a b : Held S) (r : Result X E) → Scans g a b r → HasCleanDisk (state g b) → HasCleanDisk (state g a)
   clean_before a b r scan clean = omega (arith, scan.survives.clean)
 
@@ -40,12 +40,12 @@ module _ {S : Type 0} (g : Ghosts S) where
     survives = survives_then (state g a) (state g b) (state g c) (λ _. ⊥) (λ _. ⊥) (λ _. ⊥) (λ _ db none. none) (λ _ db none. none) one.survives two.survives;
   }
 
-  -- what a scan after another shows is of the trees before both
+  -- the rows that a second scan shows are rows of the trees before both scans
   pub shown_after : {X Y E F : Type 0} (a b c : Held S) (x : X) (r : Result Y F) (What : Trees → List Row → Type 0) {Report : List Row → Type 0} → Scans g a b {E = E} (Ok x) → Scans g b c r
       → (HasCleanDisk (state g c) → (rows : List Row) × What (state g b).now.trees rows × Report rows) → HasCleanDisk (state g c) → (rows : List Row) × What (state g a).now.trees rows × Report rows
   shown_after a b c x r What one two seen clean = let it = seen clean in (it.0, subst (λ (t : Trees). What t it.0) (same_trees a b (one.same (clean_before b c r two clean))) it.1, it.2)
 
-  -- the rows looked at so far stay, for every answer
+  -- the rows that were looked at stay, for every answer
   pub ended : {X Y E F : Type 0} (a b : Held S) (x : X) (r : Result Y F) → Scans g a b {E = E} (Ok x) → Scans g a b r
   ended a b x r one = record { same = λ clean. go r (one.same clean); kept = one.kept; survives = one.survives }
     where

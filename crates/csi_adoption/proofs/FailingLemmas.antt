@@ -1,4 +1,4 @@
--- Why adoption fails, one call after another.
+-- The reasons why adoption fails, one call after another.
 use Rattle.std.proofs.Common.{◌≡◌, ◌∙◌, inl, inr, refl, sym, ap, subst, arith, ℕ, pos, not, ◌||◌, int_lt, Bool, true, false, true≢false, List, [], map, Option, None, Some, ℤ, Result, Ok, Err, IfErr, IsErrAnd, IsSome, IsTrue, cond}
 use Rattle.sqlite.proofs.Callers.{unchanged_then}
 use Rattle.sqlite.specs.Effect.{Database}
@@ -38,7 +38,7 @@ use Rattle.csi_adoption.specs.declared.meta.MetaRows.{MetaRows}
 use Rattle.csi_adoption.specs.declared.meta.MetaRows.TheVariants as meta
 use Rattle.csi_adoption.proofs.FaultLemmas.{error_fails}
 
--- ---- what an error is reported as
+-- ---- the report of an error
 
 of_failure : (P : Error → Type 0) (e : Error) → P e → OfStore P (failure_of e)
 of_failure P e p = go (wants_memory e) refl
@@ -97,7 +97,7 @@ refuses_tables : (a b : sql.State) (e : Error) → IsTrue a.is_open → b.step_l
 refuses_tables a b e is_open limit why = (is_open, why.1, why.2, subst (λ (l : Option ℕ). SqlRefuses first_text [] (record a { now = why.1; step_limit = l }) e) limit why.3)
 
 module _ {S : Type 0} (g : Ghosts S) where
-  -- its refusal is one of the listed refusals
+  -- the refusal of a request is one of the refusals in the list
   refused_as : {P : Error → Type 0} (a b : Held S) (e : Error) → (P e → Refuses g a e) → fails.FailsFor P (state g a) (state g b) e → fails.FailsFor (Refuses g a) (state g a) (state g b) e
   refused_as a b e refuses (fails.for_memory is) = fails.for_memory is
   refused_as a b e refuses (fails.by_disk is more) = fails.by_disk is more
@@ -109,7 +109,7 @@ module _ {S : Type 0} (g : Ghosts S) where
   pub scan_failed : {X : Type 0} (a b : Held S) (r : Result X Error) (e : Error) → (HasCleanDisk (state g b) → fails.FailsFor (HasTooMany g a) (state g a) (state g b) e) → IsErrAnd r (λ x. x ≡ e) → ScanFails g a b r
   scan_failed a b r e failed is = if_err (HasCause g a b) r e is (λ clean. refused_as a b e too_many (failed clean))
 
-  -- want of memory
+  -- an error for want of memory has a cause
   pub scan_short : {X : Type 0} (a b : Held S) (r : Result X Error) → IsErrAnd r (λ x. x ≡ SqliteFailure OutOfMemory) → ScanFails g a b r
   scan_short a b r is = if_err (HasCause g a b) r (SqliteFailure OutOfMemory) is (λ clean. fails.for_memory refl)
 
@@ -130,7 +130,7 @@ module _ {S : Type 0} (g : Ghosts S) where
   cause_before a b c e same left (fails.at_limit is some) = fails.at_limit is (subst IsSome left.limit some)
   cause_before a b c e same left (fails.as_refused why) = fails.as_refused (same_refuses a b e same left.limit why)
 
-  -- after a scan
+  -- the cause of an error after a scan is a cause before it
   pub cause_after : {X E : Type 0} {P : Trees → Type 0} (a b c : Held S) (x : X) (e : Error) → Scans g a b {E = E} (Ok x) → Survives (state g b) (state g c) P → HasCause g b c e → HasCause g a c e
   cause_after a b c x e one two cause clean = cause_before a b c e (one.same (omega (arith, clean, two.clean))) one.survives (cause clean)
 
@@ -203,7 +203,7 @@ module _ {S : Type 0} (g : Ghosts S) where
   pub reported_after : {X : Type 0} (a b : Held S) (r : Result X AdoptFault) (e : Error) → IsErrAnd r (λ x. x ≡ failure_of e) → HasCause g a b e → JudgingFails g a b r
   reported_after a b r e is cause = if_err (OfStore (HasCause g a b)) r (failure_of e) is (of_failure (HasCause g a b) e cause)
 
-  -- what no failure of the database is
+  -- a fault that is no failure of the database needs no cause
   pub no_store : {X : Type 0} (a b : Held S) (r : Result X AdoptFault) (f : AdoptFault) → IsErrAnd r (λ x. x ≡ f) → is_store f ≡ false → JudgingFails g a b r
   no_store a b r f is other = if_err (OfStore (HasCause g a b)) r f is (of_no_store (HasCause g a b) f other)
 

@@ -14,7 +14,7 @@ pub fault_later : (f : Option AdoptFault) (rest : List (Option AdoptFault)) → 
 fault_later None rest is = refl
 fault_later (Some x) rest is = absurd (cc)
 
--- what `?` hands on is the fault itself
+-- `?` passes on the fault itself
 pub is_err : {X E : Type 0} (r : Result X E) (x : E) → IsErrAnd r (λ e. e ≡ x) → r ≡ Err x
 is_err (Ok y) x h = absurd h
 is_err (Err e) x h = ap Err h
@@ -42,7 +42,7 @@ must_fail e none = go (is_failure e) none
     go true none = refl
     go false none = absurd (none refl)
 
--- of parts that take no memory none does
+-- if no part takes memory, there is no part that does
 pub none_takes : {X : Type 0} (parts : List X) → HasSome (λ (x : X). ⊥) parts → ⊥
 none_takes [] h = h
 none_takes (x ∷ parts) (inl h) = h

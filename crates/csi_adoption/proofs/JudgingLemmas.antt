@@ -1,4 +1,4 @@
--- Rows break no constraint exactly where they pass.
+-- Rows break no constraint exactly if they pass.
 use Rattle.std.proofs.Common.{◌≡◌, ◌∙◌, refl, sym, ap, subst, arith, ℕ, ◌-◌, ◌^◌, ◌≤◌, min, nat_lt, nat_le, ℤ, pos, negsuc, Bool, true, false, cond, not, ◌&&◌, List, [], ◌∷◌, map, Option, Some, None, true≢false}
 use Rattle.std.specs.List.{AllByRecursion, list_all}
 use Rattle.std.specs.Option.{option_map}

@@ -20,14 +20,14 @@ use Rattle.csi_adoption.specs.declared.meta.Meta.{Meta}
 use Rattle.csi_adoption.proofs.JudgingLemmas.{all_roomy, all_unnamed, few_rows, is_next, rows_few, no_next_fault, none_both, none_first, none_full, none_named, unmapped}
 use Rattle.csi_adoption.proofs.SumLemmas.{room_kept, room_reported}
 
--- what every constraint of the rows after meta asks
+-- the conditions of all constraints of the rows after meta
 pub record RowsPass (config : Config) (m : Meta) (volume_rows attachment_rows owner_rows place_rows : List Row) : Type 0 where
   pub volumes : VolumesPass config m volume_rows
   pub attachments : AttachmentsPass config attachment_rows
   pub owned : list_all is_owned owner_rows ≡ true
   pub beside : NoneApart place_rows
 
--- sums that a u64 has, where no pool and no node can have 2^64 - 1
+-- sums that fit in a u64, if no pool and no node can have 2^64 - 1
 pub record IsSmall (config : Config) : Type 0 where
   pub pools : AllByRecursion (λ p. p.bytes < 2 ^ 64 - 1) config.pools
   pub nodes : AllByRecursion (λ m. m.max_volumes < 2 ^ 64 - 1) config.nodes
@@ -117,7 +117,7 @@ module _ (config : Config) (small : IsSmall config) (volumes attachments owned p
           },
         )
 
-  -- and back: by what the rows meet
+  -- and the other way round: rows that meet the conditions have no fault
   pub rows_faultless : (m : Meta) → 1 ≤ m.next → RowsPass config m volumes attachments owned places → Faultless m
   rows_faultless m some pass =
       let v = pass.volumes in

@@ -29,7 +29,7 @@ ascending_has R S (x ∷ xs) more up = (
   ascending_has R S xs (λ a b left right. more a b (inr left) (inr right)) up.1,
 )
 
--- of two that differ one comes first
+-- one of two different items comes first
 pub one_way : {X : Type 0} (R : X → X → Type 0) (xs : List X) (x y : X) → IsAscending R xs → Has xs x → Has xs y → (x ≡ y → ⊥) → R x y ⊎ R y x
 one_way R [] x y up left right far = absurd left
 one_way R (z ∷ xs) x y up (inl p) (inl q) far = absurd (far (p ∙ sym q))

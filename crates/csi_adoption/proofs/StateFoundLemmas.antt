@@ -48,7 +48,7 @@ use Rattle.csi_adoption.proofs.AttachmentFoundLemmas.{is_attached}
 use Rattle.csi_adoption.proofs.JudgingLemmas.{all_unnamed, is_valid, valid_is}
 use Rattle.csi_adoption.proofs.PassedLemmas.{rows_faultless, rows_pass, IsSmall, RowsPass}
 
--- ---- what the laws of volumes say
+-- ---- the laws of volumes
 
 abbrev pub VolumesAreFound : Type 0
 VolumesAreFound = (config : Config) (m : Meta) (db : Trees) (rows : List Row) → m.next ≤ MAX_NUMBER → IsSound schema db → IsInOrder (map seen_volume (db 1)) rows → VolumesPass config m rows → VolumesAreKnown rows → FoundVolumes config m rows
@@ -206,7 +206,7 @@ judged_one format next known low = elim known as (λ _. meta_judged (with_rows m
   | inr e ↦ subst (λ (f : ℕ). meta_judged (with_rows meta.None (meta_row f next ∷ [])) ≡ Ok (record { format = f; next = next })) (sym e) (ap (λ (n : ℕ). Ok (record { format = LATEST_FORMAT; next = n })) (is_valid next low))
 ]
 
--- rows of either format are of one
+-- rows of either format are rows of one format
 pub in_format : (s : State) (db : Trees) → IsEitherRows s db → (format : ℕ) × IsFormat format × IsRowsIn format s db
 in_format s db (inl first) = (FIRST_FORMAT, inl refl, (first.0, λ _. first.1))
 in_format s db (inr rows) = (LATEST_FORMAT, inr refl, (rows, λ e. absurd (omega (arith, e))))

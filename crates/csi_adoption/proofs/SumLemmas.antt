@@ -11,7 +11,7 @@ one_most true = omega arith
 one_most false = omega arith
 
 module _ (at : ℕ) (text : List ℕ) where
-  -- each row counts once at most
+  -- each row counts at most once
   pub count_few : (rows : List Row) → sum_by (added_by at text One) rows ≤ length rows
   count_few [] = omega arith
   count_few (r ∷ rows) = omega (arith, sum_by-cons (added_by at text One) r rows, one_most (is_text text (column r at)), count_few rows)

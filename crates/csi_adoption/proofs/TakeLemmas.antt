@@ -1,4 +1,4 @@
--- Tables that were judged, and made ones of the latest format.
+-- Tables that were judged, and then brought to the latest format.
 use Rattle.std.proofs.Common.{◌≡◌, ◌∙◌, ◌==◌, inl, inr, refl, sym, ap, subst, arith, ℕ, Bool, true, false}
 use Rattle.std.proofs.lemmas.Bool.Decides.{nat_tests}
 use Rattle.sqlite.proofs.StateLemmas.{survives_then}
@@ -18,7 +18,7 @@ use Rattle.csi_sql.specs.Effects.{Changes, Leaves, SetsFormat}
 use Rattle.csi_tables.specs.Holding.{IsEitherRows, IsFirstRows, IsRows, IsRowsIn, IsRowsOf}
 use Rattle.csi_adoption.specs.Adopting.{IsFound, IsTaken, LeavesLatest}
 
--- what the law of the latest format says
+-- the law of the latest format
 abbrev pub Latest : Type 0
 Latest = (format : ℕ) (s : State) (old new : Database) → old.schema ≡ schema → IsRowsOf format s old.trees → SetsFormat old new → IsRows s new.trees
 
@@ -81,7 +81,7 @@ module _ {S : Type 0} (g : Ghosts S) (config : Config) (two three four : Held S)
           let other : format ≡ FIRST_FORMAT → ⊥ = λ e. grind (arith, nat_tests, is, e) in
           subst (λ (h : Held S). IsTaken config (state g two) (state g h) totals) (sym (stays other)) (as_it_was (before clean) other)
 
-  -- where they were not made ones of the latest format, something failed
+  -- if the tables were not brought to the latest format, something failed
   pub taken_survives : {Failed : Type 0} → Failed → Survives (state g two) (state g four) (λ db. LeavesLatest config (state g two) db × Failed)
   taken_survives {Failed} failed = survives_then (state g two) (state g three) (state g four) (λ _. ⊥) (λ db. (format ≡ FIRST_FORMAT) × Leaves SetsFormat (state g three) db) (λ db. LeavesLatest config (state g two) db × Failed) (λ _ db none. absurd none) (λ clean db left.
       let past = before clean in (

@@ -42,7 +42,7 @@ number_less a b e = go (sym (value_cmp-Int (pos a) (pos b)) ∙ e)
     go : int_cmp (pos a) (pos b) ≡ Less → nat_cmp a b ≡ Less
     go e = grind (arith, nat_tests)
 
--- the numbers of entries rise as the rows do
+-- the numbers of entries rise if the rows do
 rising_entries : (es : List (ℕ × Volume)) (rows : List Row) → map volume_entry es ≡ rows → IsRising 0 None rows → IsAscending (λ a b. nat_cmp a.0 b.0 ≡ Less) es
 rising_entries es rows is up =
     let values = subst (λ rs. IsAscending (λ a b. value_cmp a b ≡ Less) (map (λ r. column r 0) rs)) (sym is) up.rising in
@@ -50,7 +50,7 @@ rising_entries es rows is up =
     ascending_weaker (λ (a : ℕ × Volume) (b : ℕ × Volume). value_cmp (number_value a.0) (number_value b.0) ≡ Less) (λ a b. nat_cmp a.0 b.0 ≡ Less) (λ a b e. number_less a.0 b.0 e) es keys
 
 module _ (config : Config) (m : Meta) (db : Trees) (rows : List Row) (agrees : (e : ℕ × Volume) → VolumeAgrees config m.format m.next e) (sound : IsSound schema db) (order : IsInOrder (map seen_volume (db 1)) rows) (pass : VolumesPass config m rows) where
-  -- a row that is seen is one of the table
+  -- a row that is seen is a row of the table
   seen_row : (r : Row) → Has rows r → (t : Row) × Has (db 1) t × (r ≡ seen_volume t)
   seen_row r has = has_mapped seen_volume (db 1) r (has_permuted (map seen_volume (db 1)) rows r order.same has)
 
@@ -90,7 +90,7 @@ module _ (config : Config) (m : Meta) (db : Trees) (rows : List Row) (agrees : (
         let b = seen_row (volume_entry (n, w)) (has_row n w q) in
         one_name db sound a.0 b.0 a.1 b.1 m n w.name (sym (ap (λ r. column r 0) a.2)) (sym (ap (λ r. column r 0) b.2)) (sym (ap (λ r. column r 1) a.2) ∙ ap Text same) (sym (ap (λ r. column r 1) b.2))
 
-    -- the maps that a volume may have are none in tables of the first format
+    -- volumes have no mutable parameters in tables of the first format
     unmodified : m.format ≡ FIRST_FORMAT → AllByRecursion (λ e. e.1.mutable ≡ empty) (entries volumes)
     unmodified first = all_from (λ e. e.1.mutable ≡ empty) (entries volumes) (λ e has.
         let row : Has rows (volume_entry e) = subst (λ rs. Has rs (volume_entry e)) are.listed (mapped_has volume_entry (entries volumes) e has) in

@@ -1,4 +1,4 @@
--- Two rows of volumes with one name have one number.
+-- Two rows of volumes with the same name have the same number.
 use Rattle.std.proofs.Common.{◌≡◌, ◌∙◌, refl, sym, ap, ap₂, ℕ, pos, Bool, true, false, true≢false, Some, not, ◌&&◌, ◌==◌, List, [], ◌∷◌, is_eq, arith}
 use Rattle.std.specs.Ordering.{is_ne, int_cmp}
 use Rattle.std.proofs.lemmas.Bool.Decides.{nat_tests}

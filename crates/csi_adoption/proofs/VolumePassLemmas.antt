@@ -29,7 +29,7 @@ use Rattle.csi_constraints.specs.Volumes.{is_in_pools, is_named, is_numbered, is
 use Rattle.csi_adoption.specs.Passing.{VolumesPass}
 use Rattle.csi_adoption.proofs.VolumeSumLemmas.{sum_of}
 
--- a fact of each item of a configuration's list holds of the whole list
+-- a fact of each item of a configuration's list holds for the whole list
 all_in : {X : Type 0} (P : X → Type 0) (xs : List X) → ((x : X) → configured.Has xs x → P x) → AllByRecursion P xs
 all_in P [] each = tt
 all_in P (x ∷ xs) each = (each x (inl refl), all_in P xs (λ y h. each y (inr h)))

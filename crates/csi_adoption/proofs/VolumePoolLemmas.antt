@@ -46,7 +46,7 @@ none_elsewhere config m rows found pool none =
 abbrev total_reported : List Pool → List Row → List ℕ → Total
 total_reported pools rows = total_in pools (map (λ p. sum_after 3 p.name One 0 rows) pools) (map (λ p. sum_after 3 p.name (Number 2) 0 rows) pools)
 
--- a total reported for a name belongs to a pool of that name, or no pool has the name
+-- a total reported for a name belongs to a pool with this name, or no pool has the name
 reported_from : (pools : List Pool) (rows : List Row) (name : List ℕ)
     → ((p : Pool) × Has pools p × (p.name ≡ name) × (total_reported pools rows name ≡ the_total (sum_after 3 p.name One 0 rows) (sum_after 3 p.name (Number 2) 0 rows)))
     ⊎ ((pool_named pools name ≡ None) × (total_reported pools rows name ≡ zero_total))

@@ -56,7 +56,7 @@ bytes_of {A} read test (Blob b) e = go (read b) refl e
     go None is e = absurd (cc)
     go (Some a) is e = (b, a, refl, is)
 
--- what a reader keeps passed its test
+-- a value that is kept has passed the test
 kept : {A : Type 0} (test : A → Bool) (o : Option A) (a : A) → if_passes test o ≡ Some a → test a ≡ true
 kept test None a e = absurd (cc)
 kept test (Some x) a e = go (test x) refl e
@@ -65,11 +65,11 @@ kept test (Some x) a e = go (test x) refl e
     go true t h = let same : x ≡ a = cc in ap test (sym same) ∙ t
     go false t h = absurd (cc)
 
--- bytes that say keys are their canonical bytes
+-- bytes that mean keys are the canonical bytes of the keys
 caps_are : (b : List ℕ) (ks : List CapKey) → keys_in b ≡ Some ks → caps_bytes ks ≡ b
 caps_are b ks e = (bytes_eq-Decides (caps_bytes ks) b).0 (kept (λ js. bytes_eq (caps_bytes js) b) _ ks e)
 
--- and so are those that say parameters
+-- bytes that mean parameters are the canonical bytes of the parameters
 params_are : (b : List ℕ) (ms : TextMap × TextMap) → params_in b ≡ Some ms → params_bytes ms.0 ms.1 ≡ b
 params_are b ms e = (bytes_eq-Decides (params_bytes ms.0 ms.1) b).0 (kept (λ ns. bytes_eq (params_bytes ns.0 ns.1) b) _ ms e)
 

@@ -19,7 +19,7 @@ use Rattle.csi_adoption.specs.Passing.{VolumesPass}
 use Rattle.csi_adoption.specs.declared.meta.Meta.{Meta}
 use Rattle.csi_adoption.proofs.SumLemmas.{count_reported, sum_reported}
 
--- a fact of a configuration's whole list holds of each item
+-- a fact of a configuration's whole list holds for each item
 pub all_of : {X : Type 0} (P : X → Type 0) (xs : List X) (x : X) → AllByRecursion P xs → Has xs x → P x
 all_of P [] x all h = absurd h
 all_of P (y ∷ xs) x all (inl same) = subst P same all.0

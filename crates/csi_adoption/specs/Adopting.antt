@@ -1,4 +1,4 @@
--- What adoption promises of a connection.
+-- The promises of adoption about a connection.
 use Rattle.std.specs.Prelude.{◌≡◌, ◌≢◌, ◌⊎◌, ℕ, ◌≤◌, true, false, None, List, length, sum, IsTrue}
 use Rattle.sqlite.specs.Effect.{Database}
 use Rattle.sqlite.specs.Held.{Held, state}
@@ -26,11 +26,12 @@ use Rattle.csi_adoption.specs.declared.seen.VolumesSeen.{VolumesSeen}
 use Rattle.csi_adoption.specs.Failing.{AdoptionFails, IsOfShut}
 use Rattle.csi_adoption.specs.Judging.{total_in, IsFaultOf}
 
--- the State of a database: the one whose rows it has, or the first one where it has no table yet
+-- the State of a database: the database has the rows of the State, or it has no table yet and the State is
+-- the first one
 abbrev pub IsStateOf : Database → State → Type 0
 IsStateOf db s = ((db.schema ≡ schema) × IsEitherRows s db.trees) ⊎ ((db.schema ≡ no_schema) × (s ≡ first_state 1))
 
--- a State of the rows, which meets every constraint, and its totals as the sums of the scan have them
+-- a State of the rows that meets every constraint; its totals are the sums of the scan
 pub record FoundState (config : Config) (db : Trees) (seen : VolumesSeen) : Type 0 where
   pub known : IsFormat seen.format
   pub state : State
@@ -39,13 +40,13 @@ pub record FoundState (config : Config) (db : Trees) (seen : VolumesSeen) : Type
   pub totals : (pool : List ℕ) → total_in config.pools (sums_of seen.pool_volumes.items) (sums_of seen.pool_bytes.items) pool
       ≡ the_total (length (sizes state pool)) (sum (sizes state pool))
 
--- a State of a database with our tables of a format, which meets every constraint, and its totals
+-- a State of a database with our tables in a format; the State meets every constraint and has these totals
 pub record IsFound (config : Config) (db : Database) (format : ℕ) (totals : Totals) : Type 0 where
   pub schema_is : db.schema ≡ schema
   pub found : IsSound schema db.trees → IsFormat format × (s : State) × IsRowsIn format s db.trees × IsInvariant config s × AreTotals totals s
 
--- Tables that were taken: they represent the State that they represented, which meets every constraint, and
--- are of the latest format.
+-- Tables that were adopted: they still represent the same State, which meets every constraint, and they are
+-- of the latest format.
 pub record IsTaken (config : Config) (old new : sql.State) (totals : Totals) : Type 0 where
   pub was_open : IsTrue old.is_open
   pub is_open : IsTrue new.is_open
@@ -61,12 +62,12 @@ pub record LeavesLatest (config : Config) (old : sql.State) (db : Trees) : Type 
   pub was_ours : old.now.schema ≡ schema
   pub same : IsSound schema old.now.trees → (s : State) × IsFirstRows s old.now.trees × IsRows s db × IsInvariant config s
 
--- rows of such a State are refused only if something failed
+-- rows of a State that meets every constraint are refused only if something failed
 abbrev pub IsNotRefused : Config → Database → AdoptFault → Type 0
 IsNotRefused config db fault = (s : State) → db.schema ≡ schema → IsEitherRows s db.trees → IsInvariant config s → is_failure fault ≡ true
 
 module _ {S : Type 0} (g : Ghosts S) (config : Config) (conn : Held S) where
-  -- the last commit of the connection
+  -- the database of the last commit of the connection
   abbrev pub committed : Database
   committed = (state g conn).committed
 
@@ -74,7 +75,7 @@ module _ {S : Type 0} (g : Ghosts S) (config : Config) (conn : Held S) where
   pub record IsAdopted (t : Tables S) : Type 0 where
     pub clean : conn_doubt g conn ≤ (tables_model g t).doubt
     pub was_open : (tables_model g t).doubt ≡ 0 → IsTrue (state g conn).is_open
-    -- there is such a State, it meets every constraint, and the keeper has it
+    -- there is a committed State, it meets every constraint, and the keeper has it
     pub held : (tables_model g t).doubt ≡ 0 → (s : State) × IsStateOf committed s × IsInvariant config s × (tables_model g t).holds s
     -- a stop leaves only that State
     pub settled : (tables_model g t).doubt ≡ 0 → (s : State) → (tables_model g t).survivors s → IsStateOf committed s
@@ -83,7 +84,7 @@ module _ {S : Type 0} (g : Ghosts S) (config : Config) (conn : Held S) where
     pub uncounted : refusals g t ≡ 0
     pub unlimited : (connection_of g t).step_limit ≡ None
 
-  -- a fault, and the connection that is given back
+  -- a fault, and the connection that is returned
   pub record IsUnadopted (fault : AdoptFault) (back : Held S) : Type 0 where
     pub idle : back.in_transaction ≡ false
     pub unlimited : back.step_limit ≡ None
@@ -101,12 +102,13 @@ module _ {S : Type 0} (g : Ghosts S) (config : Config) (conn : Held S) where
     -- other tables are reported as such, also if something fails
     pub other : HasCleanDisk (state g back) → IsTrue (state g back).is_open → committed.schema ≢ schema → committed.schema ≢ no_schema
         → fault ≡ Foreign foreign.Schema
-    -- where the connection is shut no row is judged; other tables are reported there of what it shows
+    -- if the connection is shut, no row is judged, and other tables are reported only of the schema that it
+    -- shows
     pub shut : HasCleanDisk (state g back) → (state g back).is_open ≡ false → IsOfShut (state g back).now.schema fault
     -- a database without a table is refused only if something failed
     pub blank : HasCleanDisk (state g back) → IsTrue (state g back).is_open → committed.schema ≡ no_schema → is_failure fault ≡ true
     -- The database fails for a cause, and its error is of that cause: the disk failed again, a fault shut the
     -- connection before or during adoption, or the database refuses a statement over the committed rows.
     pub failed : AdoptionFails g conn back fault
-    -- and so are rows of a State that meets every constraint
+    -- rows of a State that meets every constraint are refused only if something failed
     pub sound : HasCleanDisk (state g back) → IsTrue (state g back).is_open → IsNotRefused config committed fault

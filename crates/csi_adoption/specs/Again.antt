@@ -1,4 +1,4 @@
--- What adoption makes of tables that a keeper left.
+-- The adoption of tables that a keeper left.
 use Rattle.std.specs.Prelude.{◌≡◌, true, IsTrue}
 use Rattle.sqlite.specs.Held.{Held, state}
 use Rattle.sqlite.specs.State.{HasCleanDisk}
@@ -24,8 +24,8 @@ module _ {S : Type 0} (g : Ghosts S) (config : Config) where
     pub failed : (fault : AdoptFault) (back : Held S) → IsUnadopted g config conn fault back → HasCleanDisk (state g back)
         → IsTrue (state g back).is_open → is_failure fault ≡ true
 
-  -- tables that were left by a stop of a keeper: they are one of its survivors, and any connection over them
-  -- is taken as it
+  -- tables that a stop of a keeper left: they represent a survivor of the keeper, and any connection over
+  -- them is adopted as this State
   pub record IsTakenAfter (t : Tables S) (db : Trees) : Type 0 where
     pub left : State
     pub survivor : (tables_model g t).survivors left
@@ -35,17 +35,17 @@ module _ {S : Type 0} (g : Ghosts S) (config : Config) where
 -- ---- laws
 
 module _ {S : Type 0} (g : Ghosts S) where
-  -- a keeper that ended
+  -- the tables of a keeper that ended are adopted as its State
   abbrev pub EndsTaken : Type 0
   EndsTaken = (config : Config) (t : Tables S) (s : State) → (tables_model g t).holds s → IsInvariant config s → IsTakenAs g config (connection_of g t) s
 
-  -- tables of either format
+  -- tables of either format are adopted as their State
   abbrev pub EitherTaken : Type 0
   EitherTaken =
       (config : Config) (conn : Held S) (s : State) → (committed g config conn).schema ≡ schema → IsEitherRows s (committed g config conn).trees
       → IsInvariant config s → IsTakenAs g config conn s
 
-  -- a keeper that a stop cut off
+  -- the tables that a stop of a keeper leaves are adopted as a survivor
   abbrev pub StopsTaken : Type 0
   StopsTaken = (config : Config) (t : Tables S) (db : Trees) → (tables_model g t).doubt ≡ 0 → (tables_model g t).tied
       → (state g (connection_of g t)).may_leave db → IsTakenAfter g config t db

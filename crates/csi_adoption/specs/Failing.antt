@@ -1,4 +1,4 @@
--- Why adoption fails where no row is at fault: a failure of the database has a cause.
+-- The reasons why adoption fails if no row is at fault: a failure of the database has a cause.
 use Rattle.std.specs.Prelude.{◌≡◌, ◌≢◌, ◌⊎◌, false, None, List, map, IfErr, IsTrue, Result, ⊤}
 use Rattle.sqlite.specs.Held.{Held, state}
 use Rattle.sqlite.specs.Order.{Row}
@@ -23,26 +23,25 @@ use Rattle.csi_adoption.specs.declared.fault.AdoptFault.{AdoptFault}
 use Rattle.csi_adoption.specs.declared.fault.AdoptFault.TheVariants.{Foreign, Store}
 use Rattle.csi_adoption.specs.declared.fault.Foreign.TheVariants as foreign
 
--- rows in the order of their first integers, which do not rise
+-- the rows, in the order of their first column, do not have strictly rising integers in it
 abbrev pub DoNotRise : List Row → Type 0
 DoNotRise seen = (rows : List Row) × IsInOrder seen rows × (IsRising 0 None rows → ⊥)
 
--- the numbers of volumes do not rise, or the rowids of attachments
+-- the numbers of volumes, or the rowids of attachments, are not in strictly rising order
 abbrev pub HasUnrisen : Trees → Type 0
 HasUnrisen db = DoNotRise (map seen_volume (db 1)) ⊎ DoNotRise (map keyed_attachment (db 3))
 
--- what the database refuses that is asked for, on an open connection, with this error, though the disk has
--- not failed
+-- the database refuses a request with this error, on an open connection, although the disk has not failed
 pub data Refuses {S : Type 0} (g : Ghosts S) (old : Held S) (e : Error) : Type 0 where
-  -- a scan has more rows than are read at most
+  -- a scan has too many rows
   too_many : HasTooMany g old e → Refuses g old e
   unrisen : IsTrue (state g old).is_open → e ≡ SqliteFailure DatabaseCorrupt → HasUnrisen (state g old).now.trees → Refuses g old e
-  -- the UPDATE that makes tables of the first format ones of the latest
+  -- the UPDATE that turns tables of the first format into tables of the latest format
   format : IsTrue (state g old).is_open → (state g old).now.schema ≡ schema → RefusesFormat (state g old) e → Refuses g old e
-  -- the row of meta in new tables
+  -- the INSERT of the row of meta into new tables
   tables : (state g old).now.schema ≡ no_schema → RefusesTables (state g old) e → Refuses g old e
 
--- of an error of the database that is reported as such, which no want of memory is
+-- if the fault is an error of the database, `P` is true of the error, and it is no want of memory
 abbrev pub OfStore : (Error → Type 0) → AdoptFault → Type 0
 OfStore P (Store e) = (wants_memory e ≡ false) × P e
 OfStore P _ = ⊤
@@ -52,15 +51,16 @@ module _ {S : Type 0} (g : Ghosts S) (old new : Held S) where
   abbrev pub HasCause : Error → Type 0
   HasCause e = HasCleanDisk (state g new) → FailsFor (Refuses g old) (state g old) (state g new) e
 
-  -- a scan that is answered an error
+  -- an error of a scan has a cause
   abbrev pub ScanFails : {X : Type 0} → Result X Error → Type 0
   ScanFails r = IfErr r HasCause
 
-  -- rows that are judged, or taken
+  -- an error in the judging or the adoption of rows has a cause
   abbrev pub JudgingFails : {X : Type 0} → Result X AdoptFault → Type 0
   JudgingFails r = IfErr r (OfStore HasCause)
 
--- on a connection that is shut no row is judged: an answer that is no failure is that the tables are others
+-- on a connection that is shut no row is judged: a fault that is no failure says that the tables are other
+-- tables
 abbrev pub IsOfShut : Schema → AdoptFault → Type 0
 IsOfShut seen fault = is_failure fault ≡ false → (fault ≡ Foreign foreign.Schema) × (seen ≢ schema)
 
@@ -78,13 +78,13 @@ abbrev pub RefusesCommitted : {S : Type 0} → Ghosts S → Held S → Error →
 RefusesCommitted {S} g conn e =
     IsTrue (state g conn).is_open × (settled : Held S) × (settled.step_limit ≡ None) × ((state g settled).now ≡ (state g conn).committed) × Refuses g settled e
 
--- it is shut: a fault had shut the connection, or shut it since
+-- the connection is shut: a fault had shut it before, or has shut it since
 abbrev pub WasShut : {S : Type 0} → Ghosts S → Held S → Held S → Type 0
 WasShut g conn back = ((state g back).is_open ≡ false) × (((state g conn).is_open ≡ false) ⊎ MoreFaults (state g conn).faults (state g back).faults)
 
 -- the error that ends an adoption, and its cause
 pub data FailsCommitted {S : Type 0} (g : Ghosts S) (conn back : Held S) (e : Error) : Type 0 where
-  -- the disk failed once more
+  -- the disk failed since adoption began
   by_disk : IsTrue (is_disk_error e) → MoreFaults (state g conn).faults (state g back).faults → FailsCommitted g conn back e
   as_shut : e ≡ SqliteFailure Closed → WasShut g conn back → FailsCommitted g conn back e
   as_refused : RefusesCommitted g conn e → FailsCommitted g conn back e

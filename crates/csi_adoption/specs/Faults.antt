@@ -39,7 +39,7 @@ volume_kinds_fault found = option_map (λ name. Foreign (foreign.Volume (number_
 abbrev pub attachment_kinds_fault : Option RowName → Option AdoptFault
 attachment_kinds_fault found = option_map (λ name. Foreign (foreign.Attachment (number_of name))) found
 
--- the first that holds less than the sum next to it
+-- the first item whose room is less than the sum at its place
 abbrev pub first_full : {X : Type 0} → (X → ℕ) → List X → List ℕ → Option X
 first_full room [] sums = None
 first_full room (x ∷ xs) [] = None
@@ -52,7 +52,7 @@ full_pool = first_full (λ p. p.bytes)
 abbrev pub pool_fault : List Pool → List ℕ → Option AdoptFault
 pool_fault pools sums = option_map (λ p. Broken (broken.Pool p.name)) (full_pool pools sums)
 
--- the first node that has more attachments than it can
+-- the first node that has more attachments than it may have
 abbrev pub full_node : List Node → List ℕ → Option Node
 full_node = first_full (λ m. m.max_volumes)
 
@@ -86,7 +86,7 @@ code_faults volumes attachments =
     ∷ attachment_fault attachment_constraint.Cap attachments.cap ∷ attachment_fault attachment_constraint.Readonly attachments.readonly
     ∷ attachment_fault attachment_constraint.Node attachments.node ∷ [])
 
--- a volume exists and has the capability
+-- the fault if an attachment has no volume, or its volume does not have the capability
 abbrev pub owner_fault : Option RowName → Option AdoptFault
 owner_fault unowned = attachment_fault attachment_constraint.Owner unowned
 
@@ -105,7 +105,7 @@ all_faults config next volumes attachments unowned apart = first_fault
 
 -- ---- answers
 
--- the database or memory failed, which says nothing of the rows
+-- the database or memory failed, so the fault says nothing about the rows
 abbrev pub is_failure : AdoptFault → Bool
 is_failure (Foreign what) = false
 is_failure (Newer format) = false
@@ -123,11 +123,11 @@ abbrev pub wants_memory : Error → Bool
 wants_memory (SqliteFailure OutOfMemory) = true
 wants_memory _ = false
 
--- what an error of the database is reported as
+-- the fault for an error of the database
 abbrev pub failure_of : Error → AdoptFault
 failure_of error = if wants_memory error then NoMemory else Store error
 
--- an answer is the fault if there is one
+-- the result is the fault, if there is one
 abbrev pub Reports : {X : Type 0} → Option AdoptFault → Result X AdoptFault → Type 0
 Reports fault (Ok x) = fault ≡ None
 Reports fault (Err e) = fault ≡ Some e
@@ -148,7 +148,7 @@ abbrev pub takes_memory : Option AdoptFault → Bool
 takes_memory None = false
 takes_memory (Some fault) = has_name fault
 
--- and so it is, unless memory was refused for its name; it is no failure of the database
+-- as `Reports`, unless memory was refused for the name of the fault; the result is no failure of the database
 abbrev pub Says : {X : Type 0} → Option AdoptFault → Result X AdoptFault → Type 0
 Says fault (Ok x) = fault ≡ None
 Says fault (Err e) = (is_no_memory e ≡ false → fault ≡ Some e) × (is_no_memory e ≡ true → takes_memory fault ≡ true) × (is_store e ≡ false)

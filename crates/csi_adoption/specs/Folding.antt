@@ -1,4 +1,4 @@
--- How the folds over a table begin, and what each part of them has become over its rows.
+-- The folds over a table: their beginning, and each of their parts after rows.
 use Rattle.std.specs.Prelude.{◌≡◌, ◌⊎◌, ℕ, Bool, false, List, [], ◌∷◌, Option, None, IfSome}
 use Rattle.std.specs.List.{AllZip}
 use Rattle.sqlite.specs.Order.{Row}
@@ -20,7 +20,7 @@ use Rattle.csi_adoption.specs.declared.volumes.VolumesFold.{VolumesFold}
 
 -- ---- over volumes
 
--- before the first row
+-- a fold over volumes before the first row
 pub record BeginsVolumes (config : Config) (m : Meta) (fold : VolumesFold) : Type 0 where
   pub kinds : IsUnbroken 0 1 fold.kinds
   pub rising : IsRisingStart fold.rising
@@ -37,7 +37,7 @@ pub record BeginsVolumes (config : Config) (m : Meta) (fold : VolumesFold) : Typ
   pub pool_volumes : AllZip (λ p sum. IsBegun 3 p.name One sum) config.pools fold.pool_volumes.parts.items
   pub none : fold.rows.rows ≡ 0
 
--- the row is the first that a part finds broken
+-- the row is the first one that a part finds to break its constraint
 abbrev pub FindsFirst : {N : Type 0} → Option N → Bool → Type 0
 FindsFirst found passes = (found ≡ None) × (passes ≡ false)
 
@@ -51,7 +51,7 @@ pub data VolumeTakesMemory (fold : VolumesFold) (row : Row) : Type 0 where
   for_caps : fold.caps.found ≡ None → SaysMessage 4 row ⊎ (has_caps row ≡ false) → VolumeTakesMemory fold row
   for_params : fold.params.found ≡ None → SaysMessage 5 row ⊎ (has_params fold.params.test.format row ≡ false) → VolumeTakesMemory fold row
 
--- after rows
+-- a fold over volumes after rows
 pub record FoldsVolumes (first : VolumesFold) (rows : List Row) (now : VolumesFold) : Type 0 where
   pub kinds : FindsByTest (λ _. has_volume_kinds) first.kinds rows now.kinds
   pub rising : RisesOver first.rising rows now.rising
@@ -83,7 +83,7 @@ volumes_seen format fold = record {
 
 -- ---- over attachments
 
--- before the first row
+-- a fold over attachments before the first row
 pub record BeginsAttachments (config : Config) (fold : AttachmentsFold) : Type 0 where
   pub kinds : IsUnbroken 0 2 fold.kinds
   pub rising : IsRisingStart fold.rising
@@ -93,14 +93,14 @@ pub record BeginsAttachments (config : Config) (fold : AttachmentsFold) : Type 0
   pub node : IsUnbroken 1 2 fold.node
   pub node_volumes : AllZip (λ m sum. IsBegun 2 m.id One sum) config.nodes fold.node_volumes.parts.items
 
--- the same over attachments
+-- as `VolumeTakesMemory`, for a row of attachments
 pub data AttachmentTakesMemory (fold : AttachmentsFold) (row : Row) : Type 0 where
   for_kinds : FindsFirst fold.kinds.found (has_attachment_kinds row) → AttachmentTakesMemory fold row
   for_cap : fold.cap.found ≡ None → SaysMessage 3 row ⊎ (has_cap row ≡ false) → AttachmentTakesMemory fold row
   for_readonly : FindsFirst fold.readonly.found (has_flag row) → AttachmentTakesMemory fold row
   for_node : FindsFirst fold.node.found (is_at_node fold.node.test.test.config.now.nodes row) → AttachmentTakesMemory fold row
 
--- after rows
+-- a fold over attachments after rows
 pub record FoldsAttachments (first : AttachmentsFold) (rows : List Row) (now : AttachmentsFold) : Type 0 where
   pub kinds : FindsByTest (λ _. has_attachment_kinds) first.kinds rows now.kinds
   pub rising : RisesOver first.rising rows now.rising

@@ -1,4 +1,4 @@
--- What rows of volumes that pass say: the volumes of a State.
+-- The volumes of a State that rows of volumes represent if they pass.
 use Rattle.std.specs.Prelude.{◌≡◌, ℕ, ◌≤◌, bytes_eq, List, Some, filter, length, map, sum, sum_by}
 use Rattle.std.specs.FinMap.{FinMap, empty, entries, get, len, values}
 use Rattle.std.specs.List.{AllByRecursion}
@@ -17,7 +17,7 @@ use Rattle.csi_columns.specs.Entries.{volume_entry}
 use Rattle.csi_tables.specs.Holding.{IsStored}
 use Rattle.csi_adoption.specs.declared.meta.Meta.{Meta}
 
--- the bytes of a pool's volumes, as of a State that has these
+-- the sizes of a pool's volumes, if a State has these volumes
 abbrev pub sizes_of : FinMap nat_cmp Volume → List ℕ → List ℕ
 sizes_of volumes pool = map (λ v. v.bytes) (filter (λ v. bytes_eq v.pool pool) (values volumes))
 
@@ -30,7 +30,7 @@ pub record FoundVolumes (config : Config) (m : Meta) (rows : List Row) : Type 0 
   pub each : (n : ℕ) (v : Volume) → get volumes n ≡ Some v → IsVolume config m.next n v
   pub names : (m n : ℕ) (v w : Volume) → get volumes m ≡ Some v → get volumes n ≡ Some w → v.name ≡ w.name → m ≡ n
   pub few : len volumes ≤ MAX_VOLUMES
-  -- the sums reported of a pool are the sums of its volumes
+  -- the sums reported for a pool are the sums of its volumes
   pub counted : (pool : List ℕ) → length (sizes_of volumes pool) ≡ sum_by (added_by 3 pool One) rows
   pub summed : (pool : List ℕ) → sum (sizes_of volumes pool) ≡ sum_by (added_by 3 pool (Number 2)) rows
   pub rooms : (p : Pool) → Has config.pools p → sum (sizes_of volumes p.name) ≤ p.bytes

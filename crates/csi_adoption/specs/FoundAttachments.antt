@@ -1,4 +1,4 @@
--- The attachments that rows represent, next to the volumes that other rows represent.
+-- The attachments that rows represent, together with the volumes that other rows represent.
 use Rattle.std.specs.Prelude.{◌≡◌, ℕ, ◌≤◌, true, List, Some, IsSome, IsPermutation, length, map, filter, bytes_eq}
 use Rattle.std.specs.FinMap.{FinMap, entries, get}
 use Rattle.std.specs.List.{AllByRecursion, list_all}
@@ -27,7 +27,7 @@ use Rattle.csi_columns.specs.Entries.{attachment_entry, volume_entry}
 use Rattle.csi_tables.specs.Holding.{IsPlaced, IsRowsOf, IsStored}
 use Rattle.csi_adoption.specs.Passing.{AttachmentsAreKnown, AttachmentsPass}
 
--- an attachment that may be at a number and a node, next to the volumes
+-- an attachment that may exist at a number and a node if these are the volumes
 pub record StandsAmong (config : Config) (volumes : FinMap nat_cmp Volume) (n : ℕ) (node : Text) (a : Attachment) : Type 0 where
   pub at : a.node ≡ node
   pub known : IsSome (node_of config node)
@@ -35,7 +35,7 @@ pub record StandsAmong (config : Config) (volumes : FinMap nat_cmp Volume) (n : 
   pub stands : get volumes n ≡ Some volume
   pub cap : has_key volume.caps (Some a.cap) ≡ true
 
--- attachments that the rows of their table represent, as a State with the volumes may have them
+-- the rows of the table represent attachments that a State with these volumes may have
 pub record FoundAttachments (config : Config) (volumes : FinMap nat_cmp Volume) (db : Trees) : Type 0 where
   pub attachments : FinMap attachment_key_cmp Attachment
   pub listed : IsPermutation (map attachment_entry (entries attachments)) (map seen_attachment (db 3))
@@ -44,12 +44,12 @@ pub record FoundAttachments (config : Config) (volumes : FinMap nat_cmp Volume) 
   pub each : (n : ℕ) (node : Text) (a : Attachment) → get attachments (n, node) ≡ Some a → StandsAmong config volumes n node a
   -- any two attachments of a volume coexist
   pub beside : (n : ℕ) (d e : Text) (a b : Attachment) → get attachments (n, d) ≡ Some a → get attachments (n, e) ≡ Some b → (d ≡ e → ⊥) → coexist a b ≡ true
-  -- no node holds more volumes than it can
+  -- no node holds more volumes than it may
   pub nodes : (m : Node) → Has config.nodes m → length (map (λ e. e.0.0) (filter (λ e. bytes_eq e.0.1 m.id) (entries attachments))) ≤ m.max_volumes
 
 -- ---- laws
 
--- tables that pass every constraint have attachments, where the rows of volumes represent these volumes
+-- tables that pass every constraint have attachments, if the rows of volumes represent these volumes
 abbrev pub AttachmentsAreFound : Type 0
 AttachmentsAreFound =
     (config : Config) (next : ℕ) (db : Trees) (volumes : FinMap nat_cmp Volume) (volumes_in_order rows owned places : List Row)
@@ -61,18 +61,18 @@ AttachmentsAreFound =
     → IsPermutation (map seen_attachment (db 3)) places → NoneApart places
     → FoundAttachments config volumes db
 
--- the rows of a State's attachments pass every constraint of theirs
+-- the rows of a State's attachments pass every constraint of attachments
 abbrev pub AttachmentsDoPass : Type 0
 AttachmentsDoPass =
     (config : Config) (format : ℕ) (s : State) (db : Trees) (rows : List Row)
     → IsRowsOf format s db → IsInvariant config s → IsInOrder (map keyed_attachment (db 3)) rows → AttachmentsPass config rows
 
--- each with its volume
+-- each attachment of a State passes together with its volume
 abbrev pub OwnersDoPass : Type 0
 OwnersDoPass = (config : Config) (format : ℕ) (s : State) (db : Trees) (owned : List Row) → IsRowsOf format s db → IsInvariant config s
     → IsPermutation (owners (db 3) (db 1)) owned → list_all is_owned owned ≡ true
 
--- and no two of one volume are apart
+-- no two attachments of a State are apart
 abbrev pub PlacesDoPass : Type 0
 PlacesDoPass = (config : Config) (format : ℕ) (s : State) (db : Trees) (places : List Row) → IsRowsOf format s db → IsInvariant config s
     → IsPermutation (map seen_attachment (db 3)) places → NoneApart places

@@ -1,5 +1,5 @@
--- What scans find in rows, and the fault that they have: of the row of meta, and of the first constraint that
--- is broken.
+-- The findings of scans, and the fault of the rows: a fault of the row of meta, or of the first constraint
+-- that is broken.
 use Rattle.std.specs.Prelude.{◌≡◌, ◌≢◌, ◌⊎◌, ℕ, ◌-◌, ◌^◌, min, nat_le, ℤ, pos, negsuc, int_lt, Bool, false, not, ◌||◌, if◌then◌else◌, List, [], ◌∷◌}
 use Rattle.std.specs.Prelude.{length, map, Option, Some, None, Result, Ok, Err, IfSome, IsPermutation}
 use Rattle.std.specs.List.{AllByRecursion}
@@ -64,11 +64,11 @@ abbrev pub valid_next : ℤ → ℕ
 valid_next (pos n) = if nat_le n MAX_NUMBER then n else 0
 valid_next (negsuc n) = 0
 
--- of two formats
+-- the first format, or otherwise the latest
 abbrev pub valid_format : ℤ → ℕ
 valid_format format = if int_eq format (pos FIRST_FORMAT) then FIRST_FORMAT else LATEST_FORMAT
 
--- the key is 1, and the format is one of the two
+-- the row of meta by its integers: the key must be 1, and the format one of the two
 abbrev pub integers_judged : ℤ → ℤ → ℤ → Result Meta AdoptFault
 integers_judged key format next =
     if not (int_eq key (pos 1)) || int_lt format (pos FIRST_FORMAT) then no_meta
@@ -80,15 +80,15 @@ row_judged (Some key) (Some format) None = no_meta
 row_judged (Some key) None next = no_meta
 row_judged None format next = no_meta
 
--- the format and the next number of the one row, which is 0 where it is not 1 to 2^62
+-- the format and the next number of the one row; the next number is 0 if it is not 1 to 2^62
 abbrev pub meta_judged : MetaRows → Result Meta AdoptFault
 meta_judged meta.None = no_meta
 meta_judged (meta.One m) = row_judged m.key m.format m.next
 meta_judged meta.Many = no_meta
 
--- ---- what the scans show
+-- ---- the findings of the scans
 
--- the first row that does not pass, by the integer and the text of two columns
+-- the first row that does not pass, named by the integer and the text of two columns
 abbrev pub first_named : ℕ → ℕ → (Row → Bool) → List Row → Option RowName
 first_named number text test rows = named_out number text test None rows
 
@@ -115,7 +115,7 @@ in_attachments config rows = record {
   node_volumes = map (λ m. sum_after 2 m.id One 0 rows) config.nodes;
 }
 
--- a scan over rows whose numbers rise, and whose blobs can be written again
+-- the result of a scan over rows whose numbers rise, and whose blobs can be written again
 pub record SeesVolumes (config : Config) (m : Meta) (rows : List Row) (seen : VolumesSeen) : Type 0 where
   pub format : seen.format ≡ m.format
   pub found : reported_volumes seen ≡ in_volumes config m rows
@@ -137,7 +137,7 @@ total_in pools volumes bytes name = zero_total
 
 -- ---- answers
 
--- the rows of meta are refused
+-- the rows of meta are refused with this fault
 abbrev pub IsMetaFault : Trees → AdoptFault → Type 0
 IsMetaFault db fault = (rows : List Row) × IsPermutation (map seen_meta (db 0)) rows × (meta_judged (with_rows meta.None rows) ≡ Err fault)
 
@@ -170,12 +170,12 @@ abbrev pub JudgesRows : Config → Trees → Result VolumesSeen AdoptFault → T
 JudgesRows config db (Ok seen) = ArePassed config db seen
 JudgesRows config db (Err e) = is_failure e ≡ false → IsMetaFault db e ⊎ AreJudged config db (Some e)
 
--- the row of meta
+-- the result of reading the row of meta
 abbrev pub SeesRow : Trees → Result Meta AdoptFault → Type 0
 SeesRow db (Ok row) = (rows : List Row) × IsPermutation (map seen_meta (db 0)) rows × (meta_judged (with_rows meta.None rows) ≡ Ok row)
 SeesRow db (Err e) = is_failure e ≡ false → IsMetaFault db e
 
--- the rows of volumes and of attachments
+-- the rows of volumes and of attachments, and the results of the scans over them
 pub record TablesAreSeen (config : Config) (m : Meta) (db : Trees) (tables : TablesSeen) : Type 0 where
   pub volume_rows : List Row
   pub attachment_rows : List Row
@@ -189,20 +189,20 @@ abbrev pub volumes_unless : TablesSeen → Result (Unit {0}) AdoptFault → Resu
 volumes_unless tables (Ok fine) = Ok tables.volumes
 volumes_unless tables (Err e) = Err e
 
--- where the rows of each table alone break no constraint, and this is what meta says
+-- the rows are judged, if the rows of each table alone break no constraint and the row of meta is `m`
 abbrev pub JudgesJoined : Config → Trees → Meta → TablesSeen → Result (Unit {0}) AdoptFault → Type 0
 JudgesJoined config db m tables result = TablesAreSeen config m db tables
     → table_faults config m.next (reported_volumes tables.volumes) (reported_attachments tables.attachments) ≡ None
     → (rows : List Row) → IsPermutation (map seen_meta (db 0)) rows → meta_judged (with_rows meta.None rows) ≡ Ok m
     → JudgesRows config db (volumes_unless tables result)
 
--- where this was seen of the tables, and this is what meta says
+-- the rows are judged, if the scans had these results and the row of meta is `m`
 abbrev pub JudgesSeen : Config → Trees → Meta → TablesSeen → Result (Unit {0}) AdoptFault → Type 0
 JudgesSeen config db m tables result = TablesAreSeen config m db tables
     → (rows : List Row) → IsPermutation (map seen_meta (db 0)) rows → meta_judged (with_rows meta.None rows) ≡ Ok m
     → JudgesRows config db (volumes_unless tables result)
 
--- where this is what meta says
+-- the rows are judged, if the row of meta is `m`
 abbrev pub JudgesAfter : Config → Trees → Meta → Result VolumesSeen AdoptFault → Type 0
 JudgesAfter config db m result = (rows : List Row) → IsPermutation (map seen_meta (db 0)) rows → meta_judged (with_rows meta.None rows) ≡ Ok m
     → JudgesRows config db result

@@ -35,7 +35,7 @@ PassesVolumes =
     (config : Config) (format : ℕ) (s : State) (db : Trees) (rows : List Row) → IsRowsIn format s db → IsInvariant config s
     → IsInOrder (map seen_volume (db 1)) rows → VolumesPass config (record { format = format; next = s.next }) rows
 
--- the row of meta of a State is the one with the format of the tables and its next number
+-- the row of meta of a State has the format of the tables and the State's next number
 abbrev pub PassesMeta : Type 0
 PassesMeta =
     (config : Config) (format : ℕ) (s : State) (db : Trees) → IsRowsOf format s db → IsInvariant config s → (meta : List Row)
@@ -48,13 +48,13 @@ ReportsPools =
     → (sum_after 3 p.name One 0 rows ≡ sum_by (added_by 3 p.name One) rows)
     × (sum_after 3 p.name (Number 2) 0 rows ≡ sum_by (added_by 3 p.name (Number 2)) rows)
 
--- no volume of the found ones has a pool that the configuration has not
+-- no volume that was found has a pool that is not in the configuration
 abbrev pub HasNoOtherPool : Type 0
 HasNoOtherPool =
     (config : Config) (m : Meta) (rows : List Row) (found : FoundVolumes config m rows) (pool : List ℕ)
     → pool_named config.pools pool ≡ None → sizes_of found.volumes pool ≡ []
 
--- the totals reported of the pools are the totals found in the rows
+-- the totals reported for the pools are the totals found in the rows
 abbrev pub FindsTotals : Type 0
 FindsTotals =
     (config : Config) (m : Meta) (rows : List Row) → VolumesPass config m rows → ((p : Pool) → Has config.pools p → p.bytes < 2 ^ 64 - 1)
@@ -62,12 +62,12 @@ FindsTotals =
     → total_in config.pools (in_volumes config m rows).pool_volumes (in_volumes config m rows).pool_bytes name
     ≡ the_total (length (sizes_of found.volumes name)) (sum (sizes_of found.volumes name))
 
--- a count that is reported up to 2^64 - 1 is the count
+-- a count of at most 2^64 - 1 rows is reported exactly
 abbrev pub ReportsCounts : Type 0
 ReportsCounts =
     (at : ℕ) (text : List ℕ) (rows : List Row) → length rows ≤ 2 ^ 64 - 1 → sum_after at text One 0 rows ≡ sum_by (added_by at text One) rows
 
--- a bound below that number holds of a sum that is reported so exactly where it holds of the sum
+-- a bound below 2^64 - 1 holds for a reported sum exactly if it holds for the sum itself
 abbrev pub ReportsRooms : Type 0
 ReportsRooms =
     (at : ℕ) (text : List ℕ) (weight : Weight) (rows : List Row) (most : ℕ) → most < 2 ^ 64 - 1

@@ -1,4 +1,4 @@
--- What scans over the tables must show for adoption.
+-- The rows that scans over the tables must show for adoption.
 use Rattle.std.specs.Prelude.{◌≡◌, ◌≤◌, true, List, None, IfSome, IsPermutation, [], ◌∷◌, length, map, sum_by}
 use Rattle.std.specs.List.{AllByRecursion, list_all}
 use Rattle.sqlite.specs.Order.{Row}
@@ -31,27 +31,27 @@ pub record VolumesPass (config : Config) (m : Meta) (rows : List Row) : Type 0 w
   pub params : list_all (has_params m.format) rows ≡ true
   pub few : length rows ≤ MAX_VOLUMES
 
--- the numbers rise, and the blobs can be written again
+-- the numbers are in strictly rising order, and the blobs can be written again
 pub record VolumesAreKnown (rows : List Row) : Type 0 where
   pub rising : IsRising 0 None rows
   pub caps : AllByRecursion (λ r. IfSome (keys_at 4 r) FitCaps) rows
   pub params : AllByRecursion (λ r. IfSome (params_at 5 r) (λ ms. FitParams ms.0 ms.1)) rows
 
--- the rows of attachments, after their rowids, meet each constraint of their own
+-- the rows of attachments, with their rowids in front, meet each constraint of their own
 pub record AttachmentsPass (config : Config) (rows : List Row) : Type 0 where
   pub kinds : list_all has_attachment_kinds rows ≡ true
   pub caps : list_all has_cap rows ≡ true
   pub flags : list_all has_flag rows ≡ true
   pub nodes : list_all (is_at_node config.nodes) rows ≡ true
-  -- no node has more than it can
+  -- no node has more attachments than it may have
   pub counts : AllByRecursion (λ m. sum_by (added_by 2 m.id One) rows ≤ m.max_volumes) config.nodes
 
--- the rowids rise, and the blobs can be written again
+-- the rowids are in strictly rising order, and the blobs can be written again
 pub record AttachmentsAreKnown (rows : List Row) : Type 0 where
   pub rising : IsRising 0 None rows
   pub caps : AllByRecursion (λ r. IfSome (key_at 3 r) (λ key. FitCaps (key ∷ []))) rows
 
--- what five scans over the tables show
+-- the rows that five scans over the tables show
 pub record Seen (db : Trees) (meta_rows volume_rows attachment_rows owner_rows place_rows : List Row) : Type 0 where
   pub meta : IsPermutation (map seen_meta (db 0)) meta_rows
   pub volumes : IsInOrder (map seen_volume (db 1)) volume_rows

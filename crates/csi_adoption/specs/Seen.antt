@@ -1,4 +1,4 @@
--- What scans have seen, as definitions speak of it.
+-- The results of scans, in the form that definitions use.
 use Rattle.std.specs.Prelude.{ℕ, List, map, Option}
 use Rattle.csi_constraints.specs.declared.sums.TextSum.{TextSum}
 use Rattle.csi_constraints.specs.declared.named.RowName.{RowName}
@@ -6,7 +6,7 @@ use Rattle.csi_adoption.specs.declared.seen.AttachmentsSeen.{AttachmentsSeen}
 use Rattle.csi_adoption.specs.declared.seen.VolumesSeen.{VolumesSeen}
 
 -- the first volume that breaks each constraint, the bytes and the number of each pool's volumes, and the
--- number of all
+-- number of all volumes
 pub record VolumesFound : Type 0 where
   pub kinds : Option RowName
   pub number : Option RowName
@@ -19,7 +19,7 @@ pub record VolumesFound : Type 0 where
   pub pool_volumes : List ℕ
   pub rows : ℕ
 
--- the first attachment that breaks each constraint, and the number of each node's
+-- the first attachment that breaks each constraint, and the number of attachments at each node
 pub record AttachmentsFound : Type 0 where
   pub kinds : Option RowName
   pub cap : Option RowName

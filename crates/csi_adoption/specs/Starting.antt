@@ -5,7 +5,7 @@ use Rattle.csi_constraints.specs.declared.rising.Rising.{Rising}
 use Rattle.csi_constraints.specs.declared.sums.TextSum.{TextSum}
 use Rattle.csi_constraints.specs.declared.sums.Weight.{Weight}
 
--- a constraint that no row has broken yet, whose row is named by these columns
+-- no row has broken the constraint yet; a row that breaks it is named by these columns
 pub record IsUnbroken {T : Type 0} (number text : ℕ) (fold : FirstBroken T) : Type 0 where
   pub number_is : fold.number ≡ number
   pub text_is : fold.text ≡ text
@@ -17,7 +17,7 @@ pub record IsRisingStart (fold : Rising) : Type 0 where
   pub good : fold.good ≡ true
   pub last : fold.last ≡ None
 
--- a sum over no row yet
+-- a sum before the first row
 pub record IsBegun (at : ℕ) (text : List ℕ) (weight : Weight) (sum : TextSum) : Type 0 where
   pub column : sum.column ≡ at
   pub text_is : sum.text.items ≡ text

@@ -30,7 +30,7 @@ and_right false b h = absurd (true≢false (sym h))
 pub and_both : (a b : Bool) → a ≡ true → b ≡ true → (a && b) ≡ true
 and_both a b h k = rw (h, k) refl
 
--- the columns are those that these fields have after the ones that were read
+-- the columns, with the fields that are still to be read, are the columns of all fields
 pub record HasRead (kinds : List CellKind) (cells : Cells) (es all : List WireField) : Type 0 where
   pub numbers : (k : ℕ) → slice_get kinds k ≡ Some Integer → last number_in k (number_of cells k) es ≡ number_at k all
   pub bytes : (k : ℕ) → slice_get kinds k ≡ Some Bytes → last bytes_in k (bytes_of cells k) es ≡ bytes_at k all
@@ -47,7 +47,7 @@ module _ (kinds : List CellKind) (payload : List ℕ) where
     left = λ all are fit. (all, are, fit);
   }
 
-  -- one field more
+  -- one more field is read
   pub goes_on : Laws → (before rest : List ℕ) (e : WireField) (old new : Cells) → Reading kinds payload before old → field_at before ≡ Ok (e, rest) → is_cell kinds e ≡ true → TakesField kinds e old new → Reading kinds payload rest new
   goes_on laws before rest e old new r read fits takes = record {
     whole = λ es are fit.

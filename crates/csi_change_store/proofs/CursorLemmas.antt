@@ -69,12 +69,12 @@ is_fault c f ok g = elim (next_cases c ok) [
 same_ok : (x y : WireField × List ℕ) → read_ok x ≡ read_ok y → x ≡ y
 same_ok x y h = cc
 
--- one field is read at one place
+-- at most one field is read at a place
 pub same_field : (bytes : List ℕ) (e f : WireField) (rest more : List ℕ) → field_at bytes ≡ Ok (e, rest) → field_at bytes ≡ Ok (f, more) → (f ≡ e) × (more ≡ rest)
 same_field bytes e f rest more a b =
     let same = same_ok (f, more) (e, rest) (sym b ∙ a) in
     (ap (λ (p : WireField × List ℕ). p.0) same, ap (λ (p : WireField × List ℕ). p.1) same)
 
--- no field is read of no byte
+-- no field is read from no bytes
 pub nothing_at_end : ((bytes rest : List ℕ) (e : WireField) → field_at bytes ≡ Ok (e, rest) → length rest < length bytes) → (bytes rest : List ℕ) (e : WireField) → bytes ≡ [] → field_at bytes ≡ Ok (e, rest) → ⊥
 nothing_at_end shorter bytes rest e none is = let n : length rest < length bytes = shorter bytes rest e is in absurd (omega (arith, n, ap length none))

@@ -20,7 +20,7 @@ abbrev Unrefused : State → Error → Type 0
 Unrefused s e = ⊥
 
 module _ {S : Type 0} (g : store.Ghosts S) where
-  -- on a connection that is open, what extends the tables is a statement that ran
+  -- on an open connection, a call that extends the tables is a statement that ran
   runs_so : (a b : Held S) (Effect : Database → Database → Type 0) → IsTrue (state g a).is_open → ExtendsFrom g a b Effect → CommitsNothing g a b → RunsOver g a b {X = Unit {0}} schema Effect Unrefused (Ok tt)
   runs_so a b Effect opened ext nothing = record {
     ok = λ clean inside. let it = ext clean inside in record {

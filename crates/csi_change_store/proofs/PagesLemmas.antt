@@ -80,7 +80,7 @@ pub noted_append : (items more : List PageItem) (notes : PagesRead) → noted (i
 noted_append [] more notes = refl
 noted_append (item ∷ items) more notes = noted_append items more (with_item item notes)
 
--- what follows the first items of a page is a page
+-- the bytes after the first items of a page are a page
 module _ (shorter : (bytes rest : List ℕ) (e : WireField) → field_at bytes ≡ Ok (e, rest) → length rest < length bytes) where
   pub goes_after : (done items : List PageItem) (bytes rest : List ℕ) → BeginsWith done bytes rest → IsPage bytes items → (more : List PageItem) × IsPage rest more
   goes_after [] items bytes rest h page = (items, subst (λ b. BeginsWith items b []) h page)
@@ -89,7 +89,7 @@ module _ (shorter : (bytes rest : List ℕ) (e : WireField) → field_at bytes �
       let same = same_field bytes h.0 page.0 h.1 page.1 h.2 page.2 in
       goes_after done items h.1 rest h.4 (subst (λ b. BeginsWith items b []) same.1 page.4)
 
-  -- no item is encoded where one should be
+  -- the bytes encode no item although they should
   pub no_page : (done : List PageItem) (bytes rest : List ℕ) → BeginsWith done bytes rest → rest ≢ [] → ((e : WireField) (more : List ℕ) → field_at rest ≡ Ok (e, more) → (item : PageItem) → IsItem e item → ⊥) → (items : List PageItem) → IsPage bytes items → ⊥
   no_page done bytes rest h some none items page = let it = goes_after done items bytes rest h page in from it.0 it.1
     where
@@ -233,7 +233,7 @@ module _ {S : Type 0} (g : store.Ghosts S) where
       nothing = t.nothing;
     }
 
-    -- no field is there
+    -- there is no field
     pub stops : (after : PagesRead) → mid ≢ [] → ((e : WireField) (more : List ℕ) → field_at mid ≡ Ok (e, more) → ⊥) → TakesPage g a b body before after (Err Malformed)
     stops after some none = record {
       ok = tt;
@@ -242,7 +242,7 @@ module _ {S : Type 0} (g : store.Ghosts S) where
       nothing = t.nothing;
     }
 
-    -- the field is no item that the tables can take
+    -- the field encodes no item that the tables can take
     pub unspelled : (rest : List ℕ) (e : WireField) (after : PagesRead) (fault : RowsFault) (r : Result (Unit {0}) RowsFault) → IsErrAnd r (λ x. x ≡ fault) → field_at mid ≡ Ok (e, rest) → mid ≢ [] → IsItemFault (IsItem e) fault → TakesPage g a b body before after r
     unspelled rest e after fault (Ok x) at read some is = absurd at
     unspelled rest e after fault (Err x) at read some is = subst (λ y. TakesPage g a b body before after (Err y)) (sym at) (record {

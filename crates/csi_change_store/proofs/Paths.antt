@@ -1,4 +1,4 @@
--- The path of each call of a change store is one of a frame.
+-- The path of each call of a change store is a path that a frame can have.
 use Rattle.std.proofs.Common.{◌≡◌, ◌≤◌, ℕ, List, Bool, true, false, All, length, refl}
 use Rattle.std.specs.Prelude.{nat_le, ◌&&◌}
 use Rattle.std.specs.List.{list_all}

@@ -1,4 +1,4 @@
--- How long the message is that asks for a page.
+-- The length of the message that asks for a page.
 use Rattle.std.proofs.Common.{◌≡◌, ◌+◌, ◌-◌, ◌/◌, ◌%◌, ◌<◌, ◌≤◌, ◌^◌, ℕ, suc, Bool, cond, List, [], ◌∷◌, ◌++◌, length, length-append, ap, arith, inl, inr, lit<}
 use Rattle.std.proofs.lemmas.Bool.{cases_lt, le-ltb, lt-ltb}
 use Rattle.pbwire.specs.Writing.{minimal, varint}

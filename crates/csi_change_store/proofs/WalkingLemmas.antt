@@ -63,7 +63,7 @@ module _ {P : Type 0} (exchanged : P → P → List ℕ → Received → Type 0)
       pub nothing : CommitsNothing g a b
 
     module _ (old mid new : P) (notes : PagesRead) (a b c : Held S) (r : Reading old mid notes a b) where
-      -- nothing is committed by what comes next either
+      -- the next call commits nothing either
       pub still_nothing : CommitsNothing g b c → CommitsNothing g a c
       still_nothing two = nothing_then g a b c r.nothing two (λ clean inside. (r.puts clean inside).inside)
 

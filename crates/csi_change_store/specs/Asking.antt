@@ -1,5 +1,5 @@
--- What a change store is asked for, as frames, and what its replies say: docs/PROTOCOL.md, "The change store"
--- (own).
+-- The frames that are sent to a change store, and the meaning of its replies: docs/PROTOCOL.md, "The change
+-- store" (own).
 use Rattle.std.specs.Prelude.{ℕ, ◌==◌, Bool, true, false, List, [], ◌∷◌, codes, Result, Ok, Err, if◌then◌else◌}
 use Rattle.std.specs.FinMap.{empty}
 use Rattle.pbwire.specs.Wire.{WireField, Number, Payload}
@@ -54,7 +54,7 @@ asked_fields (Detach n node) = number_field 1 n ∷ bytes_field 2 node ∷ []
 asked_fields (DetachAll n) = number_field 1 n ∷ []
 asked_fields (SetMutable n m) = number_field 1 n ∷ bytes_field 2 (params_bytes empty m) ∷ []
 
--- the field that says how
+-- the number of the field that a change is in
 abbrev pub change_number : Change → ℕ
 change_number (AddVolume v) = 1
 change_number (RemoveVolume n) = 2
@@ -74,29 +74,29 @@ path_of Make = codes "/fomaheti.log.v1.Log/Make"
 path_of Commit = codes "/fomaheti.log.v1.Log/Commit"
 path_of Lead = codes "/fomaheti.log.v1.Log/Lead"
 
--- a change is to be made
+-- the frame that asks for a change
 abbrev pub commit_frame : Change → List ℕ
 commit_frame change = frame (record { path = path_of Commit; message = change_bytes change })
 
--- a page of the rows is asked for, the first one or the one of a token
+-- the frame that asks for a page of the rows: the first page, or the page of a token
 abbrev pub token_bytes : List ℕ → List ℕ
 token_bytes token = spelling (bytes_field 1 token)
 
 abbrev pub read_frame : List ℕ → List ℕ
 read_frame token = frame (record { path = path_of Read; message = token_bytes token })
 
--- the row of meta is to be made
+-- the frame that asks for the row of meta
 abbrev pub make_frame : List ℕ
 make_frame = frame (record { path = path_of Make; message = [] })
 
--- whether it still leads
+-- the frame that asks whether the change store still leads
 abbrev pub lead_frame : List ℕ
 lead_frame = frame (record { path = path_of Lead; message = [] })
 
 -- ---- a reply
 
--- Status 0 alone says that the change was made. Any other outcome is a refusal, also if it is not known
--- whether the change was made.
+-- Only status 0 says that the change was made. Without memory for the reply the answer is `NoMemory`. Any
+-- other outcome is a refusal, also if it is not known whether the change was made.
 abbrev pub answer_of : Received → Result (Unit {0}) StoreFault
 answer_of (Reply r) = if r.status == 0 then Ok tt else Err Refused
 answer_of Nothing = Err Refused

@@ -1,4 +1,4 @@
--- The columns of a row, as they are read so far.
+-- The columns of a row, as far as they are read.
 use Rattle.std.specs.Prelude.{◌≡◌, ℕ, List, [], Option, Some, slice_get, get_or, map}
 use denote.Ref.{Bor}
 use Rattle.pbwire.specs.Wire.{WireField, AreFields}
@@ -21,7 +21,7 @@ pub record TakesField (kinds : List CellKind) (e : WireField) (old new : Cells) 
   pub numbers : (k : ℕ) → slice_get kinds k ≡ Some Integer → number_of new k ≡ with_field number_in k e (number_of old k)
   pub bytes : (k : ℕ) → slice_get kinds k ≡ Some Bytes → bytes_of new k ≡ with_field bytes_in k e (bytes_of old k)
 
--- the columns are what these fields have
+-- the columns have the values of these fields
 pub record HasColumns (kinds : List CellKind) (cells : Cells) (es : List WireField) : Type 0 where
   pub numbers : (k : ℕ) → slice_get kinds k ≡ Some Integer → number_of cells k ≡ number_at k es
   pub bytes : (k : ℕ) → slice_get kinds k ≡ Some Bytes → bytes_of cells k ≡ bytes_at k es

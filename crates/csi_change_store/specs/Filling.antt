@@ -1,4 +1,4 @@
--- The rows of a change store in new tables, as a connection has them.
+-- The rows of a change store, put into new tables on a connection.
 use Rattle.std.specs.Prelude.{◌≡◌, ◌≢◌, ℕ, List, [], IsTrue}
 use Rattle.sqlite.specs.Effect.{Database}
 use Rattle.sqlite.specs.Held.{Held, state}
@@ -19,7 +19,7 @@ pub record AreRead {P : Type 0} (exchanged : P → P → List ℕ → Received �
   pub last : notes.token ≡ []
   pub typed : AreTyped (all_items pages)
 
--- the rows of all of these are in the tables, and committed
+-- new tables were made, and the rows of all items were put into them
 pub record HasRows (items : List PageItem) (old new : Database) : Type 0 where
   pub made : Database
   pub makes : MakesTables old made

@@ -36,7 +36,7 @@ next_in next (Attachment row ∷ items) = next_in next items
 next_in next (Token token ∷ items) = next_in next items
 next_in next (Skipped ∷ items) = next_in next items
 
--- what a SELECT of all columns shows of a volume
+-- the row that a SELECT of all columns shows of a volume
 abbrev pub shown_volume : VolumeColumns → Row
 shown_volume row = seen_volume (kept_volume row)
 

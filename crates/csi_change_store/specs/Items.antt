@@ -1,4 +1,4 @@
--- The items of the code, without where they lie in memory.
+-- The models of the items of the code, wherever they are in memory.
 use Rattle.csi_change_store.specs.Asking.{flag_number}
 use Rattle.csi_change_store.specs.Pages.{PageItem, Meta, Volume, Attachment, Token, Skipped, VolumeColumns, AttachmentColumns, PagesRead}
 use Rattle.csi_change_store.specs.declared.items.AttachmentRow.{AttachmentRow}

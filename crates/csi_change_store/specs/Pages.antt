@@ -1,5 +1,6 @@
--- What a page of rows encodes: docs/PROTOCOL.md, "The change store" (own). Its fields are read in order;
--- field 1 is the row of meta, 2 a row of volumes, 3 one of attachments, 4 the token of the next page.
+-- The contents of a page of rows: docs/PROTOCOL.md, "The change store" (own). The fields of a page are read
+-- in order: field 1 is the row of meta, 2 a row of volumes, 3 a row of attachments, and 4 the token of the
+-- next page.
 use Rattle.std.specs.Prelude.{◌≡◌, ℕ, ◌<◌, ◌^◌, ◌==◌, Bool, true, false, List, [], ◌∷◌, Option, Some, None, Ok, IsUtf8, slice_get, unwrap_or, nat_lt}
 use Rattle.std.specs.Prelude.{if◌then◌else◌}
 use Rattle.std.specs.List.{AllByRecursion, list_all}
@@ -12,7 +13,7 @@ use Rattle.csi_change_store.specs.declared.cells.CellKind.TheVariants.{Skipped a
 
 -- ---- the fields of a row
 
--- A column of the kind can hold it. No row has a number from 2^63 on.
+-- A column of the kind can hold the part. Numbers in rows are below 2^63.
 abbrev pub can_hold : CellKind → Part → Bool
 can_hold Unused part = true
 can_hold Integer (Number n) = nat_lt n (2 ^ 63)
@@ -24,7 +25,8 @@ can_hold Bytes (Eight bytes) = false
 can_hold Bytes (Payload bytes) = true
 can_hold Bytes (Four bytes) = false
 
--- The kinds are by the number of the field, from 0 on, which no field has. A field of no column is skipped.
+-- The list of kinds has a place for each field number, from 0 on, which no field has. A field without a
+-- column is skipped.
 abbrev pub is_cell : List CellKind → WireField → Bool
 is_cell kinds e = option_map_or (λ kind. can_hold kind e.part) (slice_get kinds e.number) true
 
@@ -43,7 +45,7 @@ bytes_in (Eight bytes) = None
 bytes_in (Payload bytes) = Some bytes
 bytes_in (Four bytes) = None
 
--- what the fields of a number hold: of several the last one counts
+-- the value after one more field: if several fields have the number, the last one counts
 abbrev pub with_field : {X : Type 0} → (Part → Option X) → ℕ → WireField → X → X
 with_field value number e was = if e.number == number then unwrap_or (value e.part) was else was
 
@@ -109,7 +111,7 @@ IsSpelled kinds columns_of payload columns = (es : List WireField) × AreFields 
 
 -- ---- pages
 
--- what one field of a page encodes
+-- the item that one field of a page encodes
 pub data PageItem : Type 0 where
   Meta : MetaColumns → PageItem
   Volume : VolumeColumns → PageItem
@@ -133,7 +135,7 @@ BeginsWith (item ∷ items) bytes rest = (e : WireField) × (more : List ℕ) ×
 abbrev pub IsPage : List ℕ → List PageItem → Type 0
 IsPage body items = BeginsWith items body []
 
--- ---- what the tables can take
+-- ---- items that the tables can take
 
 -- the texts are UTF-8
 abbrev pub HasTexts : PageItem → Type 0
@@ -154,7 +156,7 @@ HasFlag Skipped = Unit {0}
 abbrev pub IsTyped : PageItem → Type 0
 IsTyped item = HasTexts item × HasFlag item
 
--- what SQL's integers hold
+-- the numbers fit in SQL's integers
 abbrev pub IsSmall : PageItem → Type 0
 IsSmall (Meta row) = row.next < 2 ^ 63
 IsSmall (Volume row) = (row.number < 2 ^ 63) × (row.bytes < 2 ^ 63)
@@ -187,7 +189,7 @@ pub record PagesRead : Type 0 where
   pub token : List ℕ
   -- the format of the row of meta, if there was one
   pub format : Option ℕ
-  -- whether there was a row of volumes or of attachments
+  -- true if there was a row of volumes or of attachments
   pub has_rows : Bool
 
 abbrev pub with_item : PageItem → PagesRead → PagesRead

@@ -1,4 +1,4 @@
--- What taking the items of a page makes of the tables.
+-- The tables after the items of a page are taken.
 use Rattle.std.specs.Prelude.{◌≡◌, ◌≢◌, ℕ, ◌<◌, ◌==◌, true, List, [], ◌∷◌, ◌++◌, Option, Some, None, Result, IfErr, OnOk, IsTrue}
 use Rattle.std.specs.String.{string_bytes}
 use Rattle.sqlite.specs.Effect.{Database}
@@ -20,7 +20,7 @@ use Rattle.csi_change_store.specs.declared.fault.RowsFault.TheVariants.{Malforme
 use Rattle.csi_change_store.specs.Pages.{PageItem, Meta, Volume, Attachment, Token, Skipped, VolumeColumns, AttachmentColumns, AreTyped, BeginsWith}
 use Rattle.csi_change_store.specs.Pages.{HasFlag, HasTexts, IsPage, PagesRead, node_of, noted, volume_number}
 
--- ---- rows, as they are kept
+-- ---- rows, as they are stored
 
 abbrev pub kept_volume : VolumeColumns → Row
 kept_volume row = volume_row row.number row.name row.bytes row.pool row.caps row.params
@@ -30,7 +30,8 @@ kept_attachment row = attachment_row row.number row.node row.cap (row.readonly =
 
 -- ---- the rows that are put
 
--- The next number is set; the format is noted, and the tables keep theirs.
+-- The effect of an item on the tables. A row of meta sets the next number; its format is noted, and the
+-- tables keep their own format.
 abbrev pub Puts : PageItem → Database → Database → Type 0
 Puts (Meta row) old new = SetsNext row.next old new
 Puts (Volume row) old new = AddsVolume (kept_volume row) old new
@@ -38,12 +39,12 @@ Puts (Attachment row) old new = AddsAttachment (kept_attachment row) old new
 Puts (Token token) old new = new ≡ old
 Puts Skipped old new = new ≡ old
 
--- the rows of the items, in their order
+-- the effects of the items, in their order
 abbrev pub PutsAll : List PageItem → Database → Database → Type 0
 PutsAll [] old new = new ≡ old
 PutsAll (item ∷ items) old new = (mid : Database) × Puts item old mid × PutsAll items mid new
 
--- inside a transaction of a connection that is open: what it makes of tables of our schema
+-- a call inside a transaction: its effect on tables of our schema; an open connection stays open
 pub record Extends (Effect : Database → Database → Type 0) (old new : State) : Type 0 where
   pub is_open : IsTrue old.is_open → IsTrue new.is_open
   pub committed : new.committed ≡ old.committed
@@ -51,11 +52,11 @@ pub record Extends (Effect : Database → Database → Type 0) (old new : State)
   pub effect : old.now.schema ≡ schema → Effect old.now new.now
 
 module _ {S : Type 0} (g : Ghosts S) (old new : Held S) where
-  -- the changes that are answered Ok
+  -- the effect of a call that succeeded inside a transaction
   abbrev pub ExtendsFrom : (Database → Database → Type 0) → Type 0
   ExtendsFrom Effect = HasCleanDisk (state g new) → IsTrue old.in_transaction → Extends Effect (state g old) (state g new)
 
-  -- nothing is committed, and a stop leaves what it could leave before
+  -- nothing is committed, and a stop leaves only what it could leave before
   pub record CommitsNothing : Type 0 where
     pub kept : KeepsCommitted g old new
     pub survives : LeavesNothingNew g old new
@@ -69,7 +70,7 @@ RefusesItem (Attachment row) s e = RefusesAttachment (kept_attachment row) s e
 RefusesItem (Token token) s e = ⊥
 RefusesItem Skipped s e = ⊥
 
--- the row of a field of the body, once the rows before it are there
+-- the row of a field of the body is refused, after the rows before it were put
 pub record RefusesRow (body : List ℕ) (number : Option ℕ) (s : State) (e : Error) : Type 0 where
   pub before : List PageItem
   pub item : PageItem
@@ -82,7 +83,7 @@ pub record RefusesRow (body : List ℕ) (number : Option ℕ) (s : State) (e : E
 
 -- ---- faults
 
--- Why a field gives no row that the tables can take. Of the database it says nothing.
+-- The fault of a field that gives no row that the tables can take. It is no fault of the database.
 abbrev pub IsItemFault : (PageItem → Type 0) → RowsFault → Type 0
 IsItemFault spelled Malformed = (item : PageItem) → spelled item → ⊥
 IsItemFault spelled (Untyped number) = (item : PageItem) × spelled item × (volume_number item ≡ Some number) × (HasTexts item → ⊥)
@@ -92,7 +93,7 @@ IsItemFault spelled (Refused e) = ⊥
 IsItemFault spelled (RowRefused number e) = ⊥
 IsItemFault spelled NoMemory = Unit {0}
 
--- why a number is no flag
+-- the fault of a number that is no flag
 abbrev pub IsFlagFault : ℕ → List ℕ → ℕ → RowsFault → Type 0
 IsFlagFault number node readonly Malformed = ⊥
 IsFlagFault number node readonly (Untyped other) = ⊥
@@ -110,7 +111,7 @@ IsFaultOf number error (Refused e) = (number ≡ None) × (e ≡ error) × (erro
 IsFaultOf number error (RowRefused n e) = (number ≡ Some n) × (e ≡ error) × (error ≢ SqliteFailure OutOfMemory)
 IsFaultOf number error NoMemory = error ≡ SqliteFailure OutOfMemory
 
--- the database alone gives these
+-- a fault that comes from the database or from memory
 abbrev pub IsRefusal : RowsFault → Type 0
 IsRefusal Malformed = ⊥
 IsRefusal (Untyped number) = ⊥
@@ -119,7 +120,7 @@ IsRefusal (Refused e) = Unit {0}
 IsRefusal (RowRefused number e) = Unit {0}
 IsRefusal NoMemory = Unit {0}
 
--- why the database failed, where it did
+-- the cause, if the database failed
 abbrev pub FailsWith : (Option ℕ → Error → Type 0) → State → State → RowsFault → Type 0
 FailsWith refuses old new Malformed = Unit {0}
 FailsWith refuses old new (Untyped number) = Unit {0}
@@ -132,7 +133,7 @@ FailsWith refuses old new NoMemory = Unit {0}
 abbrev pub IsRefusedAs : PageItem → State → Option ℕ → Error → Type 0
 IsRefusedAs item s number e = (volume_number item ≡ number) × RefusesItem item s e
 
--- a field of the page that encodes such an item, after fields that encode others
+-- the page has a field that encodes a bad item, after fields that encode items
 pub record IsFaultIn (body : List ℕ) (Bad : PageItem → Type 0) : Type 0 where
   pub before : List PageItem
   pub item : PageItem
@@ -140,7 +141,7 @@ pub record IsFaultIn (body : List ℕ) (Bad : PageItem → Type 0) : Type 0 wher
   pub begins : BeginsWith (before ++ item ∷ []) body rest
   pub bad : Bad item
 
--- why a page is not taken: it encodes no items, or one of them is such that the tables cannot take it
+-- the fault of a page that is not taken: it encodes no items, or the tables cannot take one of its items
 abbrev pub IsPageFault : List ℕ → RowsFault → Type 0
 IsPageFault body Malformed = (items : List PageItem) → IsPage body items → ⊥
 IsPageFault body (Untyped number) = IsFaultIn body (λ item. (volume_number item ≡ Some number) × (HasTexts item → ⊥))
@@ -158,7 +159,7 @@ module _ {S : Type 0} (g : Ghosts S) (old new : Held S) where
         → IfErr r (FailsWith (IsRefusedAs item (state g old)) (state g old) (state g new))
     pub nothing : CommitsNothing g old new
 
-  -- The items that the page encodes are put, all of them and in their order, and noted; or one is not for a
+  -- All items that the page encodes are put, in their order, and noted; or one of them is not put, for a
   -- cause.
   pub record TakesPage (body : List ℕ) (before after : PagesRead) (r : Result (Unit {0}) RowsFault) : Type 0 where
     pub ok : OnOk r ((items : List PageItem) × IsPage body items × AreTyped items × (after ≡ noted items before) × ExtendsFrom g old new (PutsAll items))

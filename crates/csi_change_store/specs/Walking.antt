@@ -1,5 +1,5 @@
--- Reading all pages of a change store: each is asked for with the token of the one before, and the first one
--- with an empty token.
+-- Reading all pages of a change store: each page is asked for with the token of the page before it, and the
+-- first page with an empty token.
 use Rattle.std.specs.Prelude.{◌≡◌, ◌≢◌, ◌⊎◌, ◌<◌, ℕ, false, List, [], ◌∷◌, ◌++◌, None, length}
 use Rattle.sqlite.specs.Held.{Held}
 use Rattle.sqlite.specs.Store.{Ghosts}
@@ -25,15 +25,15 @@ IsBodyOf received body = (reply : ReceivedReply) × (received ≡ Reply reply) �
 abbrev pub IsRefused : Received → Type 0
 IsRefused received = (reply : ReceivedReply) → received ≡ Reply reply → reply.status ≢ 0
 
--- why the frame of a token cannot be had
+-- the fault if there is no frame for a token: there is no memory for it, or its message is too long
 abbrev pub IsUnframed : List ℕ → StoreFault → Type 0
 IsUnframed token fault = (fault ≡ NoMemory) ⊎ ((fault ≡ Refused) × (MAX_MESSAGE_BYTES < length (token_bytes token)))
 
--- before any page
+-- the notes before any page
 abbrev pub no_notes : PagesRead
 no_notes = record { token = []; format = None; has_rows = false }
 
--- the items of one page more
+-- the notes after the items of one more page
 abbrev pub noted_page : List PageItem → PagesRead → PagesRead
 noted_page items notes = noted items (record notes { token = [] })
 
@@ -42,7 +42,7 @@ module _ {P : Type 0} (exchanged : P → P → List ℕ → Received → Type 0)
   abbrev pub GivesPage : List ℕ → List ℕ → Type 0
   GivesPage token body = (received : Received) × exchanged old new (read_frame token) received × IsBodyOf received body
 
-  -- why it gives none
+  -- the fault if the exchange gives no page
   abbrev pub IsPageless : List ℕ → ReadFault → Type 0
   IsPageless token (Unasked fault) = (new ≡ old) × IsUnframed token fault
   IsPageless token (Unanswered received) = exchanged old new (read_frame token) received × IsRefused received
@@ -50,7 +50,7 @@ module _ {P : Type 0} (exchanged : P → P → List ℕ → Received → Type 0)
   IsPageless token Endless = ⊥
   IsPageless token (Unkept e) = ⊥
 
-  -- why no page is read after these notes
+  -- the fault if no page is read after these notes
   abbrev pub IsFaultAfter : PagesRead → ReadFault → Type 0
   IsFaultAfter notes (Unasked fault) = IsPageless notes.token (Unasked fault)
   IsFaultAfter notes (Unanswered received) = IsPageless notes.token (Unanswered received)
@@ -60,7 +60,7 @@ module _ {P : Type 0} (exchanged : P → P → List ℕ → Received → Type 0)
 
 -- ---- all pages
 
--- a further page has a token
+-- if another page follows, there is a token
 abbrev pub HasNextPage : List (List PageItem) → PagesRead → Type 0
 HasNextPage [] notes = Unit {0}
 HasNextPage (items ∷ pages) notes = notes.token ≢ []
@@ -96,7 +96,7 @@ module _ {S : Type 0} (g : Ghosts S) (a b : Held S) {P : Type 0} (exchanged : P 
     pub typed : AreTyped (all_items pages)
     pub puts : ExtendsFrom g a b (PutsAll (all_items pages))
 
--- why not all pages are read: some were, and then came the fault
+-- the fault if not all pages are read: some pages were read, and then came the fault
 pub record IsReadFault {P : Type 0} (exchanged : P → P → List ℕ → Received → Type 0) (old new : P) (fault : ReadFault) : Type 0 where
   pub pages : List (List PageItem)
   pub notes : PagesRead

@@ -1,4 +1,4 @@
--- The parts of a request, as the lines of the table speak of them.
+-- The parts of a request that the lines of the table look at.
 use Rattle.std.specs.Prelude.{◌++◌, Bool, List, [], ◌∷◌, Option, None, Some, if◌then◌else◌, drop, option_map, option_to_list, take}
 use Rattle.csi_types.specs.Checks.{Parts, lines, terms}
 use Rattle.csi_types.specs.Maps.{TextMap}

@@ -1,4 +1,4 @@
--- What comes of waiting for the reply to a call, read by read.
+-- The results of waiting for the reply to a call, read by read.
 use Rattle.std.proofs.Common.{◌≡◌, ◌≢◌, ℕ, ◌-◌, ◌≤◌, ◌<◌, List, [], ◌∷◌, ◌++◌, length, take, drop, Option, Some, None, refl, sym, ap, subst, ◌∙◌, append-nil, length-drop, arith, inl, inr}
 use Rattle.std.specs.Prelude.{IsNone, IfSome}
 use Rattle.std.specs.Io.KnownBytes.{Consumes}
@@ -106,7 +106,7 @@ nothing_more a b c read buf n h e k =
     subst (λ (x : List ℕ). Consumes a c x) (append-nil read)
     (Consumes-trans a b c read [] h (subst (λ (x : List ℕ). Consumes b c x) (ap (λ (m : ℕ). take m buf) e) k))
 
--- ---- what comes of it
+-- ---- the result
 
 pub nothing_came : (read : List ℕ) (AtEnd : Type 0) (s : ReplyFramerState) → Gathered read AtEnd s → s.fault ≡ None → ¬ BeginsReply s.held → (read ≡ []) × AtEnd
 nothing_came read AtEnd s g none frameless = g.nothing none (λ f. frameless (f.0, [], f.1, f.2 ∙ sym (append-nil (reply f.0))))

@@ -1,4 +1,4 @@
--- What one step makes of a run that shows replies.
+-- A run that shows replies, after one step.
 use Rattle.std.proofs.Common.{◌≡◌, ◌≢◌, ℕ, ◌+◌, Bool, List, [], ◌∷◌, ◌++◌, ◌<◌, ◌≤◌, length, take, drop, Option, Some, None, refl, sym, ap, subst, ◌∙◌, append_assoc, append-nil, length-append, length-drop, arith, inr, Err, Ok}
 use Rattle.std.specs.Prelude.{IfSome, IsNone, ◌||◌, true, false, ⊤}
 use Rattle.std.specs.Io.KnownBytes.{Appends, Keeps}
@@ -95,7 +95,7 @@ prompt_in method read piece s a b refused h one = record {
   unfinished = h.unfinished;
 }
 
--- after the reply that is whole there is less than a piece
+-- after the whole reply there is less than a piece
 few_left : (old new : ReplyFramerState) (rest : List ℕ) (n : ℕ) → old.fault ≡ None → IsUnfinished old.held → ReplyFed old new rest n → 0 < length rest → length rest ≤ 4096 → length (drop n rest) < 4096
 few_left old new rest n none open_ f some one = omega (arith, one, length-drop n rest, some_fed Replies reply_part reply_place old new rest n none open_ f some)
 
@@ -110,14 +110,14 @@ fed_fault method read old new rest n a b refused f h fed one is =
       prompt_in method read rest old a b refused h one,
     )
 
--- of the reply that is whole this was written, after all replies before it
+-- these lines of the whole reply were written, after all replies before it
 wrote_last : (method : Option Method) (read : List ℕ) (old new : ReplyFramerState) (rest : List ℕ) (n : ℕ) (a b c : Option (List ℕ)) (refused : Bool) (r : ReplyBytes) (last : List ℕ) → (h : Live method read old a b refused) → ReplyFed old new rest n → new.held ≡ reply r
     → Appends b c last → Wrote method (read ++ rest) a c h.replies (reply r ++ drop n rest) last
 wrote_last method read old new rest n a b c refused r last h fed is k =
     wrote_then method (read ++ rest) a b c h.replies (reply r ++ drop n rest) last
     (re_read method read a b h.replies old.held [] h.wrote (read ++ rest) (reply r ++ drop n rest) (split method read old new rest n a b refused h fed ∙ ap (λ (x : List ℕ). frames h.replies ++ (x ++ drop n rest)) is)) k
 
--- the reply that is whole was not shown, or not whole, or its body is bad
+-- the whole reply was not shown, or shown in part, or its body is bad
 pub fed_halted : (X : Type 0) (method : Option Method) (read : List ℕ) (old new : ReplyFramerState) (rest : List ℕ) (n : ℕ) (a b c : Option (List ℕ)) (refused : Bool) (r : ReplyBytes) (why : Halt) → Live method read old a b refused → ReplyFed old new rest n → 0 < length rest → length rest ≤ 4096
     → IsReply r → new.held ≡ reply r → ShowsOne {X = X} method r b c (Err why) → Ended method (read ++ rest) ⊥ a c (end_of why)
 fed_halted X method read old new rest n a b c refused r halt.BadBody h fed some one good is k =
@@ -178,8 +178,7 @@ live_start method s a e open_ = subst (λ (x : ReplyFramerState). Live method []
 pub read_failed : (method : Option Method) (read : List ℕ) (AtEnd : Type 0) (s : ReplyFramerState) (a b : Option (List ℕ)) (refused : Bool) → Live method read s a b refused → Ended method read AtEnd a b ReadFailed
 read_failed method read AtEnd s a b refused h = (h.replies, s.held, h.wrote, h.unfinished)
 
--- a fact that does not mention the end of the input holds at any offset, and so does a fact shown at this
--- offset
+-- the end of a run stays true with a weaker statement about the end of the input
 pub ended_at : (method : Option Method) (read : List ℕ) (Was AtEnd : Type 0) (a b : Option (List ℕ)) (end : ShowEnd) → (Was → AtEnd) → Ended method read Was a b end → Ended method read AtEnd a b end
 ended_at method read Was AtEnd a b (Done refused) f h = (h.0, h.1, h.2, f h.3)
 ended_at method read Was AtEnd a b (Malformed x) f h = (h.0, h.1, h.2, h.3, (λ e. f (h.4 e)), h.5)

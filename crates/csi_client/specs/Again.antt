@@ -5,7 +5,7 @@ use Rattle.envelope.specs.declared.reply_fault.ReplyWhy.TheVariants as why
 use Rattle.csi_client.specs.declared.receiving.Received.{Received}
 use Rattle.csi_client.specs.declared.receiving.Received.TheVariants.{Reply, Nothing, Malformed, Failed, NoMemory}
 
--- whether the bytes of a reply ended before it was whole
+-- true if the bytes of a reply ended before it was whole
 abbrev pub is_end : ReplyWhy → Bool
 is_end why.BadStatus = false
 is_end why.BadTextLength = false
@@ -27,7 +27,7 @@ abbrev pub one_if : Bool → ℕ
 one_if true = 1
 one_if false = 0
 
--- an unanswered exchange is counted, and an answered one
+-- 1 for an unanswered exchange, and 1 for an answered one
 abbrev pub unanswered_count : Received → ℕ
 unanswered_count r = one_if (is_unanswered r)
 
@@ -40,8 +40,8 @@ AreUnanswered exchanged first now frame zero = now ≡ first
 AreUnanswered {L} exchanged first now frame (suc n) =
     (before : L) × (received : Received) × AreUnanswered exchanged first before frame n × exchanged before now frame received × (is_unanswered received ≡ true)
 
--- The frame is sent at most so often, and all exchanges but the last are unanswered. What the last one gives
--- is the outcome, which is unanswered only after all of them.
+-- The frame is sent at most `tries` times, and all exchanges but the last are unanswered. The result of the
+-- last exchange is the outcome; it is unanswered only if all tries were used.
 pub record IsSentAgain {L : Type 0} (exchanged : L → L → List ℕ → Received
     → Type 0) (first now : L) (frame : List ℕ) (tries : ℕ) (outcome : Received) : Type 0 where
   pub earlier : ℕ
@@ -55,7 +55,7 @@ pub record IsSentAgain {L : Type 0} (exchanged : L → L → List ℕ → Receiv
 abbrev pub longest_pause : ℕ → ℕ
 longest_pause tried = min (100 * 2 ^ (tried - 1)) 2000
 
--- A pause before a further try, in milliseconds: half of the longest, and of the other half as much as chance
--- chooses.
+-- A pause before a further try, in milliseconds: half of the longest pause, and a random part of the other
+-- half.
 abbrev pub pause : ℕ → ℕ → ℕ
 pause tried chance = longest_pause tried / 2 + chance % (longest_pause tried / 2 + 1)

@@ -1,4 +1,4 @@
--- What the client prints of a response, a line a part.
+-- The lines that the client prints for a response, one line for each part.
 use Rattle.std.specs.Prelude.{ℕ, ℤ, Bool, true, false, List, [], ◌∷◌, ◌++◌, Option, Some, None, codes}
 use Rattle.std.specs.Fmt.{signed_decimal}
 use Rattle.std.specs.FinMap.{entries}
@@ -9,7 +9,7 @@ use Rattle.csi_types.specs.declared.volume.Entry.{Entry}
 use Rattle.csi_types.specs.declared.volume.VolumeInfo.{VolumeInfo}
 use Rattle.csi_client.specs.Escape.{escaped}
 
--- of each, in order
+-- the texts of all items, in order
 abbrev pub each : {A : Type 0} → (A → List ℕ) → List A → List ℕ
 each f [] = []
 each f (x ∷ xs) = f x ++ each f xs
@@ -41,7 +41,7 @@ abbrev pub confirmed_line : Option Confirmed → List ℕ → List ℕ
 confirmed_line None message = codes "not confirmed " ++ escaped message ++ codes "\n"
 confirmed_line (Some c) message = codes "confirmed\n"
 
--- after a first one, each with a comma before it
+-- the nodes after the first one, each with a comma before it
 abbrev pub further : List (List ℕ) → List ℕ
 further nodes = each (λ n. codes "," ++ escaped n) nodes
 

@@ -29,7 +29,7 @@ ShowsOne method r held holds (Err halt.BadBody) = IsBad method r × Appends held
 ShowsOne method r held holds (Err halt.WriteFailed) = (lines : List ℕ) × AreLinesOf method r lines × WrotePrefix held holds lines
 ShowsOne method r held holds (Err halt.NoMemory) = Keeps held holds
 
--- All that was read is shown and given up, or held and no reply yet.
+-- All bytes that were read are either replies that were shown, or held by the framer as an unfinished reply.
 pub record Live (method : Option Method) (read : List ℕ) (s : ReplyFramerState) (held holds : Option (List ℕ)) (refused : Bool) : Type 0 where
   pub replies : List ReplyBytes
   pub wrote : Wrote method read held holds replies s.held []
@@ -44,11 +44,11 @@ Steps method read rest s held holds refused (Fed n) = Live method (read ++ take 
 Steps method read rest s held holds refused (Faulty f) = Ended method (read ++ rest) ⊥ held holds (Malformed f)
 Steps method read rest s held holds refused (Halted h) = Ended method (read ++ rest) ⊥ held holds (end_of h)
 
--- a framer that takes more bytes
+-- the framer takes more bytes
 abbrev pub IsReady : ReplyFramerState → Type 0
 IsReady s = (s.fault ≡ None) × IsUnfinished s.held
 
--- Of this many bytes it took some, counts them, and takes more.
+-- The framer took `n` of `len` bytes, and takes more.
 pub record Advances (old new : ReplyFramerState) (len n : ℕ) : Type 0 where
   pub count : new.past + length new.held ≡ old.past + length old.held + n
   pub within : n ≤ len

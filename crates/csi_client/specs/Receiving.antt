@@ -1,4 +1,4 @@
--- What comes of waiting for the reply to a call.
+-- The results of waiting for the reply to a call.
 use Rattle.std.specs.Prelude.{ℕ, ◌≡◌, ◌⊎◌, ◌<◌, ◌≤◌, List, [], ◌++◌, length, Option, Some, None, Result, Ok, Err}
 use Rattle.std.specs.Io.KnownBytes.{Consumes, IsAtEnd}
 use Rattle.envelope.specs.declared.reply_fault.ReplyFault.{ReplyFault}
@@ -15,12 +15,12 @@ use Rattle.csi_client.specs.declared.receiving.TheConstants.{PIECE_BYTES}
 abbrev pub reply_of : ReceivedReply → ReplyBytes
 reply_of r = record { status = r.status; text = r.text.items; body = r.body.items }
 
--- the bytes have this fault; that they end inside a frame is one only at the end of the input
+-- the bytes have this fault; an early end is a fault only at the end of the input
 abbrev pub HasFault : List ℕ → Type 0 → ReplyFault → Type 0
 HasFault bytes AtEnd f = FaultAt bytes f.why f.at × (f.why ≡ EndOfInput → AtEnd)
 
--- The bytes begin with this reply, and fewer bytes than a piece follow it: no piece is read after the
--- reply's last.
+-- The bytes begin with this reply, and fewer bytes than a piece follow it: no piece is read after the last
+-- piece of the reply.
 abbrev pub BeginsWith : List ℕ → ReplyBytes → Type 0
 BeginsWith read r = (more : List ℕ) × IsReply r × (read ≡ reply r ++ more) × (length more < PIECE_BYTES)
 
@@ -32,12 +32,12 @@ pub record IsPrompt (read : List ℕ) : Type 0 where
   pub unfinished : IsUnfinished before
   pub one : length piece ≤ PIECE_BYTES
 
--- They are a proper prefix of a reply. Each read gave at least one byte, so there were at most as many
+-- The bytes are a proper prefix of a reply. Each read gave at least one byte, so there were at most as many
 -- reads as the longest reply has bytes.
 abbrev pub FallsShort : List ℕ → Type 0
 FallsShort read = IsUnfinished read × (length read < MAX_REPLY_BYTES)
 
--- What the bytes that were read are: they begin with the first reply, or with none.
+-- The result, by the bytes that were read: they begin with the first reply, or with no reply.
 abbrev pub Comes : List ℕ → Type 0 → Received → Type 0
 Comes read AtEnd (Reply r) = BeginsWith read (reply_of r)
 Comes read AtEnd Nothing = (read ≡ []) × AtEnd
@@ -49,7 +49,7 @@ Comes read AtEnd NoMemory = (read ≡ []) ⊎ ((r : ReplyBytes) × BeginsWith re
 abbrev pub Receives : Option (List ℕ) → Option (List ℕ) → Received → Type 0
 Receives unread left received = (read : List ℕ) × Consumes unread left read × Comes read (IsAtEnd left) received
 
--- All that was read is held, and may yet become a reply.
+-- All bytes that were read are held, and may yet become a reply.
 pub record IsGathering (read : List ℕ) (s : ReplyFramerState) : Type 0 where
   pub past : s.past ≡ 0
   pub held : s.held ≡ read
@@ -60,11 +60,11 @@ pub record IsGathering (read : List ℕ) (s : ReplyFramerState) : Type 0 where
 pub record Gathered (read : List ℕ) (AtEnd : Type 0) (s : ReplyFramerState) : Type 0 where
   pub rest : List ℕ
   pub whole : read ≡ s.held ++ rest
-  -- the last piece has some that it needs
+  -- the last piece has some bytes that the framer needs
   pub few : length rest < PIECE_BYTES
   pub prompt : IsPrompt read
   pub faulty : (f : ReplyFault) → s.fault ≡ Some f → HasFault read AtEnd f
-  -- without a reply or a fault nothing came
+  -- if there is no reply and no fault, no byte came
   pub nothing : s.fault ≡ None → ¬ IsReplyFrame s.held → (read ≡ []) × AtEnd
 
 abbrev pub Gathers : {X E : Type 0} → Option (List ℕ) → Option (List ℕ) → ReplyFramerState → Result X E → Type 0

@@ -17,7 +17,7 @@ use Rattle.csi_client.specs.declared.showing.ShowEnd.{ShowEnd}
 use Rattle.csi_client.specs.declared.showing.ShowEnd.TheVariants.{Done, Malformed, BadBody, ReadFailed, WriteFailed, NoMemory}
 use Rattle.csi_client.specs.Replies.{first_line, body_lines}
 
--- the call was done, and the body is no response of its method, which shows at this byte
+-- the call was done, and the body is no response of its method; the fault is at this byte
 pub record IsBadAt (method : Option Method) (r : ReplyBytes) (at : ℕ) : Type 0 where
   pub called : Method
   pub is : method ≡ Some called
@@ -41,11 +41,11 @@ pub record IsShown (method : Option Method) (r : ReplyBytes) (lines : List ℕ) 
   pub readable : ¬ IsBad method r
   pub lines_are : lines ≡ first_line code r ++ body_lines method r
 
--- the lines that are written of a reply: of one whose body is bad the first one alone
+-- the lines that are written for a reply; for a reply with a bad body only the first line
 abbrev pub AreLinesOf : Option Method → ReplyBytes → List ℕ → Type 0
 AreLinesOf method r lines = IsShown method r lines ⊎ (IsBad method r × (lines ≡ first_line code.Ok r))
 
--- of each reply, in order
+-- the lines of all replies, in order
 abbrev pub AreShown : Option Method → List ReplyBytes → List ℕ → Type 0
 AreShown method [] lines = lines ≡ []
 AreShown method (r ∷ rs) lines = (first : List ℕ) × (more : List ℕ) × IsShown method r first × AreShown method rs more × (lines ≡ first ++ more)
@@ -85,12 +85,13 @@ pub record IsPrompt (read : List ℕ) : Type 0 where
   pub parts : before ≡ frames replies ++ rest
   pub unfinished : IsUnfinished rest
 
--- The rest begins with this reply, the last one looked at, and no piece is read after the reply's last.
+-- The rest begins with this reply, the last one looked at, and no piece is read after the last piece of the
+-- reply.
 abbrev pub IsLast : List ℕ → ReplyBytes → Type 0
 IsLast rest r = (more : List ℕ) × IsReply r × (rest ≡ reply r ++ more) × (length more < PIECE_BYTES)
 
--- How a run ends that read these bytes, and found the end of the input or not; a writer that fails holds of
--- the lines of the last reply a prefix.
+-- The end of a run that read these bytes. `AtEnd` states that it found the end of the input. A writer that
+-- fails holds a prefix of the lines of the last reply.
 abbrev pub Ended : Option Method → List ℕ → Type 0 → Option (List ℕ) → Option (List ℕ) → ShowEnd → Type 0
 Ended method read AtEnd held holds (Done refused) = (rs : List ReplyBytes) × Wrote method read held holds rs [] [] × (refused ≡ has_refusal rs) × AtEnd
 Ended method read AtEnd held holds (Malformed f) =

@@ -27,7 +27,7 @@ tries_are (x ∷ xs) =
     map-append (λ (t : ClientTry). t.made) (map (try_of x.client x.is_last) (tries_in x.exchange)) (client_tries_of xs)
     ∙ ap₂ (λ (a b : List Try). a ++ b) (made_by x.client x.is_last (tries_in x.exchange)) (tries_are xs)
 
--- what `csi_server::laws::tries` says
+-- the law `csi_server::laws::tries`
 pub record OfCalls (config : Config) : Type 0 where
   pub after : (s : State) (session : List Exchange) → state_after (volumes config) s (events_of session) ≡ after_tries config s (tries_of session)
   pub heard : (s : State) (session : List Exchange) → heard_of config s session ≡ map reported (reported_of config s (tries_of session))

@@ -1,4 +1,4 @@
--- Which change each request makes, and that it changes the State.
+-- The change that each request makes. Each change changes the State.
 use Rattle.std.proofs.Common.{◌≡◌, ◌∙◌, ap, sym, subst, cond, refl, arith, ℕ, ◌==◌, List, [], ◌∷◌, find, Bool, true, false, not, nat_lt, nat_le, ◌&&◌, ◌||◌, sum_by, Option, Some, None, eq-eqb, eqb-true}
 use Rattle.std.specs.Cmp.{nat_cmp_total}
 use Rattle.std.specs.FinMap as fin
@@ -232,7 +232,7 @@ does config s (request.Modify r) c inv e = modifies config s c r e
 
 -- ---- a change changes the State
 
--- an inserted value is there
+-- an inserted value is in the map
 modified_there : (s : State) (n : ℕ) (m : TextMap) (v : Volume) → fin.get s.volumes n ≡ Some v → fin.get (changed s (SetMutable n m)).volumes n ≡ Some (with_mutable m v)
 modified_there s n m v e =
     ap (λ (o : Option Volume). fin.get (mutable_set s.volumes n m o) n) e

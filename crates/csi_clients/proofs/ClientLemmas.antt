@@ -1,4 +1,4 @@
--- Functions that are set at one client, and what a session leaves, try by try.
+-- Functions that are set at one client, and the States that a session leaves, try by try.
 use Rattle.std.proofs.Common.{◌≡◌, ◌∙◌, ◌⊎◌, inl, inr, ap, sym, subst, cond, refl, ℕ, ◌==◌, List, [], ◌∷◌, ◌++◌, Bool, true, false, if◌then◌else◌, eq-eqb, eqb-true}
 use Rattle.std.specs.List.{AllByRecursion}
 use Rattle.csi_config.specs.declared.config.Config.{Config}
@@ -21,7 +21,7 @@ set_there f c v d far = go (d == c) refl
     go true t = absurd (far (eqb-true d c t))
     go false t = refl
 
--- of this client, and of any other
+-- a fact of this client and of any other client is a fact of all clients
 pub by_client : (P : ℕ → Type 0) (c : ℕ) → P c → ((d : ℕ) → (d ≡ c → ⊥) → P d) → (d : ℕ) → P d
 by_client P c here there d = go (d == c) refl
   where
@@ -33,7 +33,7 @@ by_client P c here there d = go (d == c) refl
 pub set_same : {A : Type 0} (f : ℕ → A) (c : ℕ) (v : A) → v ≡ f c → set f c v ≡ f
 set_same f c v e = λ i d. by_client (λ d. set f c v d ≡ f d) c (set_here f c v ∙ e) (λ d far. set_there f c v d far) d i
 
--- ---- what a session leaves
+-- ---- the States that a session leaves
 
 abbrev pub AreStill : Config → State → List Try → Type 0
 AreStill config x ts = AllByRecursion (λ v. after_try config x v ≡ x) ts

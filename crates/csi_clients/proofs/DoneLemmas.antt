@@ -17,11 +17,11 @@ use Rattle.csi_clients.specs.Histories.{heard_if}
 use Rattle.csi_clients.specs.Linearizability.{Operation}
 use Rattle.csi_clients.proofs.ChangeLemmas.{plan_still}
 
--- a request that is taken again is answered the same, and moves nothing
+-- a request that is taken again has the same answer, and changes nothing
 abbrev pub Again : Config → Type 0
 Again config = (s : State) (r : Request) → IsInvariant config s → checked r ≡ None → step config (step config s r).1 r ≡ step config s r
 
--- what a request has done stays done, where another leaves its object alone
+-- the change that a request made stays, if another request leaves its object alone
 abbrev pub Stays : Config → Type 0
 Stays config = (s : State) (q r : Request) (body : List ℕ) → IsInvariant config s → checked q ≡ None → LeavesAlone s q r → step config s r ≡ (Says body, s)
     → step config (step config s q).1 r ≡ (Says body, (step config s q).1)
@@ -36,7 +36,7 @@ read_stays config s r e = moved_none s (plan config s r).change (reported_of (pl
 pub denied_stays : (config : Config) (s : State) (r : Request) (why : Reason) → (step config s r).0 ≡ Denies why → (step config s r).1 ≡ s
 denied_stays config s r why e = ap (λ (w : Report). moved s (after s (plan config s r).change) w) e
 
--- ---- where a client is
+-- ---- the status of a client
 
 abbrev pub operation : ℕ → Request → Operation
 operation c r = record { client = c; request = r }
@@ -57,7 +57,7 @@ abbrev pub IsDoneFirst : Config → State → List Request → List ℕ → Type
 IsDoneFirst config x [] body = ⊥
 IsDoneFirst config x (r ∷ rs) body = (is_read r ≡ false) × (step config x r ≡ (Says body, x))
 
--- a client that is gone asks nothing again, so of its request nothing is needed
+-- a client that is gone makes no request again, so nothing is needed for its request
 abbrev pub IsDoneOf : Config → State → Client → List ℕ → Type 0
 IsDoneOf config x k body = ((k.is_open ≡ true) × IsDoneFirst config x k.rest body) ⊎ ((k.is_gone ≡ true) × (first : Request) × (k.rest ≡ first ∷ without_first k.rest))
 

@@ -38,7 +38,7 @@ module _ (config : Config) (s : State) (r q : Request) where
     second true b m = apart
     second false b m = elim m as (λ _. LeavesFirstAlone (step config s r).1 q (cond b (q ∷ []) [])) [ inl o ↦ absurd (cc (o)) | inr o ↦ absurd (cc (o)) ]
 
-    -- once the second client is answered
+    -- after the second client is answered
     third : (x : State) (d : ℕ) → d ≢ 0 → (a b : Bool) → (d == 0) ≡ a → IsUnsettled (cond b finished (cond a (waiting r) (idle r q a b))) false
         → LeavesFirstAlone x r (cond b finished (cond a (waiting r) (idle r q a b))).rest
     third x d far true b e m = absurd (far (eqb-true d 0 e))
@@ -75,12 +75,12 @@ module _ (config : Config) (s : State) (r q : Request) where
 
   -- ---- a client that gives up
 
-  -- a client is settled once the first one is gone
+  -- a client is settled after the first client is gone
   is_settled : (a b : Bool) → IsUnsettled (cond a (gone r) (idle r q a b)) (cond a false false) → ⊥
   is_settled true b m = elim m as (λ _. ⊥) [ inl o ↦ absurd (cc (o)) | inr o ↦ absurd (cc (o)) ]
   is_settled false b m = elim m as (λ _. ⊥) [ inl o ↦ absurd (cc (o)) | inr o ↦ absurd (cc (o)) ]
 
-  -- what each client hears in one session, and in two
+  -- the answers that each client hears in one session, and in two
   hears : (reported : Report) (a b : Bool) → cond b (reported ∷ []) [] ≡ (cond {A = List Report} a [] [] ++ (cond b (reported ∷ []) [] ++ [])) ++ []
   hears reported true true = refl
   hears reported true false = refl

@@ -31,13 +31,14 @@ module _ (config : Config) where
     pub left : ℕ → List Request
     pub unheard : ℕ → List Report
 
-  -- from here on the requests that are owed are taken once each
+  -- from this moment on the requests that are owed are taken once each
   record Goes (x : State) (cs : Clients) (st : Status) (z : Unfinished) (heard : ℕ → List Report) (t : State) (order : List Operation) : Type 0 where
     pub each : (c : ℕ) → requests_of c order ++ z.left c ≡ owed (st c) (cs c).rest
     pub reported : (c : ℕ) → heard c ++ z.unheard c ≡ said (st c) ++ answers_in config x c order
     pub last : t ≡ after_operations config x order
 
-  -- and the order keeps the real-time order of the tries to come, in this session and in later ones
+  -- as `Goes`, and the order keeps the real-time order of the tries to come, in this session and in later
+  -- ones
   record Ends (x : State) (cs : Clients) (refusals : Refusals) (st : Status) (heard : ℕ → List Report) (t : State) (ts : List ClientTry) (sessions : List (List ClientTry)) : Type 0 where
     pub order : List Operation
     pub unfinished : Unfinished
@@ -95,17 +96,17 @@ module _ (config : Config) where
     over = λ c gone sure. g.over c gone;
   }
 
-  -- what a try does
+  -- the effect of a try
   record Went (o : Option ℕ) (x : State) (cs : Clients) (st : Status) (y : State) (ds : Clients) (part : ℕ → List Report) : Type 0 where
     pub to : Status
     pub holds : Holds y ds to
-    -- of another client nothing changes
+    -- nothing changes for another client
     pub others : (d : ℕ) → (o ≡ Some d → ⊥) → to d ≡ st d
     pub taken : List Operation
     pub mine : (d : ℕ) → (o ≡ Some d → ⊥) → (order : List Operation) → requests_of d (taken ++ order) ≡ requests_of d order
     pub goes : (z : Unfinished) (heard : ℕ → List Report) (t : State) (order : List Operation) → Goes y ds to z heard t order → Goes x cs st z (λ c. part c ++ heard c) t (taken ++ order)
 
-  -- a client that made no try takes nothing by it
+  -- the try takes no request of another client
   over_taken : (o : Option ℕ) (x : State) (cs : Clients) (st : Status) (y : State) (ds : Clients) (part : ℕ → List Report) (w : Went o x cs st y ds part) (order : List Operation) (a : ℕ) → (o ≡ Some a → ⊥)
       → requests_of a order ≡ [] → requests_of a (w.taken ++ order) ≡ []
   over_taken o x cs st y ds part w order a far none = w.mine a far order ∙ none
@@ -275,7 +276,7 @@ module _ (config : Config) where
     still_gone true g e = refl
     still_gone false g e = e
 
-    -- a request that took effect is done, of a client that has tried
+    -- a request that took effect is done, if its client has tried
     done_of : (is_last g : Bool) (y : State) (rs : List Request) (body : List ℕ) → IsDoneFirst config y rs body → IsDoneOf config y (record { rest = rs; is_open = cond is_last false true; is_gone = cond is_last true g }) body
     done_of true g y rs body done = let one = first_of y rs body done in inr (refl, one.0, one.1)
     done_of false g y rs body done = inl (refl, done)
@@ -363,7 +364,7 @@ module _ (config : Config) where
     abbrev Session : State → Clients → Refusals → Status → List ClientTry → (ℕ → List Report) → State → List (List ClientTry) → Type 0
     Session x cs refusals st ts later t more = Ends x cs refusals st (λ c. heard_of config x c ts ++ later c) t ts more
 
-    -- a try and those after it
+    -- a try, and the tries after it
     abbrev From : State → Clients → Refusals → Status → Option ℕ → Try → Bool → List ClientTry → (ℕ → List Report) → State → List (List ClientTry) → Type 0
     From x cs refusals st o f is_last ts later t more =
         Ends x cs refusals st (λ c. (heard_by config x c o f ++ heard_of config (after_try config x f) c ts) ++ later c) t (record { client = o; made = f; is_last = is_last } ∷ ts) more
@@ -375,7 +376,7 @@ module _ (config : Config) where
         let here : (cs b).is_gone ≡ true = subst (λ (a : ℕ). (cs a).is_gone ≡ true) (sym (same_some b c is)) gone in
         absurd (cc (separate.0, here))
 
-    -- so it is as before, and so is whether its request is refused
+    -- a client that did not make the try is as before, and its request is refused or not as before
     same_client : (cs : Clients) (o : Option ℕ) (e : Ending) (is_last : Bool) (c : ℕ) → (o ≡ Some c → ⊥) → clients_after_try cs o e is_last c ≡ cs c
     same_client cs None e is_last c far = refl
     same_client cs (Some b) e is_last c far = set_there cs b (gone_if is_last (client_after (cs b) e)) c (λ is. far (ap Some (sym is)))
@@ -414,7 +415,7 @@ module _ (config : Config) where
           over = over;
         }
 
-    -- a try that takes no effect, and those after it
+    -- a try that takes no effect, and the tries after it
     quiet_then : (x : State) (cs : Clients) (refusals : Refusals) (st : Status) (c : ℕ) (f : Try) (is_last : Bool) → (gone_if is_last (client_after (cs c) f.end)).rest ≡ (cs c).rest
         → (IsInvoked (cs c) → IsInvoked (gone_if is_last (client_after (cs c) f.end))) → ((cs c).is_gone ≡ true → (gone_if is_last (client_after (cs c) f.end)).is_gone ≡ true) → (ts : List ClientTry) (later : ℕ → List Report) (t : State) (more : List (List ClientTry))
         → Holds x cs st → IsSeparate x cs refusals (Some c) f → Session x (with_client cs c (gone_if is_last (client_after (cs c) f.end))) (refusals_after refusals (Some c) f.end) st ts later t more
@@ -454,7 +455,8 @@ module _ (config : Config) where
     swapped : (x : State) (q r : Request) → LeaveEachOtherAlone x q r → LeaveEachOtherAlone x r q
     swapped x q r a = (a.1, a.0)
 
-    -- another client, after a try of its own
+    -- the refused request and the request of another client still leave each other's objects alone, after a
+    -- try of that client
     still_apart : (x : State) (cs : Clients) (refusals : Refusals) (c : ℕ) (r : Request) (rs : List Request) (d : ℕ) (f : Try) (is_last : Bool) → (cs c).rest ≡ r ∷ rs → refusals c ≡ true → (c ≡ d → ⊥)
         → (IsUnsettled (cs d) (refusals d) → LeavesFirstAlone x r (cs d).rest) → IsSeparate x cs refusals (Some d) f → IsUnsettled (gone_if is_last (client_after (cs d) f.end)) (is_refused (refusals d) f.end)
         → LeavesFirstAlone x r (gone_if is_last (client_after (cs d) f.end)).rest
@@ -498,7 +500,7 @@ module _ (config : Config) where
       module _ (ts : List ClientTry) (x : State) (cs : Clients) (refusals : Refusals) (st : Status) (c : ℕ) (r : Request) (rs : List Request) (h : Holds x cs st) (still : AreStill config x (tries_made ts))
           (is : u ≡ (step config x r).1) (d : IsWaiting x cs refusals st c r rs)
           (next : (ds : Clients) (new : Refusals) (to : Status) → Holds x ds to → AreSeparateFrom config x ds new ts → IsWaiting x ds new to c r rs → GoOn u (clients_after ds ts) later t rest_of → Session x ds new to ts later t rest_of) where
-        -- the request was taken since, so its change is in the State already
+        -- the request was taken in the meantime, so its change is in the State already
         settled : (o : Option ℕ) (q : Request) (e : Ending) (is_last : Bool) → IsSeparate x cs refusals o (record { request = q; end = e })
             → AreSeparateFrom config (moved_by config x q e) (clients_after_try cs o e is_last) (refusals_after refusals o e) ts → moved_by config x q e ≡ x
             → GoOn u (clients_after (clients_after_try cs o e is_last) ts) later t rest_of → (step config x r).1 ≡ x → From x cs refusals st o (record { request = q; end = e }) is_last ts later t rest_of

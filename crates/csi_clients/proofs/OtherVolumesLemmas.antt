@@ -47,7 +47,7 @@ use Rattle.csi_clients.proofs.StaysLemmas.{Keep, IsFree, is_free, got_kept, othe
 
 -- ---- one volume
 
--- the volume that a change is about
+-- the volume that a change works on
 abbrev about : Change → ℕ
 about (AddVolume v) = v.number
 about (RemoveVolume n) = n
@@ -56,7 +56,7 @@ about (Detach n node) = n
 about (DetachAll n) = n
 about (SetMutable n m) = n
 
--- the volume of a number is the same in two States, and where it is attached
+-- the volume with a number and its attachments are the same in two States
 record IsSame (s t : State) (n : ℕ) : Type 0 where
   pub volume : fin.get t.volumes n ≡ fin.get s.volumes n
   pub rows : (d : Text) → fin.get t.attachments (n, d) ≡ fin.get s.attachments (n, d)
@@ -113,11 +113,11 @@ not_about s q c id n number (Sets r k v is change numbered_so there has) away e 
 
 -- ---- a volume under a name
 
--- the volume of a name after a request of another name
+-- the volume with a name after a request on another name
 same_named : (config : Config) (s : State) (q : Request) (c : Change) (name : Text) → IsInvariant config s → IsInvariant config (changed s c) → Does s q c → IsOfOtherName s name q → named (changed s c) name ≡ named s name
 same_named config s q c name inv later d away = by_name (named s name) refl
   where
-    -- the volume of the name is not touched
+    -- the volume with the name is not touched
     untouched : (n : ℕ) (v : Volume) → fin.get s.volumes n ≡ Some v → v.name ≡ name → Does s q c → fin.get (changed s c).volumes n ≡ Some v
     untouched n v there is (Adds r u asks change number named_so) =
         let free : IsFree s c = is_free config s q c inv (Adds r u asks change number named_so) in
@@ -161,7 +161,7 @@ same_named config s q c name inv later d away = by_name (named s name) refl
         named_is config (changed s c) f.number v name later (untouched f.number v f.stands f.is d) f.is ∙ sym e
     by_name None e = none_of _ (λ w h. let f = named_from (changed s c) name w h in unnamed f.number w e f.stands f.is d) ∙ sym e
 
--- ---- what a request works on
+-- ---- the object of a request
 
 -- the object of a request is the same in two States
 abbrev IsUntouched : State → State → Request → Type 0
@@ -258,7 +258,7 @@ module _ (config : Config) where
       let later = keep s q inv passed.0 in
       untouched_then s (step config s q).1 (after_once config (step config s q).1 qs) r (step_untouched s q r inv later away.0) (untouched keep qs (step config s q).1 r later passed.1 away.1)
 
--- ---- what it does there
+-- ---- the effect of a request on its object
 
 abbrev EitherFull : Plan → Plan → Type 0
 EitherFull p q = (p ≡ q) ⊎ ((p ≡ refuse NodeFull) ⊎ (q ≡ refuse NodeFull))

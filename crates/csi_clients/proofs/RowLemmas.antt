@@ -28,7 +28,7 @@ none_of None never = refl
 none_of (Some x) never = absurd (never x refl)
 
 module _ {K X : Type 0} {R : K → K → Ordering} (o : IsTotalOrder R) (exact : fin.IsAntisymmetric R) where
-  -- another key keeps what it has
+  -- another key keeps its value
   pub remove_other : (m : fin.FinMap R X) (k q : K) → (q ≡ k → ⊥) → fin.get (fin.remove m k) q ≡ fin.get m q
   remove_other m k q far = fin.get-remove o m k q ∙ elim (eq_by_cmp R q k) as (λ b. eq_by_cmp R q k ≡ b → cond b None (fin.get m q) ≡ fin.get m q) [
     | true ↦ λ t. absurd (far (exact q k (tied _ t)))
@@ -109,7 +109,7 @@ unattached s n d a none e =
     let off : ◌≡◌ {A = Bool} true false = passes_none s (λ a. true) n d a (ap (find (λ (a : Attachment). true)) none) e in
     absurd (cc)
 
--- the attachment that is found at a node is the one in the map
+-- the attachment that is found at a node is the attachment in the map
 pub found_at : (config : Config) (s : State) (n : ℕ) (node : Text) → IsInvariant config s → find (is_at node) (attached s n) ≡ fin.get s.attachments (n, node)
 found_at config s n node inv = go (fin.get s.attachments (n, node)) refl
   where

@@ -1,4 +1,4 @@
--- What a request has done stays done, while others leave its object alone.
+-- The change that a request made stays, while other requests leave its object alone.
 use Rattle.std.proofs.Common.{◌≡◌, ◌≢◌, ◌∙◌, ◌⊎◌, inl, inr, ap, ap₂, sym, subst, cond, refl, arith, ℕ, suc, ◌≤◌, ◌==◌, List, [], ◌∷◌, find, Bool, true, false, not, ◌&&◌, nat_lt, nat_le, Option, Some, None, Result, Ok, Err, eqb-true}
 use Rattle.std.specs.Cmp.{nat_cmp_total}
 use Rattle.std.specs.FinMap as fin
@@ -63,7 +63,7 @@ use Rattle.csi_clients.specs.Objects.{Agree, LeavesAlone, AllLeaveAlone}
 use Rattle.csi_clients.proofs.ChangeLemmas.{Does, Adds, Removes, Attaches, Detaches, DetachesAll, Sets, does, moves, plan_still}
 use Rattle.csi_clients.proofs.RowLemmas.{named_from, named_is, none_of, remove_other, found_at, none_rows, unattached}
 
--- ---- what a change needs of the State
+-- ---- the conditions of a change on the State
 
 abbrev pub IsFree : State → Change → Type 0
 IsFree s (AddVolume v) = fin.get s.volumes v.number ≡ None
@@ -84,9 +84,9 @@ is_free config s q c inv (Detaches r n a is change number there) = subst (IsFree
 is_free config s q c inv (DetachesAll r n is change number none some) = subst (IsFree s) (sym change) tt
 is_free config s q c inv (Sets r n v is change number there has) = subst (IsFree s) (sym change) tt
 
--- ---- what a change leaves of a volume
+-- ---- a volume after a change
 
--- the volume of a number is as it was, or has other mutable parameters
+-- the volume with a number is unchanged, or has other mutable parameters
 pub record Stood (s : State) (c : Change) (n : ℕ) (v : Volume) : Type 0 where
   pub volume : Volume
   pub there : fin.get (changed s c).volumes n ≡ Some volume
@@ -129,7 +129,7 @@ still_none s (Detach k node) n far e = e
 still_none s (DetachAll k) n far e = e
 still_none s (SetMutable k m) n far e = none_of _ (λ w there. let old = stood s.volumes k m n w there in none_some old.0 (sym e ∙ old.1))
 
--- ---- what a change leaves of attachments
+-- ---- attachments after a change
 
 pub got_kept : (s : State) (k : ℕ) (q : AttachmentKey) → fin.get (fin.retain_keys s.attachments (λ p. not (p.0 == k))) q ≡ cond (not (q.0 == k)) (fin.get s.attachments q) None
 got_kept s k q = fin.get-retain_keys s.attachments (λ p. not (p.0 == k)) q (λ x t. sym (ap (λ (p : AttachmentKey). not (p.0 == k)) (place_exact q x t)))
@@ -640,7 +640,7 @@ step_done laws config s r body inv e = by_outcome (plan config s r).outcome refl
     by_outcome (Err why) f h = absurd (cc (h))
     by_outcome (Ok x) f h = record { reply = x; by = ap₂ planned f (no_change (plan config s r).change refl); reported = h }
 
--- a request leaves the object of another one alone: what this one has done stays done
+-- a request leaves the object of another request alone: the change that the other request made stays
 pub stays_one : AreLaws → (config : Config) (s : State) (q r : Request) (body : List ℕ) → IsInvariant config s → IsInvariant config (step config s q).1 → LeavesAlone s q r → IsDone config s r body
     → IsDone config (step config s q).1 r body
 stays_one laws config s q r body inv later alone d = record { reply = d.reply; by = by_reported (reported_of (plan config s q).outcome) later; reported = d.reported }

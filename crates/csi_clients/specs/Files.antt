@@ -1,4 +1,4 @@
--- Runs over two files, in order, with a stop after each, that several clients call.
+-- Runs over two files, called by several clients. The runs are in order, with a stop after each.
 use Rattle.std.specs.Prelude.{◌≡◌, ℕ, List, [], ◌∷◌, map, None}
 use Rattle.std.specs.List.{AllByRecursion}
 use Rattle.sqlite_wal.specs.Recovery.{Image}
@@ -23,8 +23,8 @@ AreSeparateOverStops config s cs (session ∷ sessions) =
     AreSeparate config s cs (client_tries_of session)
     × ((u : State) → IsLeft config s (events_of (exchanges session)) u → AreSeparateOverStops config u (clients_after cs (client_tries_of session)) sessions)
 
--- The runs are a linearizable history: the State that the files start a run as in the end, and what each
--- client heard.
+-- The runs are a linearizable history: the State that a run over the last files starts from, and the replies
+-- that each client heard.
 pub record IsLinearizableLife (config : Config) (was last : Image) (s : State) (todo : ℕ → List Request) (sessions : List (List ClientExchange)) : Type 0 where
   pub left : State
   pub heard : ℕ → List ReplyBytes
@@ -34,7 +34,8 @@ pub record IsLinearizableLife (config : Config) (was last : Image) (s : State) (
   pub replies : AreReplies heard answers
   pub linearizable : IsLinearizable config s todo (tries_of_sessions sessions) answers left
 
--- Runs over any two files, of separate tries that pass the checks of their arguments.
+-- Runs over any two files are linearizable, if their tries are separate and the requests pass the checks of
+-- their arguments.
 abbrev pub LivesAreLinearizable : Config → Type 0
 LivesAreLinearizable config =
     (was last : Image) (s : State) (todo : ℕ → List Request) (sessions : List (List ClientExchange)) → MayStart was s → IsInvariant config s

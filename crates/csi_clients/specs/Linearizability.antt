@@ -23,7 +23,7 @@ abbrev pub requests_of : ℕ → List Operation → List Request
 requests_of c [] = []
 requests_of c (o ∷ os) = if c == o.client then o.request ∷ requests_of c os else requests_of c os
 
--- what a client is answered if the operations are taken once each, in order
+-- the answers to a client if each operation is taken once, in order
 abbrev pub answers_in : Config → State → ℕ → List Operation → List Report
 answers_in config s c [] = []
 answers_in config s c (o ∷ os) =

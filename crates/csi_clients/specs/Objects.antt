@@ -20,7 +20,7 @@ use Rattle.csi_rules.specs.Ids.{number_of_id}
 abbrev pub Agree : TextMap → TextMap → Type 0
 Agree given other = (key x y : Text) → get given key ≡ Some x → get other key ≡ Some y → y ≡ x
 
--- Of a create: the request deletes no volume of its name, and sets no mutable parameter of this volume to
+-- For a create: the request deletes no volume with its name, and sets no mutable parameter of this volume to
 -- another value than the create gives.
 abbrev pub LeavesNameAlone : State → CreateVolume → Request → Type 0
 LeavesNameAlone s r (request.Delete q) =
@@ -29,37 +29,36 @@ LeavesNameAlone s r (request.Modify q) =
     (n : ℕ) (v : Volume) → number_of_id q.volume_id ≡ Some n → get s.volumes n ≡ Some v → v.name ≡ r.name → Agree r.mutable q.mutable
 LeavesNameAlone s r _ = Unit {0}
 
--- Of a delete: the request creates no volume with its id. An id is never given twice, so this asks something
--- only of an id that no volume was given yet.
+-- For a delete: the request creates no volume with its id. An id is never given twice, so this excludes
+-- something only for an id that no volume was given yet.
 abbrev pub LeavesIdUnused : State → Text → Request → Type 0
 LeavesIdUnused s id (request.Create q) = number_of_id id ≢ Some s.next
 LeavesIdUnused s id _ = Unit {0}
 
--- Of a publish: the request does not detach the volume from the node.
+-- For a publish: the request does not detach the volume from the node.
 abbrev pub LeavesAttached : Publish → Request → Type 0
 LeavesAttached r (request.Unpublish q) = q.volume_id ≡ r.volume_id → (q.node_id ≢ []) × (q.node_id ≢ r.node_id)
 LeavesAttached r _ = Unit {0}
 
--- Of an unpublish: the request does not attach the volume at the node, or at any node if the unpublish is of
--- all nodes.
+-- For an unpublish: the request does not attach the volume at the node, or at any node if the unpublish is
+-- from all nodes.
 abbrev pub LeavesDetached : Unpublish → Request → Type 0
 LeavesDetached r (request.Publish q) = q.volume_id ≡ r.volume_id → (r.node_id ≢ []) × (q.node_id ≢ r.node_id)
 LeavesDetached r _ = Unit {0}
 
--- Of a modify: the request does not delete the volume, and sets no parameter that the modify gives to another
--- value.
+-- For a modify: the request does not delete the volume, and sets no parameter of the modify to another value.
 abbrev pub LeavesMutable : Modify → Request → Type 0
 LeavesMutable r (request.Delete q) = q.volume_id ≢ r.volume_id
 LeavesMutable r (request.Modify q) = q.volume_id ≡ r.volume_id → Agree r.mutable q.mutable
 LeavesMutable r _ = Unit {0}
 
--- Of a question about a volume: the request does not delete the volume.
+-- For a question about a volume: the request does not delete the volume.
 abbrev pub LeavesVolume : Text → Request → Type 0
 LeavesVolume id (request.Delete q) = q.volume_id ≢ id
 LeavesVolume id _ = Unit {0}
 
--- In a State the first request leaves the object of the second one alone: what the second one has done there
--- stays done. A page of the listing and a capacity depend on all volumes, so only requests that change
+-- In a State the first request leaves the object of the second request alone: the change that the second one
+-- made there stays. A page of the listing and a capacity depend on all volumes, so only requests that change
 -- nothing leave them alone.
 abbrev pub LeavesAlone : State → Request → Request → Type 0
 LeavesAlone s q request.PluginInfo = Unit {0}
@@ -75,7 +74,7 @@ LeavesAlone s q (request.List r) = is_read q ≡ true
 LeavesAlone s q (request.Capacity r) = is_read q ≡ true
 LeavesAlone s q (request.Modify r) = LeavesMutable r q
 
--- Requests that others make in this order, from a State: each leaves the object of the last argument alone.
+-- Requests of others, made in this order from a State: each leaves the object of the last argument alone.
 abbrev pub AllLeaveAlone : Config → State → List Request → Request → Type 0
 AllLeaveAlone config s [] r = Unit {0}
 AllLeaveAlone config s (q ∷ qs) r = LeavesAlone s q r × AllLeaveAlone config (step config s q).1 qs r

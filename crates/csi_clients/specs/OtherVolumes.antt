@@ -1,5 +1,5 @@
--- Requests that work on other volumes than a request that was not made yet: what this one does after them,
--- and what it would have done before them.
+-- Requests that work on other volumes than a request that is made later: how the plan of the later request
+-- after them compares with its plan before them.
 use Rattle.std.specs.Prelude.{◌≡◌, ◌≢◌, ◌⊎◌, ℕ, true, List, [], ◌∷◌, Some}
 use Rattle.std.specs.FinMap.{get}
 use Rattle.csi_types.specs.declared.reason.Reason.TheVariants.{NodeFull}
@@ -14,11 +14,11 @@ use Rattle.csi_machine.specs.Step.{is_read, plan, step}
 use Rattle.csi_machine.specs.calls.Create.{create_named}
 use Rattle.csi_rules.specs.Ids.{number_of_id}
 
--- no volume with this id has the name
+-- the volume with this id, if it exists, has another name
 abbrev pub IsNotNamed : State → Text → Text → Type 0
 IsNotNamed s id name = (n : ℕ) (v : Volume) → number_of_id id ≡ Some n → get s.volumes n ≡ Some v → v.name ≢ name
 
--- the request creates, deletes and modifies no volume of the name
+-- the request creates, deletes and modifies no volume with the name
 abbrev pub IsOfOtherName : State → Text → Request → Type 0
 IsOfOtherName s name (request.Create q) = q.name ≢ name
 IsOfOtherName s name (request.Delete q) = IsNotNamed s q.volume_id name

@@ -1,4 +1,4 @@
--- The entry of a volume of which each length takes a byte.
+-- The entry of a volume in which each length takes one byte.
 use Rattle.std.proofs.Common.{◌≡◌, ◌∙◌, Result, Ok, Err, OnOk, is_ok, if◌then◌else◌, ℕ, List, [], ◌∷◌, ◌++◌, ◌+◌, ◌*◌, ◌^◌, ◌<◌, ◌≤◌, ap, ap₂, sym, refl, rules, subst, length, length-append, append_assoc, arith}
 use Rattle.std.proofs.lemmas.Grind.{flat_map-append}
 use Rattle.std.proofs.lemmas.List.{append-nil}
@@ -16,7 +16,7 @@ use Rattle.csi_codec.specs.facts.Listing.{entries_only}
 use Rattle.csi_codec.specs.messages.Topology.{canon_map}
 use Rattle.csi_codec.specs.messages.Volume.{canon_entry, canon_nodes, canon_volume, placement_bytes, FitsVolume}
 
--- what `pbwire::laws::short` says
+-- the law `pbwire::laws::short`
 abbrev Short : Type 0
 Short = (n : ℕ) → n < 128 → varint n ≡ n ∷ []
 
@@ -64,7 +64,7 @@ entry_parts : (e : ListedEntry) → bytes_of (canon_entry (listed_entry e)) ≡ 
 unfolding row_fields
 entry_parts e = refl
 
--- an entry of which the volume's length takes a byte, and that has no nodes
+-- an entry in which the volume's length takes one byte, and which has no nodes
 inner_is : Short → (e : ListedEntry) (len : ℕ) → e.nodes.now ≡ [] → len ≡ length (volume_bytes e) → len < 122
     → bytes_of (canon_entry (listed_entry e)) ≡ (10 ∷ len ∷ volume_bytes e) ++ (18 ∷ 0 ∷ [])
 inner_is law e len none is short =

@@ -1,4 +1,4 @@
--- The encoding of the requests that ask means it.
+-- The encoding of the requests that only ask means it.
 use Rattle.std.proofs.Common.{refl}
 use Rattle.pbmessage.specs.Schema.{Good}
 use Rattle.pbmessage.specs.facts.Laws.{SpellingLaws}

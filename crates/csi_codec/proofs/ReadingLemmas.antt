@@ -1,4 +1,4 @@
--- Reading as a function finds what the relations say.
+-- Reading as a function agrees with the relations.
 use Rattle.std.proofs.Common.{◌≡◌, ◌≢◌, ℕ, suc, zero, ◌-◌, ◌<◌, ◌≤◌, Bool, true, false, cond, eqb, List, [], ◌∷◌, length, Result, Ok, Err, refl, sym, ap, ◌∙◌, arith}
 use Rattle.std.specs.Prelude.{IsUtf8, MatchBool, MatchResult, IfOk, IfErr}
 use Rattle.std.specs.List.{AllByRecursion}
@@ -110,7 +110,7 @@ passes_answers l (MessageAt n inner others) k p =
 
 -- ---- one outcome
 
--- of two things that are never both so, what holds of the outcome says it
+-- two outcomes are never both true, so the outcome that is true is the one that is read
 pub read_ok : {V : Type 0} {Is : V → Type 0} {No : ℕ → Type 0} (r : Result V ℕ) (v : V) → ((v w : V) → Is v → Is w → v ≡ w) → ((at : ℕ) → No at → (v : V) → Is v → ⊥) → MatchResult r Is No → Is v → r ≡ Ok v
 read_ok (Ok w) v one none found is = ap (λ x. Ok x) (one w v found is)
 read_ok (Err at) v one none found is = absurd (none at found v is)
@@ -121,7 +121,7 @@ read_err (Err a) at one none found is = ap (λ (n : ℕ). Err n) (one a at found
 
 -- ---- messages
 
--- the bytes mean the value that is read, or they mean none and are refused at the offset that is read
+-- the bytes mean the value that is read, or they mean no value and are refused at the offset that is read
 abbrev pub Reading : {V : Type 0} → Schema → (Views → V) → List ℕ → Result V ℕ → Type 0
 Reading schema of bytes r = MatchResult r (Means (GoodField (Good schema)) (value_of of) bytes) (IsRefusedAt (GoodField (Good schema)) bytes)
 

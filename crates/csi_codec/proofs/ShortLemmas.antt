@@ -17,7 +17,7 @@ unfolding minimal
 last_group zero n h = refl
 last_group (suc k) n h = ap (λ (t : Bool). cond t (n ∷ []) ((n % 128 + 128) ∷ minimal k (n / 128))) (lt-ltb n 128 h)
 
--- one group more than a number takes changes nothing
+-- room for one more group than a number takes changes nothing
 spare : (k n : ℕ) → n < 2 ^ (7 * (k + 1)) → minimal (suc k) n ≡ minimal k n
 spare zero n low = last_group 1 n (omega (arith, low)) ∙ sym (last_group 0 n (omega (arith, low)))
 spare (suc k) n low = elim (cases_lt n 128) [

@@ -1,4 +1,4 @@
--- The encoding of a volume, and of what responses say of volumes means it.
+-- The encoding of a volume, and of the messages about volumes in responses, means it.
 use Rattle.std.proofs.Common.{refl}
 use Rattle.pbmessage.specs.Schema.{Good}
 use Rattle.pbmessage.specs.Canon.{FitsTexts}

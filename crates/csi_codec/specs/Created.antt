@@ -1,11 +1,11 @@
--- A volume that was made, by the parts that its response is written from.
+-- A new volume, made of the parts that its response is written from.
 use Rattle.std.specs.Prelude.{List, [], ◌∷◌, ◌++◌, ◌==◌, if◌then◌else◌}
 use Rattle.std.specs.FinMap.{empty, insert, len}
 use Rattle.csi_types.specs.Maps.{TextMap}
 use Rattle.csi_types.specs.declared.volume.VolumeInfo.{VolumeInfo}
 use Rattle.csi_codec.specs.declared.created.CreatedVolume.{CreatedVolume}
 
--- a topology without segments is none
+-- the topology with these segments; no topology if there are no segments
 abbrev pub topology_of : TextMap → List TextMap
 topology_of segments = if len segments == 0 then [] else segments ∷ []
 

@@ -114,7 +114,7 @@ IsGoodRequest m bytes = AreGood (GoodField (Good (request_schema m))) bytes
 unfoldable pub IsNoRequest : Method → List ℕ → ℕ → Type 0
 IsNoRequest m bytes at = IsRefusedAt (GoodField (Good (request_schema m))) bytes at
 
--- what a fault says of the bytes
+-- the fault is true of the bytes: they mean no request, or memory ran out for a request that they mean
 abbrev pub RefusesRequest : Method → List ℕ → DecodeFault → Type 0
 RefusesRequest m bytes (fault.Malformed at) = IsNoRequest m bytes at
 RefusesRequest m bytes fault.NoMemory = IsGoodRequest m bytes
@@ -219,7 +219,7 @@ IsGoodResponse m bytes = AreGood (GoodField (Good (response_schema m))) bytes
 unfoldable pub IsNoResponse : Method → List ℕ → ℕ → Type 0
 IsNoResponse m bytes at = IsRefusedAt (GoodField (Good (response_schema m))) bytes at
 
--- what a fault says of the bytes
+-- the fault is true of the bytes: they mean no response, or memory ran out for a response that they mean
 abbrev pub RefusesResponse : Method → List ℕ → DecodeFault → Type 0
 RefusesResponse m bytes (fault.Malformed at) = IsNoResponse m bytes at
 RefusesResponse m bytes fault.NoMemory = IsGoodResponse m bytes

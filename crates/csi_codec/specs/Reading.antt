@@ -24,7 +24,8 @@ use Rattle.csi_codec.specs.Methods.{request_schema, request_in, MeansRequest, Is
 abbrev pub Scan : Type 0
 Scan = List WireField × List ℕ
 
--- a field that passes comes before the others; one that does not, and bytes that are no field, end the scan
+-- a field that passes is put before the others; a field that does not pass, and bytes that are no field, end
+-- the scan
 abbrev pub scan_from : (WireField → Bool) → (List ℕ → Scan) → List ℕ → Result (WireField × List ℕ) WireWhy → Scan
 scan_from passes others bytes (Ok x) = if passes x.0 then (x.0 ∷ (others x.1).0, (others x.1).1) else ([], bytes)
 scan_from passes others bytes (Err why) = ([], bytes)
@@ -43,7 +44,7 @@ is_whole s = length s.1 == 0
 abbrev pub passes_field : (ℕ → List ℕ → Bool) → WireField → Bool
 passes_field passes e = option_map_or (passes e.number) (payload e.part) true
 
--- the payload is good under the number
+-- the payload is good in a field with this number
 unfoldable pub passes : Schema → ℕ → List ℕ → Bool
 passes AnyPayload k p = true
 passes (TextAt n others) k p = if k == n then is_utf8 p else passes others k p
@@ -51,7 +52,7 @@ passes (MessageAt n inner others) k p = if k == n then is_whole (scan (passes_fi
 
 -- ---- messages
 
--- the value of the fields where all of the bytes were read, and otherwise the length of the prefix that was
+-- the value of the fields if all bytes were read, and otherwise the number of bytes that were read
 abbrev pub value_or_offset : {V : Type 0} → (Views → V) → ℕ → Scan → Result V ℕ
 value_or_offset of len s = if is_whole s then Ok (value_of of s.0) else Err (len - length s.1)
 
@@ -62,11 +63,11 @@ read_message schema of bytes = value_or_offset of (length bytes) (scan (passes_f
 unfoldable pub read_request : Method → List ℕ → Result Request ℕ
 read_request m bytes = read_message (request_schema m) (request_in m) bytes
 
--- the same for the response of this method
+-- as `read_request`, for the response of this method
 unfoldable pub read_response : Method → List ℕ → Result Response ℕ
 read_response m bytes = read_message (response_schema m) (response_in m) bytes
 
--- the bytes mean this request, or they mean none and this is the offset
+-- the bytes mean this request, or they mean no request and this is the offset of their first fault
 abbrev pub IsRead : Method → List ℕ → Result Request ℕ → Type 0
 IsRead m bytes r = MatchResult r (MeansRequest m bytes) (IsNoRequest m bytes)
 
@@ -80,7 +81,7 @@ Decodes read (Ok v) = read ≡ Ok v
 Decodes read (Err (fault.Malformed at)) = read ≡ Err at
 Decodes read (Err fault.NoMemory) = IsOk read
 
--- what decoding a CreateVolumeRequest answers, as a request
+-- the result of decoding a CreateVolumeRequest, as a result of decoding a request
 abbrev pub as_create : Result CreateVolume DecodeFault → Result Request DecodeFault
 as_create (Ok message) = Ok (request.Create message)
 as_create (Err fault) = Err fault

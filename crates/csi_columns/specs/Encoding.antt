@@ -1,4 +1,4 @@
--- How capabilities and parameters are in a column: as the canonical bytes of a CreateVolumeRequest that has
+-- The bytes of capabilities and parameters in a column: the canonical bytes of a CreateVolumeRequest that has
 -- nothing else.
 use Rattle.std.specs.Prelude.{◌≡◌, ℕ, pos, true, false, List, [], None, Some, Ok, map}
 use Rattle.std.specs.List.{AllByRecursion}
@@ -13,7 +13,7 @@ use Rattle.csi_codec.specs.Reading.{read_request}
 use Rattle.csi_keeper.specs.Capability.{capability_of}
 use Rattle.csi_keeper.specs.declared.capability.CapKey.{CapKey}
 
--- a request with these capabilities (field 3), parameters (field 4) and mutable parameters (field 8) alone
+-- a request that has only these capabilities (field 3), parameters (field 4) and mutable parameters (field 8)
 abbrev pub create_with : List Capability → TextMap → TextMap → Request
 create_with capabilities parameters mutable = request.Create (record {
   name = [];
@@ -26,11 +26,12 @@ create_with capabilities parameters mutable = request.Create (record {
   mutable = mutable;
 })
 
--- the capabilities of keys, without mount flags and mount group
+-- a request with the capabilities of these keys, without mount flags and mount group
 abbrev pub with_caps : List CapKey → Request
 with_caps keys = create_with (map capability_of keys) empty empty
 
--- the parameters of a volume, and its mutable ones: without mutable parameters the field is absent
+-- a request with the parameters and the mutable parameters of a volume; if there are no mutable parameters,
+-- their field is absent
 abbrev pub with_params : TextMap → TextMap → Request
 with_params params mutable = create_with [] params mutable
 
@@ -40,7 +41,7 @@ caps_bytes keys = request_bytes (with_caps keys)
 unfoldable pub params_bytes : TextMap → TextMap → List ℕ
 params_bytes params mutable = request_bytes (with_params params mutable)
 
--- what can be read again
+-- keys and parameters whose bytes can be read again
 unfoldable pub FitCaps : List CapKey → Type 0
 FitCaps keys = FitsRequest (with_caps keys)
 

@@ -62,7 +62,7 @@ placed {A} test i (x ∷ xs) h = go (placed test (i + 1) xs) (test x) h
     go next true h = absurd (cc)
     go next false h = next h
 
--- what has no place is nowhere
+-- if no position is found, no item passes
 pub nowhere : {A : Type 0} (test : A → Bool) (xs : List A) → position test xs ≡ None → list_any test xs ≡ false
 nowhere test xs h = placed test 0 xs (sym (position_from-zero test xs) ∙ h)
 
@@ -118,7 +118,7 @@ pools_apart pairs pools off = named_apart pairs (λ (p : Pool). p.name) pools (n
 pub nodes_apart : Pairs Node → (nodes : List Node) → place_broken breaks_node NodeRule.IdTwice nodes ≡ None → (m n : Node) → Has nodes m → Has nodes n → m.id ≡ n.id → m ≡ n
 nodes_apart pairs nodes off = named_apart pairs (λ (n : Node). n.id) nodes (nowhere (λ e. breaks_node NodeRule.IdTwice (take e.0 nodes) e.1) (enumerate_from 0 nodes) off)
 
--- if no place is found for a test, no item meets it
+-- if no position is found for a test, no item passes it
 pub each_passes : {A : Type 0} (p : A → Bool) (xs : List A) → position (λ e. p e.1) (enumerate_from 0 xs) ≡ None → (x : A) → Has xs x → p x ≡ false
 each_passes p xs off x h = any_off p xs x (unnumbered p 0 xs (nowhere (λ e. p e.1) (enumerate_from 0 xs) off)) h
 

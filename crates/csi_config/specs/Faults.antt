@@ -1,5 +1,5 @@
--- What a configuration must not have, as a table of eight lines. The first line that holds is
--- answered; within a line the first rule, and of that the first pool or node in order.
+-- The faults of a configuration, as a table: each line is a definition. The answer is the first line with a
+-- fault; in a line, the first rule that is broken; for a rule, the first pool or node in order.
 use Rattle.std.specs.Prelude.{ℕ, ◌-◌, ◌%◌, ◌==◌, Bool, false, ◌&&◌, ◌||◌, cond, not, nat_lt, nat_le, List, [], ◌∷◌, length, map, take, get_or, sum_by}
 use Rattle.std.specs.Prelude.{position, Option, Some, None}
 use Rattle.std.specs.Char.{is_ascii_alphanumeric}
@@ -25,16 +25,16 @@ use Rattle.csi_config.specs.declared.pools.Pool.{Pool}
 use Rattle.csi_config.specs.declared.sizes.Sizes.{Sizes}
 use Rattle.csi_config.specs.declared.sizes.TheConstants.{GRANULE_BYTES}
 
--- the first of some answers
+-- the first answer in a list
 abbrev pub first_of : {A : Type 0} → List (Option A) → Option A
 first_of [] = None
 first_of (a ∷ rest) = option_or a (first_of rest)
 
--- a fault, where a test holds
+-- the fault, if the test is true
 abbrev pub fault_if : {A : Type 0} → Bool → A → Option A
 fault_if test fault = cond test (Some fault) None
 
--- 1 to 63 bytes, each of which passes
+-- 1 to 63 bytes, and each byte passes the test
 abbrev pub is_label : (ℕ → Bool) → List ℕ → Bool
 is_label test text = nat_lt 0 (length text) && nat_le (length text) MAX_NAME_BYTES && list_all test text
 
@@ -42,7 +42,7 @@ is_label test text = nat_lt 0 (length text) && nat_le (length text) MAX_NAME_BYT
 unfoldable pub is_plugin_byte : ℕ → Bool
 is_plugin_byte c = is_ascii_alphanumeric c || c == 45 || c == 46
 
--- and the first and the last a letter or digit
+-- 1 to 63 such bytes, and the first and the last are a letter or a digit
 abbrev pub is_plugin_name : List ℕ → Bool
 is_plugin_name name = is_label is_plugin_byte name && is_ascii_alphanumeric (get_or name 0 0) && is_ascii_alphanumeric (get_or name (length name - 1) 0)
 
@@ -64,15 +64,15 @@ is_bad_byte c = nat_lt c 32 || c == 127
 abbrev pub is_bad_id : List ℕ → Bool
 is_bad_id id = is_empty id || longer_than MAX_NODE_ID_BYTES id || list_any is_bad_byte id
 
--- the bytes of all pools
+-- the sum of the bytes of all pools
 abbrev pub all_bytes : List Pool → ℕ
 all_bytes pools = sum_by (λ p. p.bytes) pools
 
--- the place of the first item that breaks a rule, where the rule looks at the item and the earlier ones
+-- the position of the first item that breaks a rule; the rule looks at the item and at the items before it
 abbrev pub place_broken : {T R : Type 0} → (R → List T → T → Bool) → R → List T → Option ℕ
 place_broken breaks rule items = position (λ e. breaks rule (take e.0 items) e.1) (enumerate_from 0 items)
 
--- the fault of the first item that breaks a rule, by its name
+-- the fault of the first item that breaks a rule, with the item's name
 abbrev pub first_broken : {T R : Type 0} → (R → List T → T → Bool) → (T → List ℕ) → (List ℕ → R → ConfigFault) → R → List T → Option ConfigFault
 first_broken breaks name fault rule items = option_map (λ place. fault (get_or (map name items) place []) rule) (place_broken breaks rule items)
 
@@ -83,7 +83,7 @@ breaks_segment KeyTooLong e = longer_than MAX_TEXT_BYTES e.0
 breaks_segment ValueTooLong e = longer_than MAX_TEXT_BYTES e.1
 breaks_segment rule e = false
 
--- a pool, after some earlier ones, breaks a rule
+-- a pool breaks a rule; `earlier` are the pools before it
 abbrev pub breaks_pool : PoolRule → List Pool → Pool → Bool
 breaks_pool Name earlier p = not (is_pool_name p.name)
 breaks_pool NameTwice earlier p = list_any (λ q. same_text q.name p.name) earlier
@@ -101,7 +101,7 @@ name_of pool = pool.name
 abbrev pub pool_fault : PoolRule → List Pool → Option ConfigFault
 pool_fault rule pools = first_broken breaks_pool name_of Fault.Pool rule pools
 
--- a node, after some earlier ones, breaks a rule
+-- a node breaks a rule; `earlier` are the nodes before it
 abbrev pub breaks_node : NodeRule → List Node → Node → Bool
 breaks_node Id earlier n = is_bad_id n.id
 breaks_node IdTwice earlier n = list_any (λ m. same_text m.id n.id) earlier
@@ -165,7 +165,7 @@ node_ids_fault nodes = first_of (
 unfoldable pub node_volumes_fault : List Node → Option ConfigFault
 node_volumes_fault nodes = node_fault Volumes nodes
 
--- what a configuration of these parts is refused for, if for anything
+-- the fault of a configuration of these parts, if it has one
 abbrev pub fault_of : Plugin → Sizes → List Pool → List Node → Option ConfigFault
 fault_of plugin sizes pools nodes = first_of (
     plugin_fault plugin

@@ -1,4 +1,4 @@
--- What reading a configuration says of its text.
+-- The result of reading a configuration, by its text.
 use Rattle.std.specs.Prelude.{◌≡◌, ℕ, List, Option, None, Some, Result, Ok, Err, IsOkAnd, IsUtf8, ⊤}
 use Rattle.toml.specs.Data.{Members}
 use Rattle.toml.specs.Parse.{parse_document}
@@ -8,7 +8,7 @@ use Rattle.csi_config_file.specs.Document.{Read, parts_in}
 use Rattle.csi_config_file.specs.declared.config_file.ConfigError.{ConfigError}
 use Rattle.csi_config_file.specs.declared.config_file.ConfigError.TheVariants.{NotToml, Key, Fault, NoMemory}
 
--- it is what there is to read, seen so, or memory was refused
+-- the result is the one in the definition, with `seen` applied to its value; or memory was refused
 abbrev pub IsRead : {X Y : Type 0} → (Y → X) → Read X → Read Y → Type 0
 IsRead seen r (Ok y) = r ≡ Ok (seen y)
 IsRead seen r (Err (NotToml line)) = ⊥
@@ -30,7 +30,8 @@ abbrev pub IsOfParsed : Option Members → Result Config ConfigError → Type 0
 IsOfParsed None r = ⊥
 IsOfParsed (Some ms) r = IsOfDocument ms r
 
--- the bytes are UTF-8 and a document, which gives this; or they are not; want of memory says nothing of them
+-- the bytes are a document in UTF-8 that gives this result, or they are no such document; want of memory says
+-- nothing about them
 abbrev pub IsOfText : List ℕ → Result Config ConfigError → Type 0
 IsOfText bytes (Ok config) = IsUtf8 bytes × IsOfParsed (parse_document bytes) (Ok config)
 IsOfText bytes (Err (NotToml line)) = IsUtf8 bytes → parse_document bytes ≡ None

@@ -1,5 +1,5 @@
--- What the keys of a document give (docs/OPERATING.md, 'Configuration'): the parts of a configuration, or the
--- first key that is missing or of another type.
+-- The values of the keys of a document (docs/OPERATING.md, 'Configuration'): the parts of a configuration, or
+-- the first key that is missing or of another type.
 use Rattle.std.specs.Prelude.{codes, ℕ, suc, ℤ, pos, negsuc, List, [], ◌∷◌, Option, None, Some, ok_or, option_and_then, Result, Ok, Err}
 use Rattle.std.specs.FinMap.{empty, insert}
 use Rattle.toml.specs.Data.{Data, Items, no_items, item, Members, no_members, member, get_member, as_str, as_integer, as_array, as_table}
@@ -38,7 +38,7 @@ abbrev pub bind : {X Y : Type 0} → Read X → (X → Read Y) → Read Y
 bind (Ok x) f = f x
 bind (Err e) f = Err e
 
--- the value of a key that must be there
+-- the value of a key that must be present
 abbrev pub value_at : Section → Members → Key → Read Data
 value_at s ms k = ok_or (get_member (key_text k) ms) (error.Key s k rule.Missing)
 
@@ -53,17 +53,17 @@ whole (negsuc n) = None
 abbrev pub count_at : Section → Members → Key → Read ℕ
 count_at s ms k = bind (value_at s ms k) (λ d. ok_or (option_and_then whole (as_integer d)) (error.Key s k rule.Count))
 
--- a map with the texts of a table added, where all of its values are texts
+-- a map with the texts of a table added, if all values of the table are texts
 abbrev pub with_texts : TextMap → Members → Option TextMap
 with_texts m no_members = Some m
 with_texts m (member k d ms) = option_and_then (λ t. with_texts (insert m k t) ms) (as_str d)
 
--- a table of texts, or nothing
+-- the texts of an optional table
 abbrev pub texts_of : Section → Option Data → Read TextMap
 texts_of s None = Ok empty
 texts_of s (Some d) = ok_or (option_and_then (with_texts empty) (as_table d)) (error.Key s key.Segments rule.Texts)
 
--- each of an array by its number, or the first fault
+-- the values of an array, each read with its number, or the first fault
 abbrev pub each : {X : Type 0} → (ℕ → Data → Read X) → ℕ → Items → Read (List X)
 each f n no_items = Ok []
 each f n (item d ds) = bind (f n d) (λ x. bind (each f (suc n) ds) (λ xs. Ok (x ∷ xs)))

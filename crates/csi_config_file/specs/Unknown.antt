@@ -15,7 +15,7 @@ known_in section.Top = key.Name ∷ key.VendorVersion ∷ key.DefaultBytes ∷ k
 known_in (section.Pool n) = key.Name ∷ key.Bytes ∷ key.Segments ∷ []
 known_in (section.Node n) = key.Id ∷ key.MaxVolumes ∷ []
 
--- a key, and where it is
+-- a key, and the section that it is in
 abbrev pub KeyPlace : Type 0
 KeyPlace = Section × List ℕ
 

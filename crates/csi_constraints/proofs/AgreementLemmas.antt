@@ -1,4 +1,4 @@
--- A row that represents a value passes a constraint exactly where the value does.
+-- A row that represents a value passes a constraint exactly if the value does.
 use Rattle.std.proofs.Common.{◌≡◌, ◌∙◌, refl, sym, ap, ap₂, ℕ, pos, not, ◌≤◌, ◌<◌, nat_le, nat_lt, List, [], ◌∷◌, find, Bool, true, false, cond, ◌&&◌, ◌||◌, Option, Some, None, IsSome, IsUtf8, arith}
 use Rattle.std.specs.Bool.{Decides}
 use Rattle.std.specs.List.{list_any}
@@ -42,7 +42,7 @@ same_found test (x ∷ xs) = go (test x) (same_found test xs)
     go true rest = refl
     go false rest = rest
 
--- a search finds something exactly where one of the list passes
+-- a search finds something exactly if an item of the list passes
 found_any : {X : Type 0} (test : X → Bool) (xs : List X) → Decides (list_any test xs) (IsSome (find test xs))
 found_any test xs = some_reported (find test xs) (list_any test xs) (same_found test xs)
 

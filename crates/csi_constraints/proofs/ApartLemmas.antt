@@ -1,4 +1,4 @@
--- One attachment that represents all of its volume, over one row more.
+-- One attachment that represents all attachments of its volume, over one more row.
 use Rattle.std.proofs.Common.{◌≡◌, ◌∙◌, refl, sym, ap, ap₂, ℕ, ℤ, int_lt, ◌==◌, ◌&&◌, ◌||◌, not, Bool, true, false, true≢false, cond, List, [], ◌∷◌, ◌++◌, Option, Some, None, eq-eqb, eqb-true, inl}
 use Rattle.std.specs.List.{AllByRecursion, list_any}
 use Rattle.std.specs.Option.{is_some, option_map, option_or}
@@ -74,7 +74,7 @@ written_leads (Some x) (Some y) e w None h = absurd (cc)
 written_leads (Some x) (Some y) e w (Some z) h =
     coexist_more x y z (same_mode x y e) (λ r. or_later y.readonly z.readonly (or_second x.readonly z.readonly (flipped x.readonly w) r)) h
 
--- and any attachment represents a read-only one
+-- any attachment represents a read-only attachment that can coexist with it
 read_led : (a b : Option Attachment) → can_coexist a b ≡ true → is_written a ≡ false → Leads b a
 read_led None b e w c h = absurd (cc)
 read_led (Some x) None e w c h = absurd (cc)
@@ -90,7 +90,7 @@ equal_is m n e = (Decides-int_eq m n).0 e
 is_equal : (m n : ℤ) → m ≡ n → int_eq m n ≡ true
 is_equal m n e = (Decides-int_eq m n).1 e
 
--- an integer that is neither below nor above another is that one
+-- an integer that is neither below nor above another is the same integer
 neither_way : (m n : ℤ) → int_lt m n ≡ false → int_lt n m ≡ false → int_eq m n ≡ true
 neither_way m n low high = ap (λ b. is_eq (cond b Less (cond (int_lt n m) Greater Equal))) low ∙ ap (λ b. is_eq (cond b Greater Equal)) high
 
@@ -131,7 +131,7 @@ pub still_apart : (rows : List Row) (r : Row) (found : Option RowName) → is_so
 still_apart rows r None some is = absurd (cc)
 still_apart rows r (Some name) some is = ap (λ o. option_or o (cond (list_any (λ e. are_apart e r) rows) (Some (name_of 0 1 r)) None)) is ∙ sym (named-push rows r)
 
--- and where nothing was, the row is named, if it is apart from one of those
+-- if no row was found, the row is named if it is apart from an earlier row
 pub now_apart : (rows : List Row) (r : Row) (b : Bool) → None ≡ apart_named rows → list_any (λ e. are_apart e r) rows ≡ b → cond b (Some (name_of 0 1 r)) None ≡ apart_named (rows ++ r ∷ [])
 now_apart rows r b none is =
     ap (λ t. cond t (Some (name_of 0 1 r)) None) (sym is) ∙ ap (λ o. option_or o (cond (list_any (λ e. are_apart e r) rows) (Some (name_of 0 1 r)) None)) none ∙ sym (named-push rows r)
@@ -163,13 +163,13 @@ none_given : {A : Type 0} (test : A → A → Bool) (o : Option A) → are_some_
 none_given test None = refl
 none_given test (Some x) = refl
 
--- a row without a number is apart from none
+-- a row without a number is apart from no row
 pub no_number : (rows : List Row) (r : Row) → as_integer (column r 0) ≡ None → list_any (λ e. are_apart e r) rows ≡ false
 no_number rows r none = none_of (λ e. are_apart e r) rows (all_from (λ e. are_apart e r ≡ false) rows (λ e has.
     ap (λ o. are_some_and int_eq (as_integer (column e 0)) o && not (can_coexist (attached_at 2 3 e) (attached_at 2 3 r))) none
     ∙ ap (λ b. b && not (can_coexist (attached_at 2 3 e) (attached_at 2 3 r))) (none_given int_eq (as_integer (column e 0)))))
 
--- and what represents those so far does
+-- the representative of the earlier rows stays after a row without a number
 pub led_without : (last : Option LastAttachment) (rows : List Row) (r : Row) → as_integer (column r 0) ≡ None → AreCovered last rows → AreCovered last (rows ++ r ∷ [])
 led_without None rows r none led = all-append (λ x. as_integer (column x 0) ≡ None) rows (r ∷ []) led (none, tt)
 led_without (Some l) rows r none led = record {
@@ -185,7 +185,7 @@ led_without (Some l) rows r none led = record {
     no_some n e = absurd (cc)
 
 module _ (rows : List Row) (r : Row) (next : LastAttachment) (number : as_integer (column r 0) ≡ Some next.number) (says : attached_at 2 3 r ≡ next.attachment) (order : AllByRecursion (λ e. falls e r ≡ false) rows) where
-  -- if the last volume is not the row's, no earlier one is
+  -- if the last volume is not the volume of the row, no earlier volume is
   earlier : (l : LastAttachment) → IsLed l rows → int_eq l.number next.number ≡ false → (e : Row) → Has rows e → as_integer (column e 0) ≡ Some next.number → ⊥
   earlier l led other e has is =
       let high : int_lt next.number l.number ≡ false =
@@ -227,7 +227,7 @@ module _ (rows : List Row) (r : Row) (next : LastAttachment) (number : as_intege
   neither_is true b e = (refl, e)
   neither_is false b e = absurd (true≢false e)
 
-  -- and a row that is not admitted conflicts with some other
+  -- a row that is not admitted conflicts with an earlier row
   pub apart_from_one : (last : Option LastAttachment) → AreCovered last rows → admits last next ≡ false → list_any (λ e. are_apart e r) rows ≡ true
   apart_from_one None led not_fine = absurd (true≢false not_fine)
   apart_from_one (Some l) led not_fine =
@@ -277,7 +277,7 @@ module _ (rows : List Row) (r : Row) (next : LastAttachment) (number : as_intege
           let leads = all_has (λ r. as_integer (column r 0) ≡ Some l.number → Leads l.attachment (attached_at 2 3 r)) rows e led.leads has (is ∙ ap Some (sym (equal_is l.number next.number one))) in
           leads c (read_led l.attachment next.attachment beside read c h)
 
-  -- or the representative of the earlier rows
+  -- the representative of the earlier rows stays, if it represents the row too
   pub led_still : (last : Option LastAttachment) → AreCovered last rows → admits last next ≡ true → covers last next ≡ true → AreCovered last (rows ++ r ∷ [])
   led_still None led fine ends = absurd (true≢false (sym ends))
   led_still (Some l) led fine ends =

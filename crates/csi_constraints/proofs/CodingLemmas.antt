@@ -30,7 +30,7 @@ use Rattle.csi_constraints.proofs.OrderLemmas.{both, ordered_rise, parts, rise-o
 
 -- ---- keys and capabilities
 
--- a key with a known mode is its capability's key
+-- a key with a known mode is the key of its capability
 key_known : (k : CapKey) → is_known_mode (Some (pos k.mode)) ≡ true → key_of (capability_of k) ≡ Some k
 key_known k e = ap (λ b. key_with (access_of k.kind) (cond b (Some k.mode) None)) e ∙ go k.kind refl
   where
@@ -41,14 +41,14 @@ key_known k e = ap (λ b. key_with (access_of k.kind) (cond b (Some k.mode) None
 pub key_back : (k : CapKey) → is_supported_key k ≡ true → key_of (capability_of k) ≡ Some k
 key_back k e = key_known k (supported_known (access_of k.kind) (Some (pos k.mode)) e)
 
--- the keys of the capabilities of keys, where each is supported
+-- the keys of the capabilities of keys are these keys, if each is supported
 pub each_back : (ks : List CapKey) → list_all is_supported_key ks ≡ true → each_key (map capability_of ks) ≡ Some ks
 each_back [] all = refl
 each_back (k ∷ ks) all =
     let p = parts (is_supported_key k) (list_all is_supported_key ks) all in
     ap (λ o. in_front o (each_key (map capability_of ks))) (key_back k p.0) ∙ ap (in_front (Some k)) (each_back ks p.1)
 
--- and otherwise no others
+-- the keys of the capabilities of keys are no other keys
 pub each_same : (ks js : List CapKey) → each_key (map capability_of ks) ≡ Some js → js ≡ ks
 each_same [] js e = let same : [] ≡ js = cc in sym same
 each_same (k ∷ ks) js e = go (each_same ks) (key_of (capability_of k)) refl (each_key (map capability_of ks)) refl e
@@ -62,7 +62,7 @@ each_same (k ∷ ks) js e = go (each_same ks) (key_of (capability_of k)) refl (e
 
 -- ---- reading
 
--- ---- what canonical bytes say
+-- ---- the meaning of canonical bytes
 
 itself : (bytes : List ℕ) → bytes_eq bytes bytes ≡ true
 itself bytes = (bytes_eq-Decides bytes bytes).1 refl
@@ -71,14 +71,14 @@ kept : (ks : List CapKey) (o : Option (List CapKey)) → ((js : List CapKey) →
 kept ks None same = refl
 kept ks (Some js) same = ap (λ b. cond b (Some js) None) (ap (λ xs. bytes_eq (caps_bytes xs) (caps_bytes ks)) (same js refl) ∙ itself (caps_bytes ks))
 
--- the bytes of keys say the keys of their capabilities
+-- the bytes of keys mean the keys of their capabilities
 pub keys_in-caps_bytes : ReadsBack → (ks : List CapKey) → FitCaps ks → keys_in (caps_bytes ks) ≡ each_key (map capability_of ks)
 unfolding FitCaps caps_bytes
 keys_in-caps_bytes back ks fit =
     ap (λ r. if_passes (λ js. bytes_eq (caps_bytes js) (caps_bytes ks)) (option_and_then (λ v. each_key v.capabilities) (created r))) (back (with_caps ks) fit)
     ∙ kept ks (each_key (map capability_of ks)) (each_same ks)
 
--- the bytes of parameters say the parameters
+-- the bytes of parameters mean the parameters
 pub params_in-params_bytes : ReadsBack → (m n : TextMap) → FitParams m n → params_in (params_bytes m n) ≡ Some (m, n)
 unfolding FitParams params_bytes
 params_in-params_bytes back m n fit =
@@ -90,7 +90,7 @@ pub key_in-caps_bytes : ReadsBack → (k : CapKey) → FitCaps (k ∷ []) → is
 key_in-caps_bytes back k fit good =
     ap (option_and_then only) (keys_in-caps_bytes back (k ∷ []) fit ∙ each_back (k ∷ []) (both (is_supported_key k) true good refl))
 
--- ---- the constraints of what they say
+-- ---- the constraints of these values
 
 keys_pass : (ks : List CapKey) → AreKeys ks → are_keys ks ≡ true
 keys_pass ks good = both _ _ (both _ _ (some ks good.some) (rise-ordered ks good.ordered)) good.supported

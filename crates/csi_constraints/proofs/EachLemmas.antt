@@ -1,11 +1,11 @@
--- Elements that move at each place.
+-- Items that change at each place of a list.
 use Rattle.std.proofs.Common.{◌≡◌, ◌∙◌, refl, sym, subst, ℕ, zero, suc, ◌+◌, ◌<◌, ◌≤◌, List, [], ◌∷◌, arith, length, get_or, set, inl, inr, Result, Ok, Err, OnErr}
 use Rattle.std.proofs.lemmas.List.{get_or-set_same, get_or-set_other}
 use Rattle.std.proofs.lemmas.Bool.Decides.{eqb_tells}
 use Rattle.std.specs.List.{AllZip}
 use Rattle.csi_constraints.specs.Folds.{HasSome}
 
--- what moves at each place moves as a whole
+-- a change at each place is a change of the whole list
 pub zip_moved : {A B : Type 0} (R Q : A → B → Type 0) (firsts : List A) (olds news : List B) → length news ≡ length olds
     → ((k : ℕ) (d : B) → k < length olds → (a : A) → R a (get_or olds k d) → Q a (get_or news k d)) → AllZip R firsts olds → AllZip Q firsts news
 zip_moved R Q [] [] [] len move all = tt
@@ -42,7 +42,7 @@ has_at P [] i d low h = absurd (omega (arith, low))
 has_at P (x ∷ xs) zero d low h = inl h
 has_at P (x ∷ xs) (suc i) d low h = inr (has_at P xs i d (omega (arith, low)) h)
 
--- for a list with an unchanged rest
+-- as `has_at`, for a list whose rest is unchanged
 pub asks_at : {X : Type 0} (P : X → Type 0) (initial items : List X) (at : ℕ) → at < length items → length items ≡ length initial → ((k : ℕ) (d : X) → at ≤ k → get_or items k d ≡ get_or initial k d)
     → (d : X) → P (get_or items at d) → HasSome P initial
 asks_at P initial items at low len same d h = has_at P initial at d (omega (arith, low, len)) (subst P (same at d (omega arith)) h)

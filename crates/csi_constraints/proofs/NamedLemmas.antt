@@ -27,7 +27,7 @@ module _ (number text : ℕ) (test : Row → Bool) (first : Option RowName) (row
   found_stays None some is = absurd (cc)
   found_stays (Some name) some is = ap (λ o. option_or o (name_if number text test row)) is ∙ sym one_more
 
-  -- and where nothing was found the row is named, if it does not pass
+  -- if no row was found, the row is named if it does not pass
   pub found_now : (found : Option RowName) → is_some found ≡ false → found ≡ named_out number text test first rows → (n t : ℕ) (p : Row → Bool) → n ≡ number → t ≡ text → p ≡ test → (now : Option RowName) → now ≡ name_if n t p row → now ≡ named_out number text test first (rows ++ row ∷ [])
   found_now None none is n t p same_number same_text same_test now e =
       e ∙ (λ i. name_if (same_number i) (same_text i) (same_test i) row) ∙ ap (λ o. option_or o (name_if number text test row)) is ∙ sym one_more

@@ -54,11 +54,11 @@ next_rises (k ∷ j ∷ ks) (suc i) d e up low = next_rises (j ∷ ks) i d e up.
 spare : CapKey
 spare = record { kind = Block; mode = 0 }
 
--- where each is before the next
+-- the keys rise if each is before the next
 pub rise_all : (ks : List CapKey) (i : ℕ) → length ks ≤ i → AllAdjacentBelow (λ a b. is_before a b ≡ true) ks i → true ≡ rise ks
 rise_all ks i last all = sym (rise-ordered ks (sorted_from_all_adjacent key_total ks spare (λ k low. less _ (all k spare (omega (arith, low, last))))))
 
--- where one is not before the next
+-- the keys do not rise if one is not before the next
 pub rise_not : (ks : List CapKey) (i : ℕ) (j k : CapKey) → 0 < i → i < length ks → j ≡ get_or ks (i - 1) j → k ≡ get_or ks i k → is_before j k ≡ false → false ≡ rise ks
 rise_not ks zero j k some low one next none = absurd (omega (arith, some))
 rise_not ks (suc i) j k some low one next none = go (rise ks) refl

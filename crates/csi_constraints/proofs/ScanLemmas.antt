@@ -24,7 +24,7 @@ scanned folds old new P Q (Err e) f h = tt
 relays_other : (blamed : Option StoreError) (e : Error) → is_disk_error e ≡ false → Relays blamed e
 relays_other blamed e other kind named is = absurd (true≢false (sym is ∙ other))
 
--- a scan is refused for nothing but its rows
+-- a scan is refused only because of its rows
 scan_fails : {S X : Type 0} (g : Ghosts S) (scan : Scan) → IsSure schema (text scan) [] → (old : Held S) (new : State) (r : Result X Error) → old.schema ≡ schema
     → IfErr r (FailsFor (RefusesRows g (text scan) old) (state g old) new) → IfErr r (FailsFor (HasTooMany g old) (state g old) new)
 scan_fails g scan sure old new (Ok x) has h = tt

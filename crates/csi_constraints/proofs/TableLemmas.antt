@@ -1,4 +1,4 @@
--- What a scan over one table shows: each row once, and in order where it is asked.
+-- The rows that a scan over one table shows: each row once, and in order if an order is asked for.
 use Rattle.std.proofs.Common.{◌≡◌, ◌∙◌, refl, sym, ap, subst, zero, suc, ℕ, ◌+◌, List, [], ◌∷◌, map, flat_map, length, slice_index_or, codes, arith, IsPermutation, IsSorted}
 use Rattle.std.specs.declared.cmp.Ordering.{Ordering}
 use Rattle.std.specs.declared.cmp.Ordering.TheVariants.{Less, Equal, Greater}
@@ -32,7 +32,7 @@ use Rattle.csi_constraints.specs.Texts.{Scan, Meta, Volumes, Attachments, Places
 abbrev pub table_query : ℕ → List Term → List (Term × Key) → Query
 table_query t shown order = record plain_query { from = inner t end; project = shown; order = order }
 
--- in the order of the first column that is shown
+-- a query over one table, in the order of the first shown column
 abbrev pub ordered_query : ℕ → Term → List Term → Query
 ordered_query t first more = table_query t (first ∷ more) ((first, rising) ∷ [])
 
@@ -46,7 +46,7 @@ query Attachments = ordered_query 3 (col 1 0) (col 1 1 ∷ col 1 2 ∷ col 1 3 �
 query Places = ordered_query 3 (col 1 1) (col 1 2 ∷ col 1 3 ∷ col 1 4 ∷ [])
 query Owners = record (ordered_query 3 (col 1 1) (col 1 2 ∷ col 1 3 ∷ col 1 4 ∷ col 2 5 ∷ [])) { from = inner 3 (left 1 owner_on end) }
 
--- what the columns are called that a scan shows
+-- the names of the columns that a scan shows
 abbrev shown_names : Scan → List (List ℕ)
 shown_names Meta = codes "k" ∷ codes "format_no" ∷ codes "next_number" ∷ []
 shown_names Volumes = codes "number" ∷ codes "name" ∷ codes "bytes" ∷ codes "pool" ∷ codes "caps" ∷ codes "params" ∷ []
@@ -69,7 +69,7 @@ never_refused Attachments limit db e h = only_limit h (λ over. over.4)
 never_refused Places limit db e h = only_limit h (λ over. over.4)
 never_refused Owners limit db e h = only_limit h (λ over. over.4.4)
 
--- nothing but a limit on its steps refuses it
+-- a scan is refused only for a limit on its steps
 pub is_sure : (scan : Scan) → IsSure schema (text scan) []
 is_sure scan = sure_of [] (is_select (compiles scan)) (is_alone (compiles scan) refl) (never_refused scan)
 
@@ -129,7 +129,7 @@ module _ (q : Query) (first : Term) (is : q.order ≡ (first, rising) ∷ []) wh
       let was = sorted k e from (omega (arith, below, as_many outs)) in
       rw (shown_at outs (k + 1) e, shown_at outs k e) (sym (same_test x y (keyed_at outs (k + 1) e all refl) (keyed_at outs k e all refl)) ∙ was)
 
-  -- what it shows is sorted, where each row shows the term first
+  -- the shown rows are sorted, if each row shows the term first
   pub sorted_by_first : (kept ordered : List Output) → AllByRecursion IsKeyed kept → IsPermutation kept ordered → IsSorted (output_cmp q) ordered → (shown : List Row) → shown ≡ map (λ (o : Output). o.1) ordered → IsSorted first_cmp shown
   sorted_by_first kept ordered all same sorted shown e = subst (IsSorted first_cmp) (sym e) (sorted_shown ordered (all-permutation IsKeyed kept ordered same all) sorted)
 

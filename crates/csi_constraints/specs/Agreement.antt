@@ -1,5 +1,5 @@
--- A row that represents a volume or an attachment passes a constraint exactly where the State may have
--- it.
+-- A row that represents a volume or an attachment passes a constraint exactly if a State may have the volume
+-- or the attachment.
 use Rattle.std.specs.Prelude.{◌≡◌, ℕ, ◌≤◌, ◌<◌, true, false, not, List, [], ◌∷◌, ◌++◌, None, Some, IsSome, IsUtf8}
 use Rattle.std.specs.Bool.{Decides}
 use Rattle.std.specs.FinMap.{empty}
@@ -65,8 +65,8 @@ pub record OwnerAgrees (e : AttachmentKey × Attachment) («keys» : List CapKey
 
 -- the rows of two attachments, both with a capability that passes
 pub record PairAgrees (e f : AttachmentKey × Attachment) : Type 0 where
-  -- of one volume
+  -- attachments of one volume
   pub beside : e.0.0 ≡ f.0.0 → FitCaps (e.1.cap ∷ []) → is_supported_key e.1.cap ≡ true → FitCaps (f.1.cap ∷ []) → is_supported_key f.1.cap ≡ true
       → are_apart (attachment_entry e) (attachment_entry f) ≡ not (coexist e.1 f.1)
-  -- and of two
+  -- attachments of two volumes
   pub other : (e.0.0 ≡ f.0.0 → ⊥) → are_apart (attachment_entry e) (attachment_entry f) ≡ false

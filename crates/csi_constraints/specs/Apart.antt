@@ -34,18 +34,18 @@ are_apart a b = are_of_one a b && not (can_coexist (attached_at 2 3 a) (attached
 abbrev pub NoneApart : List Row → Type 0
 NoneApart rows = IsAscending (λ a b. are_apart a b ≡ false) rows
 
--- the first row that is apart from one before it, after earlier ones
+-- the first of the rows that is apart from a row before it; `earlier` are the rows before all of them
 abbrev pub first_apart : List Row → List Row → Option Row
 first_apart earlier [] = None
 first_apart earlier (r ∷ rows) = if list_any (λ e. are_apart e r) earlier then Some r else first_apart (earlier ++ r ∷ []) rows
 
--- that row, by its number and its node
+-- the name of this row: its number and its node
 abbrev pub apart_named : List Row → Option RowName
 apart_named rows = option_map (name_of 0 1) (first_apart [] rows)
 
 -- ---- a row that represents all attachments of its volume
 
--- the number of the later row is below the earlier one's
+-- the number of the later row is below the number of the earlier row
 abbrev pub falls : Row → Row → Bool
 falls a b = are_some_and (λ m n. int_lt n m) (as_integer (column a 0)) (as_integer (column b 0))
 
@@ -57,7 +57,7 @@ DoNotFall rows = IsAscending (λ a b. falls a b ≡ false) rows
 abbrev pub last_attachment_at : Row → Option LastAttachment
 last_attachment_at r = option_map (λ n. record { number = n; attachment = attached_at 2 3 r }) (as_integer (column r 0))
 
--- the next one can coexist with all of its volume
+-- the next attachment can coexist with all attachments of its volume so far
 abbrev pub admits : Option LastAttachment → LastAttachment → Bool
 admits None next = true
 admits (Some led) next = not (int_eq led.number next.number) || can_coexist led.attachment next.attachment
@@ -65,16 +65,17 @@ admits (Some led) next = not (int_eq led.number next.number) || can_coexist led.
 abbrev pub is_written : Option Attachment → Bool
 is_written a = is_some_and (λ x. not x.readonly) a
 
--- it represents the next row too, if both are of the same volume and it is written
+-- the last attachment represents the next row too: both are of the same volume, and it is written
 abbrev pub covers : Option LastAttachment → LastAttachment → Bool
 covers None next = false
 covers (Some led) next = int_eq led.number next.number && is_written led.attachment
 
--- what can coexist with the one can coexist with the other
+-- any attachment that can coexist with `a` can coexist with `b`
 abbrev pub Leads : Option Attachment → Option Attachment → Type 0
 Leads a b = (c : Option Attachment) → can_coexist a c ≡ true → can_coexist b c ≡ true
 
--- it belongs to the last volume of the rows, is one of the rows, and represents each row of its volume
+-- the attachment is in one of the rows, belongs to the last volume of the rows, and represents each row of
+-- this volume
 pub record IsLed (led : LastAttachment) (rows : List Row) : Type 0 where
   pub last : AllByRecursion (λ r. is_some_and (int_lt led.number) (as_integer (column r 0)) ≡ false) rows
   pub leads : AllByRecursion (λ r. as_integer (column r 0) ≡ Some led.number → Leads led.attachment (attached_at 2 3 r)) rows
@@ -83,7 +84,7 @@ pub record IsLed (led : LastAttachment) (rows : List Row) : Type 0 where
   pub of : as_integer (column row 0) ≡ Some led.number
   pub is : attached_at 2 3 row ≡ led.attachment
 
--- and it is absent only if no row has a number
+-- as `IsLed`; the attachment is absent only if no row has a number
 abbrev pub AreCovered : Option LastAttachment → List Row → Type 0
 AreCovered None rows = AllByRecursion (λ r. as_integer (column r 0) ≡ None) rows
 AreCovered (Some led) rows = IsLed led rows

@@ -1,5 +1,4 @@
--- The constraints of a row of attachments on its texts and its truth value: rowid, number, node, cap,
--- readonly.
+-- The constraints of a row of attachments on its text and its flag: rowid, number, node, cap, readonly.
 use Rattle.std.specs.Prelude.{ℕ, Bool, List}
 use Rattle.std.specs.List.{list_any}
 use Rattle.std.specs.Option.{is_some}

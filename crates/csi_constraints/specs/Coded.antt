@@ -14,19 +14,19 @@ use Rattle.csi_constraints.specs.Values.{is_some_and}
 abbrev pub SaysMessage : ℕ → Row → Type 0
 SaysMessage at row = IsSomeAnd (as_blob (column row at)) MeansMessage
 
--- the keys that a cell says
+-- the keys that the bytes of a cell mean
 abbrev pub keys_at : ℕ → Row → Option (List CapKey)
 keys_at at row = option_and_then keys_in (as_blob (column row at))
 
--- the one key that a cell says
+-- the one key that the bytes of a cell mean
 abbrev pub key_at : ℕ → Row → Option CapKey
 key_at at row = option_and_then key_in (as_blob (column row at))
 
--- the parameters and mutable parameters that a cell says
+-- the parameters and mutable parameters that the bytes of a cell mean
 abbrev pub params_at : ℕ → Row → Option (TextMap × TextMap)
 params_at at row = option_and_then params_in (as_blob (column row at))
 
--- caps says capabilities: at least one, in order, each supported
+-- caps encodes capabilities: at least one, in order, each supported
 abbrev pub has_caps : Row → Bool
 has_caps row = is_some_and are_keys (keys_at 4 row)
 
@@ -35,6 +35,6 @@ has_caps row = is_some_and are_keys (keys_at 4 row)
 abbrev pub has_params : ℕ → Row → Bool
 has_params format row = is_some_and (are_params format) (params_at 5 row)
 
--- cap says one capability, which is supported
+-- cap encodes one capability, which is supported
 abbrev pub has_cap : Row → Bool
 has_cap row = is_some_and is_supported_key (key_at 3 row)

@@ -1,4 +1,4 @@
--- What capabilities and parameters bytes say: those whose canonical bytes they are.
+-- The capabilities and parameters that bytes mean: the bytes must be their canonical bytes.
 use Rattle.std.specs.Prelude.{ℕ, ◌==◌, Bool, true, ◌&&◌, ◌||◌, not, nat_le, bytes_eq, List, [], ◌∷◌, Option, None, Some, Result, Ok, IsOk}
 use Rattle.std.specs.FinMap.{len}
 use Rattle.std.specs.List.{list_all}
@@ -26,7 +26,7 @@ abbrev pub created : Result Request ℕ → Option message.CreateVolume
 created (Ok (Create v)) = Some v
 created _ = None
 
--- the CreateVolumeRequest that bytes say
+-- the CreateVolumeRequest that bytes mean
 abbrev pub message_in : List ℕ → Option message.CreateVolume
 message_in bytes = created (read_request method.CreateVolume bytes)
 
@@ -44,7 +44,7 @@ abbrev pub each_key : List Capability → Option (List CapKey)
 each_key [] = Some []
 each_key (c ∷ cs) = in_front (key_of c) (each_key cs)
 
--- ---- what bytes say
+-- ---- the meaning of bytes
 
 -- the keys whose canonical bytes these are, if there are such keys
 abbrev pub keys_in : List ℕ → Option (List CapKey)
@@ -67,7 +67,7 @@ params_in bytes = if_passes (λ ms. bytes_eq (params_bytes ms.0 ms.1) bytes) (op
 abbrev pub is_before : CapKey → CapKey → Bool
 is_before a b = is_lt (key_cmp a b)
 
--- each key is before those after it
+-- each key is before all keys after it
 abbrev pub rise : List CapKey → Bool
 rise [] = true
 rise (k ∷ ks) = list_all (is_before k) ks && rise ks

@@ -1,4 +1,4 @@
--- What a fold over rows has become.
+-- A fold after rows.
 use Rattle.std.specs.Prelude.{◌≡◌, ◌⊎◌, ◌↔◌, ℕ, ◌+◌, ◌-◌, ◌<◌, ◌^◌, length, min, sum_by, ℤ, int_lt, List, []}
 use Rattle.std.specs.Prelude.{Bool, true, false, if◌then◌else◌, IsTrue, unwrap_or}
 use Rattle.std.specs.Prelude.{◌∷◌, ◌++◌, map, Option, Some, None}
@@ -18,7 +18,7 @@ use Rattle.csi_constraints.specs.declared.sums.TextSum.{TextSum}
 use Rattle.csi_constraints.specs.declared.sums.Weight.{Weight}
 use Rattle.csi_constraints.specs.declared.sums.Weight.TheVariants.{One, Number}
 
--- one of some is such
+-- `P` is true of an item of the list
 abbrev pub HasSome : {X : Type 0} → (X → Type 0) → List X → Type 0
 HasSome P [] = ⊥
 HasSome P (x ∷ xs) = P x ⊎ HasSome P xs
@@ -29,7 +29,7 @@ HasSome P (x ∷ xs) = P x ⊎ HasSome P xs
 abbrev pub number_in : ℕ → Row → ℕ
 number_in at row = unwrap_or (as_number (column row at)) 0
 
--- what a row of the text adds
+-- the amount that a row with the text adds
 abbrev pub weight_of : Weight → Row → ℕ
 weight_of One row = 1
 weight_of (Number at) row = number_in at row
@@ -38,15 +38,15 @@ abbrev pub is_text : List ℕ → Value → Bool
 is_text text (Text t) = is_eq (slice_cmp nat_cmp t text)
 is_text text _ = false
 
--- what a row adds: nothing, if it has another text in the column
+-- the amount that a row adds: 0 if it has another text in the column
 abbrev pub added_by : ℕ → List ℕ → Weight → Row → ℕ
 added_by at text weight row = if is_text text (column row at) then weight_of weight row else 0
 
--- a sum after the rows, or 2^64 - 1 where it is more
+-- the sum after the rows, at most 2^64 - 1
 abbrev pub sum_after : ℕ → List ℕ → Weight → ℕ → List Row → ℕ
 sum_after at text weight sum rows = min (sum + sum_by (added_by at text weight) rows) (2 ^ 64 - 1)
 
--- what a sum has become over rows
+-- a sum after rows
 abbrev pub SumsText : TextSum → List Row → TextSum → Type 0
 SumsText first rows now =
     (now.column ≡ first.column) × (now.text ≡ first.text) × (now.weight ≡ first.weight)
@@ -66,16 +66,16 @@ abbrev pub is_above : Option ℤ → ℤ → Bool
 is_above None n = true
 is_above (Some m) n = int_lt m n
 
--- an integer that came before, if one did
+-- the integer that came before, if there was one
 abbrev pub before : Option ℤ → List Value
 before None = []
 before (Some n) = Int n ∷ []
 
--- what came before, and the values of a column
+-- the integer that came before, and the values of a column
 abbrev pub values_from : ℕ → Option ℤ → List Row → List Value
 values_from at last rows = before last ++ map (λ r. column r at) rows
 
--- each row has an integer in the column, and each is above those before it
+-- each row has an integer in the column, and each integer is above all integers before it
 pub record IsRising (at : ℕ) (last : Option ℤ) (rows : List Row) : Type 0 where
   pub integers : AllByRecursion (λ r. is_int (column r at) ≡ true) rows
   pub rising : IsAscending (λ a b. value_cmp a b ≡ Less) (values_from at last rows)
@@ -90,6 +90,6 @@ pub record Rises (at : ℕ) (was : Bool) (last : Option ℤ) (rows : List Row) (
   pub good_is : IsTrue good ↔ (IsTrue was × IsRising at last rows)
   pub last_is : IsTrue good → IsLast (values_from at last rows) next
 
--- what that test has become over rows
+-- this test after rows
 abbrev pub RisesOver : Rising → List Row → Rising → Type 0
 RisesOver first rows now = (now.column ≡ first.column) × Rises first.column first.good first.last rows now.good now.last

@@ -1,4 +1,4 @@
--- The constraint of an attachment with the caps of its volume, and the attachment that a row says.
+-- The constraint of an attachment with the caps of its volume, and the attachment that a row represents.
 use Rattle.std.specs.Prelude.{ℕ, Bool, [], Option, None, Some}
 use Rattle.sqlite.specs.Order.{Row, column}
 use Rattle.csi_keeper.specs.Capability.{has_key}
@@ -8,8 +8,8 @@ use Rattle.csi_sql.specs.Cells.{as_flag}
 use Rattle.csi_constraints.specs.Coded.{key_at, keys_at}
 use Rattle.csi_constraints.specs.Values.{are_some_and}
 
--- number, node, cap and readonly, and the caps of the volume: the volume exists, and the capability is one of
--- its own
+-- In a row with number, node, cap and readonly, and the caps of the volume: the volume exists, and has the
+-- capability.
 abbrev pub is_owned : Row → Bool
 is_owned row = are_some_and (λ key ks. has_key ks (Some key)) (key_at 2 row) (keys_at 4 row)
 

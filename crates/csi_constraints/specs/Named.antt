@@ -36,6 +36,6 @@ pub record FindsBroken {T : Type 0} (accepts : T → Row → Bool) (knows : T �
   pub found : now.found ≡ named_out first.number first.text (accepts first.test) first.found rows
   pub known : now.found ≡ None → AllByRecursion (knows first.test) rows
 
--- the same, by a test that takes no memory
+-- as `FindsBroken`, with a test that takes no memory
 abbrev pub FindsByTest : {T : Type 0} → (T → Row → Bool) → FirstBroken (InfallibleTest T) → List Row → FirstBroken (InfallibleTest T) → Type 0
 FindsByTest accepts = FindsBroken (λ sure row. accepts sure.test row) (λ _ _. Unit {0})

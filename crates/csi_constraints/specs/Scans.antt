@@ -1,4 +1,4 @@
--- What the scans show of the tables: meta is tree 0, volumes tree 1, attachments tree 3.
+-- The rows that the scans show of the tables: meta is tree 0, volumes tree 1, attachments tree 3.
 use Rattle.std.specs.Prelude.{Bool, [], ◌∷◌, List, map, filter, flat_map, IsPermutation, IsSorted}
 use Rattle.std.specs.declared.cmp.Ordering.{Ordering}
 use Rattle.std.specs.Ordering.{on}
@@ -16,13 +16,13 @@ pub record IsInOrder (seen rows : List Row) : Type 0 where
   pub same : IsPermutation seen rows
   pub sorted : IsSorted first_cmp rows
 
--- an attachment after its rowid
+-- the row of an attachment, with its rowid in front
 abbrev pub keyed_attachment : Row → Row
 keyed_attachment r = column r 0 ∷ seen_attachment r
 
 -- ---- each attachment with its volume
 
--- the volume is the attachment's
+-- the volume is the volume of the attachment
 abbrev pub owns : Row → Row → Bool
 owns attachment volume = is_same (column volume 0) (column attachment 1)
 

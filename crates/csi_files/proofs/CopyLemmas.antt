@@ -24,7 +24,7 @@ use Rattle.csi_files.specs.Copying.{CopiesLog, IsMoved, KeepsPages, LeavesLog}
 -- ---- the log
 
 module _ {D : Type 0} {g : Ghosts D} where
-  -- it was recovered, and finished
+  -- the log was recovered, and then copied
   pub copied_log : (old mid new : Log D g) → (state mid).page_size ≡ (state old).page_size → (IsTrue (state mid).is_clean → IsTrue (state old).is_clean)
       → raw.AddsNothing (state old).page_size (state old).may_leave (state mid).may_leave → Keeps (state mid) (state new) → CopiesLog old new
   copied_log old mid new size honest crash keeps = record {
@@ -48,7 +48,7 @@ module _ {D : Type 0} {g : Ghosts D} where
 
 -- ---- the files
 
--- files name one size
+-- files name only one size
 pub same_named : (image : Image) (m n : ℕ) → NamesSize image m → NamesSize image n → m ≡ n
 same_named image m n a b =
     elim (cases_eq m n) [
@@ -58,7 +58,7 @@ same_named image m n a b =
           absurd (read (λ ignored. other (a.1 ignored ∙ sym (b.1 ignored))))
     ]
 
--- the size that was found is the one that the files name
+-- the size that was found is the size that the files name
 pub same_size : (image : Image) (found : Option PageSize) → (¬ IsIgnored image.log → Names found (be32 image.log 8)) → (IsIgnored image.log → Names found (size_in_file image.db))
     → (chosen : PageSize) → found ≡ Some chosen → (n : ℕ) → NamesSize image n → bytes_of chosen ≡ n
 same_size image found by_log by_file chosen is n names =
@@ -66,7 +66,7 @@ same_size image found by_log by_file chosen is n names =
     same_named image (bytes_of chosen) n named names
 
 module _ {D : Type 0} (g : Ghosts D) (before mid : Files D) (log : OnlyReads g before.log mid.log) (db : OnlyReads g before.db mid.db) where
-  -- they were only looked at
+  -- the files were only looked at
   pub looked_keeps : KeepsPages g before mid
   looked_keeps = record {
     clean = λ clean. both_clean _ _ _ _ log.clean db.clean clean;
@@ -76,7 +76,7 @@ module _ {D : Type 0} (g : Ghosts D) (before mid : Files D) (log : OnlyReads g b
   same_seen : image_of g mid ≡ image_of g before
   same_seen = ap₂ (λ (a b : List ℕ). let i : Image = record { log = a; db = b } in i) log.seen db.seen
 
-  -- and then copied
+  -- the files were looked at, and then copied
   pub looked_first : (after : Files D) → KeepsPages g mid after → KeepsPages g before after
   looked_first after it = record {
     clean = λ clean. looked_keeps.clean (it.clean clean);
@@ -88,7 +88,7 @@ module _ {D : Type 0} (g : Ghosts D) (before mid : Files D) (log : OnlyReads g b
   pub looked_moved : (after : Files D) → IsMoved g mid after → IsMoved g before after
   looked_moved after it = record { keeps = looked_first after it.keeps; ignored = it.ignored; usable = it.usable }
 
-  -- by a log with the size that was found in them
+  -- the files were copied by a log with the size that was found in them
   pub log_keeps : (found : Option PageSize) → (AreClean g mid.log mid.db → ¬ IsIgnored (g.seen before.log) → Names found (be32 (g.seen before.log) 8))
       → (AreClean g mid.log mid.db → IsIgnored (g.seen before.log) → Names found (size_in_file (g.seen before.db)))
       → (chosen : PageSize) → found ≡ Some chosen → (it : Log D g) → files it ≡ (mid.log, mid.db) → (state it).page_size ≡ bytes_of chosen

@@ -59,7 +59,7 @@ use Rattle.csi_files.proofs.RunLemmas.{Carries, ends, run_in, same_events}
 not_none : schema ≡ no_schema → ⊥
 not_none e = let tables = ap (λ s. s.tables) e in absurd cc
 
--- trees are a database of one schema
+-- trees are a database of only one schema
 one_schema : (s t : Schema) (db : Trees) → IsSound s db → IsSound t db → s ≡ t
 one_schema s t db a b = lists_once (db catalog_tree) s t a.lists b.lists
 
@@ -74,7 +74,7 @@ state_of db trees s same sound (inl rows) =
 state_of db trees s same sound (inr none) =
     inr (one_schema db.schema no_schema trees (subst (IsSound db.schema) same sound) none.0, none.1)
 
--- a database has one State
+-- a database has only one State
 pub one_state_of : OneState → (db : Database) (s t : State) → IsStateOf db s → IsStateOf db t → s ≡ t
 one_state_of one db s t (inl a) (inl b) = one s t db.trees a.1 b.1
 one_state_of one db s t (inl a) (inr b) = absurd (not_none (sym a.0 ∙ b.0))
@@ -86,8 +86,8 @@ in_trees : (db : Database) (s : State) → IsSound db.schema db.trees → IsStat
 in_trees db s sound (inl it) = inl it.1
 in_trees db s sound (inr it) = inr (subst (λ q. IsSound q db.trees) it.0 sound, it.1)
 
--- what the laws of the machine say of a run over tables: what a stop may leave of it, and that the invariant
--- is kept
+-- the laws of the machine for a run over tables: a stop may leave only these States, and the invariant is
+-- kept
 pub record RunLaws {D : Type 0} (g : Ghosts D) (config : Config) : Type 0 where
   pub left : (old new : Tables (FileStore D g)) (s : State) (events : List Event)
       → Runs (volumes config) (seen config (tables_model over_files old)) (seen config (tables_model over_files new)) s events
@@ -97,7 +97,7 @@ pub record RunLaws {D : Type 0} (g : Ghosts D) (config : Config) : Type 0 where
   pub pending : (s : State) (events : List Event) (t : State) → IsInvariant config s → IsPending config s events t → IsInvariant config t
 
 module _ {D : Type 0} (g : Ghosts D) where
-  -- an open of files that have a State finds it
+  -- an opening of files that have a State finds the State
   pub finds_state : (image : Image) (s : State) (conn : Held (FileStore D g)) → HasState image s → IsOpened conn → FindsIn image (file_state conn) → IsStateOf (file_state conn).committed s
   finds_state image s conn has opened found =
       let same : (file_state conn).committed.trees ≡ has.db = ∥∥₁_elim has.holds (Trees-set _ _) (λ held. found.holds has.db (database_of image has.db held)) in
@@ -127,7 +127,7 @@ module _ {D : Type 0} (g : Ghosts D) where
         let committed = (file_state conn).committed in
         one_schema committed.schema db.schema db.trees (subst (IsSound committed.schema) (found_trees clean db held) ((opened clean).1 (opened clean).0.is_open).1) sound
 
-    -- and the connection has its schema
+    -- the connection has the schema of the database of the files
     conn_schema : HasCleanDisk (file_state conn) → (db : Database) → ∥ HoldsDatabase was db.trees ∥₁ → IsDatabase db → conn.schema ≡ db.schema
     conn_schema clean db held sound = ap (λ (d : Database). d.schema) (opened clean).0.clean ∙ found_schema clean db held sound
 
@@ -169,7 +169,7 @@ module _ {D : Type 0} (g : Ghosts D) where
         | inr new ↦ inr (sym (ap (λ (d : Database). d.schema) (opened clean).0.clean) ∙ blank.0 new.0, new.1)
       ]
 
-      -- the run says so where the database had no table
+      -- the run reports it if the database had no table
       says_new : HasCleanDisk (file_state conn) → SaysNew was served
       says_new clean db held sound =
           let same = conn_schema clean db held sound in
@@ -207,7 +207,7 @@ module _ {D : Type 0} (g : Ghosts D) where
           subst (λ (o : RunReport). Serves (volumes config) (image_model was o.is_new) (seen config (files_model g outcome.files o.refusals o.is_down)) bytes.unread bytes.left bytes.held bytes.holds o.end) (sym it.same)
           (closed outcome.files it.copied)
 
-      -- they were not
+      -- calls were served, and the files were closed or given up
       serves_then : (Clean : Type 0) (Leaves : State → List Event → Type 0) → (Clean → HasCleanDisk (file_state end))
           → (Clean → (s : State) (events : List Event) → Runs (volumes config) first_model last_model s events → ((t : State) → (model_of over.first).survivors t → t ≡ s) → (model_of over.first).tied → IsInvariant config s → Leaves s events)
           → ServesThen config was bytes served Clean Leaves
@@ -258,7 +258,7 @@ module _ {D : Type 0} (g : Ghosts D) where
       finished_after outcome it =
           subst (λ (o : RunReport). ServesThen config was bytes o (AreClean g outcome.files.log outcome.files.db) (LeavesAfter g config outcome.files)) (sym it.same) (closed_after outcome.files it.copied)
 
-      -- what a stop leaves is a State after the run
+      -- a stop leaves a State after the run
       after : (s : State) (events : List Event) → Runs (volumes config) first_model last_model s events → ((t : State) → (model_of over.first).survivors t → t ≡ s) → IsInvariant config s
           → (t : State) → (model_of over.last).survivors t → IsStateAfter config s events t
       after s events run only invariant t there =
@@ -414,7 +414,7 @@ module _ {D : Type 0} (g : Ghosts D) (config : Config) (conn : Held (FileStore D
   pub serves_over : (back : Held (FileStore D g)) (report : RunReport) (bytes : Streams) → ServesTables over_files t config back report bytes → ServesOver over_files config conn back report bytes
   serves_over back report bytes it = record { first = t; adopted = adopted; last = it.last; run = it.run; back_is = it.back_is }
 
-  -- or a read of theirs was refused
+  -- a read of the tables that were adopted was refused
   pub refused_over : (is_existing : Bool) (refusal : Refusal) (back : Held (FileStore D g)) → IsRefusedBack over_files t refusal back → IsRefused over_files config conn is_existing refusal back
   refused_over is_existing Blank back h = absurd h
   refused_over is_existing (NotAdopted fault) back h = absurd h
@@ -455,7 +455,7 @@ module _ {D : Type 0} (g : Ghosts D) (is_existing : Bool) where
   asked served conn so (Err (NotClosed outcome error now)) none h = λ e. ap (λ (s : RunReport). s.is_new) h.0 ∙ so e
 
 module _ {D : Type 0} (g : Ghosts D) (config : Config) (was : Image) (bytes : Streams) (None : Error → Leftover D g → Type 0) where
-  -- a statement over open files holds from their opening on
+  -- a statement about open files holds from their opening on
   pub not_opened_too : (e : RunFailure D g) → IsNotServed g config was bytes (λ _ _. ⊥) e → IsNotServed g config was bytes None e
   not_opened_too (NoFiles error) h = absurd h
   not_opened_too (NotOpened error rest) h = absurd h
@@ -463,7 +463,7 @@ module _ {D : Type 0} (g : Ghosts D) (config : Config) (was : Image) (bytes : St
   not_opened_too (Left served now) h = h
   not_opened_too (NotClosed served error now) h = h
 
--- files that have a State are adopted as it
+-- files that have a State are adopted as this State
 pub found_again : {D : Type 0} (g : Ghosts D) (config : Config) → OneState → AreFoundAgain g config
 found_again g config one was conn s has invariant open_ = record {
   taken = λ t it z. let held = it.held z in

@@ -46,8 +46,7 @@ use Rattle.csi_files.proofs.PathLemmas.{image, read_of}
 use Rattle.csi_files.proofs.StartingLemmas.{laid_out_has, no_state}
 use Rattle.csi_files.proofs.UnopenedLemmas.{kept_unopened}
 
--- some replies that a client heard in these sessions, and the State that a run over the files starts as in
--- the end
+-- the replies that a client heard in these sessions, and the State that a run over the last files starts from
 record Lived (config : Config) (was : Image) (s : State) (sessions : List (List Exchange)) (last : Image) : Type 0 where
   pub heard : List ReplyBytes
   pub left : State
@@ -68,7 +67,7 @@ lived config (session ∷ sessions) was last s may invariant (next, run, more) =
       goes = record { may = rest.goes.may; has = λ has. rest.goes.has (found.1.has has) };
     }))
 
--- and the law of calls over the sessions holds of the files
+-- the law of calls over the sessions holds for the files
 pub lives_once : (config : Config)
     → ((s t : State) (requests : List Request) (sessions : List (List Exchange)) (heard : List ReplyBytes) → IsInvariant config s → AreTriesOf requests (all_tries (map tries_of sessions)) → IsLifeOfCalls config s sessions heard t
     → (heard ≡ map reported (reported_once config s requests)) × (t ≡ after_once config s requests))
@@ -104,7 +103,7 @@ module _ (config : Config) (run : (s : State) (events : List Event) → IsInvari
 
 -- ---- from a run to a run of a life
 
--- files that have a State after the calls go on as it
+-- a next run over files that have a State after the calls may start from it
 goes_on : (config : Config) (was next : Image) (s : State) (events : List Event) → ∥ ((t : State) × HasState next t × IsStateAfter config s events t) ∥₁
     → ∥ ((t : State) × GoesOn was next s t × IsStateAfter config s events t) ∥₁
 goes_on config was next s events left = ∥∥₁_map left (λ found. (found.0, record { may = inl found.1; has = λ _. found.1 }, found.2))
@@ -114,7 +113,7 @@ none_answered : (config : Config) (s : State) → IsInvariant config s → IsSta
 unfolding state_after
 none_answered config s invariant = record { is = inl refl; invariant = invariant }
 
--- so do files that keep the State, where no call was answered
+-- a next run may start from the same State, if the files keep it and no call was answered
 stays_as : (config : Config) (was next : Image) (s : State) → IsInvariant config s → ∥ HasState next s ∥₁ → ∥ ((t : State) × GoesOn was next s t × IsStateAfter config s [] t) ∥₁
 stays_as config was next s invariant kept = ∥∥₁_map kept (λ has. (s, record { may = inl has; has = λ _. has }, none_answered config s invariant))
 

@@ -61,7 +61,7 @@ module _ {D : Type 0} (g : Ghosts D) (old new : Pool D g) (before after : Files 
           crash = λ left may. left_out g old before from left (untouched none left (left_in g new after (sym to) left clean may));
         }
 
-    -- for every outcome
+    -- whatever the outcome, the database was not made, or was made in part or in full
     pub not_created : CreatesAtMostNew old new → IsNotCreated g before after
     not_created crash = record {
       clean = clean_kept;
@@ -75,7 +75,7 @@ module _ {D : Type 0} (g : Ghosts D) (old new : Pool D g) (before after : Files 
       ];
     }
 
-    -- it was refused, since they hold something
+    -- the making was refused, because the files hold something
     pub left_alone : IsTrue (g.is_usable after.log) × IsTrue (g.is_usable after.db) → (IsTrue (state new).is_clean → ¬ IsBlankFile (state old).page_size (image old)) → IsCreated g before after
     left_alone usable something = record {
       clean = clean_kept;
@@ -85,7 +85,7 @@ module _ {D : Type 0} (g : Ghosts D) (old new : Pool D g) (before after : Files 
       kept = kept;
     }
 
-    -- it was made
+    -- the database was made
     pub created : SeenMayStay g → IsTrue (g.is_usable after.log) × IsTrue (g.is_usable after.db) → (state new).page_size ≡ (state old).page_size
         → (IsTrue (state new).is_clean → IsClean new) → (IsTrue (state new).is_clean → IsNew (state old).page_size (state new).committed) → IsCreated g before after
     created stays usable same is_open made = record {
@@ -105,11 +105,11 @@ module _ {D : Type 0} (g : Ghosts D) (old new : Pool D g) (before after : Files 
               subst (λ (n : ℕ). IsNew n (state new).committed) size (made sure),
             )
 
--- nothing was done
+-- nothing was done to the files
 pub as_it_was : {D : Type 0} (g : Ghosts D) (pair : Files D) → IsNotCreated g pair pair
 as_it_was g pair = record { clean = λ clean. clean; kept = λ clean some. record { seen = refl; crash = λ left may. may }; crash = λ clean left may. inl may }
 
--- it was refused since they hold something
+-- the making was refused because the files hold something
 pub refused : (a : ℕ) (end : End) (Wanted : Type 0) (e : Error) → e ≡ Corrupt → FailsUnless a end Wanted e → ¬ Wanted
 refused a end Wanted e is (inl excused) = let never = subst (IsExcused a end) is excused in absurd never
 refused a end Wanted e is (inr why) = why.1
@@ -149,7 +149,7 @@ pub not_torn : (image : Image) → IsUnmade image → ¬ IsTorn image
 not_torn image (inl empty) torn = omega (arith, empty, torn.1.some)
 not_torn image (inr blank) torn = elim blank.1.1 [ inl short ↦ omega (arith, short, torn.1.some) | inr begun ↦ omega (arith, begun.0, torn.0) ]
 
--- from a file, cleared if it was torn, to the file made from it
+-- from the files before, cleared if they were torn, to the files that the database was made in
 module _ {D : Type 0} (g : Ghosts D) (before mid : Files D) (clean : AreClean g mid.log mid.db → AreClean g before.log before.db)
     (whole : AreClean g mid.log mid.db → ¬ IsTorn (image_of g before) → AreAsBefore g before mid) where
   kept_both : (after : Files D) → (AreClean g after.log after.db → AreClean g mid.log mid.db) → (AreClean g after.log after.db → ¬ IsUnmade (image_of g mid) → AreAsBefore g mid after)
@@ -180,7 +180,7 @@ module _ {D : Type 0} (g : Ghosts D) (before mid : Files D) (clean : AreClean g 
     crash = λ now none left may. elim (it.crash now left may) [ inl was ↦ inl ((whole (it.clean now) none).crash left was) | inr other ↦ inr other ];
   }
 
-  -- it was not cleared to the end
+  -- the files were not cleared to the end
   pub not_cleared : IsNotLaidOut g before mid
   not_cleared = record { clean = clean; kept = λ now none. whole now (λ torn. none (inr torn)); crash = λ now none left may. inl ((whole now none).crash left may) }
 
@@ -206,7 +206,7 @@ larger_kept image larger (inl (inr blank)) = elim blank.1.0 [
   ]
 ]
 
--- they were only looked at
+-- the files were only looked at
 pub larger_left : {D : Type 0} (g : Ghosts D) (before after : Files D) → OnlyReads g before.log after.log → OnlyReads g before.db after.db → (AreClean g after.log after.db → IsLarger (image_of g before)) → IsLaidOut g before after
 larger_left g before after log db larger = record {
   clean = looked_clean g before after log db;

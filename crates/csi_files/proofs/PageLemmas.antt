@@ -31,7 +31,7 @@ none_listed : Lists [] no_schema
 unfolding is_sound_list
 none_listed = record { listed = record { tables = tt; indexes = tt; views = tt; owned = tt; named = tt; loads = refl }; guarded = tt }
 
--- the trees of a file of no object
+-- the trees of a file without objects
 abbrev trees_of : PageMap → Trees
 trees_of = file_trees 1024 []
 
@@ -70,8 +70,8 @@ one_page_long size image pages found large ignored =
     let inside = part_within image.db 0 whole (omega arith) (ap length front ∙ found.whole.sized 1 page is) in
     omega (arith, inside)
 
--- nor does a torn first page: zero bytes name no page size, and its own bytes name a size that is longer
--- than they are
+-- a torn first page holds no database: zero bytes name no page size, and its own bytes name a size that is
+-- longer than they are
 pub torn_holds_none : (image : Image) (db : Trees) → IsTorn image → HoldsDatabase image db → ⊥
 torn_holds_none image db (none, bytes) (size, allowed, held) =
     let few : reserved size ≤ 8 = grind arith in

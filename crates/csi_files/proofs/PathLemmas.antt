@@ -1,4 +1,4 @@
--- What files at a path read as.
+-- The contents that reads of files at a path return.
 use Rattle.std.proofs.Common.{◌≡◌, ℕ, Bool, List, cond, inl, inr}
 use Rattle.sqlite_disk.specs.Events.{Event, replay}
 use Rattle.sqlite_wal.specs.Recovery.{Image}
@@ -8,11 +8,11 @@ use Rattle.csi_files.specs.Path.{IsNoFile, IsNotGiven, NamesNone, NotGiven, NotS
 abbrev pub image : List ℕ → List ℕ → Image
 image log db = record { log = log; db = db }
 
--- what a file reads as that held these contents
+-- the contents that a read returns of a file that had these contents
 abbrev pub read_of : List ℕ → List ℕ → Bool → List Event → List ℕ
 read_of log db is_log history = (replay (cond is_log log db) history).seen
 
--- files that were not given are no files, for their cause
+-- files that were not opened are no files, for this cause
 pub none_given : (path : List ℕ) (e : Error) → IsNotGiven path e → IsNoFile e
 none_given path e (inl named) = (NamesNone, named.1)
 none_given path e (inr given) = (NotGiven given.1.0, given.1.1)

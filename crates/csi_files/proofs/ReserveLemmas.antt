@@ -23,6 +23,6 @@ unmade m change up = record {
 pub no_blocks : AreBlocks []
 no_blocks = All-nil _
 
--- one block more
+-- one more block
 pub one_more : (blocks more : List (Vec ℕ)) (block : Vec ℕ) → AreBlocks blocks → block_bytes ≤ vec_capacity block → more ≡ blocks ++ block ∷ [] → AreBlocks more
 one_more blocks more block are large is = subst AreBlocks (sym is) (All-push (λ (b : Vec ℕ). block_bytes ≤ vec_capacity b) blocks block are large)

@@ -56,7 +56,7 @@ module _ {S : Type 0} (m : Machine S) (old new first last : Model S) (s : S) (c 
   ends read AtEnd held holds WriteFailed it = record { events = it.events; begins = it.begins; run = runs it.events it.run; earlier = it.earlier; part = it.part; cut = it.cut; written = it.written }
   ends read AtEnd held holds NoMemory it = (runs [] it.0, it.1)
 
-  -- it is a run of the same calls
+  -- the run through other models is a run of the same calls
   pub same_events : (read : List ℕ) (AtEnd : Type 0) (held holds : Option (List ℕ)) (end : RunEnd) (it : Ended m old new s read AtEnd held holds end)
       → events_of m old new s read AtEnd held holds end it ≡ events_of m first last s read AtEnd held holds end (ends read AtEnd held holds end it)
   unfolding ends answered

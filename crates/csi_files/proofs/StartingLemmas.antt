@@ -1,4 +1,4 @@
--- Files with a newly made database start as the first State.
+-- A run over files with a newly made database starts from the first State.
 use Rattle.std.proofs.Common.{◌⊎◌, ◌≡◌, List, IsTrue, inl, inr, refl, sym, subst}
 use Rattle.std.proofs.Math.Logic.{∥∥₁_elim, ∥∥₁_map}
 use Rattle.sqlite_disk.specs.declared.Disk.{Ghosts}
@@ -51,7 +51,7 @@ module _ {D : Type 0} (g : Ghosts D) (before after : Files D) where
   starts_as it clean s (inl has) = subst (λ (i : Image). HasState i s) (sym (it.kept clean (no_state _ s has)).seen) has
   starts_as it clean s (inr unmade) = made_state _ s (it.shown clean (inl unmade.0)) unmade.1
 
-  -- each outcome of a crash has it, if they were at rest
+  -- each outcome of a crash has the State, if the files were at rest
   pub laid_out_has : IsLaidOut g before after → AreClean g after.log after.db → ((image : Image) → outcomes g before.log before.db image → image ≡ image_of g before)
       → (s : State) → MayStart (image_of g before) s → (image : Image) → outcomes g after.log after.db image → HasState image s
   laid_out_has it clean quiet s (inl has) image may = subst (λ (i : Image). HasState i s) (sym (quiet image ((it.kept clean (no_state _ s has)).crash image may))) has
@@ -76,7 +76,7 @@ module _ {D : Type 0} (g : Ghosts D) (before after : Files D) where
       ]
     ])
 
-  -- a run over the files after the making is a run from the State that they would have started as
+  -- a run over the files after the making is a run from the State that a run would have started from
   pub started : (config : Config) (bytes : Streams) (closed : Closed D) → IsLaidOut g before after → (AreClean g closed.files.log closed.files.db → AreClean g after.log after.db)
       → Serves (volumes config) (image_model (image_of g after) closed.report.is_new) (seen config (files_model g closed.files closed.report.refusals closed.report.is_down)) bytes.unread bytes.left bytes.held bytes.holds closed.report.end
       → Serves (volumes config) (start_model (image_of g before) closed.report.is_new) (seen config (files_model g closed.files closed.report.refusals closed.report.is_down)) bytes.unread bytes.left bytes.held bytes.holds closed.report.end
@@ -101,7 +101,7 @@ module _ {D : Type 0} (g : Ghosts D) (before after : Files D) where
             ends (volumes config) (image_model (image_of g after) closed.report.is_new) last _ _ s carries it.0 _ bytes.held bytes.holds closed.report.end (it.2 z s had),
       )
 
--- and so is what it leaves
+-- the States that this run leaves are left by a run from the start
 pub started_then : (config : Config) (before after : Image) (bytes : Streams) (served : RunReport) (Clean : Type 0) (Leaves : State → List Event → Type 0) → (Clean → ShowsLaidOut before after)
     → ServesThen config after bytes served Clean Leaves → StartsThen config before bytes served Clean Leaves
 started_then config before after bytes served Clean Leaves shows it = record {

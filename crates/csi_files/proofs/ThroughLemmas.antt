@@ -1,4 +1,4 @@
--- Calls that were served over a copy of what a keeper has are served over the keeper.
+-- Calls that were served over a copy of a keeper are served over the keeper.
 use Rattle.std.proofs.Common.{◌≡◌, false, inl, sym, arith}
 use Rattle.csi_config.specs.declared.config.Config.{Config}
 use Rattle.csi_keeper.specs.Model.{Model}

@@ -31,7 +31,7 @@ use Rattle.csi_files.specs.Starting.{IsStoreless}
 use Rattle.csi_files.proofs.CopyLemmas.{same_named}
 use Rattle.csi_files.proofs.LeaveLemmas.{database_of, names_size}
 
--- ---- sums that are there are not changed
+-- ---- existing checksums are not changed
 
 again_sealed : (other size : ℕ) (stored : Pages) → AreWhole (stored_size size) stored → stored_size other ≡ stored_size size → AreSealed size stored → (other ≡ size) ⊎ (other % 16 ≢ 8)
     → (n : ℕ) (bytes : List ℕ) → stored n ≡ Some bytes → bytes ≡ sealed (take other bytes)
@@ -52,7 +52,7 @@ none_resealed other numbers stored is = fun_ext λ n. elim (cases_Bool (is_among
 
 -- ---- a database as an opening describes it: pages of the size that the files name
 
--- the sum over pages of the opening's size exists only if the database's does
+-- the checksum over pages of the opening's size exists only if the database's does
 same_sums : (other size : ℕ) (image : Image) (db : Trees) → IsPageSize (stored_size size) → stored_size other ≡ stored_size size → (IsTrue (is_summed other) → SaysSums (stored_size other) image)
     → HoldsAt size image db → (other ≡ size) ⊎ (other % 16 ≢ 8)
 same_sums other size image db allowed same says held =
@@ -122,7 +122,7 @@ module _ {D : Type 0} (g : Ghosts D) (stays : SeenMayStay g) (files : Files D) (
         ]
   ]
 
-  -- each outcome of a crash still has it
+  -- each outcome of a crash still has the State
   pub kept_unopened : (rest : Leftover D g) → IsCleanLeft rest → IsStoreless rest → LeavesFiles files rest → (image : Image) → outcomes g (files_left rest).0 (files_left rest).1 image → ∥ HasState image s ∥₁
   kept_unopened (leftover.Files now) clean none leaves image may = all image (leaves image may)
   kept_unopened (leftover.Unopened now) clean none leaves image may = unopened now clean leaves image may

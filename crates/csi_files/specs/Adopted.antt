@@ -64,13 +64,13 @@ module _ {S : Type 0} (g : Ghosts S) (config : Config) (conn : Held S) where
     pub quiet : IsQuiet (tables_model g first) (tables_model g last)
     pub back_is : back ≡ connection_of g last
 
-  -- why a database was refused before its volumes were read
+  -- the database is refused for this reason before its volumes are read; `back` is its connection after that
   abbrev pub IsUnserved : Bool → Refusal → Held S → Type 0
   IsUnserved is_existing Blank back = (back ≡ conn) × (conn.schema ≡ no_schema) × IsTrue is_existing
   IsUnserved is_existing (NotAdopted fault) back = IsUnadopted g config conn fault back
   IsUnserved is_existing (NotCopied fault) back = ⊥
 
-  -- why a database was refused, before or while its volumes were read
+  -- as `IsUnserved`, but the database may also be refused while its volumes are read
   abbrev pub IsRefused : Bool → Refusal → Held S → Type 0
   IsRefused is_existing Blank back = IsUnserved is_existing Blank back
   IsRefused is_existing (NotAdopted fault) back = IsUnserved is_existing (NotAdopted fault) back
@@ -98,7 +98,7 @@ module _ {S : Type 0} (g : Ghosts S) (first : Tables S) where
   IsRefusedBack (NotAdopted fault) back = ⊥
   IsRefusedBack (NotCopied fault) back = IsReadBack back × (fault ≡ Refused)
 
-  -- the tables keep their State, and were not copied for this fault
+  -- the tables keep their State, and the fault is the reason why they were not copied
   abbrev pub IsUncopied : Tables S → StoreFault → Type 0
   IsUncopied mid fault = IsQuiet (model_of first) (model_of mid) × IsWhy (model_of first) (model_of mid) fault
 

@@ -1,4 +1,4 @@
--- What the next run finds in files that have a State.
+-- The State that the next run finds in files.
 use Rattle.sqlite_disk.specs.declared.Disk as disk
 use Rattle.sqlite_wal.specs.Recovery.{Image}
 use Rattle.sqlite_store.specs.declared.store.FileStore.{FileStore}

@@ -1,4 +1,4 @@
--- What a copy of the WAL into the database file leaves.
+-- The database file and the WAL after the WAL is copied into the database file.
 use Rattle.std.specs.Prelude.{ℕ, IsTrue}
 use Rattle.sqlite_disk.specs.declared.Disk as disk
 use Rattle.sqlite_disk.specs.declared.Files.{Files}
@@ -16,8 +16,8 @@ use Rattle.sqlite_trees.specs.declared.error.StoreError.TheVariants.{Full, Io, O
 use Rattle.sqlite.specs.Files.{NamesSize, image_of}
 
 module _ {D : Type 0} (g : disk.Ghosts D) where
-  -- In each outcome of a crash after the copy, recovery finds the pages of an outcome before it, if pages
-  -- have the size that the files name.
+  -- In each outcome of a crash after the copy, recovery finds the pages of an outcome from before the copy,
+  -- if the pages have the size that the files name.
   pub record KeepsPages (before after : Files D) : Type 0 where
     pub clean : AreClean g after.log after.db → AreClean g before.log before.db
     pub crash : AreClean g after.log after.db → (size : ℕ) → NamesSize (image_of g before) (stored_size size) → (image : Image)
@@ -30,18 +30,18 @@ module _ {D : Type 0} (g : disk.Ghosts D) where
     pub usable : IsTrue (g.is_usable after.log) × IsTrue (g.is_usable after.db)
 
 module _ {D : Type 0} {g : disk.Ghosts D} where
-  -- a crash after the copy leaves no other pages than one before it
+  -- a crash after the copy leaves only pages that a crash before the copy could leave
   pub record CopiesLog (old new : Log D g) : Type 0 where
     pub clean : IsTrue (state new).is_clean → IsTrue (state old).is_clean
     pub crash : raw.AddsNothing (state old).page_size (state old).may_leave (state new).may_leave
 
-  -- as `CopiesLog`, of the files that the log returns
+  -- as `CopiesLog`, for the files that the log returns
   pub record LeavesLog (log : Log D g) (after : Files D) : Type 0 where
     pub clean : AreClean g after.log after.db → IsTrue (state log).is_clean
     pub crash : AreClean g after.log after.db → (image : Image) → outcomes g after.log after.db image
         → (old : Image) × (state log).may_leave old × raw.RecoversAs (state log).page_size old image
 
--- the name that the store has for a failure to copy the WAL; if the disk failed, `fault` says how
+-- the store's error for a failure to copy the WAL; `fault` is the error if the disk failed
 abbrev pub cause_of : Failure → StoreError → StoreError
 cause_of (failure.Io e) fault = fault
 cause_of failure.OutOfMemory _ = OutOfMemory

@@ -1,4 +1,4 @@
--- What a database file and its WAL hold of volumes.
+-- The State that a database file and its WAL hold.
 use Rattle.std.specs.Prelude.{◌≡◌, ◌⊎◌, ℕ, Bool, false, [], IsTrue, ⊤}
 use Rattle.sqlite_disk.specs.declared.Disk as disk
 use Rattle.sqlite_disk.specs.declared.Files.{Files}
@@ -21,17 +21,17 @@ use Rattle.csi_sql.specs.Tables.{no_schema}
 use Rattle.csi_tables.specs.Holding.{IsEitherRows}
 use Rattle.csi_adoption.specs.Adopting.{IsStateOf}
 
--- the trees are the rows of the State, or there is no table among them and it is the first State
+-- the trees are the rows of the State, or the database has no table and the State is the first one
 abbrev pub IsStateIn : Trees → State → Type 0
 IsStateIn db s = IsEitherRows s db ⊎ (IsSound no_schema db × (s ≡ first_state 1))
 
--- Two files hold a database with these trees. If its pages end in sums, those in the WAL do too, as each run
--- leaves them.
+-- Two files hold a database with these trees. If its pages end in checksums, the pages in the WAL do too:
+-- each run leaves them so.
 abbrev pub HoldsSealed : Image → Trees → Type 0
 HoldsSealed image db = (size : ℕ) × IsPageSize (stored_size size) × HoldsAt size image db
 
--- The contents of two files are a database of the State. Such files are not opened only for want of memory,
--- for a failure of the disk or for a limit.
+-- The contents of two files are a database of the State. Such files fail to open only if memory runs out, the
+-- disk fails or a limit is reached.
 pub record HasState (image : Image) (s : State) : Type 0 where
   pub db : Trees
   pub holds : ∥ HoldsSealed image db ∥₁
@@ -53,12 +53,12 @@ abbrev pub alone : Image → Image
 alone image = record image { log = [] }
 
 module _ {D : Type 0} (g : disk.Ghosts D) where
-  -- without its WAL the database file has the State that both files have
+  -- the database file alone has the State that it has together with its WAL
   abbrev pub HasAlone : Files D → Type 0
   HasAlone files = AreClean g files.log files.db → (s : State) → HasState (image_of g files) s → HasState (alone (image_of g files)) s
 
-  -- an opening of files with these contents, over a disk that returns what they hold, may find a database of
-  -- the State
+  -- an opening of files with these contents may find a database of the State, if the disk returns the
+  -- contents
   pub record MayFind (image : Image) (s : State) : Type 0 where
     pub conn : Held (FileStore D g)
     pub opened : IsOpened conn

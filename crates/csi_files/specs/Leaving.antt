@@ -1,4 +1,4 @@
--- What becomes of the files of a connection that is closed, or given up.
+-- The files of a connection after it is closed or given up.
 use Rattle.std.specs.Prelude.{◌≡◌, ◌⊎◌, ℕ, ◌<◌, Option, None, Some, IsTrue}
 use Rattle.sqlite_disk.specs.declared.Disk as disk
 use Rattle.sqlite_disk.specs.declared.Files.{Files}
@@ -32,8 +32,8 @@ module _ {D : Type 0} {g : disk.Ghosts D} where
   files_of (NotClosed served error now) = Some (now.log, now.db)
 
 module _ {D : Type 0} (g : disk.Ghosts D) where
-  -- Each outcome of a crash, and so what the files read as, is a database that the connection may have left.
-  -- All of them have pages of one size.
+  -- Each outcome of a crash, and so the contents of the files, is a database that the connection may have
+  -- left. All of them have pages of one size.
   pub record IsLeft (conn : Held (FileStore D g)) (files : Files D) : Type 0 where
     pub clean : AreClean g files.log files.db → HasCleanDisk (file_state conn)
     pub size : ℕ
@@ -49,7 +49,7 @@ module _ {D : Type 0} (g : disk.Ghosts D) where
     pub each : (image : Image) → outcomes g files.log files.db image → ∥ HoldsSealed image (file_state conn).committed.trees ∥₁
     pub ignored : IsIgnored (g.seen files.log)
 
-  -- the connection is closed, and its WAL was not copied for this error
+  -- the connection is closed, and its WAL was not copied because of this error
   abbrev pub IsUncopied : Held (FileStore D g) → Error → Files D → Type 0
   IsUncopied conn error files = IsLeft conn files × (cause : StoreError) × (error ≡ store_error cause)
 

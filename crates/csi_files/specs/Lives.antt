@@ -37,25 +37,27 @@ use Rattle.csi_files.specs.Streams.{Streams}
 use Rattle.csi_files.specs.declared.run.Refusal.{Refusal}
 use Rattle.csi_files.specs.declared.run.RunFailure.TheVariants.{Refused, Left, NotClosed}
 
--- A run over the second contents may start as the State `t`, where one over the first might have started as
--- `s`. Where the first have a database of `s`, the second have one of `t`.
+-- A run over the contents `next` may start from the State `t`. If the contents `was` have a database of the
+-- State `s`, `next` has a database of `t`.
 pub record GoesOn (was next : Image) (s t : State) : Type 0 where
   pub may : MayStart next t
   pub has : HasState was s → HasState next t
 
--- A run answered the calls of this session, from the State that a run over files with these contents starts
--- as, and left files with those.
+-- A run over files with the contents `was` answered the calls of this session and left the contents `next`.
+-- From each State that the run may have started from, a next run may start from a State after these calls.
 abbrev pub IsRunOver : Config → Image → List Exchange → Image → Type 0
 IsRunOver config was session next = (s : State) → MayStart was s → IsInvariant config s
     → ∥ ((t : State) × GoesOn was next s t × IsStateAfter config s (events_of session) t) ∥₁
 
--- Runs with these sessions, each over what the one before it left, and the contents after the last one.
+-- Runs with these sessions, in order. Each run is over the contents that the run before it left, and `last`
+-- are the contents after the last run.
 abbrev pub IsLifeOfFiles : Config → Image → List (List Exchange) → Image → Type 0
 IsLifeOfFiles config was [] last = was ≡ last
 IsLifeOfFiles config was (session ∷ sessions) last = (next : Image) × IsRunOver config was session next × IsLifeOfFiles config next sessions last
 
--- A client repeats each of its calls until it hears the reply, while others change nothing. Its replies, and
--- the State of the files in the end, are the replies and the State of its requests taken once each.
+-- A client repeats each of its calls until it hears the reply, while other clients change nothing. The
+-- client's replies and the State of the files at the end are the same as if each of its requests was taken
+-- once.
 abbrev pub LivesOnce : Config → Type 0
 LivesOnce config =
     (was last : Image) (s : State) (requests : List Request) (sessions : List (List Exchange)) → MayStart was s → IsInvariant config s
@@ -64,14 +66,14 @@ LivesOnce config =
     → ∥ (GoesOn was last s (after_once config s requests)
     × IsLifeOfCalls config s sessions (map reported (reported_once config s requests)) (after_once config s requests)) ∥₁
 
--- After any calls the files start a run as a State, and the numbers of volumes only rose.
+-- After any calls a run over the files may start from a State in which the numbers of volumes only rose.
 abbrev pub NumbersOnce : Config → Type 0
 NumbersOnce config =
     (was last : Image) (s : State) (sessions : List (List Exchange)) → MayStart was s → IsInvariant config s
     → IsLifeOfFiles config was sessions last
     → ∥ ((t : State) × GoesOn was last s t × NumbersRise s t) ∥₁
 
--- ---- what `create_and_serve` and `serve_path` say of a run makes it a run of such a life
+-- ---- the clauses of `create_and_serve` and `serve_path` make a run a run of such a life
 
 module _ {config : Config} {bytes : Streams} {Starts : State → Type 0} {served : RunReport} {Clean New : Type 0} {Leaves : State
     → List Event → Type 0} where
@@ -82,7 +84,7 @@ module _ {config : Config} {bytes : Streams} {Starts : State → Type 0} {served
       (IsAtEnd bytes.left) bytes.held bytes.holds served.end (it.ended clean s starts).0
 
 module _ {D : Type 0} (g : disk.Ghosts D) where
-  -- a crash leaves of these files what they read as
+  -- a crash leaves the contents that reads of these files return
   abbrev pub AreAtRest : Files D → Type 0
   AreAtRest files = (image : Image) → outcomes g files.log files.db image → image ≡ image_of g files
 
@@ -115,13 +117,13 @@ module _ {D : Type 0} (g : disk.Ghosts D) (config : Config) (before : Files D) (
         → (error : Error) (rest : Leftover D g) → IsNotOpened g laid error rest → IsCleanLeft rest → IsStoreless rest
         → (next : Image) → outcomes g (files_left rest).0 (files_left rest).1 next → IsRunOver config (image_of g before) [] next
 
--- for any files and streams
+-- `ClosedGoOn`, and `AreRuns` for any files and streams
 abbrev pub RunsGoOn : {D : Type 0} → disk.Ghosts D → Config → Type 0
 RunsGoOn {D} g config =
     ClosedGoOn g config × ((before : Files D) (bytes : Streams) → AreRuns g config before bytes)
 
--- The same over the files at a path. As they are opened, they have the contents that `first` names, and a
--- crash leaves these alone.
+-- `RunsGoOn` for the files at a path. When they are opened, they have the contents that `first` names, and a
+-- crash keeps these contents.
 abbrev pub PathGoesOn : {S : Type 0} → start.Ghosts S → Config → Type 0
 PathGoesOn {S} first config =
     RunsGoOn {D = Modelled Host S calls.ghosts first} over_calls config

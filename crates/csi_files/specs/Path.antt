@@ -26,7 +26,7 @@ use Rattle.csi_files.specs.declared.run.RunFailure.{RunFailure}
 use Rattle.csi_files.specs.declared.run.RunFailure.TheVariants.{NoFiles}
 
 module _ {C S : Type 0} {g : calls.Ghosts C} {first : start.Ghosts S} where
-  -- the model of a file whose calls are recorded, by the record and the first contents
+  -- the model of a file, made from the record of its calls and its first contents
   abbrev pub over_calls : disk.Ghosts (Modelled C S g first)
   over_calls = record {
     seen = λ f. (replay (start_of first f) (g.history f.calls)).seen;
@@ -42,34 +42,34 @@ module _ {C S : Type 0} {g : calls.Ghosts C} {first : start.Ghosts S} where
     is_mixing = λ _. first.is_mixing;
   }
 
--- why there are no files
+-- the reason why there are no files
 pub data NoFile : Type 0 where
   -- SQLite does not take the path for a file
   NamesNone : NoFile
-  -- the operating system did not give them
+  -- the operating system did not open the files
   NotGiven : OpenError → NoFile
-  -- it gave no seed
+  -- the operating system gave no random seed
   NotSeeded : NoFile
 
--- how SQLite names a failure of the operating system by the kind of its error
+-- SQLite's error for a failure of the operating system, by the kind of the failure
 abbrev pub kind_error : ErrorKind → Error
 kind_error kind.OutOfMemory = SqliteFailure OutOfMemory
 kind_error _ = SqliteFailure CannotOpen
 
--- and why it did not give the files
+-- SQLite's error for files that were not opened
 abbrev pub open_error : OpenError → Error
 open_error (opening.Io error) = kind_error (error_kind error)
 open_error opening.OutOfMemory = SqliteFailure OutOfMemory
 open_error opening.Busy = SqliteFailure DatabaseBusy
 open_error opening.HotJournal = SqliteFailure CannotOpen
 
--- the error of a cause
+-- SQLite's error for a reason why there are no files
 abbrev pub no_file_error : NoFile → Error
 no_file_error NamesNone = SqliteFailure CannotOpen
 no_file_error (NotGiven cause) = open_error cause
 no_file_error NotSeeded = SqliteFailure CannotOpen
 
--- there are no files, and the error is the one of the cause
+-- there are no files, and the error is SQLite's error for one of the reasons
 abbrev pub IsNoFile : Error → Type 0
 IsNoFile e = (cause : NoFile) × (e ≡ no_file_error cause)
 
@@ -77,7 +77,7 @@ IsNoFile e = (cause : NoFile) × (e ≡ no_file_error cause)
 abbrev pub NamesNoFile : List ℕ → Type 0
 NamesNoFile path = (path ≡ codes ":memory:") ⊎ IsTrue (starts_with nat_eq path (codes "file:"))
 
--- why the files at a path were not given
+-- the files at a path were not opened, and this is the error for the reason
 abbrev pub IsNotGiven : List ℕ → Error → Type 0
 IsNotGiven path e = (NamesNoFile path × (e ≡ no_file_error NamesNone))
     ⊎ ((¬ NamesNoFile path) × ((cause : OpenError) × (e ≡ no_file_error (NotGiven cause))))
@@ -88,7 +88,7 @@ module _ {S : Type 0} {g : calls.Ghosts Host} (first : start.Ghosts S) (config :
   IsFileless (NoFiles error) = AreUntouched bytes × IsNoFile error
   IsFileless _ = ⊥
 
-  -- why files with the contents `first` were not closed after calls, and the files after that
+  -- the failure of a run over files with the contents `first`: the files were not closed after calls
   abbrev pub IsNotServedAt : RunFailure (Modelled Host S g first) over_calls → Type 0
   IsNotServedAt e = IsFileless e
       ⊎ ((files : Files (Modelled Host S g first)) × IsFresh true files.log × IsFresh false files.db × IsNotStarted over_calls config files bytes e)

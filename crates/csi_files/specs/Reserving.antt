@@ -1,5 +1,5 @@
--- Memory that is kept for the next opening of tables: how many bytes it takes more after a change, and the
--- blocks that are kept.
+-- Memory that is kept for the next opening of tables: the bytes that a change adds, and the blocks that are
+-- kept.
 use Rattle.std.specs.Prelude.{ℕ, ◌+◌, ◌≤◌, All, List, length, sum_by, vec_capacity, vec_len}
 use Rattle.std.specs.Global.{Vec}
 use Rattle.std.specs.Int.{div_ceil}
@@ -27,7 +27,7 @@ cap_bytes key = kind_bytes key.kind
 abbrev pub volume_bytes : Volume → ℕ
 volume_bytes v = 256 + length v.name + length v.pool + sum_by cap_bytes v.caps + map_bytes v.params + map_bytes v.mutable
 
--- the bytes that an opening takes in addition after a change; 0 after a change that removes rows
+-- the bytes that a change adds to an opening; 0 for a change that removes rows
 abbrev pub change_bytes : Change → ℕ
 change_bytes (AddVolume v) = volume_bytes v
 change_bytes (Attach n a) = 256 + length a.node + cap_bytes a.cap
@@ -50,10 +50,10 @@ AreBlocks blocks = All (λ block. block_bytes ≤ vec_capacity block) blocks
 abbrev pub blocks_for : ℕ → ℕ
 blocks_for bytes = div_ceil bytes block_bytes
 
--- all that is to be kept is kept
+-- the reserve has enough blocks for the bytes that it wants
 abbrev pub IsFull : Reserve → Type 0
 IsFull reserve = blocks_for reserve.wanted ≤ vec_len reserve.blocks
 
--- the bytes to be held once the tables grew by this number of bytes
+-- the bytes to keep after the tables grew by this number of bytes
 abbrev pub wanted_with : Reserve → ℕ → ℕ
 wanted_with reserve bytes = up_to_u64 (reserve.wanted + bytes)

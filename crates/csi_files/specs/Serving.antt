@@ -51,29 +51,30 @@ events_of m old new s read AtEnd held holds TurnsSpent it = it.0.events
 events_of m old new s read AtEnd held holds WriteFailed it = it.events
 events_of m old new s read AtEnd held holds NoMemory it = []
 
--- the store refused some
+-- the store refused a call, or is down
 abbrev pub HasRefused : RunReport → Type 0
 HasRefused served = IsTrue served.is_down ⊎ (0 < served.refusals)
 
--- the store refused none, and is not down
+-- the store refused no call, and is not down
 abbrev pub HasRefusedNone : RunReport → Type 0
 HasRefusedNone served = (served.refusals ≡ 0) × (served.is_down ≡ false)
 
--- what contracts see of a store by its counts alone: how many calls it refused, and whether it is down
+-- the model of a store that says only how many calls the store refused, and whether it is down
 abbrev pub counts_model : ℕ → Bool → Model State
 counts_model refusals is_down = record { holds = λ _. ⊤; doubt = 0; refusals = refusals; survivors = λ _. ⊥; tied = ⊤; is_down = is_down }
 
 -- The State after these calls, or the State that a refused call among them would have made. The request of
--- that call was read and passed the checks, and no call after it moved the State. It meets the invariant.
+-- that call was read and passed the checks, and no later call changed the State. The State meets the
+-- invariant.
 pub record IsStateAfter (config : Config) (s : State) (events : List Event) (t : State) : Type 0 where
   pub is : (t ≡ state_after (volumes config) s events) ⊎ IsPending config s events t
   pub invariant : IsInvariant config t
 
--- the run says whether the database that the files had was without tables
+-- the run reports `is_new` exactly if the database that the files had is without tables
 abbrev pub SaysNew : Image → RunReport → Type 0
 SaysNew was served = (db : Database) → ∥ HoldsDatabase was db.trees ∥₁ → IsDatabase db → IsTrue served.is_new ↔ (db.schema ≡ no_schema)
 
--- if the files had a database, it was one of a State that meets every constraint
+-- if the files had a database, it was a database of a State that meets every constraint
 abbrev pub WasTaken : Config → Image → Type 0
 WasTaken config was = (db : Database) → ∥ HoldsDatabase was db.trees ∥₁ → IsDatabase db → ∥ ((s : State) × IsStateOf db s × IsInvariant config s) ∥₁
 
@@ -82,7 +83,7 @@ module _ {D : Type 0} (g : disk.Ghosts D) where
   abbrev pub Keeps : Image → Files D → Type 0
   Keeps was now = AreClean g now.log now.db → (s : State) → HasState was s → (image : Image) → outcomes g now.log now.db image → ∥ HasState image s ∥₁
 
-  -- the database that the files had is in each outcome of a crash, or the State that it had
+  -- each outcome of a crash has the database that the files had, or the State of this database
   abbrev pub KeepsDatabase : Image → Files D → Type 0
   KeepsDatabase was now = AreClean g now.log now.db → (db : Database) → ∥ HoldsDatabase was db.trees ∥₁ → IsDatabase db → (image : Image)
       → outcomes g now.log now.db image
@@ -96,8 +97,8 @@ module _ {D : Type 0} (g : disk.Ghosts D) where
     pub first : AreClean g now.log now.db → (s : State) → HasState was s → s ≡ first_state 1
 
   -- Tables that are not adopted. The files keep what they had. Rows of a State that meets every constraint
-  -- are refused only where the disk or memory failed; otherwise the fault is the first one of the database.
-  -- Where the store shut itself, no row is judged, and `Foreign::Schema` may be answered.
+  -- are refused only if the disk or memory failed. Any other fault is the first fault of the database. If the
+  -- store shut itself, no row is judged, and the fault may be `Foreign::Schema`.
   pub record Refuses (config : Config) (was : Image) (fault : AdoptFault) (now : Files D) : Type 0 where
     pub state : Keeps was now
     pub database : KeepsDatabase was now
@@ -110,8 +111,8 @@ module _ {D : Type 0} (g : disk.Ghosts D) where
   LeavesAfter config now s events = (image : Image) → outcomes g now.log now.db image → ∥ ((t : State) × HasState image t × IsStateAfter config s events t) ∥₁
 
 module _ (config : Config) (bytes : Streams) where
-  -- Calls were served from each of these States. `New` holds of the database before them, `Leaves` of the
-  -- files after them.
+  -- Calls were served, from any State that meets `Starts`. `New` is true of the database before the calls,
+  -- and `Leaves` of the files after them.
   pub record RunsThen (Starts : State → Type 0) (served : RunReport) (Clean New : Type 0) (Leaves : State → List Event → Type 0) : Type 0 where
     pub read : List ℕ
     pub consumed : Consumes bytes.unread bytes.left read
@@ -130,14 +131,14 @@ ServesThen config was bytes served Clean Leaves = RunsThen config bytes
     (image_model was served.is_new).holds served Clean (SaysNew was served × WasTaken config was) Leaves
 
 module _ {D : Type 0} (g : disk.Ghosts D) where
-  -- why the database of files with these contents was refused, and the files after that
+  -- the database of files with these contents was refused for this reason; `now` are the files after that
   abbrev pub IsRefusal : Config → Image → Refusal → Files D → Type 0
   IsRefusal config was Blank now = HasNone g was now
   IsRefusal config was (NotAdopted fault) now = Refuses g config was fault now
   IsRefusal config was (NotCopied fault) now = Keeps g was now × (fault ≡ Fault.Refused) × (AreClean g now.log now.db → WasTaken config was)
 
-  -- why files with these contents were not closed after calls, and the files after that; the case of files
-  -- that were not opened is a parameter
+  -- the failure of a run over files with these contents: the files were not closed after calls; the case of
+  -- files that were not opened is a parameter
   abbrev pub IsNotServed : Config → Image → Streams → (Error → Leftover D g → Type 0) → RunFailure D g → Type 0
   IsNotServed config was bytes Unopened (NoFiles error) = ⊥
   IsNotServed config was bytes Unopened (NotOpened error rest) = Unopened error rest
@@ -147,7 +148,7 @@ module _ {D : Type 0} (g : disk.Ghosts D) where
   IsNotServed config was bytes Unopened (NotClosed served error now) = ((cause : StoreError) × (error ≡ store_error cause))
       × ServesThen config was bytes served (AreClean g now.log now.db) (LeavesAfter g config now)
 
-  -- why files were not opened, and the files after that
+  -- the files were not opened because of this error; `rest` is left of them
   abbrev pub IsNotOpened : Files D → Error → Leftover D g → Type 0
   IsNotOpened files error rest = IsCleanLeft rest → FailsToOpenFiles files rest error × LeavesFiles files rest
 
@@ -155,7 +156,7 @@ module _ {D : Type 0} (g : disk.Ghosts D) where
   abbrev pub Opens : Image → Held (FileStore D g) → Type 0
   Opens was conn = HasCleanDisk (file_state conn) → IsOpened conn × FindsIn was (file_state conn)
 
-  -- what calls came to, also where the files were not closed after them
+  -- `P` is true of the report of the calls, also if the files were not closed after them
   abbrev pub AllServed : (RunReport → Type 0) → Result (Closed D) (RunFailure D g) → Type 0
   AllServed P (Ok closed) = P closed.report
   AllServed P (Err (NoFiles error)) = ⊤
@@ -164,7 +165,7 @@ module _ {D : Type 0} (g : disk.Ghosts D) where
   AllServed P (Err (Left served now)) = P served
   AllServed P (Err (NotClosed served error now)) = P served
 
-  -- a database is refused for having no table only where it was required to have some
+  -- a database without tables is refused only if tables were required
   abbrev pub IsBlankAsked : Bool → Refusal → Type 0
   IsBlankAsked is_existing Blank = IsTrue is_existing
   IsBlankAsked is_existing (NotAdopted fault) = ⊤

@@ -30,36 +30,36 @@ use Rattle.csi_files.specs.declared.run.RunReport.{RunReport}
 use Rattle.csi_files.specs.declared.run.RunFailure.{RunFailure}
 use Rattle.csi_files.specs.declared.run.RunFailure.TheVariants.{NoFiles, NotOpened, Refused, Left, NotClosed}
 
--- Contents of two files that a run may start from as this State: a database of this State, or no database
--- yet, and the State is the first one.
+-- A run over files with these contents may start from this State: the files have a database of the State, or
+-- they have no database yet and the State is the first one.
 abbrev pub MayStart : Image → State → Type 0
 MayStart image s = HasState image s ⊎ (IsUnmade image × (s ≡ first_state 1))
 
--- what contracts see of such files
+-- the model of files that a run may start from
 abbrev pub start_model : Image → Bool → Model State
 start_model image is_new = record (image_model image is_new) { holds = λ s. MayStart image s ⊎ (IsTrue is_new × (s ≡ first_state 1)) }
 
--- What files that had the first contents have once a database is made where there was none: a new one, or
--- what they had. They have the State that a run would have started as.
+-- The contents `after` a database is made if there was none: a new database, or the contents `before`. They
+-- have the State that a run would have started from.
 pub record ShowsLaidOut (before after : Image) : Type 0 where
   pub made : IsToMake before → IsMade after
   pub kept : ¬ IsToMake before → after ≡ before
   pub starts : (s : State) → MayStart before s → HasState after s
 
--- The run says whether the database that the files had was without tables, and that it was where one was
--- made. A database that they had was one of a State that meets every constraint.
+-- The run reports `is_new` exactly if the database that the files had is without tables, and also if a
+-- database was made. A database that the files had was a database of a State that meets every constraint.
 pub record SaysStart (config : Config) (was : Image) (served : RunReport) : Type 0 where
   pub taken : WasTaken config was
   pub had : SaysNew was served
   pub made : IsToMake was → IsTrue served.is_new
 
--- calls were served from the State that a run over files with these contents starts as
+-- calls were served from the State that a run over files with these contents starts from
 abbrev pub StartsThen : Config → Image → Streams → RunReport → Type 0
     → (State → List Event → Type 0) → Type 0
 StartsThen config was bytes served Clean Leaves = RunsThen config bytes
     (start_model was served.is_new).holds served Clean (SaysStart config was served) Leaves
 
--- how SQLite names why no database was made, where the disk failed with this fault
+-- SQLite's code for the reason why no database was made; if the disk failed, the `StoreError` says how
 abbrev pub code_of : NotLaidOut → StoreError → ErrorCode
 code_of Emptied _ = code.CannotOpen
 code_of (Failed pages.Corrupt) _ = code.DatabaseCorrupt
@@ -70,20 +70,21 @@ code_of (Failed pages.Io) fault.Corrupt = code.DatabaseCorrupt
 code_of (Failed pages.Io) _ = code.SystemIoFailure
 
 module _ {D : Type 0} (g : disk.Ghosts D) where
-  -- a run may start as this State from each outcome of a crash
+  -- a run may start from this State over each outcome of a crash
   abbrev pub MayStartAgain : Files D → State → Type 0
   MayStartAgain files s = (image : Image) → outcomes g files.log files.db image → ∥ MayStart image s ∥₁
 
-  -- the State that a run would have started as is had now
+  -- the files now have the State that a run would have started from
   abbrev pub StartsAs : Files D → Files D → Type 0
   StartsAs before after = AreClean g after.log after.db → (s : State) → MayStart (image_of g before) s → HasState (image_of g after) s
 
-  -- and after a crash a run starts as the State that it would have started as after an earlier one
+  -- a State that a run may start from after a crash before is a State that a run may start from after a crash
+  -- now
   abbrev pub KeepsStart : Files D → Files D → Type 0
   KeepsStart before after = AreClean g after.log after.db → (s : State) → MayStartAgain before s → MayStartAgain after s
 
-  -- The error is SQLite's name for the reason why no database was made, by the errors of the disks in that
-  -- time. A WAL next to an empty file is the reason only if it may have changes.
+  -- The error is SQLite's error for the reason why no database was made; it depends on the errors of the
+  -- disks since `before`. A WAL next to an empty file is the reason only if it may have changes.
   abbrev pub IsNameOf : Files D → Files D → Error → Type 0
   IsNameOf before now error = (why : NotLaidOut)
       × (error ≡ SqliteFailure (code_of why (named (tally_of_files g (before.log, before.db)) (tally_of_files g (now.log, now.db)))))
@@ -91,7 +92,7 @@ module _ {D : Type 0} (g : disk.Ghosts D) where
       × (why ≡ Emptied → AreAsBefore g before now × (AreClean g now.log now.db → IsLost (image_of g before)))
 
 module _ {D : Type 0} {g : disk.Ghosts D} where
-  -- the disk was truthful to the end, of files that were opened
+  -- the files were opened, and the disk was truthful to the end
   abbrev pub EndsClean : RunFailure D g → Type 0
   EndsClean (NoFiles error) = ⊥
   EndsClean (NotOpened error rest) = ⊥
@@ -105,7 +106,7 @@ module _ {D : Type 0} {g : disk.Ghosts D} where
   IsStoreless (left.Unopened now) = ⊤
   IsStoreless (left.Store now) = ⊥
 
-  -- no database was made, for this error
+  -- no database was made because of this error
   abbrev pub IsLeftUnmade : Files D → Error → Leftover D g → Type 0
   IsLeftUnmade before error (left.Files now) = IsNotLaidOut g before now × KeepsStart g before now × IsNameOf g before now error
   IsLeftUnmade before error (left.Unopened now) = ⊥
@@ -116,8 +117,8 @@ module _ {D : Type 0} (g : disk.Ghosts D) where
   abbrev pub IsNotMade : Files D → Error → Leftover D g → Type 0
   IsNotMade before error rest = IsLeftUnmade before error rest ⊎ ((laid : Files D) × IsLaidOut g before laid × IsNotOpened g laid error rest)
 
-  -- Why files were not closed, and their contents after that. A database was made in them first if they
-  -- held none.
+  -- The files were not closed, because of the failure `e`. `was` are the contents that the run started from:
+  -- a database was made first if the files held none.
   pub record IsNotStarted (config : Config) (before : Files D) (bytes : Streams) (e : RunFailure D g) : Type 0 where
     pub was : Image
     pub shows : EndsClean e → ShowsLaidOut (image_of g before) was

@@ -1,4 +1,4 @@
--- What a run reads and writes.
+-- The bytes that a run reads and writes.
 use Rattle.std.specs.Prelude.{◌≡◌, ℕ, List, Option}
 
 -- The bytes that a reader has left before a run and after it, and the bytes that a writer has taken before

@@ -1,4 +1,4 @@
--- A State without volumes is of the invariant.
+-- A State without volumes meets the invariant.
 use Rattle.std.proofs.Common.{◌≡◌, ◌∙◌, ap, sym, arith, ℕ, ◌≤◌, List, [], map, filter, length, sum}
 use Rattle.std.specs.FinMap as fin
 use Rattle.std.specs.Ordering.{nat_cmp}

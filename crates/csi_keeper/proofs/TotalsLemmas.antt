@@ -12,7 +12,7 @@ use Rattle.csi_keeper.specs.declared.totals.Total.{Total}
 use Rattle.csi_keeper.specs.Totals.{total_at, or_zero}
 use Rattle.csi_keeper.specs.Texts.{Text, text_cmp}
 
--- the totals with one set
+-- the totals after one of them is set
 pub total_set : (es fs : List (Text × Total)) (k : Text) (t : Total) (q : Text) → lookup (is_at (text_cmp q)) fs ≡ cond (is_at (text_cmp k) q) (Some t) (lookup (is_at (text_cmp q)) es)
     → total_at fs q ≡ cond (same_text k q) t (total_at es q)
 total_set es fs k t q h = ap or_zero (h ∙ ap (λ b. cond b (Some t) (lookup (is_at (text_cmp q)) es)) (sym (texts_ties k q)))
@@ -22,7 +22,7 @@ total_set es fs k t q h = ap or_zero (h ∙ ap (λ b. cond b (Some t) (lookup (i
     go true = refl
     go false = refl
 
--- where one is set the others stay
+-- if one total is set, the others stay
 pub total_other : (es fs : List (Text × Total)) (k : Text) (t : Total) (q : Text) → lookup (is_at (text_cmp q)) fs ≡ cond (is_at (text_cmp k) q) (Some t) (lookup (is_at (text_cmp q)) es)
     → same_text k q ≡ false → total_at fs q ≡ total_at es q
 total_other es fs k t q h other = total_set es fs k t q h ∙ ap (λ b. cond b t (total_at es q)) other

@@ -1,4 +1,4 @@
--- What a volume can be used as (CSI specification, 'CreateVolume', the message VolumeCapability).
+-- Capability keys: the uses of a volume (CSI specification, 'CreateVolume', the message VolumeCapability).
 use Rattle.std.specs.Prelude.{ℕ, ℤ, pos, negsuc, ◌==◌, ◌&&◌, ◌||◌, Bool, true, false, List, [], Option, None, Some, map, if◌then◌else◌}
 use Rattle.std.specs.declared.cmp.Ordering.{Ordering}
 use Rattle.std.specs.declared.cmp.Ordering.TheVariants.{Less, Equal, Greater}
@@ -26,11 +26,11 @@ kind_cmp Block (Mount t) = Less
 kind_cmp (Mount t) Block = Greater
 kind_cmp (Mount t) (Mount u) = text_cmp t u
 
--- by kind, and then by mode
+-- the order of keys: by kind, and then by mode
 abbrev pub key_cmp : CapKey → CapKey → Ordering
 key_cmp a b = ordering_then (kind_cmp a.kind b.kind) (nat_cmp a.mode b.mode)
 
--- the keys rise, so no key is there twice
+-- the keys are in strictly rising order, so no key occurs twice
 abbrev pub AreOrdered : List CapKey → Type 0
 AreOrdered keys = IsStrictlySortedBy key_cmp keys
 
@@ -48,7 +48,7 @@ key_with access.Missing (Some mode) = None
 key_with access.Block (Some mode) = Some (record { kind = Block; mode = mode })
 key_with (access.Mount m) (Some mode) = Some (record { kind = Mount m.fs_type; mode = mode })
 
--- block, or mount with the type of its file system; and the mode
+-- the key of a capability: block, or mount with the type of its file system, and the mode
 abbrev pub key_of : Capability → Option CapKey
 key_of c = key_with c.access (mode_of c.mode)
 
@@ -60,7 +60,7 @@ access_of (Mount t) = access.Mount (record { fs_type = t; flags = []; group = []
 abbrev pub capability_of : CapKey → Capability
 capability_of k = record { access = access_of k.kind; mode = Some (pos k.mode) }
 
--- a volume can be made for it
+-- a volume can be made for the capability of this key
 abbrev pub is_supported_key : CapKey → Bool
 is_supported_key k = is_supported (capability_of k)
 
@@ -88,19 +88,19 @@ abbrev pub is_key : Option CapKey → CapKey → Bool
 is_key None k = false
 is_key (Some j) k = same_key j k
 
--- the key is one of them
+-- the key is one of these keys
 abbrev pub has_same : List CapKey → Option CapKey → Bool
 has_same keys key = list_any (is_key key) keys
 
--- the key is one of them, or the wider one is
+-- the key or its wider key is one of these keys
 abbrev pub has_key : List CapKey → Option CapKey → Bool
 has_key keys key = has_same keys key || has_same keys (option_and_then wider_key key)
 
--- they have the key of each capability
+-- the keys have the key of each capability
 abbrev pub have_keys : List CapKey → List Capability → Bool
 have_keys keys capabilities = list_all (λ c. has_key keys (key_of c)) capabilities
 
--- in order, and without doubles
+-- the keys in order, without doubles
 abbrev pub ordered : List CapKey → List CapKey
 ordered ks = keys (from_entries {R = key_cmp} (map (λ k. (k, true)) ks))
 

@@ -5,7 +5,7 @@ use Rattle.csi_keeper.specs.declared.change.StoreFault.{StoreFault}
 use Rattle.csi_keeper.specs.declared.change.StoreFault.TheVariants.{NoMemory, Refused, Down}
 use Rattle.csi_keeper.specs.declared.health.Health.{Health}
 
--- what a keeper that is not down answers: that something below it is down is a refusal
+-- the answer of a keeper that is not down: if a store below it is down, it answers a refusal
 abbrev pub answered : {X : Type 0} → Result X StoreFault → Result X StoreFault
 answered (Ok x) = Ok x
 answered (Err NoMemory) = Err NoMemory
@@ -19,7 +19,7 @@ pub record Starts (old new : Health) (result : Result (Unit {0}) StoreFault) : T
   pub count : new.refusals ≡ count_after old.refusals result
   pub stays : new.is_down ≡ old.is_down
 
--- It finishes: a refusal is counted, and no keeper goes down or up.
+-- A call finishes: a refusal is counted, and the keeper goes neither down nor up.
 pub record Finishes {X : Type 0} (old new : Health) (answer result : Result X StoreFault) : Type 0 where
   pub answers : result ≡ answered answer
   pub up : result ≢ Err Down

@@ -19,7 +19,7 @@ use Rattle.csi_keeper.specs.Lookup.{node_of, pool_named}
 use Rattle.csi_keeper.specs.State.{State, sizes, attached_at}
 use Rattle.csi_keeper.specs.Texts.{Text}
 
--- what a volume may be used as: in order, at least one, each supported
+-- the capability keys of a volume: in order, at least one, each supported
 pub record AreKeys (keys : List CapKey) : Type 0 where
   pub ordered : AreOrdered keys
   pub some : 1 ≤ length keys
@@ -54,6 +54,6 @@ pub record IsInvariant (config : Config) (s : State) : Type 0 where
   -- any two attachments of a volume coexist
   pub beside : (n : ℕ) (d e : Text) (a b : Attachment) → get s.attachments (n, d) ≡ Some a → get s.attachments (n, e) ≡ Some b → (d ≡ e → ⊥)
       → coexist a b ≡ true
-  -- no node holds more volumes than it can
+  -- no node holds more volumes than it may
   pub nodes : (m : Node) → Has config.nodes m → length (attached_at s m.id) ≤ m.max_volumes
   pub few : len s.volumes ≤ MAX_VOLUMES

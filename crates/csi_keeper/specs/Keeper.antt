@@ -26,7 +26,7 @@ module _ (old new : Model State) where
   abbrev pub Reports : (State → Type 0) → Type 0
   Reports P = new.doubt ≡ 0 → (s : State) → old.holds s → P s
 
-  -- the change is made, every survivor is the State, and the keeper goes on
+  -- the change is made, only the State with the change survives, and the keeper does not go down
   pub record Makes (change : Change) : Type 0 where
     pub clean : old.doubt ≤ new.doubt
     pub state : new.doubt ≡ 0 → (s : State) → old.holds s → Allows s change → new.holds (changed s change)
@@ -34,7 +34,7 @@ module _ (old new : Model State) where
     pub ties : new.doubt ≡ 0 → (s : State) → old.holds s → Allows s change → old.tied → new.tied
     pub down : new.is_down ≡ old.is_down
 
-  -- the State is kept, and a survivor is an old one, or the State with the change
+  -- the State is kept, and a survivor is an old survivor or the State with the change
   pub record Fails (change : Change) : Type 0 where
     pub clean : old.doubt ≤ new.doubt
     pub state : new.doubt ≡ 0 → (s : State) → old.holds s → Allows s change → new.holds s
@@ -48,8 +48,8 @@ Changes old new change (Err NoMemory) = Fails old new change
 Changes old new change (Err Refused) = Fails old new change
 Changes old new change (Err Down) = IsQuiet old new
 
--- A read: its answer holds for each State, nothing moves, a refusal is counted, and `Down` is answered
--- exactly if the keeper is down.
+-- A read: its answer holds for each State that the keeper may have, nothing changes, a refusal is counted,
+-- and `Down` is answered exactly if the keeper is down.
 pub record Reads {X : Type 0} (old new : Model State) (result : Result X StoreFault) (IsSo : State → X → Type 0) : Type 0 where
   pub value : IfOk result (λ x. Reports old new (λ s. IsSo s x))
   pub quiet : IsQuiet old new

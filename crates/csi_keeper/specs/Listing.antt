@@ -1,4 +1,4 @@
--- What a listing says of volumes.
+-- The entries of a listing.
 use Rattle.std.specs.Prelude.{◌≡◌, ℕ, List, [], ◌∷◌, map}
 use Rattle.csi_keeper.specs.declared.listed.Listed.{Listed}
 use Rattle.csi_keeper.specs.declared.listed.ListedRow.{ListedRow}
@@ -15,7 +15,7 @@ listed_at v nodes = record { number = v.number; bytes = v.bytes; pool = v.pool; 
 abbrev pub row_reported : ListedRow → Listed
 row_reported row = record { number = row.number; bytes = row.bytes; pool = row.pool.now; nodes = row.nodes.now }
 
--- the entries of volumes and the nodes of each
+-- the entries of volumes that are published at these nodes
 abbrev pub listed_each : List Volume → List (List Text) → List Listed
 listed_each [] nodes = []
 listed_each (v ∷ vs) [] = []

@@ -1,4 +1,4 @@
--- The pool of a name and the node of an id, in a configuration.
+-- The pool with a name and the node with an id, in a configuration.
 use Rattle.std.specs.Prelude.{List, Option, find}
 use Rattle.csi_types.specs.Maps.{same_text}
 use Rattle.csi_config.specs.declared.config.Config.{Config}

@@ -49,7 +49,7 @@ kinds_tie Block (Mount t) = refl
 kinds_tie (Mount t) Block = refl
 kinds_tie (Mount t) (Mount u) = texts_ties t u
 
--- equal are those that the order does not distinguish
+-- keys are equal exactly if the order does not distinguish them
 pub keys_tie : (a b : CapKey) → same_key a b ≡ eq_by_cmp key_cmp a b
 keys_tie a b = both_tied _ _ _ _ (kinds_tie a.kind b.kind) (nats_tie a.mode b.mode)
 

@@ -19,7 +19,7 @@ use Rattle.csi_keeper.specs.declared.change.Change.TheVariants.{AddVolume, Remov
 abbrev pub AttachmentKey : Type 0
 AttachmentKey = ℕ × Text
 
--- by number, and then by the bytes of the node's id
+-- the order of attachment keys: by number, and then by the bytes of the node's id
 abbrev pub attachment_key_cmp : AttachmentKey → AttachmentKey → Ordering
 attachment_key_cmp a b = ordering_then (nat_cmp a.0 b.0) (text_cmp a.1 b.1)
 
@@ -28,7 +28,7 @@ pub record State : Type 0 where
   pub volumes : FinMap nat_cmp Volume
   pub attachments : FinMap attachment_key_cmp Attachment
 
--- no volumes, and the first number
+-- the State without volumes, and with the first number as its next number
 abbrev pub first_state : ℕ → State
 first_state first = record { next = first; volumes = empty; attachments = empty }
 
@@ -36,7 +36,7 @@ first_state first = record { next = first; volumes = empty; attachments = empty 
 abbrev pub volumes_in_order : State → List Volume
 volumes_in_order s = values s.volumes
 
--- the volume of a name
+-- the volume with this name
 abbrev pub named : State → Text → Option Volume
 named s name = find (λ v. bytes_eq v.name name) (volumes_in_order s)
 
@@ -44,11 +44,11 @@ named s name = find (λ v. bytes_eq v.name name) (volumes_in_order s)
 abbrev pub sizes : State → Text → List ℕ
 sizes s pool = map (λ v. v.bytes) (filter (λ v. bytes_eq v.pool pool) (volumes_in_order s))
 
--- as a u64
+-- the number as a u64, at most the greatest one
 abbrev pub up_to_u64 : ℕ → ℕ
 up_to_u64 n = min n (2 ^ 64 - 1)
 
--- how many volumes a pool has, and their bytes
+-- the number of a pool's volumes, and the sum of their bytes
 abbrev pub used : State → Text → Usage
 used s pool = record { volumes = up_to_u64 (length (sizes s pool)); bytes = up_to_u64 (sum (sizes s pool)) }
 
@@ -60,15 +60,15 @@ attached s number = map (λ e. e.1) (filter (λ e. e.0.0 == number) (entries s.a
 abbrev pub attached_at : State → Text → List ℕ
 attached_at s node = map (λ e. e.0.0) (filter (λ e. bytes_eq e.0.1 node) (entries s.attachments))
 
--- how many they are
+-- the number of volumes that are attached at a node
 abbrev pub count_at : State → Text → ℕ
 count_at s node = length (attached_at s node)
 
--- the volumes with a greater number
+-- the volumes with a number greater than `after`
 abbrev pub beyond : State → ℕ → List Volume
 beyond s after = map (λ e. e.1) (filter (λ e. nat_lt after e.0) (entries s.volumes))
 
--- at most that many of them
+-- at most `count` volumes with a number greater than `after`
 abbrev pub page : State → ℕ → ℕ → List Volume
 page s after count = take count (beyond s after)
 
@@ -84,7 +84,7 @@ published_of_page s after count = map (λ v. published s v.number) (page s after
 abbrev pub with_mutable : TextMap → Volume → Volume
 with_mutable m v = record v { mutable = m }
 
--- the volumes, where the one of a number, if it exists, has other mutable parameters
+-- the volumes after the volume with this number, if it exists, got other mutable parameters
 abbrev pub mutable_set : FinMap nat_cmp Volume → ℕ → TextMap → Option Volume → FinMap nat_cmp Volume
 mutable_set volumes n m None = volumes
 mutable_set volumes n m (Some v) = insert volumes n (with_mutable m v)
@@ -98,8 +98,8 @@ changed s (Detach n node) = record s { attachments = remove s.attachments (n, no
 changed s (DetachAll n) = record s { attachments = retain_keys s.attachments (λ p. not (p.0 == n)) }
 changed s (SetMutable n m) = record s { volumes = mutable_set s.volumes n m (get s.volumes n) }
 
--- what the State must be for a change: a premise of the promise
--- (that no volume has the number follows from the invariant, which a keeper does not know)
+-- the State allows the change: a premise of the promise (that no volume has the number follows from the
+-- invariant, which a keeper does not know)
 abbrev pub Allows : State → Change → Type 0
 Allows s (AddVolume v) = (v.number ≡ s.next) × (get s.volumes v.number ≡ None) × (named s v.name ≡ None)
 Allows s (RemoveVolume n) = attached s n ≡ []

@@ -8,6 +8,6 @@ use Rattle.std.specs.Cmp.Lexicographic.{slice_cmp}
 abbrev pub Text : Type 0
 Text = List ℕ
 
--- by bytes
+-- the order of texts: by their bytes
 abbrev pub text_cmp : Text → Text → Ordering
 text_cmp = slice_cmp nat_cmp

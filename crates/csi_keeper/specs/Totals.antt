@@ -26,23 +26,23 @@ total_at es pool = or_zero (lookup (is_at (text_cmp pool)) es)
 abbrev pub total_of : Totals → Text → Total
 total_of t pool = total_at t.tree.entries pool
 
--- with a volume more
+-- the total with one more volume of this size
 abbrev pub more : Total → ℕ → Total
 more t bytes = the_total (t.volumes + 1) (t.bytes + bytes)
 
--- with a volume less
+-- the total with one volume of this size less
 abbrev pub less : Total → ℕ → Total
 less t bytes = the_total (t.volumes - 1) (t.bytes - bytes)
 
--- one more fits where a total is kept
+-- one more volume of this size fits in the total
 abbrev pub HasRoom : Total → ℕ → Type 0
 HasRoom t bytes = (t.volumes + 1 < 2 ^ 64) × (t.bytes + bytes < 2 ^ 128)
 
--- as a u64
+-- the total as a usage: each number is at most the greatest u64
 abbrev pub reported : Total → Usage
 reported t = record { volumes = up_to_u64 t.volumes; bytes = up_to_u64 t.bytes }
 
--- the pool has an entry, so its total is set without memory
+-- the pool has an entry, so setting its total needs no memory
 abbrev pub IsReserved : Totals → Text → Type 0
 IsReserved t pool = (n : Total) × (lookup (is_at (text_cmp pool)) t.tree.entries ≡ Some n)
 

@@ -1,5 +1,5 @@
--- The answer to a request: reads that make a plan, the body of its response, its change, and what a keeper
--- has then.
+-- The answer to a request: reads that make a plan, the body of its response, its change, and the keeper after
+-- that.
 use Rattle.std.proofs.Common.{◌≡◌, ◌∙◌, ◌⊎◌, inl, inr, ap, sym, subst, arith, refl, ℕ, ◌≤◌, ◌==◌, ◌&&◌, ◌||◌, ◌++◌, List, length, sum_by, nat_le, Bool, true, false, cond, Option, Some, None, Result, Ok, Err, IfSome, IsSome, IsTrue, IfErr, OnOk, OnErr, append-nil}
 use Rattle.std.specs.FinMap as fin
 use Rattle.std.specs.List.{list_all}
@@ -60,7 +60,7 @@ appended_by x y (Ok r) (verdict.Refused q) e b l = absurd (cc)
 appended_by x y (Err q) verdict.Done e b l = absurd (cc)
 appended_by x y (Err q) (verdict.Refused p) e b l = b ∙ append-nil x
 
--- what a stop leaves of a plan is left of an equal one
+-- a stop leaves the same States for equal plans
 left_of : (p q : Plan) (s t : State) (Old : Type 0) → p ≡ q → Old ⊎ (IsSome p.change × (t ≡ after s p.change)) → Old ⊎ (IsSome q.change × (t ≡ after s q.change))
 left_of p q s t Old e = subst (λ (x : Plan). Old ⊎ (IsSome p.change × (t ≡ after s p.change)) → Old ⊎ (IsSome x.change × (t ≡ after s x.change))) e (λ h. h)
 
@@ -145,7 +145,7 @@ limited_sound config plan sound = sound_by config (λ s. limited (plan s)) (λ s
     let is = limited_change (plan s) (plan s).outcome c e in
     (subst (λ (o : Option Change). IfSome o (Allows s)) is (sound.allows s inv), subst (λ (o : Option Change). IsInvariant config (after s o)) is (sound.keeps s inv)))
 
--- the State after a reply is the one after the step
+-- the State after a reply is the State after the step
 moved_by : (s : State) (p : Plan) (o : Result Response Reason) → after s (limited_by p o).change ≡ moved s (after s p.change) (reported_of o)
 moved_by s p (Err q) = refl
 moved_by s p (Ok r) = go (nat_le (length (response_bytes r)) MAX_BODY_BYTES)
@@ -211,7 +211,7 @@ left config r a b x y (Ok w) did d s h inv =
     subst (λ (t : State). ((t ≡ s) × ((u : State) → b.survivors u → a.survivors u)) ⊎ ((u : State) → b.survivors u → u ≡ t)) (moved_is config s r)
     (leaves_by (a.survivors) (b.survivors) s (settled_plan config s r).change (did.crash d s h inv) (did.settled d s h inv))
 
--- over a keeper that is down
+-- the answer of a keeper that is down
 alone : (config : Config) (r : Request) (a b : Model State) (x y : List ℕ) (result : Result Verdict StoreFault) → Answered config (λ s. settled_plan config s r) a b x y result
     → ReportsDown (a.is_down) (IsOfAll config r x y) result
 alone config r a b x y (Err e) did = record { down = did.down.down; refused = did.down.refused; unasked = λ is. tt }

@@ -49,7 +49,7 @@ still_stands s n node a k v none here stands =
 fewer : (s : State) (k : ℕ) → fin.len (fin.remove s.volumes k) ≤ fin.len s.volumes
 fewer s k = subst (λ n. n ≤ fin.len s.volumes) (sym (fin.len-remove nat_cmp_total s.volumes k)) (elim (fin.contains_key s.volumes k) as (λ b. cond b (fin.len s.volumes - 1) (fin.len s.volumes) ≤ fin.len s.volumes) [ true ↦ omega arith | false ↦ omega arith ])
 
--- no more bytes are used of a pool
+-- a pool does not use more bytes after a removal
 fewer_bytes : (s : State) (k : ℕ) (pool : Text) → sum (sizes (changed s (RemoveVolume k)) pool) ≤ sum (sizes s pool)
 fewer_bytes s k pool = go (fin.get s.volumes k) refl
   where

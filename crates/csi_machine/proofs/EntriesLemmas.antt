@@ -1,4 +1,4 @@
--- The entries of maps that have one more, and how many pass.
+-- The entries of maps with one more entry, and the number of entries that pass.
 use Rattle.std.proofs.Common.{◌≡◌, sym, cond, arith, ◌+◌, ◌≤◌, List, [], ◌∷◌, length, filter, Bool, true, false, Some, None, Ordering, Less, Equal, Greater}
 use Rattle.std.specs.Ordering.{is_eq}
 use Rattle.std.specs.FinMap as fin
@@ -10,7 +10,7 @@ module _ {K X : Type 0} where
   length_one p f fs = elim (p f) as (λ b. length (cond b (f ∷ filter p fs) (filter p fs)) ≡ cond b 1 0 + length (filter p fs)) [ true ↦ omega arith | false ↦ omega arith ]
 
 module _ {K X : Type 0} (R : K → K → Ordering) where
-  -- one more entry, where there was none
+  -- one more entry, with a key that had no entry
   pub length_put : (p : K × X → Bool) (k : K) (v : X) (es : List (K × X)) → fin.find R k es ≡ None → length (filter p (fin.put R k v es)) ≡ cond (p (k, v)) 1 0 + length (filter p es)
   length_put p k v [] none = length_one p (k, v) []
   length_put p k v (e ∷ es) none = go (R k e.0) none (length_put p k v es)

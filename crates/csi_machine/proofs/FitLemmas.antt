@@ -36,7 +36,7 @@ use Rattle.csi_rules.specs.Ids.{id}
 use Rattle.csi_rules.specs.Info.{info_at, topology_of}
 use Rattle.envelope.specs.declared.limits.TheConstants.{MAX_BODY_BYTES}
 
--- ---- how long an encoding is at most
+-- ---- the greatest length of an encoding
 
 minimal_most : (k n : ℕ) → length (minimal k n) ≤ k + 1
 unfolding minimal
@@ -60,7 +60,7 @@ number_most k n =
     let b = minimal_most 9 n in
     omega (arith, all, a, b)
 
--- one field more
+-- one more field
 more_spelled : (e : WireField) (es : List WireField) → length (spellings (e ∷ es)) ≡ length (spelling e) + length (spellings es)
 more_spelled e es = length-append (spelling e) (spellings es)
 
@@ -176,7 +176,7 @@ second_off : (a b : Bool) → (a || b) ≡ false → b ≡ false
 second_off true b h = absurd (cc)
 second_off false b h = h
 
--- if no place is found for a test, no pool meets it
+-- if no position is found for a test, no pool passes it
 nowhere : (test : Pool → Bool) (n : ℕ) (ps : List Pool) → position_from (λ e. test e.1) n (enumerate_from n ps) ≡ None → (p : Pool) → Has ps p → test p ≡ false
 nowhere test n [] off p h = absurd h
 nowhere test n (q ∷ ps) off p h = go (λ rest off. nowhere test (n + 1) ps off p rest) (test q) refl off
@@ -185,7 +185,7 @@ nowhere test n (q ∷ ps) off p h = go (λ rest off. nowhere test (n + 1) ps off
     go more true is off = absurd (cc)
     go more false is off = elim h as (λ _. test p ≡ false) [ inl same ↦ subst (λ (x : Pool). test x ≡ false) same is | inr rest ↦ more rest off ]
 
--- of two rules of the texts of segments
+-- two rules for the texts of segments
 module _ (config : Config) where
   of_segments : segments_fault config.pools ≡ None
   of_segments =

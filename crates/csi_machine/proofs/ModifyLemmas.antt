@@ -64,7 +64,7 @@ module _ (config : Config) (s : State) (n : ℕ) (m : TextMap) where
     few = let a = as_many s.volumes n m in let b = inv.few in omega (arith, a, b);
   }
 
--- a plan to change them: the result was measured, and it was not all there
+-- a plan to change the parameters: the result is small enough, and the volume did not have all of it
 pub record IsModified (n : ℕ) (own given : TextMap) (c : Change) : Type 0 where
   pub is : c ≡ SetMutable n (laid_over own given)
   pub small : nat_lt MAX_MAP_BYTES (map_bytes (laid_over own given)) ≡ false
@@ -95,7 +95,7 @@ modify_fits config r s c inv e = by_number (number_of_id r.volume_id) e
     by_number None h = absurd (none_some c h)
     by_number (Some n) h = by_volume n (fin.get s.volumes n) refl h
 
--- It is done with when it is asked again.
+-- A second modification changes nothing.
 
 -- an overlaid map has the overlay's values, and the same overlay changes nothing the second time; a map
 -- has its own values
@@ -104,14 +104,14 @@ pub record AreLaid : Type 0 where
   pub again : (m given : TextMap) → laid_over (laid_over m given) given ≡ laid_over m given
   pub own : (m : TextMap) → has_each m m ≡ true
 
--- the volume of the number, after the change
+-- the volume with the number, after the change
 modified_there : (s : State) (n : ℕ) (m : TextMap) (v : Volume) → fin.get s.volumes n ≡ Some v → fin.get (changed s (SetMutable n m)).volumes n ≡ Some (with_mutable m v)
 modified_there s n m v e =
     ap (λ (o : Option Volume). fin.get (mutable_set s.volumes n m o) n) e
     ∙ fin.get-insert nat_cmp_total s.volumes n (with_mutable m v) n
     ∙ ap (λ b. cond b (Some (with_mutable m v)) (fin.get s.volumes n)) (ap is_eq (tied_itself nat_cmp_total n))
 
--- the plan for a volume that has the overlay already
+-- the plan for a volume that has the given parameters already
 done_with : AreLaid → (n : ℕ) (own given : TextMap) → nat_lt MAX_MAP_BYTES (map_bytes (laid_over own given)) ≡ false → modify_own n (laid_over own given) given ≡ respond response.Modify
 done_with laws n own given small =
     let laid = laid_over own given in
@@ -133,7 +133,7 @@ quiet_by n own given c e = go (nat_lt MAX_MAP_BYTES (map_bytes (laid_over own gi
 abbrev pub reported_still : Result Response Reason → Plan
 reported_still o = record { outcome = o; change = None }
 
--- the plan after a change is the same, and makes none
+-- the plan after a change has the same answer, and makes no change
 pub modify_quiet : AreLaid → (r : Modify) (s : State) (c : Change) → (modify s r).change ≡ Some c → modify (changed s c) r ≡ reported_still (modify s r).outcome
 modify_quiet laws r s c e = by_number (number_of_id r.volume_id) e
   where

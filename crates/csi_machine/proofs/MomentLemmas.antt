@@ -34,12 +34,12 @@ abbrev pub joined : List (List Volume) → List Volume
 joined [] = []
 joined (vs ∷ pages) = vs ++ joined pages
 
--- a volume of the number is among them
+-- a volume with the number is among the volumes
 abbrev pub Lists : ℕ → List Volume → Type 0
 Lists n [] = ⊥
 Lists n (v ∷ vs) = (v.number ≡ n) ⊎ Lists n vs
 
--- a volume of the number exists at each moment
+-- a volume with the number exists at each moment
 abbrev pub Stands : ℕ → List Moment → Type 0
 Stands n ms = AllByRecursion (λ m. (v : Volume) × (fin.get m.0.volumes n ≡ Some v)) ms
 

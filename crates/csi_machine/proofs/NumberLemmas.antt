@@ -23,7 +23,7 @@ none_of : (o : Option Volume) → ((w : Volume) → o ≡ Some w → ⊥) → o 
 none_of None never = refl
 none_of (Some w) never = absurd (never w refl)
 
--- the volume of a number before other mutable parameters are set, and after it
+-- the volume with a number, before and after other mutable parameters are set
 same_set : (s : State) (k : ℕ) (m : TextMap) (n : ℕ) (v w : Volume) → fin.get s.volumes n ≡ Some v → fin.get (changed s (SetMutable k m)).volumes n ≡ Some w
     → w ≡ with_mutable w.mutable v
 same_set s k m n v w old new =

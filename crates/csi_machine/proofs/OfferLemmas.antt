@@ -1,4 +1,4 @@
--- A maximum that GetCapacity says can be had.
+-- A volume of the maximum that GetCapacity reports can be created.
 use Rattle.std.proofs.Common.{◌≡◌, ◌≢◌, ◌∙◌, inl, inr, ap, sym, subst, cond, arith, refl, ℕ, ◌+◌, ◌-◌, ◌*◌, ◌/◌, ◌%◌, ◌==◌, ◌<◌, ◌≤◌, ◌^◌, max, min, nat_lt, nat_le, List, [], ◌∷◌, length, map, find, fold, sum, sum_by, Bool, true, false, ◌&&◌, ◌||◌, Option, Some, None, option_map, eqb-true}
 use Rattle.std.specs.FinMap as fin
 use Rattle.std.specs.Cmp.{nat_cmp_total}
@@ -94,7 +94,7 @@ times_most (r ∷ rs) t a i all = elim (is_served t r) as (λ b. IsTimes (fold m
   | false ↦ times_most rs t a i all.1
 ]
 
--- So the size that is asked is the size that is made.
+-- So the size that is asked for is the size of the volume.
 
 rounded : (n : ℕ) → IsTimes n → rounded_up n ≡ n
 rounded n (k, e) =
@@ -128,7 +128,7 @@ served_as : (rs : List Room) (t : Option TextMap) → served rs t ≡ served rs 
 served_as rs None = served_all rs
 served_as rs (Some t) = refl
 
--- where no room serves the term and has n bytes free, the greatest free part is less than n
+-- if no room serves the term and has n bytes free, the greatest number of free bytes is less than n
 small : (rs : List Room) (t : TextMap) (n a : ℕ) → a < n → find (λ r. serves r.0.segments t && nat_le n (free r)) rs ≡ None → fold max a (map free (served rs (Some t))) < n
 small [] t n a h none = h
 small (r ∷ rs) t n a h none = go (λ b l f. small rs t n b l f) (serves r.0.segments t) (nat_le n (free r)) refl none
@@ -176,8 +176,8 @@ reported config rs g available n false e h = absurd (none available n (ap (λ p.
     none : (c d : ℕ) → (report_capacity 0 0).outcome ≡ (report_capacity c d).outcome → 0 < d → ⊥
     none c d e h = let z : ◌≡◌ {A = ℕ} 0 d = cc in omega (arith, z, h)
 
--- a maximum that GetCapacity says is a multiple of 1 MiB, within the greatest size, and no more than is free
--- where the topology is served
+-- a maximum that GetCapacity reports is a multiple of 1 MiB, within the greatest size, and no more than the
+-- free bytes where the topology is served
 reported_fits : (config : Config) → IsConfigured config → (s : State) (g : GetCapacity) (available n : ℕ) → IsInvariant config s → capacity config s g ≡ report_capacity available n → 0 < n
     → IsTimes n × (n ≤ config.sizes.greatest_bytes) × (n ≤ greatest (map free (served (rooms config s) (Some (term_of g.topology)))))
 reported_fits config good s g available n inv e h =
@@ -197,7 +197,7 @@ of_config config s ts n p f =
     let same : from.0 ≡ p = ap (λ (x : Room). x.0) from.2 ∙ one.2 in
     subst (Has config.pools) same from.1
 
--- a pool is chosen for the maximum that GetCapacity says, under the topology that it was asked for
+-- a pool is chosen for the maximum that GetCapacity reports, under the topology that it was asked for
 pub offers : (config : Config) → IsConfigured config → (s : State) (g : GetCapacity) (available n : ℕ) → IsInvariant config s → capacity config s g ≡ report_capacity available n → 0 < n
     → (pool : Pool) × Has config.pools pool × (choice (rooms config s) (term_of g.topology ∷ []) n ≡ Some pool)
 offers config good s g available n inv e h = go (choice (rooms config s) (term_of g.topology ∷ []) n) refl
@@ -206,7 +206,7 @@ offers config good s g available n inv e h = go (choice (rooms config s) (term_o
     go None f = absurd (has_place (rooms config s) (term_of g.topology) n h (reported_fits config good s g available n inv e h).2 f)
     go (Some p) f = (p, of_config config s (term_of g.topology ∷ []) n p f, f)
 
--- a volume of the maximum that GetCapacity says is made, where its topology is one of the terms
+-- a volume of the maximum that GetCapacity reports is made, if the topology is one of its terms
 pub offered : (config : Config) → IsConfigured config → (s : State) (g : GetCapacity) (available n : ℕ) (r : CreateVolume) → IsInvariant config s
     → capacity config s g ≡ report_capacity available n → 0 < n → AsksFor config r g.topology n → IsNew config s r.name
     → (pool : Pool) × Has config.pools pool × (create config s r ≡ place_in r s.next n (Some pool))
@@ -227,7 +227,7 @@ offered config good s g available n r inv e h asks new =
           ∙ ap (place_in r s.next n) f,
     )
 
--- a range that has it as both of its limits asks for it
+-- a range with the size as both of its bounds asks for the size
 pub asked_exactly : (config : Config) → IsConfigured config → (s : State) (g : GetCapacity) (available n : ℕ) → IsInvariant config s → capacity config s g ≡ report_capacity available n → 0 < n → size config.sizes (Some (exactly n)) ≡ Some n
 asked_exactly config good s g available n inv e h = let fit = reported_fits config good s g available n inv e h in size_exact config.sizes n h fit.0 fit.1
 
@@ -244,7 +244,7 @@ stepped config s r n pool is fits =
     ap (λ (p : Plan). reported_after s (after s p.change) (reported_of p.outcome)) is
     ∙ ap (λ b. reported_after s (changed s (AddVolume v)) (cond b (Says body) (Denies ReplyTooLarge))) held
 
--- and so what GetCapacity offers is answered
+-- the create of a volume that GetCapacity offers is answered
 pub answered : (config : Config) → IsConfigured config → ((p : Pool) → Has config.pools p → is_pool_name p.name ≡ true) → ((p : Pool) → Has config.pools p → fin.len p.segments ≤ MAX_SEGMENTS)
     → (s : State) (g : GetCapacity) (available n : ℕ) (r : CreateVolume) → IsInvariant config s → capacity config s g ≡ report_capacity available n → 0 < n → AsksFor config r g.topology n → IsNew config s r.name
     → (pool : Pool) × Has config.pools pool × (step config s (Create r) ≡ (Says (response_bytes (response.Create (Some (info_at pool.segments (made r s.next n pool))))), changed s (AddVolume (made r s.next n pool))))

@@ -34,7 +34,7 @@ last_push : (after : ℕ) (rows : List Listed) (row : Listed) → last_row after
 last_push after [] row = refl
 last_push after (r ∷ rows) row = last_push r.number rows row
 
--- one volume says whether there are any
+-- one volume is enough to know whether more volumes exist
 token_one : (s : State) (last : ℕ) (vs : List Volume) → token_when last (is_any (map (listed_of s) (take 1 vs)) || false) ≡ token_for last vs
 token_one s last [] = refl
 token_one s last (v ∷ vs) = refl
@@ -47,13 +47,13 @@ entries_listed : (config : Config) (s : State) (vs : List Volume) → map (entry
 entries_listed config s [] = refl
 entries_listed config s (v ∷ vs) = ap (λ es. entry_of config s v ∷ es) (entries_listed config s vs)
 
--- one of the places that were kept
+-- one of the placements that were kept
 pub placed_at : (config : Config) (places : List PoolPlacement) (i : ℕ) (d : PoolPlacement) → i < length places → ArePlaced config places → IsPlaced config (get_or places i d)
 placed_at config [] i d low all = absurd (omega (arith, low))
 placed_at config (p ∷ places) zero d low all = all.0
 placed_at config (p ∷ places) (suc i) d low all = placed_at config places i d (omega (arith, low)) all.1
 
--- places that were looked through, one more
+-- one more placement was looked at
 pub looked_past : (name : Text) (places : List PoolPlacement) (i : ℕ) (d : PoolPlacement) → i < length places → ((get_or places i d).pool ≡ name → ⊥) → find (λ p. same_text p.pool name) (drop i places) ≡ find (λ p. same_text p.pool name) (drop (i + 1) places)
 looked_past name [] i d low far = absurd (omega (arith, low))
 looked_past name (p ∷ places) zero d low far = go (same_text p.pool name) refl
@@ -102,7 +102,7 @@ wrote_token old mid new es token stood wrote =
     ∙ append_assoc old (response_bytes (response.List es [])) (response_bytes (response.List [] token))
     ∙ ap (λ (bs : List ℕ). old ++ bs) (sym (listing_token es token))
 
--- the page of a State, written
+-- the page of a State is written
 page_written : (s : State) (most count : ℕ) (first now : Page) (is_more : Bool) (new : List ℕ) → count ≡ entries_for most → HasWritten first (listing s first.last count) now
     → is_more ≡ (is_any (listing s now.last 1) || false) → new ≡ now.body.items ++ response_bytes (response.List [] (token_when now.last is_more)) → IsPage first.config.now s first.last most first.body.items new
 page_written s most count first now is_more new many wrote more is =

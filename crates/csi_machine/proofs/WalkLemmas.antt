@@ -106,7 +106,7 @@ module _ (config : Config) where
   given_numbers : (s : State) → IsInvariant config s → AllByRecursion (λ e. (1 ≤ e.1.number) × (e.1.number < s.next)) (fin.entries s.volumes)
   given_numbers s inv = all_each (λ e h. let a = h.0 in let b = h.1 in let d = h.2 in (omega (arith, a, b), omega (arith, a, d))) (fin.entries s.volumes) (numbers s inv)
 
-  -- if a volume has a greater number, the number was given
+  -- if a volume has a number greater than `last`, `last` was given to a volume
   abbrev IsReported : State → ℕ → Type 0
   IsReported s last = (beyond s last ≡ []) ⊎ ((token_for last (beyond s last) ≡ decimal last) × (1 ≤ last) × (last < s.next))
 
@@ -338,7 +338,7 @@ same_number m n a b e = some_same (sym (id_named m a) ∙ ap number_of_id e ∙ 
     some_same : Some m ≡ Some n → m ≡ n
     some_same h = cc
 
--- numbers that rise have ids that differ
+-- rising numbers have different ids
 not_again : (k n : ℕ) (vs : List Volume) → k < 2 ^ 64 → k ≤ n → Rises n vs → AllByRecursion (λ v. v.number < 2 ^ 64) vs → Has (map (λ v. id v.number) vs) (id k) → ⊥
 not_again k n [] small h r b has = has
 not_again k n (w ∷ ws) small h r b has = elim has as (λ _. ⊥) [

@@ -1,4 +1,4 @@
--- What a request does to a keeper, by the plan that the State gives it.
+-- The effect of a request on a keeper, by the plan that the State gives the request.
 use Rattle.std.specs.Prelude.{◌≡◌, ◌⊎◌, true, ℕ, ◌≤◌, ◌++◌, List, [], Result, Ok, Err, None, IsSome, IsTrue, IfSome, IfOk, IfErr, OnOk, OnErr}
 use Rattle.csi_types.specs.declared.reason.Reason.{Reason}
 use Rattle.csi_types.specs.declared.responses.Response.{Response}
@@ -18,30 +18,30 @@ use Rattle.csi_keeper.specs.State.{State, Allows}
 use Rattle.csi_machine.specs.Step.{step, settled_plan, is_of_plugin, NamesNone}
 use Rattle.csi_machine.specs.Verdicts.{Appended, IsReported, verdict_of}
 
--- the body of an outcome that is written
+-- the body of the reply with this outcome; a refusal has no body
 abbrev pub body_of : Result Response Reason → List ℕ
 body_of (Ok r) = response_bytes r
 body_of (Err reason) = []
 
--- where it is answered the State is the one after the request, and otherwise the one before it
+-- the State `t` after the request if it is answered, and otherwise the State `s` before it
 abbrev pub state_after : State → State → Result Verdict StoreFault → State
 state_after s t (Ok v) = t
 state_after s t (Err e) = s
 
--- The survivors of a call: after an answer that moved the State only the new State; after an answer that did
--- not, only the old survivors; after a refusal of memory or the store also the State that the request would
--- have made.
+-- The survivors after a call. After an answer that changed the State only the new State survives; after any
+-- other answer only the old survivors. If memory ran out or the store refused the call, the State that the
+-- request would have made may survive too.
 abbrev pub Leaves : (State → Type 0) → (State → Type 0) → State → State → Result Verdict StoreFault → Type 0
 Leaves old new s t (Ok v) = ((t ≡ s) × ((u : State) → new u → old u)) ⊎ ((u : State) → new u → u ≡ t)
 Leaves old new s t (Err NoMemory) = (u : State) → new u → old u ⊎ (u ≡ t)
 Leaves old new s t (Err Refused) = (u : State) → new u → old u ⊎ (u ≡ t)
 Leaves old new s t (Err Down) = (u : State) → new u → old u
 
--- every State is answered so, and stays
+-- the answer is the same in every State, and the State stays
 abbrev pub IsOfAll : Config → Request → List ℕ → List ℕ → Verdict → Type 0
 IsOfAll config r out now v = (s : State) → IsReported {E = StoreFault} (step config s r).0 out now (Ok v) × ((step config s r).1 ≡ s)
 
--- it is so from each State of the invariant that the keeper may have had, where nothing is in doubt
+-- if nothing is in doubt, `P` is true of each State that the keeper may have had and that meets the invariant
 abbrev pub Promises : Config → Model State → Model State → (State → Type 0) → Type 0
 Promises config old new P = new.doubt ≡ 0 → (s : State) → old.holds s → IsInvariant config s → P s
 
@@ -67,7 +67,8 @@ pub record Answered (config : Config) (plan : State → Plan) (old new : Model S
       × ((plan s).change ≡ None)) result
   pub stays : old.is_down ≡ true → new.is_down ≡ true
 
--- the promise for each State that allows the plan's change and that the keeper may have had, while doubt is 0
+-- if nothing is in doubt, `P` is true of each State that the keeper may have had and that allows the plan's
+-- change
 abbrev pub Allowed : Plan → Model State → Model State → (State → Type 0) → Type 0
 Allowed plan old new P = new.doubt ≡ 0 → (s : State) → old.holds s → IfSome plan.change (Allows s) → P s
 
@@ -99,9 +100,9 @@ pub record Performs (config : Config) (request : Request) (old new : Model State
   pub left : Promises config old new (λ s. Leaves old.survivors new.survivors s (step config s request).1 result)
   -- a request that changes nothing only reads the keeper
   pub quiet : Promises config old new (λ s. (settled_plan config s request).change ≡ None → IsQuiet old new)
-  -- what the plugin is and can do is answered without the keeper
+  -- a request about the plugin itself is answered without the keeper
   pub alone : IsTrue (is_of_plugin request) → IsQuiet old new × IfErr result (λ e. e ≡ NoMemory)
-  -- and so is a request about a volume that is named by no volume's id
+  -- and so is a request with a volume id that no volume can have
   pub unnamed : NamesNone request → IsQuiet old new × IfErr result (λ e. e ≡ NoMemory)
   pub ties : Promises config old new (λ s. old.tied → new.tied)
   pub down : ReportsDown old.is_down (IsOfAll config request out now) result

@@ -1,5 +1,5 @@
--- What the plugin is and can do: GetPluginInfo, GetPluginCapabilities, Probe and ControllerGetCapabilities
--- (CSI specification, the sections of these names).
+-- The requests about the plugin itself: GetPluginInfo, GetPluginCapabilities, Probe and
+-- ControllerGetCapabilities (CSI specification, the sections of these names).
 use Rattle.std.specs.Prelude.{pos, true, [], ◌∷◌, Some}
 use Rattle.csi_types.specs.declared.responses.Response.TheVariants as response
 use Rattle.csi_config.specs.declared.config.Config.{Config}
@@ -13,7 +13,7 @@ plugin_info config = respond (response.PluginInfo config.plugin.name config.plug
 abbrev pub plugin_capabilities : Plan
 plugin_capabilities = respond (response.PluginCapabilities (Some (pos 1) ∷ Some (pos 2) ∷ []))
 
--- ready
+-- the plugin is ready
 abbrev pub probe : Plan
 probe = respond (response.Probe (Some true))
 

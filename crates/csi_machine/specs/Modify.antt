@@ -15,7 +15,7 @@ use Rattle.csi_rules.specs.Ids.{number_of_id}
 use Rattle.csi_machine.specs.Plan.{refuse, respond, make}
 use Rattle.csi_keeper.specs.State.{State}
 
--- what a map may not hold is refused; what the volume has already is done with
+-- a map that is too large is refused; if the volume has the given parameters already, nothing changes
 abbrev pub modify_to : ℕ → TextMap → TextMap → TextMap → Plan
 modify_to n own given laid =
     if nat_lt MAX_MAP_BYTES (map_bytes laid) then refuse MutableTooLarge

@@ -1,5 +1,4 @@
--- What a create must ask for to be given what GetCapacity offers (CSI specification, 'GetCapacity',
--- maximum_volume_size).
+-- The request of a create that GetCapacity offers (CSI specification, 'GetCapacity', maximum_volume_size).
 use Rattle.std.specs.Prelude.{◌≡◌, ℕ, pos, ◌<◌, Option, Some, None}
 use Rattle.std.specs.FinMap.{empty}
 use Rattle.csi_types.specs.Maps.{TextMap}
@@ -19,17 +18,17 @@ abbrev pub term_of : Option TextMap → TextMap
 term_of None = empty
 term_of (Some t) = t
 
--- that size, and no other
+-- the range for exactly this size
 abbrev pub exactly : ℕ → CapacityRange
 exactly n = record { required = pos n; limit = pos n }
 
--- the requested range has exactly this size, as the range of `exactly` has, and the topology is one of the
--- terms
+-- the requested range gives a volume of exactly this size, as the range of `exactly` does, and the topology
+-- is one of the terms
 pub record AsksFor (config : Config) (r : CreateVolume) (topology : Option TextMap) (n : ℕ) : Type 0 where
   pub sized : size config.sizes r.range ≡ Some n
   pub term : Has (terms r.topology) (term_of topology)
 
--- no volume has the name, and neither their count nor their numbers are used up
+-- no volume has the name, and neither the count of volumes nor their numbers are used up
 pub record IsNew (config : Config) (s : State) (name : Text) : Type 0 where
   pub unnamed : named s name ≡ None
   pub few : count (rooms config s) < MAX_VOLUMES

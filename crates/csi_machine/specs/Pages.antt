@@ -11,14 +11,14 @@ use Rattle.csi_machine.specs.Places.{ArePlaced, entry_at, last_row}
 use Rattle.csi_machine.specs.calls.Listing.{entry_of, last_of, listed, token_for}
 use Rattle.csi_machine.specs.declared.page.Page.{Page}
 
--- the entries of the rows are after what the page had
+-- the page `now` is the page `first` with the entries of these rows appended
 pub record HasWritten (first : Page) (rows : List Listed) (now : Page) : Type 0 where
   pub config : now.config.now ≡ first.config.now
   pub placed : ArePlaced now.config.now now.places.items
   pub last : now.last ≡ last_row first.last rows
   pub body : now.body.items ≡ first.body.items ++ response_bytes (response.List (map (entry_at first.config.now) rows) [])
 
--- whether there is a volume
+-- true if there is a row
 abbrev pub is_any : List Listed → Bool
 is_any [] = false
 is_any (row ∷ rows) = true
@@ -27,7 +27,8 @@ is_any (row ∷ rows) = true
 abbrev pub token_when : ℕ → Bool → Text
 token_when last is_more = if is_more then decimal last else []
 
--- after the bytes `before` comes the body of the page after this number, with at most `count` volumes
+-- `new` is `old` with the body of a page appended: the volumes after the number `after`, at most `most` of
+-- them
 abbrev pub IsPage : Config → State → ℕ → ℕ → List ℕ → List ℕ → Type 0
 IsPage config s after most old new =
     new ≡ old ++ response_bytes (response.List (map (entry_of config s) (listed s after most))

@@ -1,4 +1,4 @@
--- What a request is answered, and the one change that it makes.
+-- A plan: the answer to a request, and the one change that the request makes.
 use Rattle.std.specs.Prelude.{Option, None, Some, Ok, Err}
 use Rattle.csi_types.specs.declared.reason.Reason.{Reason}
 use Rattle.csi_types.specs.declared.responses.Response.{Response}

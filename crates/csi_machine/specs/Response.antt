@@ -1,4 +1,4 @@
--- The response of a plan, in any place.
+-- The response in a plan, in each form in which it is kept.
 use Rattle.std.specs.Prelude.{Bool, true, false, codes}
 use Rattle.std.specs.FinMap.{empty, insert}
 use Rattle.csi_types.specs.Maps.{TextMap}
@@ -18,7 +18,7 @@ flag_text false = codes "false"
 abbrev pub publication : Bool → TextMap
 publication readonly = insert empty (codes "readonly") (flag_text readonly)
 
--- ---- where a response is
+-- ---- the forms of a response
 
 abbrev pub form_response : ResponseForm → Response
 form_response (kept.Made r) = r

@@ -8,8 +8,8 @@ use Rattle.csi_keeper.specs.State.{State}
 use Rattle.csi_machine.specs.Step.{is_read, step}
 use Rattle.csi_machine.specs.Verdicts.{Report}
 
--- how a try ends: marked, that is refused inside, for memory or by the store; refused since the store is
--- down, which does nothing; or done, and the client is answered or is not
+-- how a try ends: marked, that is refused inside for want of memory or by the store; refused because the
+-- store is down, which does nothing; or done, and the client hears the answer or does not
 pub data Ending : Type 0 where
   Marked : Ending
   Down : Ending
@@ -44,13 +44,13 @@ reported_by config s r Down = []
 reported_by config s r Unanswered = []
 reported_by config s r Answered = (step config s r).0 ∷ []
 
--- what the client is answered, in order
+-- the answers that the client hears, in order
 abbrev pub reported_of : Config → State → List Try → List Report
 reported_of config s [] = []
 reported_of config s (t ∷ ts) = reported_by config s t.request t.end ++ reported_of config (after_try config s t) ts
 
--- The States that a stop may leave of a session with a marked try: the State that this try would have made,
--- if no later try moved the State.
+-- A stop may leave the State t after a session: a try was marked, t is the State that this try would have
+-- made, and no later try changed the State.
 pub record IsDue (config : Config) (s : State) (tries : List Try) (t : State) : Type 0 where
   pub before : List Try
   pub refused : Try
@@ -60,12 +60,12 @@ pub record IsDue (config : Config) (s : State) (tries : List Try) (t : State) : 
   pub still : AllByRecursion (λ u. after_try config (state_after config s before) u ≡ state_after config s before) after
   pub is : t ≡ (step config (state_after config s before) refused.request).1
 
--- a session leaves the State after its tries, or what a marked try was about to make
+-- a session leaves the State after its tries, or the State that a marked try would have made
 abbrev pub Leaves : Config → State → List Try → State → Type 0
 Leaves config s tries t = (t ≡ state_after config s tries) ⊎ IsDue config s tries t
 
--- A life: sessions, each begun from what the one before it left; what the client was answered in all of them,
--- and what the last one left.
+-- A life: sessions, each begun from the State that the session before it left. `reported` are the answers
+-- that the client heard in all sessions, and `t` is the State that the last session left.
 abbrev pub IsLife : Config → State → List (List Try) → List Report → State → Type 0
 IsLife config s [] reported t = (reported ≡ []) × (t ≡ s)
 IsLife config s (tries ∷ sessions) reported t =
@@ -77,7 +77,7 @@ IsLife config s (tries ∷ sessions) reported t =
 abbrev pub all_tries : List (List Try) → List Try
 all_tries sessions = flat_map (λ tries. tries) sessions
 
--- the try is of the first of these requests
+-- the request of the try is the first of these requests
 abbrev pub IsOfFirst : List Request → Try → Type 0
 IsOfFirst [] t = ⊥
 IsOfFirst (r ∷ rs) t = t.request ≡ r
@@ -93,24 +93,24 @@ still_open rs Down = rs
 still_open rs Unanswered = rs
 still_open rs Answered = without_first rs
 
--- the try is another client's, of a request that changes nothing: this client is not answered
+-- the try is another client's try of a request that changes nothing: this client hears no answer
 abbrev pub IsOfAnother : Try → Type 0
 IsOfAnother t = (is_read t.request ≡ true) × (t.end ≢ Answered)
 
--- The tries of the client are of each request in turn, over and over until it is answered. Between them are
--- tries of other clients.
+-- The client tries each request in turn, again and again until it is answered. Between its tries are tries of
+-- other clients.
 abbrev pub AreTriesOf : List Request → List Try → Type 0
 AreTriesOf rs [] = rs ≡ []
 AreTriesOf rs (t ∷ ts) = (IsOfFirst rs t × AreTriesOf (still_open rs t.end) ts) ⊎ (IsOfAnother t × AreTriesOf rs ts)
 
 -- ---- the requests taken once each
 
--- what each is answered
+-- the answer to each request
 abbrev pub reported_once : Config → State → List Request → List Report
 reported_once config s [] = []
 reported_once config s (r ∷ rs) = (step config s r).0 ∷ reported_once config (step config s r).1 rs
 
--- the State after them
+-- the State after all requests
 abbrev pub after_once : Config → State → List Request → State
 after_once config s [] = s
 after_once config s (r ∷ rs) = after_once config (step config s r).1 rs
@@ -121,14 +121,14 @@ after_once config s (r ∷ rs) = after_once config (step config s r).1 rs
 abbrev pub twice : Request → Ending → List (List Try)
 twice r end = (record { request = r; end = end } ∷ []) ∷ (record { request = r; end = Answered } ∷ []) ∷ []
 
--- These are tries of the request, and a life from the State: the first session leaves what the request makes
--- of it, and the second answers the request there.
+-- These two sessions are tries of the request, and a life from the State: the first session leaves the State
+-- after the request, and the second session answers the request in this State.
 abbrev pub IsLifeOfTwo : Config → State → Request → Ending → Type 0
 IsLifeOfTwo config s r end =
     AreTriesOf (r ∷ []) (all_tries (twice r end))
     × IsLife config s (twice r end) ((step config (step config s r).1 r).0 ∷ []) (step config (step config s r).1 r).1
 
--- the same, where another client asks for something before the request is tried again
+-- as `twice`, but another client makes a request before the request is tried again
 abbrev pub between : Request → Request → List (List Try)
 between r q =
     (record { request = r; end = Unanswered } ∷ record { request = q; end = Unanswered } ∷ [])

@@ -1,4 +1,4 @@
--- One step of the volume machine: what each request is answered, and the State after it.
+-- One step of the volume machine: the answer to each request, and the State after it.
 use Rattle.std.specs.Prelude.{◌≡◌, Bool, true, false, nat_le, length, if◌then◌else◌, None, Result, Ok, Err}
 use Rattle.csi_types.specs.declared.reason.Reason.{Reason}
 use Rattle.csi_types.specs.declared.responses.Response.{Response}
@@ -25,7 +25,7 @@ use Rattle.csi_machine.specs.Plan.{refuse, after}
 use Rattle.csi_keeper.specs.State.{State}
 use Rattle.csi_machine.specs.Verdicts.{Report, Says, Denies, reported_of}
 
--- by the request's method
+-- the plan of a request, by its method
 abbrev pub plan : Config → State → Request → Plan
 plan config s request.PluginInfo = plugin_info config
 plan config s request.PluginCapabilities = plugin_capabilities
@@ -40,7 +40,8 @@ plan config s (request.List r) = list_volumes config s r
 plan config s (request.Capacity r) = capacity config s r
 plan config s (request.Modify r) = modify s r
 
--- whether a request is answered by a plan that is made for it; the others are answered as they are read
+-- true if a plan is made for the request and then carried out; each other request is answered by a function
+-- of its own
 abbrev pub is_planned : Request → Bool
 is_planned request.PluginInfo = true
 is_planned request.PluginCapabilities = true
@@ -55,7 +56,7 @@ is_planned (request.List r) = false
 is_planned (request.Capacity r) = true
 is_planned (request.Modify r) = true
 
--- whether a request asks what the plugin is and can do, which no State says
+-- true if a request asks about the plugin itself: the answer does not depend on the State
 abbrev pub is_of_plugin : Request → Bool
 is_of_plugin request.PluginInfo = true
 is_of_plugin request.PluginCapabilities = true
@@ -70,7 +71,7 @@ is_of_plugin (request.List r) = false
 is_of_plugin (request.Capacity r) = false
 is_of_plugin (request.Modify r) = false
 
--- whether the method of a request changes nothing
+-- true if the method of a request changes nothing
 abbrev pub is_read : Request → Bool
 is_read request.PluginInfo = true
 is_read request.PluginCapabilities = true
@@ -85,7 +86,7 @@ is_read (request.List r) = true
 is_read (request.Capacity r) = true
 is_read (request.Modify r) = false
 
--- the request is about a volume, which it names by a text that is no volume's id: no State has that volume
+-- the request names its volume by a text that is no volume id, so no State has this volume
 abbrev pub NamesNone : Request → Type 0
 NamesNone request.PluginInfo = ⊥
 NamesNone request.PluginCapabilities = ⊥
@@ -105,18 +106,18 @@ abbrev pub moved : {S : Type 0} → S → S → Report → S
 moved s t (Says body) = t
 moved s t (Denies reason) = s
 
--- one request: the body of its response, or the reason of its refusal, and the State after it; a body that no
--- reply holds is refused
+-- the result of one request: the body of its response or the reason of its refusal, and the State after it; a
+-- body that is too large for a reply is refused
 abbrev pub step : Config → State → Request → Report × State
 step config s r = (reported_of (plan config s r).outcome, moved s (after s (plan config s r).change) (reported_of (plan config s r).outcome))
 
--- The same as a plan: one whose body no reply holds is a refusal.
+-- The plan, or a refusal if its body is too large for a reply.
 
 abbrev pub limited_by : Plan → Result Response Reason → Plan
 limited_by p (Err reason) = refuse reason
 limited_by p (Ok r) = if nat_le (length (response_bytes r)) MAX_BODY_BYTES then p else refuse ReplyTooLarge
 
--- a plan after its body was appended or refused
+-- the plan if its body was appended, or a refusal if the body was refused
 abbrev pub by_verdict : Plan → Verdict → Plan
 by_verdict p verdict.Done = p
 by_verdict p (verdict.Refused reason) = refuse reason

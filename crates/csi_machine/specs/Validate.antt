@@ -20,7 +20,7 @@ confirm r = respond (response.Validate (Some (record { context = empty; capabili
 abbrev pub deny : Plan
 deny = respond (response.Validate None (codes "capabilities or parameters are not supported"))
 
--- parameters that are not given are not asked
+-- parameters that are not given are not checked
 abbrev pub validate_volume : Validate → Volume → Plan
 validate_volume r v =
     if have_keys v.caps r.capabilities && (len r.parameters == 0 || same_map v.params r.parameters) then confirm r else deny

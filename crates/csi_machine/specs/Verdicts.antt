@@ -1,4 +1,4 @@
--- How a request is answered in a reply: by the body of its response, or by the reason of a refusal.
+-- The answer to a request in a reply: the body of its response, or the reason of a refusal.
 use Rattle.std.specs.Prelude.{◌≡◌, ℕ, ◌≤◌, nat_le, List, ◌++◌, length, Result, Ok, Err, if◌then◌else◌}
 use Rattle.csi_types.specs.declared.responses.Response.{Response}
 use Rattle.csi_types.specs.declared.reason.Reason.{Reason}
@@ -8,12 +8,12 @@ use Rattle.envelope.specs.declared.limits.TheConstants.{MAX_BODY_BYTES}
 use Rattle.csi_machine.specs.declared.body.Verdict.{Verdict}
 use Rattle.csi_machine.specs.declared.body.Verdict.TheVariants as verdict
 
--- a body that a reply holds, or the reason of a refusal
+-- a body that fits in a reply, or the reason of a refusal
 pub data Report : Type 0 where
   Says : List ℕ → Report
   Denies : Reason → Report
 
--- a body that a reply can't hold is refused
+-- a body that is too large for a reply is refused
 abbrev pub within : List ℕ → Report
 within body = if nat_le (length body) MAX_BODY_BYTES then Says body else Denies ReplyTooLarge
 

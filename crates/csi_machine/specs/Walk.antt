@@ -20,7 +20,7 @@ use Rattle.csi_machine.specs.Step.{plan, step}
 use Rattle.csi_keeper.specs.Texts.{Text}
 use Rattle.csi_machine.specs.Verdicts.{Report, Says, Denies}
 
--- a call of a walk: its next page, with this number of entries, or any other request
+-- a call of a walk: for its next page, with this number of entries, or any other request
 pub data Call : Type 0 where
   Next : ℕ → Call
   Other : Request → Call
@@ -38,11 +38,11 @@ abbrev pub listing_reported : Result Response Reason → Report → Option (List
 listing_reported o (Says body) = listing_in o
 listing_reported o (Denies reason) = None
 
--- the page that begins after a token
+-- the request for the page that begins after a token
 abbrev pub asked_with : Text → ℕ → Request
 asked_with token most = request.List (record { max_entries = pos most; token = token })
 
--- what a page shows, if it is not refused
+-- the entries and the token of a page, if it is not refused
 abbrev pub shown : Config → State → Request → Option (List Entry × Text)
 shown config s r = listing_reported (plan config s r).outcome (step config s r).0
 
@@ -90,17 +90,17 @@ GoOn [] = Unit {0}
 GoOn (p ∷ []) = Unit {0}
 GoOn (p ∷ q ∷ ps) = (p.token ≡ [] → ⊥) × GoOn (q ∷ ps)
 
--- the last page has none
+-- the last page has no token
 abbrev pub End : List Page → Type 0
 End [] = ⊥
 End (p ∷ []) = p.token ≡ []
 End (p ∷ q ∷ ps) = End (q ∷ ps)
 
--- each entry of a page is of a volume that existed at it
+-- each entry of a page is the entry of a volume that existed when the page was made
 abbrev pub AreOfVolumes : Config → Page → Type 0
 AreOfVolumes config p = AllByRecursion (λ e. (n : ℕ) × (v : Volume) × (get p.at.volumes n ≡ Some v) × (e ≡ entry_of config p.at v)) p.entries
 
--- a volume of the number existed at each page
+-- a volume with the number existed when each page was made
 abbrev pub Stood : ℕ → List Page → Type 0
 Stood n ps = AllByRecursion (λ p. (v : Volume) × (get p.at.volumes n ≡ Some v)) ps
 

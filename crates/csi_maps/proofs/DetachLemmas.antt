@@ -1,4 +1,4 @@
--- The attachments of a number taken away one by one.
+-- The attachments of a number, removed one by one.
 use Rattle.std.proofs.Common.{◌≡◌, ◌∙◌, ap, sym, cond, refl, ℕ, ◌==◌, not, List, [], ◌∷◌, ◌++◌, map, filter, Bool, true, false, ◌||◌, Option, Some, None}
 use Rattle.std.specs.BTreeMap.Range.{entries_between}
 use Rattle.std.specs.FinMap as fin
@@ -27,7 +27,7 @@ get_each m (p ∷ ps) q = get_each (fin.remove m p) ps q ∙ ap (cond (among q p
     go true false = refl
     go false b = refl
 
--- one more taken away
+-- one more attachment is removed
 pub each_more : (m : fin.FinMap attachment_key_cmp Attachment) (ps : List AttachmentKey) (p : AttachmentKey) → removed_each m (ps ++ p ∷ []) ≡ fin.remove (removed_each m ps) p
 each_more m [] p = refl
 each_more m (q ∷ ps) p = each_more (fin.remove m q) ps p
@@ -35,7 +35,7 @@ each_more m (q ∷ ps) p = each_more (fin.remove m q) ps p
 abbrev keys_at : ℕ → List (AttachmentKey × Attachment) → List AttachmentKey
 keys_at n es = map (λ e. e.0) (filter (λ e. e.0.0 == n) es)
 
--- the keys of a number are all that are found under it
+-- the keys with a number are all keys that are found under it
 found_at : (n : ℕ) (es : List (AttachmentKey × Attachment)) (q : AttachmentKey) → cond (among q (keys_at n es)) None (fin.find attachment_key_cmp q es) ≡ cond (not (q.0 == n)) (fin.find attachment_key_cmp q es) None
 found_at n [] q = both (among q []) (not (q.0 == n))
   where

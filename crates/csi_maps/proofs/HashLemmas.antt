@@ -8,7 +8,7 @@ pub word_first : (hash : ℕ) (xs : List ℕ) → 8 ≤ length xs → hashed has
 word_first hash (a ∷ b ∷ c ∷ d ∷ e ∷ f ∷ g ∷ h ∷ rest) least = refl
 word_first hash xs least = absurd (omega (arith, least))
 
--- each of fewer bytes is one
+-- each of fewer than eight bytes is a word
 byte_first : (hash b : ℕ) (rest : List ℕ) → length rest < 7 → hashed hash (b ∷ rest) ≡ hashed (word_hashed hash b) rest
 byte_first hash a (b ∷ c ∷ d ∷ e ∷ f ∷ g ∷ h ∷ rest) less = absurd (omega (arith, less))
 byte_first hash a rest less = refl

@@ -27,7 +27,7 @@ hash_back old mid new hash n first was set back h =
     go true t = sym was ∙ ap (λ (k : ℕ). lookup (is_at (nat_cmp k)) old) (nat_cmp-IsAntisymmetric hash h (tied _ t))
     go false t = refl
 
--- a name got its number by its text, since another one has its hash
+-- a name got its number by its text, because another name has its hash
 pub named_tied : (name : Text) (n first : ℕ) (old new : Names) (mid : List (ℕ × ℕ)) → at_hash old (name_hash name) ≡ Some first
     → IsSetAt nat_cmp (name_hash name) (Some n) old.by_hash.entries mid → IsSetAt nat_cmp (name_hash name) (Some first) mid new.by_hash.entries
     → IsSetAt text_cmp name (Some n) old.by_text.entries new.by_text.entries → IsNamed name n old new

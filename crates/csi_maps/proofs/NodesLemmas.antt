@@ -28,7 +28,7 @@ both_tie Less b = refl
 both_tie Equal b = refl
 both_tie Greater b = refl
 
--- each node keeps its numbers, but one
+-- each node except one keeps its numbers
 abbrev pub IsNodeSet : Text → Option (BTreeSet ℕ) → Nodes → Nodes → Type 0
 IsNodeSet node o old new = (q : Text) → lookup (is_at (text_cmp q)) new ≡ cond (is_at (text_cmp node) q) o (lookup (is_at (text_cmp q)) old)
 

@@ -23,7 +23,7 @@ use Rattle.csi_maps.specs.facts.Listing.{empty_first, filter_after, places_are}
 abbrev pub nodes_at : ℕ → List Row → List Text
 nodes_at n es = map (λ (a : Attachment). a.node) (map (λ (e : Row). e.1) (rows_at n es))
 
--- A number that none has
+-- A number that no attachment has
 
 far : (n : ℕ) (q p : AttachmentKey) → attachment_key_cmp q p ≡ Less → n < q.0 → (p.0 == n) ≡ false
 far n q p less low = ne_eqb p.0 n (λ e.

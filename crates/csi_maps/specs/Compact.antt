@@ -1,4 +1,4 @@
--- A map that is kept where it has entries.
+-- A map that is kept only if it has entries.
 use Rattle.std.specs.Prelude.{Option, Some, None}
 use Rattle.std.specs.FinMap.{empty}
 use Rattle.csi_types.specs.Maps.{TextMap}

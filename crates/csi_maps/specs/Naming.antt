@@ -11,33 +11,34 @@ use Rattle.csi_keeper.specs.Texts.{Text, text_cmp}
 use Rattle.csi_maps.specs.Hashing.{name_hash}
 use Rattle.csi_maps.specs.declared.names.Names.{Names}
 
--- the number under a hash, and that under a name
+-- the number under a hash, and the number under a name
 abbrev pub at_hash : Names → ℕ → Option ℕ
 at_hash names hash = lookup (is_at (nat_cmp hash)) names.by_hash.entries
 
 abbrev pub at_text : Names → Text → Option ℕ
 at_text names name = lookup (is_at (text_cmp name)) names.by_text.entries
 
--- an index has a number for a name, under its hash or under itself
+-- the index has this number for the name, under the name's hash or under the name
 abbrev pub Lists : Names → Text → ℕ → Type 0
 Lists names name n = (at_hash names (name_hash name) ≡ Some n) ⊎ (at_text names name ≡ Some n)
 
--- the volume of a number
+-- the volume with this number
 abbrev pub at_number : FinMap nat_cmp Volume → Option ℕ → Option Volume
 at_number volumes None = None
 at_number volumes (Some n) = get volumes n
 
--- a volume that has a name
+-- the volume, if it has this name
 abbrev pub if_named : Text → Option Volume → Option Volume
 if_named name None = None
 if_named name (Some v) = if same_text v.name name then Some v else None
 
--- the volume that is found by a name: the one under its hash, if it has the name, or the one under the name
+-- the volume that is found by a name: the volume under the name's hash, if it has the name, or the volume
+-- under the name
 abbrev pub named_by : Names → FinMap nat_cmp Volume → Text → Option Volume
 named_by names volumes name =
     option_or (if_named name (at_number volumes (at_hash names (name_hash name)))) (at_number volumes (at_text names name))
 
--- indexes that have the same numbers
+-- the two indexes have the same numbers
 pub record HasSameNames (old new : Names) : Type 0 where
   pub hashes : (h : ℕ) → at_hash new h ≡ at_hash old h
   pub texts : (q : Text) → at_text new q ≡ at_text old q

@@ -1,4 +1,4 @@
--- What rows in memory represent.
+-- The maps that rows in memory represent.
 use Rattle.std.specs.Prelude.{◌≡◌, ℕ, ◌+◌, ◌-◌, ◌^◌, ◌==◌, List, [], ◌∷◌, Option, Some, None, ◌≢◌, Bool, is_some, map, filter, if◌then◌else◌}
 use Rattle.std.specs.BTreeMap.{is_at}
 use Rattle.std.specs.BTreeSet.{BTreeSet}
@@ -26,7 +26,7 @@ places_of es = from_entries es
 abbrev pub IsSetAt : {K X : Type 0} → (K → K → Ordering) → K → Option X → List (K × X) → List (K × X) → Type 0
 IsSetAt {K = K} R k x old new = (q : K) → lookup (is_at (R q)) new ≡ (if is_at (R k) q then x else lookup (is_at (R q)) old)
 
--- the end of the places of a number that a u64 keeps
+-- the end of the keys with this number, which is a u64
 abbrev pub place_end : ℕ → Bound AttachmentKey
 place_end n = if n == 2 ^ 64 - 1 then Unbounded else Excluded (n + 1, [])
 
@@ -34,11 +34,11 @@ place_end n = if n == 2 ^ 64 - 1 then Unbounded else Excluded (n + 1, [])
 abbrev pub nodes_in : List (AttachmentKey × Attachment) → ℕ → List Text
 nodes_in es n = map (λ a. a.node) (map (λ e. e.1) (filter (λ e. e.0.0 == n) (entries (places_of es))))
 
--- what a listing says of a volume, by these attachments
+-- the entry of a volume in a listing, by these attachments
 abbrev pub listed_in : List (AttachmentKey × Attachment) → Volume → Listed
 listed_in es v = listed_at v (nodes_in es v.number)
 
--- without the attachments at the places
+-- the attachments without these keys
 abbrev pub removed_each : FinMap attachment_key_cmp Attachment → List AttachmentKey → FinMap attachment_key_cmp Attachment
 removed_each m [] = m
 removed_each m (p ∷ ps) = removed_each (remove m p) ps
@@ -47,15 +47,15 @@ removed_each m (p ∷ ps) = removed_each (remove m p) ps
 abbrev pub Spot : Type 0
 Spot = Text × ℕ
 
--- by the bytes of the id, and then by number
+-- the order of spots: by the bytes of the id, and then by number
 abbrev pub spot_cmp : Spot → Spot → Ordering
 spot_cmp a b = ordering_then (text_cmp a.0 b.0) (nat_cmp a.1 b.1)
 
--- the index of nodes: the numbers of the volumes that are attached at each
+-- the index of nodes: the numbers of the volumes that are attached at each node
 abbrev pub Nodes : Type 0
 Nodes = List (Text × BTreeSet ℕ)
 
--- a node that is not in the index has none
+-- the numbers at a node; none if the node is not in the index
 abbrev pub numbers_in : Option (BTreeSet ℕ) → List ℕ
 numbers_in None = []
 numbers_in (Some numbers) = numbers.keys
@@ -64,7 +64,7 @@ numbers_in (Some numbers) = numbers.keys
 abbrev pub numbers_by : Nodes → Text → List ℕ
 numbers_by nodes node = numbers_in (lookup (is_at (text_cmp node)) nodes)
 
--- whether the index has a spot
+-- true if the index has a spot
 abbrev pub has_spot : Nodes → Spot → Bool
 has_spot nodes q = list_any (is_at (nat_cmp q.1)) (numbers_by nodes q.0)
 

@@ -28,7 +28,7 @@ pub on_err : {A E P : Type 0} (r : Result A E) → P → OnErr r P
 on_err (Ok x) h = tt
 on_err (Err e) h = h
 
--- a volume put into the rows is there
+-- a volume that was put into the rows is in them
 pub stands_now : (es rows : List (ℕ × Volume)) (v : Volume) → volumes_of rows ≡ fin.insert (volumes_of es) v.number v → fin.get (volumes_of rows) v.number ≡ Some v
 stands_now es rows v is = ap (λ (m : fin.FinMap nat_cmp Volume). fin.get m v.number) is ∙ put_there nat_cmp_total fin.nat_cmp-IsAntisymmetric (volumes_of es) v.number v
 
@@ -55,7 +55,7 @@ sum_most (e ∷ es) pool a =
     ] one two
 
 module _ (next : ℕ) (volumes : List (ℕ × Volume)) (names : Names) (pools : Totals) (attachments : List (AttachmentKey × Attachment)) (spots : Nodes) (s : State) where
-  -- the totals have room for one more
+  -- the totals have room for one more volume
   pub room : (v : Volume) → IsKept next volumes names pools attachments spots s → Allows s (AddVolume v) → v.number < 2 ^ 62 → v.bytes ≤ 2 ^ 62
       → HasRoom (total_of pools v.pool) v.bytes
   room v k allows number bytes =
@@ -104,7 +104,7 @@ module _ (next : ℕ) (volumes : List (ℕ × Volume)) (names : Names) (pools : 
     spotted = k.spotted;
   }
 
-  -- a volume that was added is taken away again
+  -- a volume that was added is removed again
   pub taken_back : (v : Volume) → IsKept next volumes names pools attachments spots s → Allows s (AddVolume v) → fin.remove (fin.insert (volumes_of volumes) v.number v) v.number ≡ volumes_of volumes
   taken_back v k allows = fin.same_map nat_cmp_total fin.nat_cmp-IsAntisymmetric _ _ (λ q.
       fin.get-remove nat_cmp_total (fin.insert (volumes_of volumes) v.number v) v.number q
@@ -116,7 +116,7 @@ module _ (next : ℕ) (volumes : List (ℕ × Volume)) (names : Names) (pools : 
           (sym (ap (λ (m : fin.FinMap nat_cmp Volume). fin.get m v.number) (sym k.volumes_are) ∙ allows.1))
       go q false t = refl
 
-  -- no volume to take away
+  -- no volume to remove
   pub kept_none : (rows : List (ℕ × Volume)) (n : ℕ) → IsKept next volumes names pools attachments spots s → fin.get (volumes_of volumes) n ≡ None → volumes_of rows ≡ fin.remove (volumes_of volumes) n
       → IsKept next rows names pools attachments spots (changed s (RemoveVolume n))
   kept_none rows n k none is_rows =
@@ -154,7 +154,7 @@ module _ (next : ℕ) (volumes : List (ℕ × Volume)) (names : Names) (pools : 
     spotted = k.spotted;
   }
 
-  -- the volume was added, and taken back with its name
+  -- the volume was added, and then removed with its name
   pub refused_total : (taken rows : List (ℕ × Volume)) (index back : Names) (kept : Totals) (v : Volume) → IsKept next volumes names pools attachments spots s → Allows s (AddVolume v)
       → IsNamed v.name v.number names index → IsUnnamed v.name v.number index back
       → volumes_of rows ≡ fin.insert (volumes_of volumes) v.number v
@@ -190,7 +190,7 @@ module _ (next : ℕ) (volumes : List (ℕ × Volume)) (names : Names) (pools : 
       (kept_add next volumes rows names pools kept attachments spots s index v k allows bytes add is_index
       (λ q. counted fits q ∙ ap (λ (p : Text). cond (same_text p q) (more (total_of pools p) v.bytes) (total_of pools q)) in_pool))
 
-  -- the volume was taken away, out of its pool's total, and its name out of the index
+  -- the volume was removed, also from its pool's total, and its name from the index
   pub taken : (rows : List (ℕ × Volume)) (index : Names) (kept : Totals) (n : ℕ) (v : Volume) → IsKept next volumes names pools attachments spots s
       → fin.get (volumes_of volumes) n ≡ Some v
       → volumes_of rows ≡ fin.remove (volumes_of volumes) n

@@ -22,7 +22,7 @@ use Rattle.csi_keeper.specs.facts.Names.{nobody}
 use Rattle.csi_keeper.specs.facts.Finite.{none_some, same_some, tied, inserted, insert_other, put_there, removed}
 use Rattle.csi_keeper.specs.facts.Totals.{totals_added, totals_removed}
 
--- such a volume can be added once its number is the next one
+-- such a volume can be added if its number is the next one
 pub restorable : (s : State) (v : Volume) → CanRestore s v → Allows (from_number s v.number) (AddVolume v)
 restorable s v can =
     let least : s.next ≤ v.number = can.0 in
@@ -30,7 +30,7 @@ restorable s v can =
     (sym whole ∙ sub-add-eq-max s.next v.number, can.1, can.2)
 
 module _ (next : ℕ) (volumes rows : List (ℕ × Volume)) (names : Names) (pools kept : Totals) (attachments : List (AttachmentKey × Attachment)) (spots : Nodes) (s : State) where
-  -- a volume more
+  -- one more volume
   pub kept_add : (index : Names) (v : Volume) → IsKept next volumes names pools attachments spots s → Allows s (AddVolume v) → v.bytes ≤ 2 ^ 62
       → volumes_of rows ≡ fin.insert (volumes_of volumes) v.number v
       → IsNamed v.name v.number names index
@@ -99,7 +99,7 @@ module _ (next : ℕ) (volumes rows : List (ℕ × Volume)) (names : Names) (poo
     spotted = k.spotted;
   }
 
-  -- a volume less
+  -- one volume less
   pub kept_remove : (index : Names) (n : ℕ) (v : Volume) → IsKept next volumes names pools attachments spots s → fin.get s.volumes n ≡ Some v
       → volumes_of rows ≡ fin.remove (volumes_of volumes) n
       → ((q : Text) → total_of kept q ≡ cond (same_text v.pool q) (less (total_of pools v.pool) v.bytes) (total_of pools q))
@@ -142,7 +142,7 @@ module _ (next : ℕ) (volumes rows : List (ℕ × Volume)) (names : Names) (poo
           go false u = e
 
 module _ (next : ℕ) (volumes : List (ℕ × Volume)) (names : Names) (pools : Totals) (attachments : List (AttachmentKey × Attachment)) (spots : Nodes) (s : State) where
-  -- other attachments, with the index of theirs
+  -- other attachments, with their index
   pub kept_places : (rows : List (AttachmentKey × Attachment)) (index : Nodes) (m : fin.FinMap attachment_key_cmp Attachment) → IsKept next volumes names pools attachments spots s → m ≡ places_of rows → AreSpotted rows index
       → IsKept next volumes names pools rows index (record s { attachments = m })
   kept_places rows index m k is spotted = record {
@@ -162,7 +162,7 @@ module _ (next : ℕ) (volumes : List (ℕ × Volume)) (names : Names) (pools : 
   free : (n : ℕ) (a : Attachment) → IsKept next volumes names pools attachments spots s → Allows s (Attach n a) → fin.get (places_of attachments) (n, a.node) ≡ None
   free n a k allows = ap (λ (m : fin.FinMap attachment_key_cmp Attachment). fin.get m (n, a.node)) (sym k.attachments_are) ∙ allows.1
 
-  -- one attachment more, with its spot
+  -- one more attachment, with its spot
   pub kept_attached : (rows : List (AttachmentKey × Attachment)) (index : Nodes) (n : ℕ) (a : Attachment) → IsKept next volumes names pools attachments spots s → Allows s (Attach n a)
       → places_of rows ≡ fin.insert (places_of attachments) (n, a.node) a
       → (fin.get (places_of attachments) (n, a.node) ≡ None → AreSpotted attachments spots → AreSpotted rows index)

@@ -1,4 +1,4 @@
--- The facts that the index of names and the totals give of their State.
+-- The facts about a State that the index of names and the totals give.
 use Rattle.std.proofs.Common.{◌≡◌, ◌∙◌, ◌⊎◌, inl, inr, ap, sym, subst, cond, refl, ℕ, List, [], ◌∷◌, map, find, Bool, true, false, Option, Some, None}
 use Rattle.std.specs.Cmp.{nat_cmp_total}
 use Rattle.std.specs.FinMap as fin
@@ -31,7 +31,7 @@ found_number m p (e ∷ es) v a f = go (found_number m p es v a.1) (p e.1) refl 
     go next false t h = next h
 
 module _ (next : ℕ) (volumes : List (ℕ × Volume)) (names : Names) (pools : Totals) (attachments : List (AttachmentKey × Attachment)) (spots : Nodes) (s : State) where
-  -- the index finds the volume of a name
+  -- the index finds the volume with a name
   pub named_kept : (name : Text) → IsKept next volumes names pools attachments spots s → named_by names (volumes_of volumes) name ≡ named s name
   named_kept name k = subst (λ (m : fin.FinMap nat_cmp Volume). named_by names m name ≡ named s name) k.volumes_are (go (named s name) refl)
     where
@@ -52,11 +52,11 @@ module _ (next : ℕ) (volumes : List (ℕ × Volume)) (names : Names) (pools : 
       no_text e None i = refl
       no_text e (Some n) i = let one = k.texts_stand name n i in absurd (nobody s name n one.0 e one.1 one.2)
 
-      -- a volume has it
+      -- a volume has the name
       is_own : (v : Volume) → v.name ≡ name → if_named name (Some v) ≡ Some v
       is_own v is = ap (λ b. cond b (Some v) None) ((bytes_decides v.name name).1 is)
 
-      -- what the hash leads to is the volume, or has another name
+      -- the hash leads to the volume with the name, to a volume with another name, or to no volume
       by_hash : (n : ℕ) (v : Volume) → fin.get s.volumes n ≡ Some v → v.name ≡ name → (o : Option ℕ) → (if_named name (at_number s.volumes o) ≡ None) ⊎ (if_named name (at_number s.volumes o) ≡ Some v)
       by_hash n v i is None = inl refl
       by_hash n v i is (Some m) = one (fin.get s.volumes m) refl

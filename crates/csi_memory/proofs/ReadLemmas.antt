@@ -1,4 +1,4 @@
--- The facts that rows give of their State.
+-- The facts about a State that its rows give.
 use Rattle.std.proofs.Common.{◌≡◌, ◌∙◌, ap, sym, subst, is_some, arith, refl, ℕ, ◌==◌, ◌≤◌, nat_lt, zero, suc, List, [], ◌∷◌, map, filter, take, length, sum}
 use Rattle.std.specs.BTreeMap.{is_at}
 use Rattle.std.specs.BTreeMap.Range.{entries_between}
@@ -64,7 +64,7 @@ module _ (next : ℕ) (volumes : List (ℕ × Volume)) (names : Names) (pools : 
       ∙ ap (λ (vs : List Volume). map (λ v. nodes_in attachments v.number) vs) (held_page after count o k)
       ∙ ap (λ (m : fin.FinMap attachment_key_cmp Attachment). map (λ v. map (λ a. a.node) (map (λ e. e.1) (filter (λ e. e.0.0 == v.number) (fin.entries m)))) (page s after count)) (sym k.attachments_are)
 
-  -- what a listing says of a page
+  -- the listing of a page
   pub held_listing : (after count : ℕ) → fin.entries (volumes_of volumes) ≡ volumes → IsKept next volumes names pools attachments spots s
       → take count (map (λ e. listed_in attachments e.1) (entries_between nat_cmp (Excluded after) Unbounded volumes)) ≡ listing s after count
   held_listing after count o k =
@@ -89,7 +89,7 @@ module _ (next : ℕ) (volumes : List (ℕ × Volume)) (names : Names) (pools : 
   pub held_used : (pool : Text) → IsKept next volumes names pools attachments spots s → reported (total_of pools pool) ≡ used s pool
   held_used pool k = ap reported (k.totals pool)
 
--- trees with no entries, and totals of nothing, represent the first State
+-- trees without entries and zero totals represent the first State
 pub first_held : (first : ℕ) → 1 ≤ first → (volumes : List (ℕ × Volume)) (names : Names) (pools : Totals) (attachments : List (AttachmentKey × Attachment)) (spots : Nodes)
     → volumes ≡ [] → names.by_hash.entries ≡ [] → names.by_text.entries ≡ [] → attachments ≡ [] → spots ≡ [] → ((q : Text) → total_of pools q ≡ zero_total) → IsKept first volumes names pools attachments spots (first_state first)
 first_held first least volumes names pools attachments spots no_volumes no_hashes no_texts no_attachments no_spots none = record {

@@ -8,13 +8,13 @@ use Rattle.csi_keeper.specs.declared.change.StoreFault.TheVariants.{Refused}
 use Rattle.csi_memory.specs.declared.fakes.FusedMem.{FusedMem}
 use Rattle.csi_memory.specs.declared.mem.MemKeeper.{MemKeeper}
 
--- the answer of a call, and the calls that still pass after it, from the calls that pass before
+-- the answer to a call and the number of calls that still pass after it, from the number that pass before it
 abbrev pub burnt : Option ℕ → Result (Unit {0}) StoreFault × Option ℕ
 burnt None = (Ok tt, None)
 burnt (Some n) = if n == 0 then (Err Refused, None) else (Ok tt, Some (n - 1))
 
--- the model of a keeper that refuses one call: the keeper below it, the number of calls that pass before
--- the refused one (0 after it), the number of calls answered `Refused` or `Down`, and whether it is down
+-- the parts of a keeper that refuses one call: the keeper below it, the number of calls that pass before the
+-- refused one (0 after it), the number of calls answered `Refused` or `Down`, and whether it is down
 abbrev pub kept : FusedMem → MemKeeper
 kept fused = fused.keeper
 
@@ -33,6 +33,6 @@ pub record Burns {X : Type 0} (old new : FusedMem) (result : Result X StoreFault
   pub refused : is_shut old ≡ false → (burnt (calls_left old)).0 ≡ Err Refused → result ≡ Err Refused
   pub goes_by : is_shut old ≡ false → (burnt (calls_left old)).0 ≡ Ok tt → result ≢ Err Refused
 
--- what contracts see of it
+-- the model of a keeper that refuses one call
 abbrev pub fused_model : FusedMem → Model State
 fused_model fused = record { holds = Holds (kept fused); doubt = 0; refusals = refusals_of fused; survivors = λ s. ⊥; tied = ⊤; is_down = is_shut fused }

@@ -1,4 +1,4 @@
--- What a keeper in memory holds.
+-- The States that a keeper in memory may have.
 use Rattle.std.specs.Prelude.{false, ⊤}
 use Rattle.csi_memory.specs.declared.mem.MemKeeper.{MemKeeper}
 use Rattle.csi_memory.specs.Kept.{IsKept}
@@ -9,6 +9,6 @@ use Rattle.csi_keeper.specs.State.{State}
 abbrev pub Holds : MemKeeper → State → Type 0
 Holds m s = IsKept m.next (as_volumes m.volumes.entries) m.names m.pools m.attachments.entries m.nodes.entries s
 
--- it is never down, counts no refusal, and a stop leaves nothing of it
+-- the model of a keeper in memory: it is never down, counts no refusal, and a stop leaves nothing of it
 abbrev pub mem_model : MemKeeper → Model State
 mem_model m = record { holds = Holds m; doubt = 0; refusals = 0; survivors = λ s. ⊥; tied = ⊤; is_down = false }

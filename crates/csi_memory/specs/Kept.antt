@@ -1,4 +1,4 @@
--- Which State rows, indexes and totals represent.
+-- The State that rows, indexes and totals represent.
 use Rattle.std.specs.Prelude.{◌≡◌, ℕ, ◌<◌, ◌≤◌, ◌^◌, List, Some}
 use Rattle.std.specs.FinMap.{get, len}
 use Rattle.csi_keeper.specs.declared.volume.Attachment.{Attachment}
@@ -19,7 +19,7 @@ pub record IsKept (next : ℕ) (volumes : List (ℕ × Volume)) (names : Names) 
   pub volumes_are : s.volumes ≡ volumes_of volumes
   pub attachments_are : s.attachments ≡ places_of attachments
   pub named : (n : ℕ) (v : Volume) → get s.volumes n ≡ Some v → Lists names v.name n
-  -- and each number in the index belongs to a volume of that name
+  -- and each number in the index belongs to a volume with this hash or this name
   pub hashes_stand : (h n : ℕ) → at_hash names h ≡ Some n → (v : Volume) × (get s.volumes n ≡ Some v) × (name_hash v.name ≡ h)
   pub texts_stand : (q : Text) (n : ℕ) → at_text names q ≡ Some n → (v : Volume) × (get s.volumes n ≡ Some v) × (v.name ≡ q)
   -- no two volumes share a name

@@ -5,7 +5,7 @@ use Rattle.csi_keeper.specs.State.{State, changed, named}
 use Rattle.csi_keeper.specs.declared.volume.Volume.{Volume}
 use Rattle.csi_keeper.specs.declared.change.Change.TheVariants.{AddVolume}
 
--- the State that gives no number below n any more
+-- the State with a next number of at least n
 abbrev pub from_number : State → ℕ → State
 from_number s n = record s { next = max s.next n }
 

@@ -10,7 +10,7 @@ use Rattle.csi_rules.specs.declared.choice.Room as code
 use Rattle.csi_keeper.specs.State.{State, used}
 use Rattle.csi_rules.specs.Topology.{serves}
 
--- a pool, and what its volumes use of it
+-- a pool, and the usage of its volumes
 abbrev pub Room : Type 0
 Room = Pool × Usage
 
@@ -20,11 +20,11 @@ room_value r = (r.pool.now, r.used)
 abbrev pub free : Room → ℕ
 free r = r.0.bytes - r.1.bytes
 
--- the pools in the order of the configuration
+-- the pools with their usage, in the order of the configuration
 abbrev pub rooms : Config → State → List Room
 rooms config s = map (λ p. (p, used s p.name)) config.pools
 
--- by the place of the term, and then by the place of the pool
+-- the pairs of a term and a pool, in the order of the terms and then of the pools
 abbrev pub pairs : List TextMap → List Room → List (TextMap × Room)
 pairs ts rs = flat_map (λ t. map (λ r. (t, r)) rs) ts
 
@@ -32,10 +32,10 @@ pairs ts rs = flat_map (λ t. map (λ r. (t, r)) rs) ts
 abbrev pub fits : ℕ → TextMap × Room → Bool
 fits size p = serves p.1.0.segments p.0 && nat_le size (free p.1)
 
--- the pool of the least pair that fits
+-- the pool of the first pair that fits
 abbrev pub choice : List Room → List TextMap → ℕ → Option Pool
 choice rs ts size = option_map (λ p. p.1.0) (find (fits size) (pairs ts rs))
 
--- how many volumes are in all pools
+-- the number of volumes in all pools
 abbrev pub count : List Room → ℕ
 count rs = sum_by (λ r. r.1.volumes) rs

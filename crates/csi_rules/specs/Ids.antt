@@ -6,7 +6,7 @@ use Rattle.std.specs.Str.Parse.{digits_value}
 use Rattle.csi_types.specs.Maps.{same_text}
 use Rattle.csi_keeper.specs.Texts.{Text}
 
--- the number whose decimal without leading zeros a text is, below 2 ^ 64
+-- the number of a text that is the number's decimal without leading zeros; it is below 2 ^ 64
 abbrev pub number_of : Text → Option ℕ
 number_of text =
     if nat_lt (digits_value 10 text) (2 ^ 64) && same_text (decimal (digits_value 10 text)) text then Some (digits_value 10 text) else None
@@ -14,6 +14,6 @@ number_of text =
 abbrev pub id : ℕ → Text
 id n = codes "vol-" ++ decimal n
 
--- the number whose id a text is; any other text names no volume
+-- the number of a text that is the number's id; any other text names no volume
 abbrev pub number_of_id : Text → Option ℕ
 number_of_id text = if same_text (take 4 text) (codes "vol-") then number_of (drop 4 text) else None

@@ -10,7 +10,7 @@ use Rattle.csi_keeper.specs.declared.volume.Volume.{Volume}
 use Rattle.csi_rules.specs.Ids.{id}
 use Rattle.csi_keeper.specs.Texts.{Text}
 
--- as an int64
+-- the number as an int64, at most the greatest one
 abbrev pub signed : ℕ → ℤ
 signed n = pos (min n (2 ^ 63 - 1))
 
@@ -18,15 +18,15 @@ abbrev pub segments_of : Option Pool → TextMap
 segments_of None = empty
 segments_of (Some p) = p.segments
 
--- the segments of the pool of a name
+-- the segments of the pool with this name
 abbrev pub segments_at : Config → Text → TextMap
 segments_at config pool = segments_of (pool_named config.pools pool)
 
--- a topology without segments is none
+-- the topology with these segments; no topology if there are no segments
 abbrev pub topology_of : TextMap → List TextMap
 topology_of segments = if len segments == 0 then [] else segments ∷ []
 
--- a volume whose pool has these segments
+-- the answer about a volume whose pool has these segments
 abbrev pub info_at : TextMap → Volume → VolumeInfo
 info_at segments v = record { bytes = signed v.bytes; id = id v.number; context = insert empty (codes "pool") v.pool; topology = topology_of segments }
 

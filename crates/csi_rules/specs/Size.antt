@@ -4,7 +4,7 @@ use Rattle.csi_types.specs.declared.capacity.CapacityRange.{CapacityRange}
 use Rattle.csi_config.specs.declared.sizes.Sizes.{Sizes}
 use Rattle.csi_config.specs.declared.sizes.TheConstants.{GRANULE_BYTES}
 
--- a number that is not negative
+-- the number, or 0 if it is negative
 abbrev pub whole : ℤ → ℕ
 whole (pos n) = n
 whole (negsuc n) = 0
@@ -15,15 +15,15 @@ rounded_down n = n / GRANULE_BYTES * GRANULE_BYTES
 abbrev pub rounded_up : ℕ → ℕ
 rounded_up n = rounded_down (n + (GRANULE_BYTES - 1))
 
--- 0 means that a bound is not given: the required size, rounded up; otherwise the default size, but at most
--- the limit, rounded down
+-- the required size, rounded up; if it is not given, the default size, but at most the limit, rounded down; a
+-- bound of 0 means that it is not given
 abbrev pub requested_bytes : Sizes → ℕ → ℕ → ℕ
 requested_bytes sizes required limit =
     if nat_lt 0 required then rounded_up required
     else (if nat_lt 0 limit then min sizes.default_bytes (rounded_down limit) else sizes.default_bytes)
 
--- A size that is not zero, nor above a given limit, nor above the greatest size. The required size is
--- compared before it is rounded, too, which never decides: rounded up it is no smaller.
+-- The size, if it is not zero, nor above a given limit, nor above the greatest size. The required size is
+-- also compared before it is rounded. This never decides, because rounding up makes no size smaller.
 abbrev pub within : Sizes → ℕ → ℕ → ℕ → Option ℕ
 within sizes required limit n =
     if nat_lt 0 n && (limit == 0 || nat_le n limit) && nat_le n sizes.greatest_bytes && nat_le required sizes.greatest_bytes then Some n else None

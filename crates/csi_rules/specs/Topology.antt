@@ -7,7 +7,7 @@ use Rattle.csi_types.specs.Maps.{TextMap}
 use Rattle.csi_types.specs.Topology.{is_within}
 use Rattle.csi_types.specs.declared.topology.Requirement.{Requirement}
 
--- with the ASCII letters of keys folded, one of the two contains the other
+-- one of the two maps contains the other, if the case of the ASCII letters in keys is ignored
 abbrev pub serves : TextMap → TextMap → Bool
 serves segments term = is_within segments term || is_within term segments
 

@@ -1,4 +1,4 @@
--- What one feed of a framer makes of a run.
+-- A run after one feed of a framer.
 use Rattle.std.proofs.Common.{◌≡◌, ◌≢◌, ℕ, ◌+◌, ◌-◌, List, [], ◌∷◌, ◌++◌, length, take, drop, Option, Some, None, Result, Ok, Err, OnOk, refl, sym, ap, subst, ◌∙◌, append-nil, length-append, arith, inl, inr, ◌⊎◌}
 use Rattle.std.specs.Result.{IsOk}
 use Rattle.std.specs.Io.KnownBytes.{Appends}
@@ -61,7 +61,7 @@ fed_fault m begin now s read old new rest n held holds f h fed is =
           (answered_fault m begin now s h.given (new.held ++ drop n rest) (read ++ rest) held holds h.so_far (all_of Calls part place read h.given old new rest n h.whole fed) f.why (f.at - new.past) longer.1),
     )
 
--- a call that was answered and of whose answer this was written
+-- a call that was answered, and the bytes of its reply that were written
 pub answered_call : {S U V E : Type 0} (m : Machine S) (old new : Model S) (s : S) (call : CallBytes) (answer : Result U Refusal) (buffer : List ℕ) (held holds : Option (List ℕ)) (put : Result V E)
     → Answers m old new s call (reply_of answer buffer) → IsReply (reply_of answer buffer)
     → OnOk put (Appends held holds (reply (reply_of answer buffer))) → WrotePrefix held holds (reply (reply_of answer buffer)) → AnswersCall m old new s call held holds (IsOk put)

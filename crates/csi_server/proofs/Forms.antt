@@ -28,7 +28,7 @@ use Rattle.csi_server.specs.Requests.{requests, malformed, reported, after_check
 use Rattle.csi_server.proofs.Printable.{all_printable}
 use Rattle.csi_server.proofs.Reasons.{reason_printable, reason_short, reason_refuses, refusal_number}
 
--- a body that a reply holds
+-- a body that fits in a reply
 abbrev pub IsShort : Report → Type 0
 IsShort (Says body) = length body ≤ MAX_BODY_BYTES
 IsShort (Denies r) = Unit {0}
@@ -103,7 +103,7 @@ module _ {S : Type 0} (answer : S → Request → Report × S) (short : (s : S) 
   formed_path s None message few = formed_refused reason.UnknownMethod
   formed_path s (Some m) message few = formed_read s m message few (read_request m message) (reading m message)
 
-  -- each reply is one of the envelope's table
+  -- each reply is a reply of the envelope's table
   pub formed_reply : (method : List ℕ → Option Method) (asks : Request → Bool) (s : S) (call : CallBytes) → length call.message ≤ MAX_MESSAGE_BYTES → IsReply ((requests method asks answer).respond s call).0
   formed_reply method asks s call few = formed_path s (method call.path) call.message few
 

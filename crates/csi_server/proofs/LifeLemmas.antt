@@ -41,7 +41,7 @@ heard : (o : Option Request) (r : Request) (reply : ReplyBytes) → o ≡ Some r
 heard o r reply asks = subst (λ (x : Option Request). heard_by x Unmarked true reply ≡ reply ∷ []) (sym asks) refl
 
 module _ (config : Config) (s : State) (call : CallBytes) (r : Request) where
-  -- the call made again where its first session left what it makes
+  -- the call is made again after its first session left its change
   pub lived : (mark : Mark) → Asks call r → IsLeft config s (record { call = call; mark = mark } ∷ []) (done (volumes config) s call) → IsLifeOfTwo config s call r mark
   unfolding state_after
   lived mark asks left =
@@ -58,7 +58,7 @@ module _ (config : Config) (s : State) (call : CallBytes) (r : Request) where
         ),
       )
 
-  -- the same, where another client's call changes nothing
+  -- as above, and another client's call in between changes nothing
   pub lived_with : (other : CallBytes) (q : Request) → Asks call r → Asks other q → is_read q ≡ true → IsLifeWithAnother config s call other r
   unfolding state_after
   lived_with other q asks others reads =
@@ -79,7 +79,8 @@ module _ (config : Config) (s : State) (call : CallBytes) (r : Request) where
   unfolding state_after
   after = refl
 
-  -- a stop may leave what a call would have made that was refused for memory or by the store
+  -- a stop may leave the State that a call would have made that was refused for want of memory or by the
+  -- store
   pub pending : (mark : Mark) → Asks call r → may_leave mark ≡ true → IsPending config s (record { call = call; mark = mark } ∷ []) (done (volumes config) s call)
   unfolding state_after
   pending mark asks marked = record {

@@ -1,4 +1,4 @@
--- What a stop may leave of a run of the volume machine.
+-- The States that a stop may leave after a run of the volume machine.
 use Rattle.std.proofs.Common.{◌≡◌, ◌⊎◌, List, [], ◌∷◌, ◌++◌, Option, Some, None, Result, Ok, ℕ, inl, inr, refl, sym, ap, subst, ◌∙◌}
 use Rattle.std.specs.List.{AllByRecursion}
 use Rattle.csi_types.specs.declared.method.Method.{Method}

@@ -91,7 +91,7 @@ replying_fault read old new rest n held holds f h fed one is =
       prompt_in read rest old held holds h one,
     )
 
--- the reply to the call that is whole was written in part
+-- the reply to the whole call was written in part
 pub replying_cut : (read : List ℕ) (old new : FramerState) (rest : List ℕ) (n : ℕ) (call : CallBytes) (r : ReplyBytes) (held holds then_ : Option (List ℕ)) → Replying read old held holds → Fed old new rest n → 0 < length rest → length rest ≤ 4096
     → IsCall call → new.held ≡ frame call → IsReply r → WrotePrefix holds then_ (reply r) → Broken (read ++ rest) ⊥ held then_
 replying_cut read old new rest n call r held holds then_ h fed some one good is formed w =
@@ -176,7 +176,7 @@ refusal_ends read AtEnd f held holds then_ ReadFailed h prompt at_end r = absurd
 refusal_ends read AtEnd f held holds then_ TurnsSpent h prompt at_end r = absurd r
 refusal_ends read AtEnd f held holds then_ NoMemory h prompt at_end r = absurd r
 
--- what a break says of the end of the input says less where the end is known
+-- a run that broke before the end of the input is also a broken run if the end may have been found
 pub broken_at : (read : List ℕ) (held holds : Option (List ℕ)) (AtEnd : Type 0) → Broken read ⊥ held holds → Broken read AtEnd held holds
 broken_at read held holds AtEnd h = record {
   calls = h.calls;

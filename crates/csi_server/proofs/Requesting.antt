@@ -1,4 +1,4 @@
--- What a machine over requests responds, step by step.
+-- The responses of a machine over requests, step by step.
 use Rattle.std.proofs.Common.{◌≡◌, ℕ, Bool, false, List, [], drop, Option, Some, None, Result, Ok, Err, refl, sym, ap, subst, ◌∙◌, inl, inr}
 use Rattle.std.specs.Prelude.{⊤}
 use Rattle.csi_types.specs.declared.method.Method.{Method}
@@ -28,7 +28,7 @@ leaves_by m old new s call StoreDown l = l
 knows_same : {S : Type 0} {f g : S → ReplyBytes × S} {old new : Model S} {r : ReplyBytes} {mark : Mark} → ((t : S) → f t ≡ g t) → KnowsDown f old new r mark → KnowsDown g old new r mark
 knows_same e k = record { down = k.down; refused = k.refused; unasked = λ is unmarked t. sym (e t) ∙ k.unasked is unmarked t; stays = k.stays }
 
--- an answer to what responds as the machine does is an answer of the machine
+-- an answer by a function that responds as the machine does is an answer of the machine
 pub answers_by : {S : Type 0} (m : Machine S) (f : S → ReplyBytes × S) (May : Mark → Type 0) (old new : Model S) (s : S) (call : CallBytes) (r : ReplyBytes) → ((t : S) → m.respond t call ≡ f t) → ((k : Mark) → May k → m.may_fail call k) → AnswersBy f May old new s r → Answers m old new s call r
 answers_by {S} m f May old new s call r e may a = record {
   mark = a.mark;
@@ -87,7 +87,7 @@ module _ {S : Type 0} (asks : Request → Bool) (answer : S → Request → Repo
   abbrev pub to_message : S → ReplyBytes × S
   to_message t = after_read answer t (read_request m message)
 
-  -- how it may be marked
+  -- the marks that the message may have
   abbrev pub MayMessage : Mark → Type 0
   MayMessage k = (q : Request) × (read_request m message ≡ Ok q) × MayBe (asks q) k
 
@@ -117,7 +117,7 @@ module _ {S : Type 0} (method : List ℕ → Option Method) (asks : Request → 
 
 -- ---- an answer
 
--- the reply that an answer makes
+-- the reply that is made from an answer
 abbrev pub SaysIn : {E : Type 0} → List ℕ → ReplyBytes → Result Verdict E → Type 0
 SaysIn out r (Ok verdict.Done) = r ≡ record { status = 0; text = []; body = drop REPLY_HEAD_BYTES out }
 SaysIn out r (Ok (verdict.Refused q)) = r ≡ refused q

@@ -91,7 +91,7 @@ after_refused : {S : Type 0} (m : Machine S) (s : S) (e : Event) (es : List Even
 unfolding state_after
 after_refused {S} m s e es marked still = ap (λ (t : S). state_after m t es) (marked_keeps m s e.call e.mark marked) ∙ stays_all m s es still
 
--- the state after the run is the one that the refused call met
+-- the state after the run is the state in which the refused call was made
 pub due_state : {S : Type 0} (m : Machine S) (s : S) (es : List Event) (t : S) (d : IsDue m s es t) → state_after m s es ≡ state_after m s d.before
 due_state m s es t d =
     ap (λ (xs : List Event). state_after m s xs) d.whole
@@ -108,7 +108,7 @@ due_kept {S} m s es e t d keeps = record {
   is = d.is;
 }
 
--- the state after the run, or what a refused call was about to make
+-- the state after the run, or the state that a refused call would have made
 abbrev Left : {S : Type 0} → Machine S → S → List Event → S → Type 0
 Left m s es t = (t ≡ state_after m s es) ⊎ IsDue m s es t
 
@@ -116,7 +116,7 @@ left_stays : {S : Type 0} (m : Machine S) (s : S) (es : List Event) (e : Event) 
 left_stays m s es e t (inl is) keeps = inl (is ∙ (sym keeps ∙ sym (state_after-push m s es e)))
 left_stays m s es e t (inr due) keeps = inr (due_kept m s es e t due keeps)
 
--- a call that memory or the store refused adds what it would have made
+-- a call that was refused for want of memory or by the store adds the state that it would have made
 left_marked : {S : Type 0} (m : Machine S) (s : S) (es : List Event) (e : Event) (t : S) (Old : Type 0) → may_leave e.mark ≡ true → (Old → Left m s es t) → Old ⊎ (t ≡ done m (state_after m s es) e.call) → Left m s (es ++ e ∷ []) t
 left_marked m s es e t Old marked u (inl old) = left_stays m s es e t (u old) (marked_keeps m (state_after m s es) e.call e.mark (left_marks e.mark marked))
 left_marked m s es e t Old marked u (inr is) = inr (record { before = es; refused = e; after = []; whole = refl; is_left = marked; still = tt; is = is })
@@ -230,7 +230,7 @@ cut_call {S} m start mid new s bytes more rest read call held holds then_ Whole 
       written = Appends-trans held holds then_ (replies m s h.events) a.part.0 h.written a.part.2;
     }
 
--- how the rest of the stream ends it
+-- the rest of the stream gives the stream its end
 pub stream_of : (bytes rest read : List ℕ) (calls : List CallBytes) → All IsCall calls → bytes ≡ frames calls → (end : End) → read ≡ bytes ++ rest → Ends (length bytes) rest end → Stream read calls end
 stream_of bytes rest read calls each whole end e ends = record {
   rest = rest;
@@ -280,7 +280,7 @@ cut_fault m start now s read held holds then_ AtEnd f h at_end w = record {
   written = subst (λ (x : List ℕ). Appends held then_ x) (ap (λ (x : List ℕ). x ++ w.0) (append-nil (replies m s h.events))) (Appends-trans held holds then_ (replies m s h.events ++ []) w.0 h.written w.2);
 }
 
--- what a cut says of the end of the input says less where the end is no more known
+-- a cut before the end of the input is also a cut if the end may have been found
 pub cut_at : {S : Type 0} (m : Machine S) (start now : Model S) (s : S) (read : List ℕ) (held holds : Option (List ℕ)) (AtEnd : Type 0) → CutOff m start now s read ⊥ held holds → CutOff m start now s read AtEnd held holds
 cut_at m start now s read held holds AtEnd h = record {
   events = h.events;

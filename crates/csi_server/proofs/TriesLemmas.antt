@@ -83,7 +83,7 @@ spelled_asks means reads r fits passed = record {
   passed = passed;
 }
 
--- a call that asks for nothing is refused from each State alike
+-- a call that asks for no request has the same refusal in each State
 pub unasked_stays : (call : CallBytes) → asked call ≡ None → (reply : ReplyBytes) × ((config : Config) (s : State) → (volumes config).respond s call ≡ (reply, s))
 unasked_stays call = by_path (method_at call.path)
   where
@@ -103,7 +103,7 @@ module _ (config : Config) where
   abbrev answer_to : State → Request → ReplyBytes × State
   answer_to s r = (reported (step config s r).0, (step config s r).1)
 
-  -- a call that asks for a request is answered as the request is
+  -- a call that asks for a request is answered as the request
   pub asked_answers : (s : State) (call : CallBytes) (r : Request) → asked call ≡ Some r → (volumes config).respond s call ≡ answer_to s r
   asked_answers s call r = by_path (method_at call.path)
     where
@@ -121,7 +121,7 @@ module _ (config : Config) where
 
   -- ---- one call
 
-  -- the State after it, and what its client heard
+  -- the State after a call and the reply that its client heard, as for its tries
   record Moves (s : State) (x : Exchange) : Type 0 where
     pub after : (call_step (volumes config) s x.event).1 ≡ after_tries config s (tries_in x)
     pub heard : heard_by (asked x.event.call) x.event.mark x.is_heard (call_step (volumes config) s x.event).0 ≡ map reported (reported_of config s (tries_in x))
@@ -177,7 +177,7 @@ module _ (config : Config) where
       ∙ (sym (map-append reported (reported_of config s (tries_in x)) (reported_of config (after_tries config s (tries_in x)) (tries_of xs)))
       ∙ ap (map reported) (sym (reported_append s (tries_in x) (tries_of xs)))))
 
-  -- ---- what a session leaves
+  -- ---- the States that a session leaves
 
   still_by : (s : State) (x : Exchange) (o : Option Request) → (call_step (volumes config) s x.event).1 ≡ after_tries config s (tries_for o (ending x.event.mark x.is_heard)) → (call_step (volumes config) s x.event).1 ≡ s
       → AllByRecursion (λ u. after_try config s u ≡ s) (tries_for o (ending x.event.mark x.is_heard))
@@ -189,7 +189,8 @@ module _ (config : Config) where
   still s [] h = tt
   still s (x ∷ xs) h = all_append (λ u. after_try config s u ≡ s) (tries_in x) (tries_of xs) (still_by s x (asked x.event.call) (moves s x).after h.0) (still s xs h.1)
 
--- a session around one of its events, or of its tries: what an exchange has of them, and what several have
+-- a session, divided at one of its events or of its tries; two functions give the events or tries of one
+-- exchange and of several
 record IsAroundOne {X : Type 0} (in_one : Exchange → List X) (in_all : List Exchange → List X) (session : List Exchange) (before : List X) (e : X) (after : List X) : Type 0 where
   pub first : List Exchange
   pub middle : Exchange
@@ -199,7 +200,7 @@ record IsAroundOne {X : Type 0} (in_one : Exchange → List X) (in_all : List Ex
   pub is : in_one middle ≡ e ∷ []
   pub is_after : in_all last ≡ after
 
--- with one exchange more before it
+-- as above, with one more exchange before it
 around_more : {X : Type 0} (in_one : Exchange → List X) (in_all : List Exchange → List X) (x : Exchange) → ((xs : List Exchange) → in_all (x ∷ xs) ≡ in_one x ++ in_all xs)
     → (xs : List Exchange) (before rest : List X) (e : X) (after : List X) → before ≡ in_one x ++ rest → IsAroundOne in_one in_all xs rest e after → IsAroundOne in_one in_all (x ∷ xs) before e after
 around_more {X} in_one in_all x parts xs before rest e after is a = record {
@@ -227,7 +228,7 @@ around [] (b ∷ bs) e after h = absurd (cc)
 around (x ∷ xs) [] e after h = let is : x.event ≡ e = cc in record { first = []; middle = x; last = xs; whole = refl; is_before = refl; is = ap (λ (f : Event). f ∷ []) is; is_after = cc }
 around (x ∷ xs) (b ∷ bs) e after h = let is : x.event ≡ b = cc in around_more event_in events_of x (λ ys. refl) xs (b ∷ bs) bs e after (ap (λ (f : Event). f ∷ bs) (sym is)) (around xs bs e after (cc))
 
--- the first call of a session is no try, or it is the one, or it is one before
+-- the first call of a session is no try, or it is the marked try, or it is a try before the marked one
 around_by : (x : Exchange) (xs : List Exchange) (before : List Try) (t : Try) (after : List Try) → ((rest : List Try) → tries_of xs ≡ rest ++ t ∷ after → IsAroundTry xs rest t after)
     → (own : List Try) → tries_in x ≡ own → (o : Option Request) → own ≡ tries_for o (ending x.event.mark x.is_heard) → own ++ tries_of xs ≡ before ++ t ∷ after → IsAroundTry (x ∷ xs) before t after
 around_by x xs before t after next own is None none h =
@@ -285,7 +286,7 @@ module _ (config : Config) where
       same : a.middle.event ≡ p.refused
       same = cc (a.is)
 
-      -- the State that the refused call met
+      -- the State in which the refused call was made
       at : state_after (volumes config) s p.before ≡ after_tries config s (tries_of a.first)
       at = ap (λ (l : List Event). state_after (volumes config) s l) (sym a.is_before) ∙ session_after config s a.first
 
@@ -296,9 +297,9 @@ module _ (config : Config) where
   session_leaves s t session (inl is) = inl (is ∙ session_after config s session)
   session_leaves s t session (inr p) = inr (due s t session p)
 
-  -- ---- what tries leave is left by their calls
+  -- ---- the States that tries leave are left by their calls
 
-  -- the tries of a call keep the State, and so does it
+  -- the tries of a call keep the State, and so does the call
   stays_by : (s : State) (x : Exchange) (o : Option Request) → (call_step (volumes config) s x.event).1 ≡ after_tries config s (tries_for o (ending x.event.mark x.is_heard))
       → AllByRecursion (λ u. after_try config s u ≡ s) (tries_for o (ending x.event.mark x.is_heard)) → (call_step (volumes config) s x.event).1 ≡ s
   stays_by s x None after h = after
@@ -335,7 +336,7 @@ module _ (config : Config) where
       asks : Asks a.middle.event.call d.refused.request
       asks = asked_is a.middle.event.call d.refused.request tried.0
 
-      -- the State that the marked try met
+      -- the State in which the marked try was made
       at : state_after (volumes config) s (events_of a.first) ≡ after_tries config s d.before
       at = session_after config s a.first ∙ ap (λ (l : List Try). after_tries config s l) a.is_before
 
@@ -380,7 +381,7 @@ life_passes : (sessions : List (List Exchange)) → AllByRecursion Passes (all_t
 life_passes [] = tt
 life_passes (session ∷ sessions) = all_append Passes (tries_of session) (all_tries (map tries_of sessions)) (session_passes session) (life_passes sessions)
 
--- the first of the requests is asked for where it is answered
+-- the first of the requests is asked for by the call that it is answered in
 first_passes : (t : Try) (ts : List Try) (rs : List Request) → Passes t → ((qs : List Request) → AreTriesOf qs ts → AllByRecursion (λ q. checked q ≡ None) qs) → IsOfFirst rs t → AreTriesOf (still_open rs t.end) ts
     → AllByRecursion (λ r. checked r ≡ None) rs
 first_passes t ts [] passes next first rest = absurd first

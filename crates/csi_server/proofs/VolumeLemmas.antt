@@ -1,4 +1,4 @@
--- A keeper's answers, as the volume machine responds.
+-- A keeper's answers are the responses of the volume machine.
 use Rattle.std.proofs.Common.{◌≡◌, ◌⊎◌, Bool, true, false, not, IsTrue, ℕ, List, [], ◌++◌, ◌+◌, drop, length, length-append, None, Result, Ok, Err, refl, sym, ap, subst, ◌∙◌, inl, inr, arith}
 use Rattle.csi_types.specs.declared.requests.Request.{Request}
 use Rattle.envelope.specs.Envelope.{ReplyBytes}
@@ -70,7 +70,7 @@ module _ (config : Config) (request : Request) (a b : Model State) where
   reported_all (verdict.Refused q) old out r begun e all t =
       ap (λ (x : ReplyBytes). (x, (step config t request).1)) (ap reported (all t).0 ∙ sym e) ∙ ap (λ (u : State). (r, u)) (all t).1
 
-  -- a call that reports a fault of the keeper asked something of it
+  -- a call that reports a fault of the keeper needed the keeper
   asked : (e : StoreFault) → (IsTrue (is_of_plugin request) → e ≡ fault.NoMemory) → (e ≡ fault.NoMemory → ⊥) → asks_keeper request ≡ true
   asked e only never = by (is_of_plugin request) only
     where
@@ -95,7 +95,7 @@ module _ (config : Config) (request : Request) (a b : Model State) where
     knows = knows;
   }
 
-  -- an answer from a State of the invariant is one of the machine's
+  -- an answer from a State that meets the invariant is an answer of the machine
   pub answered_by : (v : Result Verdict StoreFault) (old out : List ℕ) (s : State) (r : ReplyBytes) → old ≡ room → Performs config request a b old out v → b.doubt ≡ 0 → a.holds s → IsInvariant config s
       → IsInvariant config (step config s request).1 → RepliesTo out r v → AnswersBy to_request (MayBe (asks_keeper request)) before behind s r
   answered_by (Ok verdict.Done) old out s r begun did d h inv next e =

@@ -1,4 +1,4 @@
--- Calls that walk over the pages of a listing are requests that do.
+-- Calls that walk over the pages of a listing are requests that walk over them.
 use Rattle.std.proofs.Common.{◌≡◌, ◌≢◌, ◌∙◌, ap, sym, subst, refl, ℕ, Bool, true, false, List, [], ◌∷◌, Option, Some, None}
 use Rattle.envelope.specs.Envelope.{CallBytes, ReplyBytes}
 use Rattle.csi_types.specs.Codes.{number_of}

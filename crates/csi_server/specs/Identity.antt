@@ -14,14 +14,14 @@ use Rattle.csi_keeper.specs.Model.{Model}
 use Rattle.csi_server.specs.Machine.{Machine}
 use Rattle.csi_server.specs.Requests.{requests}
 
--- only two methods are known
+-- the method, if it is GetPluginInfo or Probe
 abbrev pub known : Option Method → Option Method
 known None = None
 known (Some method.GetPluginInfo) = Some method.GetPluginInfo
 known (Some method.Probe) = Some method.Probe
 known (Some m) = None
 
--- ready, and the name and the version
+-- the answer to a request: Probe is answered with ready, and GetPluginInfo with the name and the version
 unfoldable pub said : List ℕ → List ℕ → Request → Result Response Reason
 said name version request.Probe = Ok (response.Probe (Some true))
 said name version request.PluginInfo = Ok (response.PluginInfo name version)
@@ -31,7 +31,7 @@ abbrev pub outcome_of : Option Response → Result Response Reason
 outcome_of None = Err UnknownMethod
 outcome_of (Some r) = Ok r
 
--- its state says nothing, and no store is asked
+-- the machine of the identity service: it has no state and asks no store
 abbrev pub identity : List ℕ → List ℕ → Machine ⊤
 identity name version = requests (λ path. known (method_at path)) (λ r. false) (λ s r. (reported_of (said name version r), s))
 

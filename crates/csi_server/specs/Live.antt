@@ -16,7 +16,7 @@ use Rattle.csi_server.specs.Serving.{Answered, AreReplied, Broken, CutOff, HasFa
 use Rattle.csi_server.specs.declared.running.PieceOutcome.{PieceOutcome}
 use Rattle.csi_server.specs.declared.running.PieceOutcome.TheVariants.{Fed, Faulty, Cut}
 
--- The answers so far, for a stream whose first bytes are these.
+-- The calls in the first bytes of a stream were answered; `bytes` are these first bytes.
 pub record SoFar {S : Type 0} (m : Machine S) (start now : Model S) (s : S) (bytes : List ℕ) (held holds : Option (List ℕ)) : Type 0 where
   pub events : List Event
   pub run : Runs m start now s events
@@ -24,7 +24,7 @@ pub record SoFar {S : Type 0} (m : Machine S) (start now : Model S) (s : S) (byt
   pub whole : bytes ≡ frames (calls_of events)
   pub written : Appends held holds (replies m s events)
 
--- All that was read is given up and answered, or held and no frame yet.
+-- All bytes that were read are either calls that were answered, or held by the framer as an unfinished frame.
 pub record Live {S : Type 0} (m : Machine S) (start now : Model S) (s : S) (read : List ℕ) (framer : FramerState) (held holds : Option (List ℕ)) : Type 0 where
   pub given : List ℕ
   pub so_far : SoFar m start now s given held holds
@@ -33,7 +33,7 @@ pub record Live {S : Type 0} (m : Machine S) (start now : Model S) (s : S) (read
   pub unknown : framer.fault ≡ None
   pub unfinished : IsUnfinished framer.held
 
--- it is so while nothing is in doubt
+-- `Live` is true as long as nothing is in doubt
 abbrev pub IsLive : {S : Type 0} → Machine S → Model S → Model S → S → List ℕ → FramerState → Option (List ℕ) → Option (List ℕ) → Type 0
 IsLive m start now s read framer held holds = now.doubt ≡ 0 → Live m start now s read framer held holds
 
@@ -46,7 +46,7 @@ Steps m start now s read framer held holds Cut = CutOff m start now s read ⊥ h
 
 -- ---- any service
 
--- As `SoFar`, of the bytes alone: one reply of the table to each call.
+-- As `Live`, for the bytes alone: each call has one reply of the envelope's table.
 pub record Replying (read : List ℕ) (framer : FramerState) (held holds : Option (List ℕ)) : Type 0 where
   pub given : List ℕ
   pub calls : List CallBytes
@@ -65,11 +65,11 @@ Replies read framer held holds Fed = Replying read framer held holds
 Replies read framer held holds (Faulty f) = (f.why ≢ EndOfInput) × Replied held holds (λ calls. HasFault read calls f.why f.at) [] × IsPrompt read
 Replies read framer held holds Cut = Broken read ⊥ held holds
 
--- a framer that takes more bytes
+-- the framer takes more bytes
 abbrev pub IsReady : FramerState → Type 0
 IsReady s = (s.fault ≡ None) × IsUnfinished s.held
 
--- It took this many bytes, and takes more.
+-- The framer took `n` bytes, and takes more.
 pub record Advances (old new : FramerState) (n : ℕ) : Type 0 where
   pub count : new.past + length new.held ≡ old.past + length old.held + n
   pub ready : IsReady new
@@ -79,7 +79,7 @@ AdvancesBy old new n Fed = Advances old new n
 AdvancesBy old new n (Faulty f) = Unit {0}
 AdvancesBy old new n Cut = Unit {0}
 
--- The frame of the fault was written, or a prefix of it.
+-- The reply frame of the fault was written, or a prefix of it.
 abbrev pub Refuses : FrameFault → Option (List ℕ) → Option (List ℕ) → RunEnd → Type 0
 Refuses f held holds (Malformed g) = (g ≡ f) × Appends held holds (fault_frame f)
 Refuses f held holds WriteFailed = WrotePrefix held holds (fault_frame f)
@@ -88,7 +88,7 @@ Refuses f held holds ReadFailed = ⊥
 Refuses f held holds TurnsSpent = ⊥
 Refuses f held holds NoMemory = ⊥
 
--- The end of the input: nothing is done, or the frame that was begun is refused.
+-- The end of the input: nothing is written, or the frame that was begun is refused.
 abbrev pub Finishes : FramerState → Option (List ℕ) → Option (List ℕ) → RunEnd → Type 0
 Finishes s held holds end =
     (IsUnfinished s.held → s.fault ≡ None → s.held ≡ [] → (end ≡ Done) × Keeps held holds)

@@ -14,11 +14,11 @@ use Rattle.csi_machine.specs.Verdicts.{Report, Says, Denies}
 use Rattle.csi_keeper.specs.Model.{Model}
 use Rattle.csi_server.specs.Machine.{Machine, Mark, Unmarked, OutOfMemory, StoreRefused, StoreDown, KnowsDown, RoseBy, refusal, refused, marked, store_mark}
 
--- the reply to a message that is refused at this place
+-- the reply to a message that is malformed in the field at this byte
 abbrev pub malformed : ℕ → ReplyBytes
 malformed at = refusal (number_of code.InvalidArgument) (codes "malformed message in the field at byte " ++ decimal at)
 
--- the reply that says it
+-- the reply with an answer of the machine
 abbrev pub reported : Report → ReplyBytes
 reported (Says body) = record { status = 0; text = []; body = body }
 reported (Denies reason) = refused reason
@@ -36,41 +36,41 @@ module _ {S : Type 0} (answer : S → Request → Report × S) where
   after_path s None message = (refused reason.UnknownMethod, s)
   after_path s (Some m) message = after_read s (read_request m message)
 
--- how a message that is not answered is refused: it is malformed, its arguments are refused, or memory was
+-- the reply to a message that is refused before it is answered: the message is malformed, its arguments are
+-- refused, or memory ran out
 abbrev pub IsUnread : Method → List ℕ → ReplyBytes → Type 0
 IsUnread m message r =
     ((at : ℕ) × (read_request m message ≡ Err at) × (r ≡ malformed at))
     ⊎ ((q : Request) × (why : Reason) × (read_request m message ≡ Ok q) × (checked q ≡ Some why) × (r ≡ refused why))
     ⊎ ((q : Request) × (read_request m message ≡ Ok q) × (r ≡ refused reason.OutOfMemory))
 
--- any request may be refused for memory, and a request that needs the store may be refused by it
+-- any request may be refused for want of memory, and a request that needs the store may be refused by it
 abbrev pub MayBe : Bool → Mark → Type 0
 MayBe asks Unmarked = Unit {0}
 MayBe asks OutOfMemory = Unit {0}
 MayBe asks StoreRefused = asks ≡ true
 MayBe asks StoreDown = asks ≡ true
 
--- a call may be marked so where its path names a method and its message means a request, which may be refused
--- so
+-- a call may have this mark if its path names a method and its message means a request that may be refused so
 abbrev pub IsRequest : (Request → Bool) → Option Method → List ℕ → Mark → Type 0
 IsRequest asks None message mark = ⊥
 IsRequest asks (Some m) message mark = (r : Request) × (read_request m message ≡ Ok r) × MayBe (asks r) mark
 
--- the machine that knows these paths, where these requests ask something of the store
+-- the machine that knows the paths of `method`; `asks` is true for requests that need the store
 abbrev pub requests : {S : Type 0} → (List ℕ → Option Method) → (Request → Bool) → (S → Request → Report × S) → Machine S
 requests method asks answer = record {
   respond = λ s call. after_path answer s (method call.path) call.message;
   may_fail = λ call mark. IsRequest asks (method call.path) call.message mark;
 }
 
--- what a call may leave after a stop: as `Leaves`, over what it responds
+-- the states that a stop may leave after a call: as `Leaves`, by its reply and the state after it
 abbrev pub LeavesBy : {S : Type 0} → ReplyBytes × S → (S → Type 0) → (S → Type 0) → S → Mark → Type 0
 LeavesBy {S} x old new s Unmarked = ((x.1 ≡ s) × ((t : S) → new t → old t)) ⊎ ((t : S) → new t → t ≡ x.1)
 LeavesBy {S} x old new s OutOfMemory = (t : S) → new t → old t ⊎ (t ≡ x.1)
 LeavesBy {S} x old new s StoreRefused = (t : S) → new t → old t ⊎ (t ≡ x.1)
 LeavesBy {S} x old new s StoreDown = (t : S) → new t → old t
 
--- One answer from the state s, with the reply r, to what responds so to each state.
+-- A call from the state s is answered with the reply r; `respond` gives the reply to this call in each state.
 pub record AnswersBy {S : Type 0} (respond : S → ReplyBytes × S) (MayFail : Mark → Type 0) (old new : Model S) (s : S) (r : ReplyBytes) : Type 0 where
   pub mark : Mark
   pub allowed : mark ≢ Unmarked → MayFail mark

@@ -1,4 +1,4 @@
--- What a server reads and writes, by the way it ends.
+-- The bytes that a server reads and writes, by the way it ends.
 use Rattle.std.specs.Prelude.{◌≡◌, ℕ, ◌≤◌, ◌<◌, ◌^◌, List, [], ◌∷◌, ◌++◌, length, All, Option, ◌⊎◌, decimal}
 use Rattle.std.specs.List.{flat_map}
 use Rattle.std.specs.Io.KnownBytes.{Appends, Consumes, IsAtEnd, Keeps}
@@ -44,8 +44,8 @@ pub record Answered {S : Type 0} (m : Machine S) (old new : Model S) (s : S) (re
   pub run : Runs m old new s events
   pub written : Appends held holds (replies m s events ++ last)
 
--- The reply to the last call, or the frame that answers the fault, was written in part or not flushed. That
--- the input ends inside a frame is a fault only at its end.
+-- The reply to the last call, or the frame that answers the fault, was written in part or not flushed. An
+-- early end of the input is a fault only if the end was read.
 pub record CutOff {S : Type 0} (m : Machine S) (old new : Model S) (s : S) (read : List ℕ) (AtEnd : Type 0) (held holds : Option (List ℕ)) : Type 0 where
   pub events : List Event
   pub begins : BeginsWithCalls read (calls_of events)
@@ -65,7 +65,7 @@ pub record AnswersCall {S : Type 0} (m : Machine S) (old new : Model S) (s : S) 
   pub all : Whole → Appends held holds (reply r)
   pub part : WrotePrefix held holds (reply r)
 
--- How a run from the state s ends that read these bytes, and found the end of the input or not.
+-- The end of a run from the state s that read these bytes. `AtEnd` states that it found the end of the input.
 abbrev pub Ended : {S : Type 0} → Machine S → Model S → Model S → S → List ℕ → Type 0 → Option (List ℕ) → Option (List ℕ) → RunEnd → Type 0
 Ended m old new s read AtEnd held holds Done = Answered m old new s read held holds (λ calls. Stream read calls Clean) [] × AtEnd
 Ended m old new s read AtEnd held holds (Malformed f) = Answered m old new s read held holds (λ calls. HasFault read calls f.why f.at) (fault_frame f)
@@ -76,8 +76,8 @@ Ended m old new s read AtEnd held holds WriteFailed = CutOff m old new s read At
 Ended m old new s read AtEnd held holds NoMemory = Runs m old new s [] × Keeps held holds
 
 -- A run of a service that was clean to its end: from each state that the service may have had, the run ends
--- as the table says. The service goes from old to new, the reader from unread to left, the writer from held
--- to holds.
+-- as `Ended` says. The service goes from old to new, the reader from unread to left, the writer from held to
+-- holds.
 abbrev pub Serves : {S : Type 0} → Machine S → Model S → Model S → Option (List ℕ) → Option (List ℕ) → Option (List ℕ) → Option (List ℕ) → RunEnd → Type 0
 Serves {S} m old new unread left held holds end =
     (read : List ℕ) × Consumes unread left read × (new.doubt ≡ 0 → (s : S) → old.holds s → Ended m old new s read (IsAtEnd left) held holds end)
@@ -93,12 +93,12 @@ pub record IsPrompt (read : List ℕ) : Type 0 where
   pub calls : List CallBytes
   pub faultless : HasNoFault before calls
 
--- of each call one reply, and each is one of the envelope's table
+-- each call has one reply, and each reply is a reply of the envelope's table
 pub record AreReplied (calls : List CallBytes) (rs : List ReplyBytes) : Type 0 where
   pub one_each : length rs ≡ length calls
   pub formed : All IsReply rs
 
--- Such replies were written to these calls, and then this.
+-- Such replies to these calls were written, and then the bytes `last`.
 pub record Replied (held holds : Option (List ℕ)) (IsEnd : List CallBytes → Type 0) (last : List ℕ) : Type 0 where
   pub calls : List CallBytes
   pub rs : List ReplyBytes
@@ -126,7 +126,8 @@ pub record IsRefused (read : List ℕ) (AtEnd : Type 0) (calls : List CallBytes)
   pub prompt : IsPrompt read
   pub prefix : IsPrefix part (fault_frame fault)
 
--- All replies before the last one were written, and of that, or of the frame that answers the fault, a part.
+-- All replies before the last one were written, and then a part of the last one or of the frame that answers
+-- the fault.
 pub record Broken (read : List ℕ) (AtEnd : Type 0) (held holds : Option (List ℕ)) : Type 0 where
   pub calls : List CallBytes
   pub rs : List ReplyBytes
@@ -135,7 +136,8 @@ pub record Broken (read : List ℕ) (AtEnd : Type 0) (held holds : Option (List 
   pub cut : IsLast read calls part ⊎ IsRefused read AtEnd calls part
   pub written : Appends held holds (flat_map reply rs ++ part)
 
--- What a run writes that read these bytes, and found the end of the input or not, by the way it ends.
+-- The bytes that a run wrote, by the way it ends. The run read the bytes `read`, and `AtEnd` states that it
+-- found the end of the input.
 abbrev pub Wrote : List ℕ → Type 0 → Option (List ℕ) → Option (List ℕ) → RunEnd → Type 0
 Wrote read AtEnd held holds Done = Replied held holds (λ calls. Stream read calls Clean) [] × AtEnd
 Wrote read AtEnd held holds (Malformed f) = Replied held holds (λ calls. HasFault read calls f.why f.at) (fault_frame f)

@@ -17,7 +17,7 @@ use Rattle.csi_server.specs.Machine.{Event, Mark, Unmarked, OutOfMemory, StoreRe
 use Rattle.csi_server.specs.Machine.{step as call_step}
 use Rattle.csi_server.specs.Volumes.{volumes, IsPending}
 
--- ---- what a call asks for
+-- ---- the request that a call asks for
 
 abbrev pub unless_refused : Request → Option Reason → Option Request
 unless_refused r None = Some r
@@ -49,8 +49,8 @@ spelled_call r = record { path = path_of (request_method r); message = request_b
 
 -- ---- the calls of a session
 
--- A call with its mark, and whether the client heard the reply. Of a call that another client made it hears
--- none.
+-- A call with its mark, and whether the client heard the reply. The client hears no reply to a call of
+-- another client.
 pub record Exchange : Type 0 where
   pub event : Event
   pub is_heard : Bool
@@ -58,7 +58,8 @@ pub record Exchange : Type 0 where
 abbrev pub events_of : List Exchange → List Event
 events_of session = map (λ x. x.event) session
 
--- how a try ends: a call that was refused inside is marked or down, whether its client heard so or not
+-- the ending of a try: a call that was refused inside is `Marked` or `Down`, even if its client heard the
+-- refusal
 abbrev pub ending : Mark → Bool → Ending
 ending Unmarked true = Answered
 ending Unmarked false = Unanswered
@@ -70,7 +71,7 @@ abbrev pub tries_for : Option Request → Ending → List Try
 tries_for None end = []
 tries_for (Some r) end = record { request = r; end = end } ∷ []
 
--- a call is one try of the request that it asks for, and none where it asks for none
+-- the try of the request that a call asks for; no try if the call asks for none
 abbrev pub tries_in : Exchange → List Try
 tries_in x = tries_for (asked x.event.call) (ending x.event.mark x.is_heard)
 
@@ -89,8 +90,8 @@ heard_by (Some r) OutOfMemory is_heard reply = []
 heard_by (Some r) StoreRefused is_heard reply = []
 heard_by (Some r) StoreDown is_heard reply = []
 
--- What the client heard of its requests: the replies to the calls that ask for one and were not refused
--- inside, as the machine replies to them at their places.
+-- The replies that the client heard to its requests: the machine's replies to the calls that ask for a
+-- request and were not refused inside, if the client heard them.
 abbrev pub heard_of : Config → State → List Exchange → List ReplyBytes
 heard_of config s [] = []
 heard_of config s (x ∷ xs) =
@@ -99,13 +100,13 @@ heard_of config s (x ∷ xs) =
 
 -- ---- over stops
 
--- what the law `pending` says that a session leaves: the State after its calls, or what a call would have
--- made that was refused for memory or by the store
+-- a session may leave this State by the law `pending`: the State after its calls, or the State that a call
+-- would have made that was refused for want of memory or by the store
 abbrev pub IsLeft : Config → State → List Event → State → Type 0
 IsLeft config s events t = (t ≡ state_after (volumes config) s events) ⊎ IsPending config s events t
 
--- A life in calls: sessions, each begun from what the one before it left; what the client heard in all of
--- them, and what the last one left.
+-- A life in calls: sessions, each begun from the State that the session before it left. `heard` are the
+-- replies that the client heard in all sessions, and `t` is the State that the last session left.
 abbrev pub IsLifeOfCalls : Config → State → List (List Exchange) → List ReplyBytes → State → Type 0
 IsLifeOfCalls config s [] heard t = (heard ≡ []) × (t ≡ s)
 IsLifeOfCalls config s (session ∷ sessions) heard t =
@@ -123,15 +124,15 @@ twice call mark =
     (record { event = record { call = call; mark = mark }; is_heard = false } ∷ [])
     ∷ (record { event = record { call = call; mark = Unmarked }; is_heard = true } ∷ []) ∷ []
 
--- They are tries of the request, and a life from the State: the first session leaves what the call makes of
--- it, and the second replies to it there.
+-- These two sessions are tries of the request, and a life from the State: the first session leaves the State
+-- after the call, and the second session replies to the call in this State.
 abbrev pub IsLifeOfTwo : Config → State → CallBytes → Request → Mark → Type 0
 IsLifeOfTwo config s call r mark =
     AreTriesOf (r ∷ []) (all_tries (map tries_of (twice call mark)))
     × IsLifeOfCalls config s (twice call mark) (((volumes config).respond (done (volumes config) s call) call).0 ∷ [])
     (done (volumes config) (done (volumes config) s call) call)
 
--- the same, where another client makes a call before the call is made again
+-- as `twice`, but another client makes a call before the call is made again
 abbrev pub between : CallBytes → CallBytes → List (List Exchange)
 between call other =
     (record { event = record { call = call; mark = Unmarked }; is_heard = false }

@@ -22,7 +22,7 @@ use Rattle.csi_server.specs.Machine.{Machine, Event, may_leave, refused, state_a
 use Rattle.csi_server.specs.Machine.{step as call_step}
 use Rattle.csi_server.specs.Requests.{requests}
 
--- whether a request asks something of the keeper; what the plugin is and can do is answered without it
+-- true if a request needs the keeper; a request about the plugin itself is answered without it
 abbrev pub asks_keeper : Request → Bool
 asks_keeper r = not (is_of_plugin r)
 
@@ -30,7 +30,7 @@ asks_keeper r = not (is_of_plugin r)
 abbrev pub volumes : Config → Machine State
 volumes config = requests method_at asks_keeper (step config)
 
--- a keeper as a run sees it: the States of the invariant that it may have, and the rest of its model as it is
+-- the model of a keeper in a run: only the States that meet the invariant, and the rest unchanged
 abbrev pub seen : Config → Model State → Model State
 seen config m = record m { holds = λ s. m.holds s × IsInvariant config s }
 
@@ -42,8 +42,9 @@ RepliesTo out r (Err fault.NoMemory) = r ≡ refused reason.OutOfMemory
 RepliesTo out r (Err fault.Refused) = r ≡ refused reason.StoreRefused
 RepliesTo out r (Err fault.Down) = r ≡ refused reason.StoreDown
 
--- What a stop may leave next to the last State: what a call would have made that was refused for memory or by
--- the store, whose request was read and passed the checks, and after which no call moved the State.
+-- A State that a stop may leave instead of the last State: a call was refused for want of memory or by the
+-- store, its request was read and passed the checks, t is the State that it would have made, and no later
+-- call changed the State.
 pub record IsPending (config : Config) (s : State) (events : List Event) (t : State) : Type 0 where
   pub before : List Event
   pub refused : Event

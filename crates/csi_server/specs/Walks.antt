@@ -18,7 +18,7 @@ pub record Turn : Type 0 where
   pub exchange : Exchange
   pub page : Option ℕ
 
--- what a call for the next page shows: nothing where it is refused inside, or its reply is not heard
+-- the page that a call for the next page shows; none if the call is refused inside or its reply is not heard
 abbrev pub shown_heard : Config → State → Text → ℕ → Mark → Bool → Option (List Entry × Text)
 shown_heard config s token most Unmarked true = shown config s (asked_with token most)
 shown_heard config s token most Unmarked false = None

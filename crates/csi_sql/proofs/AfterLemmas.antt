@@ -12,7 +12,7 @@ use Rattle.csi_sql.specs.Failing.{FailsOver, SqlRefuses}
 use Rattle.csi_sql.specs.Transactions.{RunsOver, StepsFrom}
 use Rattle.csi_sql.specs.facts.Failing.{fails_after, fails_weaker, handed}
 
--- both, by the database between them
+-- both effects, by the database between the two statements
 abbrev pub Both : (Database → Database → Type 0) → (Database → Database → Type 0) → Database → Database → Type 0
 Both One Two old new = (db : Database) × One old db × Two db new
 
@@ -52,7 +52,7 @@ no_ok : {X : Type 0} (r : Result X Error) (e : Error) (P : Type 0) → IsErrAnd 
 no_ok (Ok x) e P is = absurd is
 no_ok (Err x) e P is = tt
 
--- an error that is handed on
+-- an error that is passed on
 pub runs_handed : {S X Y : Type 0} {g : Ghosts S} {a b : Held S} {before : Schema} {Made Effect : Database → Database → Type 0} {R : State → Error → Type 0} {e : Error} (r : Result Y Error)
     → RunsOver g a b {X = X} before Made R (Err e) → IsErrAnd r (λ x. x ≡ e) → RunsOver g a b before Effect R r
 runs_handed {e = e} r ran is = record {
@@ -66,7 +66,7 @@ reported_weaker : {Y : Type 0} (a b : State) (before : Schema) (P R : State → 
 reported_weaker a b before P R (Ok y) f failed has = tt
 reported_weaker a b before P R (Err e) f failed has = fails_weaker (P a) (R a) a b e (f a e has) (failed has)
 
--- what refuses it is reported in other words
+-- the reason for a refusal, in terms of another definition
 pub runs_weaker : {S Y : Type 0} {g : Ghosts S} {a b : Held S} {before : Schema} {Effect : Database → Database → Type 0} {P R : State → Error → Type 0} (r : Result Y Error)
     → ((s : State) (e : Error) → s.now.schema ≡ before → P s e → R s e) → RunsOver g a b before Effect P r → RunsOver g a b before Effect R r
 runs_weaker {g = g} {a = a} {b = b} {before = before} {P = P} {R = R} r f ran = record {

@@ -65,11 +65,11 @@ runs_both {g = g} {a = a} {b = b} {c = c} row next r one two =
 -- ---- a transaction over the tables
 
 module _ {S : Type 0} (g : store.Ghosts S) (old : Held S) {X : Type 0} {Effect : Database → Database → Type 0} {Why Refuses : State → Error → Type 0} {mid new : Held S} where
-  -- whose first statement failed
+  -- a transaction whose first statement failed
   pub undone : {Y : Type 0} {First : Database → Database → Type 0} {e : Error} (r : Result Y Error) → (Why (state g (record old { in_transaction = true })) e → Refuses (state g old) e)
       → RunsOver g (record old { in_transaction = true }) mid {X = X} schema First Why (Err e) → (end : Held S) → Dropped g schema old mid end → end ≡ new → IsErrAnd r (λ x. x ≡ e) → CommitsOver g old new schema Effect Refuses r
   undone {e = e} r why ran end dropped at is = undoes g schema old r e why ran end dropped at is
 
-  -- whose statements were answered Ok
+  -- a transaction whose statements succeeded
   pub done : {x : X} (r : Result (Unit {0}) Error) → RunsOver g (record old { in_transaction = true }) mid schema Effect Why (Ok x) → (end : Held S) → Committed g schema old mid end r → end ≡ new → CommitsOver g old new schema Effect Refuses r
   done r ran end ended at = commits g schema old r ran end ended at

@@ -1,4 +1,4 @@
--- What CREATE TABLE makes.
+-- The effect of CREATE TABLE.
 use Rattle.std.proofs.Common.{◌≡◌, ℕ, List, [], false, None, Ok, refl, sym, ap, subst, ◌∙◌}
 use Rattle.sqlite.specs.Schema.{Schema}
 use Rattle.sqlite.specs.Table.{Table}
@@ -16,7 +16,7 @@ use Rattle.csi_sql.specs.Making.{Creates, AddsFirst, HasNoRow, MakesTables}
 use Rattle.csi_sql.proofs.TablesLemmas.{meta_is, volumes_is, attachments_is}
 use Rattle.csi_sql.specs.facts.Steps.{went, same_value}
 
--- what computes of a CREATE text under a schema
+-- the facts about a CREATE text that are computed under a schema
 pub record IsCreate (before : Schema) (text : List ℕ) (table : Table) : Type 0 where
   pub command : command_of (understood before text) ≡ CreateTable
   pub whole : statement_of text (understood before text) ≡ text
@@ -53,6 +53,6 @@ creates before text table it old new count has h =
       others = subst (λ (d : Database). KeepsRows before.tables old.now.trees d.trees) (sym now) (subst (λ (s : Schema). KeepsRows s.tables old.now.trees first.0.trees) has made.others);
     }
 
--- the three in turn, and no row is there yet
+-- the three CREATEs in turn; there is no row yet
 pub has_no_row : {a b c d : Database} → Creates no_schema meta a b → Creates one_schema volumes b c → Creates two_schema attachments c d → HasNoRow d
 has_no_row one two three = (three.schema, three.others.0 ∙ two.others.0 ∙ one.empty, three.others.1.0 ∙ two.empty, three.empty)

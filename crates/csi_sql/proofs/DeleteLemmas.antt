@@ -1,4 +1,4 @@
--- What a DELETE makes of the rows.
+-- The rows after a DELETE.
 use Rattle.std.proofs.Common.{◌≡◌, ◌∙◌, refl, ap, ap₂, subst, ℕ, ℤ, pos, List, [], ◌∷◌, map, filter, Bool, true, false, not, ◌&&◌, Some, slice_get, Ok, IsPermutation}
 use Rattle.std.specs.List.{list_all}
 use Rattle.sqlite.specs.Command.TheVariants.{Delete}

@@ -1,4 +1,4 @@
--- What computes of the texts that make the tables.
+-- The facts about the texts that make the tables, found by computation.
 use Rattle.std.proofs.Common.{refl, arith}
 use Rattle.sqlite.specs.Listing.{understood}
 use Rattle.sqlite_tied.specs.Compute.{everything}
@@ -7,7 +7,7 @@ use Rattle.csi_sql.specs.declared.making.TableStatement.{TableStatement}
 use Rattle.csi_sql.specs.declared.making.TableStatement.TheVariants as step
 use Rattle.csi_sql.specs.facts.Failing.{IsAloneWrite}
 
--- what computes of each text, under the tables before it
+-- the facts about each text that are computed under the tables before it
 pub alone : (s : TableStatement) → IsAloneWrite (step_text s) 0 (understood (schema_before s) (step_text s))
 unfolding understood everything
 alone step.Meta = (omega arith, refl, refl, tt, refl)

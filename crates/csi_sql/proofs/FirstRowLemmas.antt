@@ -1,4 +1,5 @@
--- What the INSERT of the first row makes of meta, and so what each statement makes.
+-- The effect of the INSERT of the first row on meta, and so the effect of each statement that makes the
+-- tables.
 use Rattle.std.proofs.Common.{◌≡◌, ◌∙◌, refl, ap, ℕ, pos, List, [], ◌∷◌, map, arith, Ok}
 use Rattle.sqlite.specs.Command.TheVariants.{Insert}
 use Rattle.sqlite.specs.Edit.{edit_of, put_all}
@@ -23,7 +24,7 @@ use Rattle.csi_sql.proofs.CreateLemmas.{attachments_create, creates, meta_create
 abbrev numeral : ℕ → Term
 numeral n = lit (number_value n)
 
--- the key is the rowid, and its own column is kept as NULL
+-- the key is the rowid, and its own column is stored as NULL
 abbrev first_terms : List Term
 first_terms = numeral 1 ∷ lit Null ∷ numeral LATEST_FORMAT ∷ numeral 1 ∷ []
 

@@ -1,4 +1,4 @@
--- What an INSERT makes of the rows.
+-- The rows after an INSERT.
 use Rattle.std.proofs.Common.{◌≡◌, ◌∙◌, inl, inr, refl, sym, ap, subst, ℕ, pos, List, [], ◌∷◌, map, Bool, true, false, true≢false, cond, not, ◌||◌, ◌&&◌, arith, Ok, IsPermutation, Ordering, Less, Equal, Greater, is_eq}
 use Rattle.std.specs.Cmp.{eq_by_cmp_equiv}
 use Rattle.std.proofs.lemmas.List.Sorted.{IsPermutation-refl, IsPermutation-cons, IsPermutation-trans, IsPermutation-middle, IsPermutation-sym, IsPermutation-map}
@@ -23,7 +23,7 @@ use Rattle.csi_sql.specs.Tables.{schema, attachments, volumes}
 use Rattle.csi_sql.specs.Texts.{text, AddVolume, Attach}
 use Rattle.csi_sql.proofs.TextLemmas.{attach_terms, add_terms, is_command}
 
--- ---- a row that is put where none has its rowid
+-- ---- a row that is put into a table without its rowid
 
 pub put_new : (r : Row) (rows : List Row) → is_taken rows r ≡ false → IsPermutation (r ∷ rows) (put_row r rows)
 put_new r [] free = IsPermutation-refl _
@@ -41,7 +41,7 @@ has_permuted xs ys x same = all_has (Has xs) ys x (all-permutation (Has xs) xs y
 not_taken : (r : Row) (rows : List Row) → is_taken rows r ≡ false → (b : Row) → Has rows b → is_eq (value_cmp (rowid b) (rowid r)) ≡ true → ⊥
 not_taken r rows free b has tied = true≢false (sym (some_from (λ x. is_eq (value_cmp (rowid x) (rowid r))) rows b has tied) ∙ free)
 
--- a new rowid keeps the rowids apart
+-- after a row with a new rowid the rowids are still different
 keyed_new : (see : Row → Row) (r : Row) (rows : List Row) → is_int (rowid r) ≡ true → is_taken rows r ≡ false → AreKeyed see rows → AreKeyed see (put_row r rows)
 keyed_new see r rows int free are = record {
   keyed = λ x has. elim (has_permuted (r ∷ rows) _ x (put_new r rows free) has) [ inl e ↦ ap (λ y. is_int (rowid y)) e ∙ int | inr old ↦ are.keyed x old ];

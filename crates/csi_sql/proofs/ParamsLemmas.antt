@@ -1,4 +1,4 @@
--- What the UPDATE of a volume's params makes of the rows.
+-- The rows after the UPDATE of a volume's params.
 use Rattle.std.proofs.Common.{◌≡◌, ◌∙◌, refl, sym, ap, subst, subst₂, ℕ, ℤ, pos, List, [], ◌∷◌, drop, map, filter, Bool, true, false, not, ◌&&◌, true≢false, arith, Some, Ok, IsPermutation, is_eq, inl}
 use Rattle.std.specs.List.{AllByRecursion}
 use Rattle.std.proofs.lemmas.Cmp.{tied_itself}
@@ -57,7 +57,7 @@ same_itself : (n : ℤ) → is_same (Int n) (Int n) ≡ true
 unfolding binary
 same_itself n = truth_test (is_eq (value_cmp (Int n) (Int n))) ∙ ap is_eq (tied_itself value_cmp_total (Int n))
 
--- ---- new rows that are all the same, and that are put where none has their rowid
+-- ---- new rows that are all the same, put into a table without their rowid
 
 taken_twice : (row : Row) (rows : List Row) → is_taken rows row ≡ false → is_taken (put_row row rows) row ≡ true
 taken_twice row rows free =
@@ -77,7 +77,7 @@ numbered_given : (rows news : List Row) → numbered Given rows news ≡ news
 numbered_given rows [] = refl
 numbered_given rows (r ∷ rs) = ap (λ l. r ∷ l) (numbered_given (put_row r rows) rs)
 
--- ---- the rows that the UPDATE asks for: each after its rowid, as it will be
+-- ---- the rows that the UPDATE asks for: the new row after its rowid
 
 abbrev renewed : List ℕ → Row → Row
 renewed params r = column r 0 ∷ column r 0 ∷ Null ∷ column r 2 ∷ column r 3 ∷ column r 4 ∷ column r 5 ∷ Blob params ∷ []
@@ -85,7 +85,7 @@ renewed params r = column r 0 ∷ column r 0 ∷ Null ∷ column r 2 ∷ column 
 abbrev stored : Row → Row
 stored s = cast_row kept (drop 1 s)
 
--- a row of the table that shows a volume is kept as the volume with the params
+-- a row of the table that shows a volume is stored as the volume with the params
 stored_row : (number : ℕ) (name : List ℕ) (bytes : ℕ) (pool caps was params : List ℕ) (r : Row) → seen_volume r ≡ seen_volume (volume_row number name bytes pool caps was)
     → stored (renewed params r) ≡ volume_row number name bytes pool caps params
 stored_row number name bytes pool caps was params r seen =

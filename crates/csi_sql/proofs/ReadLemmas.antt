@@ -83,7 +83,7 @@ seen_if_shown old new sql c params rows (Some what) inside s =
     let it = s.1.shown in
     record { was_open = it.was_open; is_open = it.is_open; now_is = refl; committed_is = it.committed_is ∙ ap (λ b. if b then old.committed else new.now) inside; mode = it.mode ∙ inside }
 
--- where the SELECT is ours, the database is as it was
+-- if the SELECT is ours, the database is unchanged
 same_if_plain : (old new : State) (sql : List ℕ) (c : Compiled) (params : Row) (rows : List Row) → c.returning ≡ None → ShowsRows old new sql c params rows c.returning → new.now ≡ old.now
 same_if_plain old new sql c params rows none s = (subst (ShowsRows old new sql c params rows) none s).3.0.now_is
 

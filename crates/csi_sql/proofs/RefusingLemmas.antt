@@ -1,4 +1,4 @@
--- Why a statement inside a transaction failed.
+-- The reasons why a statement inside a transaction failed.
 use Rattle.std.proofs.Common.{◌≡◌, ◌⊎◌, ◌∙◌, inl, inr, refl, sym, subst, ℕ, List, [], ◌∷◌, map, true, false, true≢false, Ok, Err, Result, IfErr, IsTrue, IsPermutation}
 use Rattle.std.proofs.lemmas.List.Sorted.{length_permutation}
 use Rattle.sqlite.specs.Listing.{understood}

@@ -1,4 +1,4 @@
--- What a SELECT over one table shows.
+-- The rows that a SELECT over one table shows.
 use Rattle.std.proofs.Common.{◌≡◌, ◌∙◌, refl, sym, ap, subst, ℕ, List, [], ◌∷◌, ◌++◌, map, filter, flat_map, true, false, cond, IsPermutation}
 use Rattle.std.specs.List.{list_all}
 use Rattle.std.proofs.lemmas.List.Sorted.{IsPermutation-map}
@@ -15,7 +15,7 @@ use Rattle.csi_sql.specs.Statements.{plain_query}
 abbrev pub limited : ℕ → List Term → List Term → List (Term × Key) → Term → Query
 limited t test shown order limit = record plain_query { from = inner t end; filter = test; project = shown; order = order; limit = limit }
 
--- and with none
+-- a query over one table, without a limit
 abbrev pub one_table : ℕ → List Term → List Term → List (Term × Key) → Query
 one_table t test shown order = limited t test shown order plain_query.limit
 
@@ -31,7 +31,7 @@ scanned q test params (r ∷ rows) =
     ]
 
 module _ (t : ℕ) (test shown : List Term) (order : List (Term × Key)) (limit : Term) (db : Trees) (params : Row) (rows : List Row) (a : IsAnswer (limited t test shown order limit) db params rows) where
-  -- what there is before the limit
+  -- the rows before the limit
   pub shows_all : IsShownOf (limited t test shown order limit) (db t) params (map (λ (o : Output). o.1) a.ordered)
   shows_all = record {
     ordered = a.ordered;

@@ -62,15 +62,14 @@ shown_from sql params a b c rows plain same h =
       subst (ShowsRows a c sql h.0 full rows) (sym none) (it.0, subst (λ (d : Database). IsSourceOf (reads_listing d.schema sql) d it.0) now it.1, it.2, unchanged_then a b c same it.3),
     )
 
--- ---- why it failed
+-- ---- the reason why a query failed
 
--- a query that is refused on a connection is refused as it was before, of the same database with the same
--- limit
+-- a query that is refused on a connection was refused before too, over the same database with the same limit
 refused_before : (text : List ℕ) (old mid : State) (e : Error) → mid.now ≡ old.now → mid.step_limit ≡ old.step_limit → SqlRefusesToRead text [] mid e → SqlRefusesToRead text [] old e
 refused_before text old mid e now limit why =
     subst (λ (l : Option ℕ). SqlRefusesToRead text [] (record old { step_limit = l }) e) limit (subst (λ (d : Database). SqlRefusesToRead text [] (record old { now = d; step_limit = mid.step_limit }) e) now why)
 
--- after rows that were read
+-- the reason why a query failed after rows were read
 pub behind_rows : (text : List ℕ) (old mid new : State) (e : Error) → IsPlain (understood old.now.schema text) → Survives old mid (λ _. ⊥) → IsUnchanged old mid → FailsToQuery text [] mid new e
     → FailsFor (SqlRefusesToRead text [] old) old new e
 behind_rows text old mid new e plain left same h =
@@ -100,7 +99,7 @@ query_reported text old new e plain (inr (c, it, h)) =
     let shown = rw (bare.0, bare.1, append-nil []) at h in
     inr (inr (c, it.is, shown.0, shown.1, shown.2))
 
--- the same, after rows that were read
+-- as above, after rows were read
 pub reported_after : (text : List ℕ) (old mid new : State) (e : Error) → IsPlain (understood old.now.schema text) → Survives old mid (λ _. ⊥) → IsUnchanged old mid → FailsToQuery text [] mid new e
     → Relays new.blamed e ⊎ SqlRefusesToRead text [] old e
 reported_after text old mid new e plain left same h =
@@ -110,12 +109,12 @@ reported_after text old mid new e plain left same h =
       | inr why ↦ inr (refused_before text old mid e now left.limit why)
     ]
 
--- in the words of a scan
+-- the reason as a reason of a scan
 pub reported_rows : {S : Type 0} (g : Ghosts S) (text : List ℕ) (old : Held S) (new : State) (e : Error) → Relays new.blamed e ⊎ SqlRefusesToRead text [] (state g old) e → Relays new.blamed e ⊎ RefusesRows g text old e
 reported_rows g text old new e (inl relayed) = inl relayed
 reported_rows g text old new e (inr why) = inr (inl why)
 
--- an error that is handed on is no answer
+-- an error that is passed on is no answer
 pub never_ok : {X : Type 0} (r : Result X Error) (e : Error) (P : Type 0) → IsErrAnd r (λ x. x ≡ e) → OnOk r P
 never_ok (Ok x) e P is = absurd is
 never_ok (Err x) e P is = tt
@@ -123,7 +122,7 @@ never_ok (Err x) e P is = tt
 pub one_longer : {X : Type 0} (xs : List X) (x : X) (n : ℕ) → length xs ≡ n → length (xs ++ x ∷ []) ≡ n + 1
 one_longer xs x n h = let e = length-append xs (x ∷ []) in omega (arith, e, h)
 
--- the rows of a query are dropped at the end, and leave the connection as the last one did
+-- the rows of a query are dropped at the end, and leave the connection as the last row left it
 pub dropped : {S F X : Type 0} {g : Ghosts S} {old new : Held S} {folds : F → List Row → F → Type 0} {before after : F} {Refuses : Error → Type 0} {r : Result X Error}
     → (text : List ℕ) (last end : Held S) → end ≡ last → end ≡ new → FoldsOver g old last folds before after (Shown text [] (state g old) (state g last)) Refuses r
     → FoldsOver g old new folds before after (Shown text [] (state g old) (state g new)) Refuses r

@@ -1,4 +1,4 @@
--- A CREATE that makes one of the tables is refused for nothing: that computes of its text and of the tables
+-- A CREATE that makes one of the tables is never refused. This is computed from its text and from the tables
 -- before it.
 use Rattle.std.proofs.Common.{◌≡◌, ◌∙◌, inl, inr, refl, sym, ap, subst, subst₂, arith, ℕ, ◌+◌, ◌*◌, ◌^◌, ◌<◌, ◌≤◌, true, false, true≢false, List, [], length, codes, Option, Some, None, Ok, Err, IsUtf8}
 use Rattle.std.specs.List.{AllByRecursion}

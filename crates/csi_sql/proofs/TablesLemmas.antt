@@ -1,4 +1,4 @@
--- What each CREATE text defines.
+-- The table that each CREATE text defines.
 use Rattle.std.proofs.Common.{◌≡◌, refl, Ok}
 use Rattle.sqlite.specs.Compile.{table_defined_by}
 use Rattle.sqlite_tied.specs.Compute.{everything}

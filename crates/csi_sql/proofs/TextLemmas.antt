@@ -1,4 +1,4 @@
--- The texts of the statements, and what each computes to under the schema.
+-- The texts of the statements, and their compiled forms under the schema.
 use Rattle.std.proofs.Common.{◌≡◌, refl, [], ◌∷◌, arith, codes, length, List, Ok, ℕ}
 use Rattle.sqlite.specs.Command.{Command}
 use Rattle.sqlite.specs.Command.TheVariants.{Insert, Update, Delete}
@@ -31,12 +31,12 @@ use Rattle.csi_sql.specs.Texts.{Write, arity, text, AddVolume, SetNext, SetForma
 abbrev pub attach_terms : List Term
 attach_terms = lit Null ∷ col 0 0 ∷ col 0 1 ∷ col 0 2 ∷ col 0 3 ∷ []
 
--- the number is the rowid, and its own column is kept as NULL
+-- the number is the rowid, and its own column is stored as NULL
 abbrev pub add_terms : List Term
 add_terms = col 0 0 ∷ lit Null ∷ col 0 1 ∷ col 0 2 ∷ col 0 3 ∷ col 0 4 ∷ col 0 5 ∷ []
 
--- an UPDATE asks for the rowid of each row that passes, and for each column's new value: the key's column
--- is kept as NULL
+-- an UPDATE asks for the rowid of each row that passes, and for each column's new value: the key's column is
+-- stored as NULL
 abbrev pub meta_query : Term → Term → Query
 meta_query format next = record plain_query { project = col 1 0 ∷ col 1 0 ∷ lit Null ∷ format ∷ next ∷ [] }
 
@@ -53,7 +53,7 @@ params_query = record plain_query {
   project = col 1 0 ∷ col 1 0 ∷ lit Null ∷ col 1 2 ∷ col 1 3 ∷ col 1 4 ∷ col 1 5 ∷ col 0 1 ∷ [];
 }
 
--- a DELETE asks for the rowids of what passes
+-- a DELETE asks for the rowids of the rows that pass
 abbrev pub remove_query : Query
 remove_query = record plain_query { from = inner 1 end; filter = op2 (Compare Eq Binary) (col 1 0) (col 0 0) ∷ []; project = col 1 0 ∷ [] }
 
@@ -105,7 +105,7 @@ alone w = known.is_alone_write (compiles_write w) (whole_alone w)
 abbrev volume_names : List (List ℕ)
 volume_names = codes "number" ∷ codes "name" ∷ codes "bytes" ∷ codes "pool" ∷ codes "caps" ∷ codes "params" ∷ []
 
--- what the columns are called that a SELECT shows
+-- the names of the columns that a SELECT shows
 abbrev shown_names : Select → List (List ℕ)
 shown_names (Numbered number) = volume_names
 shown_names (Named name) = volume_names
@@ -138,7 +138,7 @@ compiles_number = record { is = refl }
 pub number_select : IsSelect schema number_text number_query
 number_select = known.is_select compiles_number
 
--- nothing but a limit on its steps refuses it
+-- the query is refused only for a limit on its steps
 pub number_sure : IsSure schema number_text ([])
 number_sure = sure_of ([]) number_select (known.is_alone compiles_number refl) (λ limit db e h. only_limit h (λ over. over.4))
 

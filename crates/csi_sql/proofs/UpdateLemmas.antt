@@ -1,4 +1,4 @@
--- What an UPDATE makes of the row of meta.
+-- The row of meta after an UPDATE.
 use Rattle.std.proofs.Common.{◌≡◌, ◌∙◌, refl, ap, subst, ℕ, pos, List, [], ◌∷◌, map, arith, Ok, IsPermutation}
 use Rattle.sqlite.specs.Command.TheVariants.{Update}
 use Rattle.sqlite.specs.Edit.{edit_of, edited}
@@ -25,7 +25,7 @@ one_seen f [] y e = absurd cc
 one_seen f (r ∷ []) y e = (r, refl, cc)
 one_seen f (r ∷ q ∷ rows) y e = absurd cc
 
--- the one row of meta, where the terms that are set are numbers
+-- the one row of meta, if the terms that are set are numbers
 module _ (text : List ℕ) (params : Row) (format next : Term) (command : IsCommand text (Update 0 (record { lets = []; body = meta_query format next }))) (old new : State) (count : ℕ) (has : old.now.schema ≡ schema)
     (h : Executes text params old new (Ok count)) (was_format was_next is_format is_next : ℕ) (sets_format : (r : Row) → seen_meta r ≡ meta_row was_format was_next → eval format (params ∷ r ∷ []) ≡ number_value is_format)
     (sets_next : (r : Row) → seen_meta r ≡ meta_row was_format was_next → eval next (params ∷ r ∷ []) ≡ number_value is_next) where

@@ -1,4 +1,4 @@
--- What a value of a row is in the words of the code.
+-- A value of a row as a number, a text, a blob or a flag of the code.
 use Rattle.std.specs.Prelude.{ℕ, zero, suc, Bool, true, false, pos, List, Option, Some, None}
 use Rattle.sqlite.specs.declared.types.Value.{Value}
 use Rattle.sqlite.specs.declared.types.Value.TheVariants.{Int, Text, Blob}

@@ -1,4 +1,4 @@
--- Rows that a DELETE takes away: a filter of the table.
+-- The rows that a DELETE removes: the table is filtered.
 use Rattle.std.specs.Prelude.{◌≡◌, ◌≢◌, ℕ, Bool, not, ◌&&◌, ◌∷◌, [], List, filter, pos}
 use Rattle.std.specs.List.{AllByRecursion}
 use Rattle.sqlite.specs.Collation.TheVariants.{Binary}
@@ -15,19 +15,19 @@ use Rattle.csi_sql.specs.Effects.{AreKeyed}
 abbrev pub is_same : Value → Value → Bool
 is_same a b = is_true (binary (Compare Eq Binary) a b)
 
--- an attachment of the volume at the node
+-- the row is an attachment of the volume at the node
 abbrev pub is_place : ℕ → List ℕ → Row → Bool
 is_place number node r = is_same (column r 1) (Int (pos number)) && is_same (column r 2) (Text node)
 
--- an attachment of the volume
+-- the row is an attachment of the volume
 abbrev pub is_of : ℕ → Row → Bool
 is_of number r = is_same (column r 1) (Int (pos number))
 
--- the volume of the number
+-- the row is the volume with the number
 abbrev pub is_numbered : ℕ → Row → Bool
 is_numbered number r = is_same (column r 0) (Int (pos number))
 
--- the rows of the table that pass are gone, and no other
+-- the rows of the table that pass are removed, and no other row is
 pub record Drops (tree : ℕ) (see : Row → Row) (pass : Row → Bool) (old new : Database) : Type 0 where
   pub schema : new.schema ≡ old.schema
   pub sound : IsDatabase new

@@ -1,4 +1,4 @@
--- Why a call on a connection fails.
+-- The reasons why a call on a connection fails.
 use Rattle.std.specs.Prelude.{◌≡◌, ◌⊎◌, ℕ, false, List, IsTrue, IsSome, Some, None, Result, Ok, Err, IfErr}
 use Rattle.sqlite.specs.Does.{Does}
 use Rattle.sqlite.specs.Effect.{Database, RefusesToRead}
@@ -18,7 +18,7 @@ use Rattle.sqlite_resolve.specs.declared.compiled.Compiled.{Compiled}
 -- can be seen.
 pub data FailsFor (Refuses : Error → Type 0) (old new : State) (e : Error) : Type 0 where
   for_memory : e ≡ SqliteFailure OutOfMemory → FailsFor Refuses old new e
-  -- the disk failed once more since
+  -- the disk failed since the call began
   by_disk : IsTrue (is_disk_error e) → MoreFaults old.faults new.faults → FailsFor Refuses old new e
   -- a fault had shut the connection
   as_shut : e ≡ SqliteFailure Closed → old.is_open ≡ false → FailsFor Refuses old new e
@@ -27,7 +27,7 @@ pub data FailsFor (Refuses : Error → Type 0) (old new : State) (e : Error) : T
   -- the request is refused
   as_refused : Refuses e → FailsFor Refuses old new e
 
--- SQL's rules refuse what the text does with the parameters to the database, or a row of it is too big to be
+-- SQL's rules refuse the statement of the text with these parameters, or one of its rows is too big to be
 -- stored
 abbrev pub SqlRefuses : List ℕ → Row → State → Error → Type 0
 SqlRefuses text params s e =
@@ -35,23 +35,23 @@ SqlRefuses text params s e =
     × (Does s.step_limit (mode_of s) params s.now (text_of text c) c.returning c.command (Err (Some e))
     ⊎ ((e ≡ SqliteFailure TooBig) × Does s.step_limit (mode_of s) params s.now (text_of text c) c.returning c.command (Err None)))
 
--- a SELECT is none, or SQL's rules refuse what it reads of the database
+-- the text is no statement, or SQL's rules refuse its read of the database
 abbrev pub SqlRefusesToRead : List ℕ → Row → State → Error → Type 0
 SqlRefusesToRead text params s e =
     IsNoStatement s text params e
     ⊎ ((c : Compiled) × (understood s.now.schema text ≡ Ok c) × (db : Database) × IsSourceOf (reads_listing s.now.schema text) s.now db
     × RefusesToRead s.step_limit c.command db params e)
 
--- nothing refuses it
+-- no error: nothing is refused
 abbrev pub Unrefused : Error → Type 0
 Unrefused e = ⊥
 
 module _ (before : Schema) (Refuses : State → Error → Type 0) (old new : State) where
-  -- a call that was answered an error, over tables of a schema
+  -- a call that returned an error, over tables of a schema
   abbrev pub FailsOver : {X : Type 0} → Result X Error → Type 0
   FailsOver r = old.now.schema ≡ before → IfErr r (FailsFor (Refuses old) old new)
 
 module _ {S : Type 0} (g : Ghosts S) (old new : Held S) where
-  -- a statement that was answered an error inside a transaction
+  -- a statement that returned an error inside a transaction
   abbrev pub FailsFrom : {X : Type 0} → Schema → (State → Error → Type 0) → Result X Error → Type 0
   FailsFrom before Refuses r = HasCleanDisk (state g new) → IsTrue old.in_transaction → FailsOver before Refuses (state g old) (state g new) r

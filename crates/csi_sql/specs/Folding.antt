@@ -1,4 +1,4 @@
--- A query whose rows are folded one by one: what the fold becomes, and why it fails.
+-- A query whose rows are folded one by one: the fold after it, or the reason why it fails.
 use Rattle.std.specs.Prelude.{◌≡◌, ◌⊎◌, ℕ, ◌-◌, ◌≤◌, ◌^◌, [], List, length, IfErr, OnOk, Result, Ok, Err}
 use Rattle.sqlite.specs.Given.{HasGiven}
 use Rattle.sqlite.specs.Held.{Held, state}
@@ -11,13 +11,13 @@ use Rattle.sqlite.specs.declared.error.ErrorCode.TheVariants.{OperationInterrupt
 use Rattle.csi_sql.specs.Failing.{SqlRefusesToRead, FailsFor}
 use Rattle.csi_sql.specs.Transactions.{LeavesNothingNew}
 
--- only by want of memory
+-- the call fails only for want of memory
 abbrev pub FailsForMemory : {X : Type 0} → Result X Error → Type 0
 FailsForMemory (Ok x) = Unit {0}
 FailsForMemory (Err error) = error ≡ SqliteFailure OutOfMemory
 
 module _ {S : Type 0} (g : Ghosts S) (text : List ℕ) (old : Held S) where
-  -- the query gave as many rows as are read at most
+  -- the query gave 2 ^ 64 - 1 rows or more, and no more rows are read
   abbrev pub GivesTooMany : Error → Type 0
   GivesTooMany e =
       (e ≡ SqliteFailure OperationInterrupted)
@@ -31,13 +31,13 @@ module _ {S : Type 0} (g : Ghosts S) (text : List ℕ) (old : Held S) where
 abbrev pub HasFolded : {F : Type 0} → (F → List Row → F → Type 0) → F → F → (List Row → Type 0) → Type 0
 HasFolded folds old new What = (rows : List Row) × What rows × folds old rows new
 
--- A call that folds the rows that a query gives: what the rows are, and why it fails. The database stays, and
--- a stop leaves what it could leave before.
+-- A call that folds the rows that a query gives: the property of the rows, or the reason why it fails. The
+-- database stays, and a stop leaves only what it could leave before.
 module _ {S F : Type 0} (g : Ghosts S) (old new : Held S) (folds : F → List Row → F → Type 0) (before after : F) where
   pub record FoldsOver {X : Type 0} (What : List Row → Type 0) (Refuses : Error → Type 0) (r : Result X Error) : Type 0 where
     pub ok : HasCleanDisk (state g new) → OnOk r (HasFolded folds before after What)
     pub failed : HasCleanDisk (state g new) → IfErr r (FailsFor Refuses (state g old) (state g new))
-    -- which error of the disk it was: as the store named it, where it keeps that
+    -- the error of the disk, as the store named it, if the store keeps it
     pub reported : HasCleanDisk (state g new) → IfErr r (λ e. Relays (state g new).blamed e ⊎ Refuses e)
     pub same : HasCleanDisk (state g new) → OnOk r (IsUnchanged (state g old) (state g new))
     pub kept : HasCleanDisk (state g new) → KeepsCommit (state g old) (state g new)

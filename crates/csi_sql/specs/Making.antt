@@ -27,7 +27,7 @@ pub record AddsFirst (old new : Database) : Type 0 where
   pub volumes : new.trees 1 ≡ old.trees 1
   pub attachments : new.trees 3 ≡ old.trees 3
 
--- each statement that makes the tables: its text, the schema that it meets, and what it makes
+-- each statement that makes the tables: its text, the schema before it, and its effect
 abbrev pub step_text : TableStatement → List ℕ
 step_text step.Meta = meta_text
 step_text step.Volumes = volumes_text
@@ -46,7 +46,7 @@ StepMakes step.Volumes = Creates one_schema volumes
 StepMakes step.Attachments = Creates two_schema attachments
 StepMakes step.First = AddsFirst
 
--- the three tables are there, with the first row of meta, no volume and no attachment
+-- the three tables exist, with the first row of meta, no volume and no attachment
 pub record MakesTables (old new : Database) : Type 0 where
   pub schema : new.schema ≡ schema
   pub sound : IsDatabase new
@@ -54,10 +54,10 @@ pub record MakesTables (old new : Database) : Type 0 where
   pub volumes : new.trees 1 ≡ []
   pub attachments : new.trees 3 ≡ []
 
--- the tables, without rows
+-- the three tables exist, and have no rows
 abbrev pub HasNoRow : Database → Type 0
 HasNoRow db = (db.schema ≡ schema) × (db.trees 0 ≡ []) × (db.trees 1 ≡ []) × (db.trees 3 ≡ [])
 
--- on an open connection the row of meta is refused, after the tables, which nothing refuses
+-- on an open connection the first row of meta is refused; the tables before it are never refused
 abbrev pub RefusesTables : State → Error → Type 0
 RefusesTables s e = IsTrue s.is_open × (db : Database) × HasNoRow db × SqlRefuses first_text [] (record s { now = db }) e

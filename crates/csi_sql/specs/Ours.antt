@@ -1,4 +1,4 @@
--- The parts of our schema, as a schema that was read from a file is compared with them.
+-- The parts of our schema, in the form in which a schema that was read from a file is compared with them.
 use Rattle.std.specs.Prelude.{◌≡◌, ℕ, Some, slice_get, Bool, [], ◌∷◌, List, true, false, pos, codes}
 use Rattle.sqlite.specs.Collation.TheVariants.{Binary}
 use Rattle.sqlite.specs.declared.types.Value.TheVariants.{Null, Int}
@@ -17,8 +17,8 @@ use Rattle.csi_sql.specs.Tables.{meta, volumes, attachments}
 abbrev pub plain_column : List ℕ → Kind → Bool → Column
 plain_column name kind full = record { name = name; kind = kind; is_strict = false; not_null = full; default = Null; collation = Binary }
 
--- a table of the name over the tree, without a reference, a computed default, a stamp or a counter of
--- rowids: our tables have none of these
+-- a table with this name and tree, without a reference, a computed default, a stamp or a counter of rowids:
+-- our tables have none of these
 pub record IsBare (name : List ℕ) (tree : ℕ) (t : Table) : Type 0 where
   pub name_is : t.name ≡ name
   pub tree_is : t.tree ≡ tree
@@ -27,14 +27,14 @@ pub record IsBare (name : List ℕ) (tree : ℕ) (t : Table) : Type 0 where
   pub stamps : t.stamps ≡ record { places = []; terms = []; formats = [] }
   pub counted : t.is_counted ≡ false
 
--- the primary key, one other key with an index that ascends, and no CHECK
+-- the table has this primary key, one other key with an ascending index, and no CHECK
 pub record HasKeys (primary unique : List ℕ) (t : Table) : Type 0 where
   pub primary_is : t.primary ≡ primary
   pub uniques : t.uniques ≡ unique ∷ []
   pub orders : t.orders ≡ plain ∷ []
   pub checks : t.checks ≡ []
 
--- the nodes at a place of a plan say that the first column is 1
+-- the nodes of a plan at `root` test that the first column is 1
 abbrev pub IsKeyCheck : List Op → ℕ → Type 0
 IsKeyCheck ops root =
     (a : ℕ) × (b : ℕ)
@@ -42,7 +42,7 @@ IsKeyCheck ops root =
     × (slice_get ops a ≡ Some (NodeColumn 1 0))
     × (slice_get ops b ≡ Some (Literal (Int (pos 1))))
 
--- the index that is after a UNIQUE or a PRIMARY KEY
+-- the index that belongs to a UNIQUE or a PRIMARY KEY
 abbrev pub unique_index : List ℕ → ℕ → ℕ → List ℕ → Index
 unique_index name tree table columns = record { name = name; tree = tree; table = table; columns = columns; order = plain; is_unique = true }
 

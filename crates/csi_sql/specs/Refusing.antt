@@ -1,5 +1,6 @@
--- Why statements and transactions over the tables are refused: a change by SQL's rules, as where a number or
--- a name already exists, or for the size of a row; a read for nothing but a meta without a row.
+-- The reasons why statements and transactions over the tables are refused. A change is refused by SQL's
+-- rules, for example if a number or a name already exists, or for the size of a row. A read is refused only
+-- if meta has no row.
 use Rattle.std.specs.Prelude.{◌≡◌, ◌⊎◌, ℕ, [], ◌∷◌, List}
 use Rattle.sqlite.specs.Effect.{Database}
 use Rattle.sqlite.specs.Order.{Row}
@@ -21,7 +22,7 @@ RefusesVolume row s e = SqlRefuses (text AddVolume) (seen_volume row) s e
 abbrev pub RefusesNext : ℕ → State → Error → Type 0
 RefusesNext next s e = SqlRefuses (text SetNext) (number_value next ∷ []) s e
 
--- the row is refused, or the next number once the row is there
+-- the row is refused, or the next number is refused after the row was added
 abbrev pub RefusesNumbered : Row → ℕ → State → Error → Type 0
 RefusesNumbered row next s e = RefusesVolume row s e
     ⊎ ((db : Database) × (s.now.schema ≡ schema → AddsVolume row s.now db) × RefusesNext next (record s { now = db }) e)

@@ -1,4 +1,4 @@
--- The SELECTs of rows: their texts and parameters, the queries that they are, and what they say.
+-- The SELECTs of rows: their texts, their parameters, their queries, and the rows that they show.
 use Rattle.std.specs.Prelude.{◌<◌, ◌^◌, ℕ, [], ◌∷◌, codes, List}
 use Rattle.sqlite.specs.Effect.{Database}
 use Rattle.sqlite.specs.Order.{Row}
@@ -37,7 +37,7 @@ query (Nodes number) = nodes_query
 query (Attached node) = attached_query
 query (Places after last) = places_query
 
--- numbers that SQL has
+-- the numbers in the SELECT are numbers that SQL has
 abbrev pub IsAsked : Select → Type 0
 IsAsked (Numbered number) = number < 2 ^ 63
 IsAsked (Page after count) = after < 2 ^ 63
@@ -47,7 +47,7 @@ IsAsked (Named name) = Unit {0}
 IsAsked (Sizes pool) = Unit {0}
 IsAsked (Attached node) = Unit {0}
 
--- what each read says of the rows
+-- the rows that each SELECT shows of the database
 abbrev pub Reports : Select → Database → List Row → Type 0
 Reports (Page after count) db rows = IsBeginningOf page_query (db.trees 1) (number_value after ∷ number_value count ∷ []) count rows
 Reports (Numbered number) db rows = IsShownOf volume_query (db.trees 1) (number_value number ∷ []) rows

@@ -1,4 +1,4 @@
--- What a SELECT over one table shows of its rows.
+-- The rows that a SELECT over one table shows.
 use Rattle.std.specs.Prelude.{◌≡◌, ℕ, List, [], ◌∷◌, ◌-◌, Option, length, map, filter, take, slice_get, option_and_then, unwrap_or, IsPermutation, IsSorted}
 use Rattle.std.specs.List.{list_all}
 use Rattle.sqlite.specs.Effect.{Database}
@@ -10,22 +10,22 @@ use Rattle.csi_sql.specs.Cells.{as_number}
 use Rattle.csi_sql.specs.Rows.{number_value}
 use Rattle.csi_sql.specs.Statements.{page_query, places_query}
 
--- the columns shown of each row that passes, in an order that ORDER BY allows; LIMIT is ignored
+-- the shown columns of each row that passes, in an order that ORDER BY allows; LIMIT is ignored
 pub record IsShownOf (q : Query) (rows : List Row) (params : Row) (shown : List Row) : Type 0 where
   pub ordered : List Output
   pub same : IsPermutation (map (λ r. output q (params ∷ r ∷ [])) (filter (λ r. list_all (holds (params ∷ r ∷ [])) q.filter) rows)) ordered
   pub sorted : IsSorted (output_cmp q) ordered
   pub shown_is : shown ≡ map (λ (o : Output). o.1) ordered
 
--- the first of them, if there is one
+-- the first row that the SELECT shows, if there is one
 abbrev pub IsFoundBy : Query → List Row → Row → Option Row → Type 0
 IsFoundBy q rows params found = (shown : List Row) × IsShownOf q rows params shown × (found ≡ slice_get shown 0)
 
--- at most `count` of them
+-- the first rows that the SELECT shows, at most `count`
 abbrev pub IsBeginningOf : Query → List Row → Row → ℕ → List Row → Type 0
 IsBeginningOf q rows params count shown = (all : List Row) × IsShownOf q rows params all × (shown ≡ take count all)
 
--- a page of volumes: those with a greater number
+-- a page of volumes: the volumes with a greater number
 abbrev pub IsPage : ℕ → ℕ → Database → List Row → Type 0
 IsPage after count db shown = IsBeginningOf page_query (db.trees 1) (number_value after ∷ number_value count ∷ []) count shown
 
@@ -38,6 +38,6 @@ pub record IsPageWithNodes (after count : ℕ) (db : Database) (volumes places :
   pub shown : IsPage after count db volumes
   pub placed : IsShownOf places_query (db.trees 3) (number_value after ∷ number_value (last_number after volumes) ∷ []) places
 
--- the one cell is the next number of a row of meta, for every format
+-- the row has one value: the next number of a row of meta, for every format
 abbrev pub IsNext : Database → Row → Type 0
 IsNext db row = (kept : Row) × Has (db.trees 0) kept × (row ≡ column kept 3 ∷ [])

@@ -11,7 +11,7 @@ pub data Write : Type 0 where
   Detach : Write
   DetachAll : Write
 
--- the text, and how many parameters it has
+-- the text, and the number of its parameters
 abbrev pub asks : Write → List ℕ × ℕ
 asks AddVolume = (codes "INSERT INTO volumes (number, name, bytes, pool, caps, params) VALUES (?1, ?2, ?3, ?4, ?5, ?6)", 6)
 asks SetNext = (codes "UPDATE meta SET next_number = ?1", 1)

@@ -1,4 +1,4 @@
--- What a statement, and a whole transaction, makes of a database under a schema.
+-- The database after a statement, and after a whole transaction, under a schema.
 use Rattle.std.specs.Prelude.{◌≡◌, true, IsTrue, Result, OnErr, OnOk}
 use Rattle.sqlite.specs.declared.error.Error.{Error}
 use Rattle.sqlite.specs.Effect.{Database}
@@ -22,18 +22,18 @@ module _ (before : Schema) (Effect : Database → Database → Type 0) (old new 
     pub committed : new.committed ≡ new.now
     pub effect : old.now.schema ≡ before → Effect old.now new.now
 
--- a transaction that was undone; of a connection that a fault has shut nothing is said
+-- a transaction that was undone; nothing is stated for a connection that a fault has shut
 pub record IsUndone (old new : State) : Type 0 where
   pub was_open : IsTrue new.is_open → IsTrue old.is_open
   pub now : IsTrue new.is_open → new.now ≡ old.committed
   pub committed : IsTrue new.is_open → new.committed ≡ old.committed
 
--- what a stop in the commit may leave next to what it could leave before
+-- a database that a stop in the commit may leave in addition
 abbrev pub LeavesFrom : Schema → (Database → Database → Type 0) → State → Trees → Type 0
 LeavesFrom before Effect old trees = IsTrue old.is_open × (db : Database) × (old.now.schema ≡ before → Effect old.now db) × (trees ≡ db.trees)
 
 module _ {S : Type 0} (g : Ghosts S) (old new : Held S) where
-  -- a statement that was answered Ok inside a transaction
+  -- a statement that succeeded inside a transaction
   abbrev pub RunsFrom : {X : Type 0} → Schema → (Database → Database → Type 0) → Result X Error → Type 0
   RunsFrom before Effect r = HasCleanDisk (state g new) → IsTrue old.in_transaction → OnOk r (StepsFrom before Effect (state g old) (state g new))
 
@@ -41,12 +41,12 @@ module _ {S : Type 0} (g : Ghosts S) (old new : Held S) where
   abbrev pub KeepsCommitted : Type 0
   KeepsCommitted = HasCleanDisk (state g new) → IsTrue old.in_transaction → KeepsCommit (state g old) (state g new)
 
-  -- a stop leaves what it could leave before
+  -- a stop leaves only what it could leave before
   abbrev pub LeavesNothingNew : Type 0
   LeavesNothingNew = Survives (state g old) (state g new) (λ _. ⊥)
 
-  -- A statement inside a transaction: what it makes of tables of a schema, why it fails, and that nothing is
-  -- committed.
+  -- A statement inside a transaction: its effect on tables of a schema, or the reason why it fails. Nothing
+  -- is committed.
   pub record RunsOver {X : Type 0} (before : Schema) (Effect : Database → Database → Type 0) (Refuses : State → Error
       → Type 0) (r : Result X Error) : Type 0 where
     pub ok : RunsFrom before Effect r

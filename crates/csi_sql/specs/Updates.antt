@@ -1,4 +1,4 @@
--- What an UPDATE makes of a volume: its row out, and its row with the new value in.
+-- An UPDATE of a volume: its old row is removed, and its row with the new value is added.
 use Rattle.std.specs.Prelude.{◌≡◌, ℕ, not, [], ◌∷◌, List, map, filter, IsPermutation}
 use Rattle.sqlite.specs.Effect.{Database, IsDatabase}
 use Rattle.sqlite_rules.specs.Lists.{Has}
@@ -6,8 +6,8 @@ use Rattle.csi_sql.specs.Deletes.{is_numbered}
 use Rattle.csi_sql.specs.Effects.{AreKeyed}
 use Rattle.csi_sql.specs.Rows.{seen_volume, volume_row}
 
--- the volume of the number has the params, and each other is as it was; where none has the number nothing
--- changes
+-- the volume with the number has the params, and every other volume is unchanged; if no volume has the
+-- number, nothing changes
 pub record SetsParams (number : ℕ) (params : List ℕ) (old new : Database) : Type 0 where
   pub schema : new.schema ≡ old.schema
   pub sound : IsDatabase new

@@ -1,4 +1,4 @@
--- Lists of values that were read of rows, one a row.
+-- Lists of values that were read from rows, one value from each row.
 use Rattle.std.proofs.Common.{◌≡◌, ◌∙◌, refl, sym, ap, arith, ℕ, zero, suc, ◌+◌, ◌<◌, List, [], ◌∷◌, ◌++◌, map, take, length, get_or, Bool, true, false, Some, Result, Err, add-one}
 use Rattle.std.proofs.lemmas.Result.{err_from_is_err_and}
 use Rattle.std.specs.List.{AllByRecursion}
@@ -34,7 +34,7 @@ module _ {E : Type 0} (entry : E → Row) (P : E → Type 0) where
       go (e ∷ es) zero all low = (e, all.0, refl)
       go (e ∷ es) (suc i) all low = go es i all.1 (omega (arith, low))
 
--- the same, of any values
+-- as above, for any values
 pub entry_of : {E : Type 0} (entry : E → Row) (rows : List Row) (es : List E) (i : ℕ) (d : Row) → i < length rows → rows ≡ map entry es → (e : E) × (get_or rows i d ≡ entry e)
 entry_of entry rows es i d low are = let it = go es i low' in (it.0, ap (λ rs. get_or rs i d) are ∙ it.1)
   where
@@ -46,6 +46,6 @@ entry_of entry rows es i d low are = let it = go es i low' in (it.0, ap (λ rs. 
     go (e ∷ es) zero low = (e, refl)
     go (e ∷ es) (suc i) low = go es i (omega (arith, low))
 
--- what a `?` hands on as it came
+-- a `?` passes on the error unchanged
 pub handed_on : {X Y F : Type 0} (r : Result X F) (s : Result Y F) (e f : F) → IsErrAnd r (λ y. y ≡ e) → r ≡ Err f → s ≡ Err e → s ≡ Err f
 handed_on r s e f and is was = let p = err_from_is_err_and r and in let q : Err p.0 ≡ Err f = sym p.1 ∙ is in let same : p.0 ≡ f = cc in was ∙ ap Err (sym p.2 ∙ same)

@@ -1,4 +1,4 @@
--- What a change over a connection does, from what the calls below it do.
+-- The effect of a change over a connection, from the effects of the calls below it.
 use Rattle.std.proofs.Common.{◌≡◌, ◌∙◌, refl, arith, IsTrue, Result, Ok, Err, OnOk, OnErr}
 use Rattle.std.specs.Result.{IsErrAnd}
 use Rattle.sqlite.specs.Effect.{Database}
@@ -83,7 +83,7 @@ module _ {S X : Type 0} {g : Ghosts S} {old new : Held S} {Why : Type 0} where
     limit = h.limit;
   }
 
--- by one transaction
+-- a change that is made by one transaction
 module _ {S : Type 0} (g : Ghosts S) (back : ReadsBack) (change : Change) (Effect : Database → Database → Type 0) (keeps : (old new : Database) → Effect old new → new.schema ≡ old.schema)
     (steps : (s : State) (db after : Database) → db.schema ≡ schema → IsRows s db.trees → Allows s change → Effect db after → IsRows (changed s change) after.trees)
     {X Y : Type 0} {old new : Held S} {Refuses : sql.State → Error → Type 0} {Why : Type 0} where
@@ -98,7 +98,7 @@ module _ {S : Type 0} (g : Ghosts S) (back : ReadsBack) (change : Change) (Effec
     limit = h.survives.limit;
   }
 
--- by one transaction after a read
+-- a change that is made by one transaction after a read
 module _ {S : Type 0} (g : Ghosts S) (back : ReadsBack) (change : Change) (Effect : Database → Database → Type 0) (keeps : (old new : Database) → Effect old new → new.schema ≡ old.schema)
     {X Y Z : Type 0} {before old new : Held S} {What : State → Z → Type 0} {z : Result Z TablesFault} (read : ConnReads g before old What z) {Refuses : sql.State → Error → Type 0} {Why : Type 0}
     (steps : HasCleanDisk (state g new) → (s : State) → conn_holds g before s → (db after : Database) → db.schema ≡ schema → IsRows s db.trees → Allows s change → Effect db after → IsRows (changed s change) after.trees) where

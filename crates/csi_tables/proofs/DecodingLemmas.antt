@@ -18,7 +18,7 @@ use Rattle.csi_keeper.specs.declared.capability.Kind.TheVariants.{Block, Mount}
 use Rattle.csi_columns.specs.facts.Keys.{some_key}
 use Rattle.csi_columns.specs.Encoding.{with_caps, with_params, caps_bytes, params_bytes, AreKnown, FitCaps, FitParams, ReadsBack}
 
--- ---- the key that a capability was made of
+-- ---- the key that a capability was made from
 
 kind_back : Access → Kind
 kind_back access.Missing = Block
@@ -69,7 +69,7 @@ pub params_back : ReadsBack → (p m : TextMap) → FitParams p m → params_in 
 unfolding params_bytes FitParams params_in params_of
 params_back back p m fit = ap params_of (back (with_params p m) fit)
 
--- ---- what the program reads
+-- ---- bytes that the program reads
 
 same_keys : (ks js : List CapKey) → map Some js ≡ map key_of (map capability_of ks) → js ≡ ks
 same_keys [] [] e = refl
@@ -106,7 +106,7 @@ params_read back bytes v read p m fit is =
     let same = made_of bytes v (with_params p m) read (ap (read_request CreateVolume) is ∙ back (with_params p m) fit) in
     ap parameters_of same
 
--- ---- what the program does not read
+-- ---- bytes that the program does not read
 
 known_key : (b : Bool) (k : CapKey) → b ≡ true → key_with (access_of k.kind) (cond b (Some k.mode) None) ≡ Some k
 known_key false k e = absurd (cc)

@@ -1,4 +1,4 @@
--- What the clauses on rows say of the State.
+-- The clauses on rows, as facts about the State.
 use Rattle.std.proofs.Common.{◌≡◌, inl, inr, ◌∙◌, refl, sym, ap, subst, IsTrue, arith, Result, Ok, Err, OnOk, OnErr}
 use Rattle.sqlite.specs.Effect.{Database}
 use Rattle.sqlite.specs.Held.{Held, state}

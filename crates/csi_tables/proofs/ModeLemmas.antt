@@ -1,4 +1,4 @@
--- A State of the invariant has known modes.
+-- A State that meets the invariant has only known modes.
 use Rattle.std.proofs.Common.{◌≡◌, pos, true, ◌&&◌, Bool, false, refl, List, [], ◌∷◌, Some}
 use Rattle.std.specs.FinMap as fin
 use Rattle.std.specs.List.{list_all}

@@ -62,7 +62,7 @@ first_totals : (totals : Totals) → ((q : Text) → total_of totals q ≡ zero_
 first_totals totals none pool = none pool ∙ sym (ap (λ (es : List (ℕ × Volume)). the_total (length (in_order es pool)) (sum (in_order es pool))) no_volumes)
 
 module _ {S : Type 0} (g : Ghosts S) (back : ReadsBack) (settled : (s : S) (db : Trees) → IsTrue (g.view s).is_open → g.recovers s db → db ≡ (g.view s).committed) (old : Held S) (new : Tables S) where
-  -- tables that were made and committed, and totals of nothing
+  -- tables that were made and committed, and zero totals
   pub is_new_over : (HasCleanDisk (state g new.conn) → ChangesFrom no_schema MakesTables (state g old) (state g new.conn))
       → Survives (state g old) (state g new.conn) (LeavesFrom no_schema MakesTables (state g old)) → ((q : Text) → total_of new.totals q ≡ zero_total)
       → new.health.is_down ≡ false → new.health.refusals ≡ 0 → IsNewOver g old new

@@ -1,4 +1,4 @@
--- What the two queries of a page's nodes show of the State.
+-- The rows that the two queries of a page's nodes show of the State.
 use Rattle.std.proofs.Common.{◌≡◌, ◌∙◌, refl, sym, ap, ap₂, subst, arith, ℕ, zero, suc, ◌-◌, ◌<◌, ◌≤◌, ◌==◌, ◌&&◌, pos, Bool, true, false, cond, List, [], ◌∷◌, map, filter, take, length, slice_get, unwrap_or, option_and_then, Some, Ordering, Less, Equal, Greater, is_le, nat_lt, nat_le}
 use Rattle.std.specs.FinMap.{entries}
 use Rattle.std.specs.List.{AllByRecursion}
@@ -96,12 +96,12 @@ up_to_last : (n : ℕ) (es : List (ℕ × Volume)) → AreRising (numbers_of es)
 up_to_last n [] up = tt
 up_to_last n (e ∷ es) up = subst (λ (l : ℕ). AllByRecursion (λ k. k ≤ l) (numbers_of (e ∷ es))) (sym (last_is n e es)) (all_below e.0 (numbers_of es) up)
 
--- ---- the nodes of one number, and of each
+-- ---- the nodes of one number, and of each number
 
 stays : ℕ → ℕ → AttachmentKey × Attachment → Bool
 stays after last e = nat_lt after e.0.0 && nat_le e.0.0 last
 
--- the places of a number between the two are the State's
+-- the places with a number between the two bounds are the State's
 nodes_here : (after last n : ℕ) → after < n → n ≤ last → (es : List (AttachmentKey × Attachment)) → AllByRecursion IsPlaced es
     → nodes_at (map (λ e. e.0) (filter (stays after last) es)) n ≡ map (λ a. a.node) (map (λ e. e.1) (filter (λ e. e.0.0 == n) es))
 unfolding stays
@@ -125,7 +125,7 @@ map_on f g [] all = refl
 map_on f g (e ∷ es) all = ap₂ ◌∷◌ all.0 (map_on f g es all.1)
 
 module _ (s : State) (db : Trees) (p : IsRows s db) where
-  -- the volumes after a number
+  -- the volumes with a greater number
   behind : ℕ → ℕ → List (ℕ × Volume)
   behind after count = take count (filter (λ e. nat_lt after e.0) (entries s.volumes))
 

@@ -69,7 +69,7 @@ module _ (rows : List Row) (ps : List AttachmentKey) (i : ℕ) (d : Row) (low : 
   unfolding place_at
   one_more_place = take_one ps i (0, []) small
 
-  -- what the cells of its row are read as
+  -- the values that are read from the cells of the place's row
   module _ (is : d ≡ get_or rows i d) where
     pub number_at : (n : ℕ) → column d 0 ≡ number_value n → place_at.0 ≡ n
     number_at n read = let e : number_value place_at.0 ≡ number_value n = sym (ap (λ (r : Row). column r 0) (is ∙ place_is)) ∙ read in cc
@@ -86,7 +86,7 @@ one_here n p is = let same : (p.0 == n) ≡ true = grind (arith, nat_tests, is) 
 none_here : (n : ℕ) (p : AttachmentKey) (ps : List AttachmentKey) → (p.0 ≡ n → ⊥) → nodes_at (p ∷ ps) n ≡ nodes_at ps n
 none_here n p ps far = ap (λ b. map (λ (p : AttachmentKey). p.1) (cond b (p ∷ filter (λ p. p.0 == n) ps) (filter (λ p. p.0 == n) ps))) (numbers_differ p.0 n far)
 
--- one place more, of this number and of another
+-- one more place, with this number or with another
 pub nodes_more : (n : ℕ) (ps : List AttachmentKey) (p : AttachmentKey) (nodes : List Text) → p.0 ≡ n → nodes ≡ nodes_at ps n → nodes ++ p.1 ∷ [] ≡ nodes_at (ps ++ p ∷ []) n
 nodes_more n ps p nodes is read = ap₂ (λ xs ys. xs ++ ys) read (sym (one_here n p is)) ∙ sym (nodes_append n ps (p ∷ []))
 
@@ -101,13 +101,13 @@ all_beyond : (n : ℕ) (p : AttachmentKey) (ps : List AttachmentKey) → n < p.0
 all_beyond n p [] low all = tt
 all_beyond n p (q ∷ ps) low all = (let h = all.0 in omega (arith, low, h), all_beyond n p ps low all.1)
 
--- after a place of a greater number all have greater ones
+-- after a place with a greater number all places have a greater number
 pub rest_beyond : (n : ℕ) (ps : List AttachmentKey) (i : ℕ) (d : AttachmentKey) → IsRisen ps → i < length ps → n < (get_or ps i d).0 → AllByRecursion (λ p. n < p.0) (drop i ps)
 rest_beyond n [] i d up low more = absurd (omega (arith, low))
 rest_beyond n (p ∷ ps) zero d up low more = (more, all_beyond n p ps more up.0)
 rest_beyond n (p ∷ ps) (suc i) d up low more = rest_beyond n ps i d up.1 (omega (arith, low)) more
 
--- a row of a greater number ends those of the number
+-- a row with a greater number ends the rows of the number
 pub stopped : (rows : List Row) (ps : List AttachmentKey) (i : ℕ) (d : Row) (low : i < length rows) (are : rows ≡ map place_row ps) → d ≡ get_or rows i d → (at : ℕ) → column d 0 ≡ number_value at
     → (n : ℕ) → n < at → IsRisen ps → AllByRecursion (λ p. n < p.0) (drop i ps)
 unfolding place_at
@@ -128,7 +128,7 @@ beyond_all n (p ∷ ps) all =
     let passes : nat_lt n p.0 ≡ true = grind (arith, nat_tests, h) in
     ap (λ xs. p ∷ xs) (beyond_all n ps all.1) ∙ sym (ap (λ b. cond b (p ∷ filter (λ p. nat_lt n p.0) ps) (filter (λ p. nat_lt n p.0) ps)) passes)
 
--- where the places up to an index have no greater number, and those after it have one
+-- the nodes of a number, if the places from an index on have greater numbers
 pub split_nodes : (n : ℕ) (ps : List AttachmentKey) (i : ℕ) → AllByRecursion (λ p. n < p.0) (drop i ps) → nodes_at (take i ps) n ≡ nodes_at ps n
 split_nodes n ps zero beyond = sym (beyond_none n ps beyond)
 split_nodes n [] (suc i) beyond = refl
@@ -156,7 +156,7 @@ all_more n ps p low all = all-append (λ (p : AttachmentKey). p.0 ≤ n) ps (p �
 
 -- ---- each number
 
--- what is after a number has the nodes of each greater one
+-- the places after a number have the nodes of each greater number
 later_nodes : (n m : ℕ) (qs : List AttachmentKey) → n < m → nodes_at (filter (λ p. nat_lt n p.0) qs) m ≡ nodes_at qs m
 later_nodes n m [] low = refl
 later_nodes n m (q ∷ qs) low = go (nat_lt n q.0) refl (q.0 == m) refl (later_nodes n m qs low)

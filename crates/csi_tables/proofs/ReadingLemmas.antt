@@ -1,4 +1,4 @@
--- What is read of cells and of rows, in order.
+-- The values that are read from cells and from rows, in order.
 use Rattle.std.proofs.Common.{◌≡◌, ◌∙◌, inl, inr, sym, ap, ap₂, subst, arith, ℕ, zero, suc, add-one, ◌+◌, ◌<◌, ◌≤◌, ◌==◌, true, refl, List, [], ◌∷◌, ◌++◌, append-nil, append_assoc, drop, drop_of_length-le, cond, filter, map, take, length, get_or, Option, Some, option_to_list}
 use Rattle.std.specs.Bool.{⊤}
 use Rattle.std.specs.List.{AllByRecursion}
@@ -30,7 +30,7 @@ pub empty_items : {X : Type 0} (xs : List X) → (length xs == 0) ≡ true → x
 empty_items [] h = refl
 empty_items (x ∷ xs) h = absurd (let none : length (x ∷ xs) ≡ 0 = grind (arith, nat_tests, h) in omega (arith, none))
 
--- the row of meta that stands says the next number
+-- the existing row of meta has the next number
 pub stated : (rows : List Row) (format next : ℕ) (kept : Row) → map seen_meta rows ≡ meta_row format next ∷ [] → Has rows kept → column kept 3 ≡ number_value next
 stated rows format next kept are has = go (subst (λ (xs : List Row). Has xs (seen_meta kept)) are (mapped_has seen_meta rows kept has))
   where
@@ -71,7 +71,7 @@ module _ {X : Type 0} (Of : Row → X → Type 0) where
   pub read_whole : (rows : List Row) (i : ℕ) (xs : List X) → i ≡ length rows → AreReadOf Of (take i rows) xs → AreReadOf Of rows xs
   read_whole rows i xs last all = subst (λ (some : List Row). AreReadOf Of some xs) (ap (λ n. take n rows) last ∙ take_whole rows) all
 
--- ---- the nodes of a number, a row more
+-- ---- the nodes of a number, with one more row
 
 module _ (n : ℕ) (rows : List Row) (i : ℕ) (d : Row) (nodes : List Text) (at : ℕ) (low : i < length rows) (is : column (get_or rows i d) 0 ≡ number_value at) (old : ShowNodes n (take i rows) nodes) where
   test : is_number n (as_number (column (get_or rows i d) 0)) ≡ (at == n)
@@ -102,13 +102,13 @@ module _ (n : ℕ) (rows : List Row) (i : ℕ) (d : Row) (nodes : List Text) (at
 
 -- ---- the nodes of each number
 
--- the numbers from one on are it and those after it
+-- the numbers from an index on are the number at the index and the numbers after it
 numbers_from : (ns : List ℕ) (i : ℕ) → i < length ns → drop i ns ≡ get_or ns i 0 ∷ drop (i + 1) ns
 numbers_from [] i low = absurd (omega (arith, low))
 numbers_from (n ∷ ns) zero low = refl
 numbers_from (n ∷ ns) (suc i) low = rw add-one (rw add-one at (numbers_from ns i (omega (arith, low))))
 
--- with the nodes of one number more
+-- the nodes of each number so far, with the nodes of one more number
 pub nodes_then : (ns : List ℕ) (i : ℕ) (places rest behind : List Row) (found : List (List Text)) (nodes : List Text) (now : List (List Text)) (passed : ℕ) → i < length ns
     → ShowNodes (get_or ns i 0) (take passed rest) nodes → behind ≡ drop passed rest → now ≡ found ++ nodes ∷ []
     → ((more : List (List Text)) → AreNodesOf (drop i ns) rest more → AreNodesOf ns places (found ++ more))
@@ -119,7 +119,7 @@ nodes_then ns i places rest behind found nodes now passed low shows cut is so mo
     (passed, shows, subst (λ (rows : List Row). AreNodesOf (drop (i + 1) ns) rows more) cut after) in
     subst (λ (xs : List (List Text)). AreNodesOf ns places xs) (sym (ap (λ (xs : List (List Text)). xs ++ more) is ∙ append_assoc found (nodes ∷ []) more)) (so (nodes ∷ more) all)
 
--- and of all of them
+-- the nodes of all numbers
 pub nodes_whole : (ns : List ℕ) (i : ℕ) (places rest : List Row) (found : List (List Text)) → length ns ≤ i
     → ((more : List (List Text)) → AreNodesOf (drop i ns) rest more → AreNodesOf ns places (found ++ more)) → AreNodesOf ns places found
 nodes_whole ns i places rest found ends so =

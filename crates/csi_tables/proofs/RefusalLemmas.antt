@@ -1,4 +1,4 @@
--- Why a call over the tables was refused.
+-- The reasons why a call over the tables was refused.
 use Rattle.std.proofs.Common.{◌≡◌, ◌≢◌, ◌∙◌, inl, inr, refl, sym, ap, subst, arith, ℕ, ◌≤◌, Bool, true, false, List, [], ◌∷◌, map, Option, IfOk, IsTrue, IsSome, Result, Ok, Err}
 use Rattle.std.specs.Result.{IsErrAnd}
 use Rattle.sqlite.specs.Effect.{Database}
@@ -38,7 +38,7 @@ refusal R Why old new e f reported (fails.as_shut is shut) = as_shut shut
 refusal R Why old new e f reported (fails.at_limit is some) = at_limit some
 refusal R Why old new e f reported (fails.as_refused why) = as_refused (f why)
 
--- one cause for another
+-- a refusal for one reason is a refusal for a weaker reason
 pub refused_so : (P Q : Type 0) (old new : sql.State) → (P → Q) → IsRefusal P old new → IsRefusal Q old new
 refused_so P Q old new f (by_disk more) = by_disk more
 refused_so P Q old new f (as_shut shut) = as_shut shut
@@ -77,7 +77,7 @@ each_reported : {Y : Type 0} (C : Type 0) (H : State → Type 0) (What : State �
 each_reported C H What (Ok y) f = f
 each_reported C H What (Err fault) f = tt
 
--- a read whose rows are read again
+-- a read whose rows can be read again
 pub read_as : {S X Y : Type 0} {g : Ghosts S} {old new : Held S} {Shown : Database → X → Type 0} {Refuses : sql.State → Error → Type 0} {What : State → Y → Type 0} {x : X}
     → (r : Result Y TablesFault) → ReadsOnly g old new Shown Refuses (Ok x) → ((s : State) → Shows (state g old) s → Shown (state g old).now x → IfOk r (λ y. What s y))
     → ((s : State) → Shows (state g old) s → HasKnownModes s → Shown (state g old).now x → r ≡ Err Refused → ⊥) → ConnReads g old new What r
@@ -98,7 +98,7 @@ none_reported : {X : Type 0} (P : X → Type 0) (Q : TablesFault → Type 0) (r 
 none_reported P Q (Ok x) is = absurd is
 none_reported P Q (Err fault) is = tt
 
--- a read whose rows were not read again
+-- a read whose rows could not be read again
 pub failed_after : {S X Y : Type 0} {g : Ghosts S} {old new : Held S} {Shown : Database → X → Type 0} {Refuses : sql.State → Error → Type 0} {What : State → Y → Type 0} {x : X}
     → (r : Result Y TablesFault) (fault : TablesFault) → ReadsOnly g old new Shown Refuses (Ok x) → IsErrAnd r (λ y. y ≡ fault)
     → ((s : State) → Shows (state g old) s → HasKnownModes s → Shown (state g old).now x → r ≡ Err Refused → ⊥) → ConnReads g old new What r
@@ -120,7 +120,7 @@ refuses_same text params a b e now limit why =
     subst (λ (l : Option ℕ). SqlRefuses text params (record a { step_limit = l }) e) limit (subst (λ (db : Database). SqlRefuses text params (record a { now = db; step_limit = b.step_limit }) e) now why)
 
 module _ {S : Type 0} (g : Ghosts S) (a b d : Held S) (Why : Type 0) where
-  -- the cause after a read is one before it
+  -- a cause after a read is a cause before it
   before_read : Survives (state g a) (state g b) (λ _. ⊥) → IsTrue (state g b).is_open → IsRefusal Why (state g b) (state g d) → IsRefusal Why (state g a) (state g d)
   before_read left is_open (by_disk more) = by_disk (omega (arith, left.counts, more))
   before_read left is_open (as_shut shut) = absurd (let no : true ≡ false = sym is_open ∙ shut in cc)
@@ -142,7 +142,7 @@ module _ {S : Type 0} (g : Ghosts S) (a b d : Held S) (Why : Type 0) where
       ])
       (λ shut. as_shut shut)
 
--- ---- how it is reported
+-- ---- the report of a refusal
 
 pub reported_refused : {X : Type 0} (answer : Result X TablesFault) (r : Result X StoreFault) → r ≡ answered answer → r ≡ Err store.Refused → answer ≡ Err Refused
 reported_refused {X} answer r reported is = go answer (sym reported ∙ is)

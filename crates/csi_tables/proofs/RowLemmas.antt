@@ -39,7 +39,7 @@ use Rattle.csi_tables.specs.facts.Entries.{has_permuted}
 use Rattle.csi_tables.proofs.EntryLemmas.{inserted, all_inserted, all_left, all_overwritten, entries-remove, found_has, overwritten, rises}
 use Rattle.csi_tables.proofs.TestLemmas.{same_numbers, same_texts, both_eq}
 
--- ---- a State that rows can say, after a change
+-- ---- a State that rows can represent, after a change
 
 pub storable_added : (s : State) (v : Volume) → v.number < 2 ^ 63 → IsUtf8 v.name → IsUtf8 v.pool → FitCaps v.caps → FitParams v.params v.mutable → Allows s (AddVolume v) → IsStorable s → IsStorable (changed s (AddVolume v))
 storable_added s v low name pool caps params allowed h = record {
@@ -74,7 +74,7 @@ storable_mutable s n m v stands fit h =
       attachments = h.attachments;
     }
 
--- ---- a number that no row can say
+-- ---- a number that no row can have
 
 not_small : (n : ℕ) (es : List (ℕ × Volume)) → 2 ^ 63 ≤ n → AllByRecursion IsStored es → find nat_cmp n es ≡ None
 not_small n [] far all = refl
@@ -118,7 +118,7 @@ nothing_detached_all n far s h =
 
 -- ---- rows after a change
 
--- rows that go as the entries go
+-- rows that are removed as the entries are
 filtered_rows : {E : Type 0} (row : E → Row) (see : Row → Row) (es kept : List E) (rows left : List Row) (stays : E → Bool) (passes test : Row → Bool) → ((e : E) → not (test (row e)) ≡ stays e)
     → ((r : Row) → test (see r) ≡ passes r) → kept ≡ filter stays es → left ≡ filter (λ r. not (passes r)) rows → IsPermutation (map row es) (map see rows) → IsPermutation (map row kept) (map see left)
 filtered_rows row see es kept rows left stays passes test on_entries on_rows kept_is left_is same =
@@ -132,7 +132,7 @@ keyed_left see p rows left is are = record {
   one = λ a b left right. are.one a b (has_filtered p rows a (subst (λ xs. Has xs a) is left)).0 (has_filtered p rows b (subst (λ xs. Has xs b) is right)).0;
 }
 
--- ---- rows of volumes have numbers of their own
+-- ---- no two rows of volumes have the same number
 
 same_entry : {K X : Type 0} {R : K → K → Ordering} (o : IsTotalOrder R) (es : List (K × X)) → IsAscending (λ a b. R a.0 b.0 ≡ Less) es → (e f : K × X) → Has es e → Has es f → e.0 ≡ f.0 → e ≡ f
 same_entry o [] up e f p q same = absurd p
@@ -238,7 +238,7 @@ pub stands_in : (s : State) (n : ℕ) (v : Volume) (db : Trees) → IsRows s db 
 stands_in s n v db p stands =
     has_permuted _ _ (volume_entry (n, v)) (IsPermutation-sym _ _ p.volumes) (mapped_has volume_entry (entries s.volumes) (n, v) (found_has nat_cmp-IsAntisymmetric s.volumes n v stands))
 
--- the row of the volume goes, and the one with the map comes
+-- the row of the volume is removed, and the row with the new parameters is added
 pub rows_mutable : (s : State) (n : ℕ) (m : TextMap) (v : Volume) (old new : Database) → old.schema ≡ schema → IsRows s old.trees → get s.volumes n ≡ Some v → FitParams v.params m → SetsParams n (params_bytes v.params m) old new
     → IsRows (changed s (SetMutable n m)) new.trees
 rows_mutable s n m v old new has p stands fit h =
@@ -256,7 +256,7 @@ rows_mutable s n m v old new has p stands fit h =
       sound = sound_after new (h.schema ∙ has) h.sound;
     }
 
--- rows of another format, once they have the number of this one
+-- rows of another format, after they got the number of this format
 pub rows_latest : (format : ℕ) (s : State) (old new : Database) → old.schema ≡ schema → IsRowsOf format s old.trees → SetsFormat old new → IsRows s new.trees
 rows_latest format s old new has p h = record {
   meta = h.meta format s.next p.meta;

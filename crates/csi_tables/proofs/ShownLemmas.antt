@@ -1,4 +1,4 @@
--- What each query shows of the State.
+-- The rows that each query shows of the State.
 use Rattle.std.proofs.Common.{◌≡◌, ◌∙◌, refl, sym, ap, ℕ, ℤ, zero, suc, ◌==◌, ◌&&◌, pos, arith, Bool, true, false, cond, List, [], ◌∷◌, map, filter, find, take, slice_get, Option, None, Some, is_some, option_map, IfSome, Ordering, Less, Equal, Greater, is_eq, is_gt, bytes_eq, nat_lt}
 use Rattle.std.specs.Cmp.{nat_cmp_total, eq_by_cmp_equiv}
 use Rattle.std.specs.FinMap as fin
@@ -99,7 +99,7 @@ of_number number es up = ascending_on (λ e. (e.0.0 == number) ≡ true) (λ a b
     same : (x y : ℕ) → (x == number) ≡ true → (y == number) ≡ true → x ≡ y
     same x y p q = grind (arith, nat_tests, p, q)
 
--- at most one volume has a number, so they are in any order
+-- at most one volume has a number, so the rows are in any order
 numbered_once : (R : ℕ × Volume → ℕ × Volume → Type 0) (number : ℕ) (es : List (ℕ × Volume)) → IsAscending (λ a b. nat_cmp a.0 b.0 ≡ Less) es → IsAscending R (filter (λ e. e.0 == number) es)
 numbered_once R number es up = ascending_on (λ e. (e.0 == number) ≡ true) (λ a b p q h. absurd (apart a.0 b.0 p q h)) _ (passed _ es) (ascending-filter _ _ es up)
   where
@@ -181,7 +181,7 @@ module _ (s : State) (db : Trees) (p : IsRows s db) where
   pub by_rising : {R : ℕ × Volume → ℕ × Volume → Type 0} (stays : ℕ × Volume → Bool) → ((a b : ℕ × Volume) → value_cmp (number_value a.0) (number_value b.0) ≡ Less → R a b) → IsAscending R (filter stays (entries s.volumes))
   by_rising {R} stays f = ascending_weaker _ R (λ a b h. f a b (lower a.0 b.0 h)) (filter stays (entries s.volumes)) (ascending-filter _ stays (entries s.volumes) volumes_up)
 
-  -- the volume of a number
+  -- the volume with a number
   numbered_rows : (n : ℕ) (shown : List Row) → IsShownOf volume_query (db 1) (number_value n ∷ []) shown → shown ≡ map volume_entry (filter (λ e. e.0 == n) (entries s.volumes))
   numbered_rows n shown h =
       shown_by volume_query (number_value n ∷ []) volume_entry seen_volume (λ x. ([], x)) (λ x. is_same (column x 0) (Int (pos n))) (λ r. refl) (λ r. and_true (is_same (column r 0) (Int (pos n))))
@@ -197,7 +197,7 @@ module _ (s : State) (db : Trees) (p : IsRows s db) where
         first_numbered n (entries s.volumes) ∙ sym (fin.get-entries s.volumes n),
       )
 
-  -- the volume of a name
+  -- the volume with a name
   named_rows : (name : List ℕ) (shown : List Row) → IsShownOf named_query (db 1) (Text name ∷ []) shown → shown ≡ map volume_entry (filter (λ e. bytes_eq e.1.name name) (entries s.volumes))
   named_rows name shown h =
       shown_by named_query (Text name ∷ []) volume_entry seen_volume volume_output (λ x. is_same (column x 1) (Text name)) (λ r. refl) (λ r. and_true (is_same (column r 2) (Text name)))
@@ -267,7 +267,7 @@ module _ (s : State) (db : Trees) (p : IsRows s db) where
       (ascending_weaker _ _ (λ a b h. ap (λ o. ordering_then o Equal) (lower a.0.0 b.0.0 h)) _ (at_node node es places_up)) h
       ∙ sym (map-map (λ n. number_value n ∷ []) (λ e. e.0.0) (filter (λ e. bytes_eq e.0.1 node) es))
 
-  -- ---- the same rows, which are read again where the modes are known
+  -- ---- the same rows, which can be read again if the modes are known
 
   module _ (known : HasKnownModes s) where
     volumes_readable : AllByRecursion IsReadable (entries s.volumes)

@@ -48,7 +48,7 @@ module _ {E : Type 0} (q : Query) (params : Row) (row : E → Row) (see : Row �
       → shown ≡ map (λ e. (show (row e)).1) (filter (λ e. test (row e)) es)
   shown_in_order es rows shown same up h = h.shown_is ∙ in_order es rows h.ordered same up h.same h.sorted
 
-  -- the same, by a test of the entries themselves
+  -- as above, with a test of the entries themselves
   pub shown_by : (stays : E → Bool) → ((e : E) → test (row e) ≡ stays e) → (es : List E) (rows shown : List Row) → IsPermutation (map row es) (map see rows)
       → IsAscending (λ a b. output_cmp q (show (row a)) (show (row b)) ≡ Less) (filter stays es) → IsShownOf q rows params shown
       → shown ≡ map (λ e. (show (row e)).1) (filter stays es)

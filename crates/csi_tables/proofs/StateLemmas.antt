@@ -61,7 +61,7 @@ module _ (back : ReadsBack) where
   unfolding nat_of
   same_next f g a b e = ap (λ rows. nat_of (column (slice_index_or rows 0 []) 2)) e
 
-  -- of either format
+  -- rows of either format represent only one State
   same_state_of : (f g : ℕ) (s t : State) (db : Trees) → IsRowsOf f s db → IsRowsOf g t db → s ≡ t
   same_state_of f g s t db p q =
       let next = same_next f g _ _ (sym p.meta ∙ q.meta) in

@@ -30,7 +30,7 @@ answered_again (Ok x) = refl
 answered_again (Err NoMemory) = refl
 answered_again (Err Refused) = refl
 
--- an answer over the tables is what the keeper answers
+-- the keeper's answer is the answer over the tables
 pub is_answer : {X : Type 0} (answer : Result X TablesFault) (stored r : Result X StoreFault) → stored ≡ answered answer → r ≡ health.answered stored → r ≡ answered answer
 is_answer answer stored r made is = is ∙ ap health.answered made ∙ answered_again answer
 
@@ -62,7 +62,7 @@ keeps_read {g = g} {a = a} {b = b} {answer = answer} {stored = stored} {r = r} t
   limit = read.survives.limit;
 }
 
--- a read that needs none, since no row has such a number
+-- a read that reads no row, because no row has such a number
 pub keeps_none : {S X : Type 0} (g : Ghosts S) (a : Held S) {before between : Health} {What : State → X → Type 0} (totals : Totals) (x : X) → Starts before between (Ok tt) → ((s : State) → IsStorable s → What s x)
     → Reads (model_with g (a, totals) before) (model_with g (a, totals) between) (Ok x) What
 keeps_none g a totals x begun so =

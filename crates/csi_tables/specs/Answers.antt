@@ -1,4 +1,4 @@
--- Which fault an error below is, and how a fault over the tables is reported by the keeper.
+-- The fault for an error of the layer below, and the keeper's report of a fault of the tables.
 use Rattle.std.specs.Prelude.{Result, Ok, Err}
 use Rattle.sqlite.specs.declared.error.Error.{Error}
 use Rattle.sqlite.specs.declared.error.Error.TheVariants.{SqliteFailure}
@@ -10,12 +10,12 @@ use Rattle.csi_keeper.specs.declared.change.StoreFault.TheVariants as store
 use Rattle.csi_tables.specs.declared.fault.TablesFault.{TablesFault}
 use Rattle.csi_tables.specs.declared.fault.TablesFault.TheVariants.{NoMemory, Refused}
 
--- want of memory in the database is want of memory, and each other error of it a refusal
+-- want of memory in the database is want of memory, and any other error of the database is a refusal
 abbrev pub of_database : Error → TablesFault
 of_database (SqliteFailure OutOfMemory) = NoMemory
 of_database _ = Refused
 
--- bytes that are read of a column and mean nothing are a refusal
+-- bytes of a column that mean nothing are a refusal
 abbrev pub of_decoder : DecodeFault → TablesFault
 of_decoder decoding.NoMemory = NoMemory
 of_decoder (decoding.Malformed at) = Refused

@@ -1,4 +1,4 @@
--- The rows that represent a State, and what a connection over them holds.
+-- The rows that represent a State, and the States that a connection over them may have.
 use Rattle.std.specs.Prelude.{◌≡◌, ◌⊎◌, ℕ, ◌<◌, ◌^◌, false, [], ◌∷◌, map, IsPermutation, IsTrue, IsUtf8}
 use Rattle.std.specs.List.{AllByRecursion}
 use Rattle.std.specs.FinMap.{empty, entries}
@@ -27,7 +27,7 @@ use Rattle.csi_keeper.specs.declared.health.Health.{Health}
 
 -- ---- rows
 
--- a volume that a row can say: its texts are UTF-8, as what made the row had each from a `Text`
+-- a volume that a row can represent: its texts are UTF-8, because each came from a `Text`
 pub record IsStored (e : ℕ × Volume) : Type 0 where
   pub number : e.1.number ≡ e.0
   pub small : e.0 < 2 ^ 63
@@ -36,39 +36,40 @@ pub record IsStored (e : ℕ × Volume) : Type 0 where
   pub caps : FitCaps e.1.caps
   pub params : FitParams e.1.params e.1.mutable
 
--- an attachment that a row can say
+-- an attachment that a row can represent
 pub record IsPlaced (e : AttachmentKey × Attachment) : Type 0 where
   pub node : e.1.node ≡ e.0.1
   pub text : IsUtf8 e.0.1
   pub small : e.0.0 < 2 ^ 63
   pub cap : FitCaps (e.1.cap ∷ [])
 
--- a volume whose row is read again, where memory is there: its modes are known
+-- a volume whose row can be read again, if there is memory: its modes are known
 pub record IsReadable (e : ℕ × Volume) : Type 0 where
   pub stored : IsStored e
   pub caps : AreKnown e.1.caps
 
--- an attachment whose row is read again
+-- an attachment whose row can be read again
 pub record IsReadablePlace (e : AttachmentKey × Attachment) : Type 0 where
   pub placed : IsPlaced e
   pub cap : AreKnown (e.1.cap ∷ [])
 
--- a State that rows can say
+-- a State that rows can represent
 pub record IsStorable (s : State) : Type 0 where
   pub volumes : AllByRecursion IsStored (entries s.volumes)
   pub attachments : AllByRecursion IsPlaced (entries s.attachments)
 
--- What a SELECT of all columns sees of the three tables, in a format, is the State, in any order.
+-- The rows that a SELECT of all columns shows of the three tables, in a format, are the rows of the State, in
+-- any order.
 pub record IsRowsOf (format : ℕ) (s : State) (db : Trees) : Type 0 where
   pub meta : map seen_meta (db 0) ≡ meta_row format s.next ∷ []
   pub volumes : IsPermutation (map volume_entry (entries s.volumes)) (map seen_volume (db 1))
   pub attachments : IsPermutation (map attachment_entry (entries s.attachments)) (map seen_attachment (db 3))
-  -- the rows of attachments have rowids of their own
+  -- no two rows of attachments share a rowid
   pub keyed : AreKeyed seen_attachment (db 3)
   pub storable : IsStorable s
   pub sound : IsSound schema db
 
--- the rows in the format that is written
+-- the rows of the State in the format that is written
 abbrev pub IsRows : State → Trees → Type 0
 IsRows s db = IsRowsOf LATEST_FORMAT s db
 
@@ -81,7 +82,7 @@ AreUnmodified s = AllByRecursion (λ e. e.1.mutable ≡ empty) (entries s.volume
 abbrev pub IsFirstRows : State → Trees → Type 0
 IsFirstRows s db = IsRowsOf FIRST_FORMAT s db × AreUnmodified s
 
--- the rows in either format
+-- the rows of the State in either format
 abbrev pub IsEitherRows : State → Trees → Type 0
 IsEitherRows s db = IsFirstRows s db ⊎ IsRows s db
 
@@ -89,19 +90,19 @@ IsEitherRows s db = IsFirstRows s db ⊎ IsRows s db
 abbrev pub IsFormat : ℕ → Type 0
 IsFormat format = (format ≡ FIRST_FORMAT) ⊎ (format ≡ LATEST_FORMAT)
 
--- the rows in a format given by its number
+-- the rows of the State in a format, given by its number
 abbrev pub IsRowsIn : ℕ → State → Trees → Type 0
 IsRowsIn format s db = IsRowsOf format s db × (format ≡ FIRST_FORMAT → AreUnmodified s)
 
 -- ---- a connection
 
--- what an open connection shows between its transactions
+-- an open connection shows this State between its transactions
 pub record Shows (now : sql.State) (s : State) : Type 0 where
   pub schema : now.now.schema ≡ schema
   pub settled : now.now ≡ now.committed
   pub rows : IsRows s now.now.trees
 
--- a connection that a fault has shut says nothing
+-- the connection may have this State; nothing is stated for a connection that a fault has shut
 abbrev pub Holds : sql.State → State → Type 0
 Holds now s = IsTrue now.is_open → Shows now s
 
@@ -127,7 +128,7 @@ module _ {S : Type 0} (g : Ghosts S) where
   abbrev pub conn_tied : Held S → Type 0
   conn_tied h = Ties (state g h)
 
-  -- the model that contracts see: the layer above counts refusals, and knows whether it is down
+  -- the model of a connection; the layer above counts refusals, and knows whether it is down
   abbrev pub conn_model : Held S → Model State
   conn_model h = record { holds = conn_holds h; doubt = conn_doubt h; refusals = 0; survivors = conn_survivors h; tied = conn_tied h; is_down = false }
 
@@ -137,7 +138,8 @@ abbrev pub Store : Type 0 → Type 0
 Store S = Held S × Totals
 
 module _ {S : Type 0} (g : Ghosts S) where
-  -- the totals are the State's also once the connection is shut, and rows can say it
+  -- also after the connection is shut, the totals are the totals of the State, and rows can represent the
+  -- State
   abbrev pub store_holds : Store S → State → Type 0
   store_holds t s = conn_holds g t.0 s × AreTotals t.1 s × IsStorable s
 
@@ -150,7 +152,7 @@ module _ {S : Type 0} (g : Ghosts S) where
   abbrev pub store_tied : Store S → Type 0
   store_tied t = conn_tied g t.0
 
-  -- with the counts of the calls
+  -- the model of a connection with its totals and with the counts of calls
   abbrev pub model_with : Store S → Health → Model State
   model_with t health = record {
     holds = store_holds t;
@@ -161,12 +163,12 @@ module _ {S : Type 0} (g : Ghosts S) where
     is_down = health.is_down;
   }
 
-  -- and where nothing is counted
+  -- the model if nothing is counted
   abbrev pub store_model : Store S → Model State
   store_model t = model_with t (record { refusals = 0; is_down = false })
 
 module _ {S : Type 0} (g : Ghosts S) (old new : Held S) where
-  -- the answer of a read holds of each State that the connection may have
+  -- the answer of a read holds for each State that the connection may have
   abbrev pub ConnReports : (State → Type 0) → Type 0
   ConnReports P = Reports (conn_model g old) (conn_model g new) P
 

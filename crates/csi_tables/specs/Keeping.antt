@@ -16,7 +16,7 @@ module _ {S : Type 0} (g : Ghosts S) where
   abbrev pub connection_of : Tables S → Held S
   connection_of t = t.conn
 
-  -- its connection, and the totals
+  -- the connection and the totals of the keeper
   abbrev pub store_of : Tables S → Store S
   store_of t = (t.conn, t.totals)
 
@@ -26,7 +26,7 @@ module _ {S : Type 0} (g : Ghosts S) where
   abbrev pub refusals : Tables S → ℕ
   refusals t = t.health.refusals
 
-  -- what contracts see of it
+  -- the model of the keeper
   abbrev pub tables_model : Tables S → Model State
   tables_model t = model_with g (store_of t) t.health
 
@@ -34,7 +34,7 @@ module _ {S : Type 0} (g : Ghosts S) where
   abbrev pub TablesRefuses : {X : Type 0} → Tables S → Tables S → Type 0 → Result X StoreFault → Type 0
   TablesRefuses old new Why result = StoreRefuses g (store_of old) (store_of new) Refused Why result
 
-  -- what a change is refused for
+  -- the reasons why a change is refused
   abbrev pub refuses_change : Tables S → Change → Type 0
   refuses_change t change = RefusesChange change t.totals (state g t.conn)
 

@@ -10,7 +10,7 @@ use Rattle.csi_sql.specs.Effects.{SetsFormat}
 use Rattle.csi_tables.specs.Holding.{IsEitherRows, IsRows, IsRowsOf}
 use Rattle.csi_tables.specs.Refusing.{HasKnownModes}
 
--- tables are the rows of one State, whichever format they have
+-- tables are the rows of only one State, whichever format they have
 abbrev pub OneState : Type 0
 OneState = (s t : State) (db : Trees) → IsEitherRows s db → IsEitherRows t db → s ≡ t
 
@@ -18,6 +18,6 @@ OneState = (s t : State) (db : Trees) → IsEitherRows s db → IsEitherRows t d
 abbrev pub LatestHas : Type 0
 LatestHas = (format : ℕ) (s : State) (old new : Database) → old.schema ≡ schema → IsRowsOf format s old.trees → SetsFormat old new → IsRows s new.trees
 
--- a State of the invariant has known modes
+-- a State that meets the invariant has only known modes
 abbrev pub HaveKnownModes : Type 0
 HaveKnownModes = (config : Config) (s : State) → IsInvariant config s → HasKnownModes s

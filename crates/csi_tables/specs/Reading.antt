@@ -1,4 +1,4 @@
--- Reading rows, also rows that no written State has.
+-- Reading rows, also rows that were not written for a State.
 use Rattle.std.specs.Prelude.{◌≡◌, ℕ, ◌<◌, ◌≤◌, ◌^◌, ◌==◌, Bool, false, List, [], ◌∷◌, Option, None, Some, Ok, is_some, drop, length, map, filter, take, ⊤}
 use Rattle.std.specs.Option.{option_map}
 use Rattle.sqlite.specs.Effect.{Database}
@@ -27,7 +27,7 @@ use Rattle.csi_sql.specs.Statements.{attached_query, named_query, nodes_query, s
 
 -- ---- bytes
 
--- they are read as a CreateVolumeRequest, and each of its capabilities has its key
+-- the bytes are read as a CreateVolumeRequest, and these are the keys of its capabilities
 abbrev pub AreKeysOf : List ℕ → List CapKey → Type 0
 AreKeysOf bytes keys = (message : CreateVolume) × (read_request Creating bytes ≡ Ok (Create message)) × (map Some keys ≡ map key_of message.capabilities)
 
@@ -37,7 +37,7 @@ AreParamsOf bytes params = (message : CreateVolume) × (read_request Creating by
 
 -- ---- cells
 
--- a cell has exactly such bytes
+-- the value is a blob with such bytes
 abbrev pub HasKeys : Value → List CapKey → Type 0
 HasKeys cell keys = (bytes : List ℕ) × (cell ≡ Blob bytes) × AreKeysOf bytes keys
 
@@ -64,13 +64,13 @@ pub record ShowsAttachment (row : Row) (a : Attachment) : Type 0 where
 abbrev pub ShowsNumber : Row → ℕ → Type 0
 ShowsNumber row n = column row 0 ≡ number_value n
 
--- a value of the row, if there is one
+-- the value is read from the row, if there is one
 abbrev pub IsReadOf : {X : Type 0} → (Row → X → Type 0) → Option Row → Option X → Type 0
 IsReadOf Of None None = ⊤
 IsReadOf Of (Some row) (Some x) = Of row x
 IsReadOf Of _ _ = ⊥
 
--- a value of each row
+-- each value is read from its row
 abbrev pub AreReadOf : {X : Type 0} → (Row → X → Type 0) → List Row → List X → Type 0
 AreReadOf Of [] [] = ⊤
 AreReadOf Of (row ∷ rows) (x ∷ xs) = Of row x × AreReadOf Of rows xs
@@ -103,25 +103,25 @@ pub record IsPageOf (rows : List Row × List Row) (p : PageWithNodes) : Type 0 w
   pub volumes : AreReadOf ShowsVolume rows.0 p.volumes
   pub nodes : AreNodesOf (map (λ v. v.number) p.volumes) rows.1 p.nodes
 
--- ---- what a read answers
+-- ---- the answers of reads
 
--- It is read from rows: the rows that the database shows if the store has returned the bytes written to
--- it, and otherwise any rows.
+-- The answer is read from rows: the rows that the database shows if the store has returned the bytes written
+-- to it, and otherwise any rows.
 pub record IsReadOfRows {S R X : Type 0} (g : Ghosts S) (old new : Held S) (Shown : Database → R → Type 0) (Of : R → X → Type 0) (x : X) : Type 0 where
   pub rows : R
   pub shown : HasCleanDisk (state g new) → (state g old).now.schema ≡ schema → Shown (state g old).now rows
   pub read : Of rows x
 
--- for a number that rows can have, and for a number that no row has
+-- the answer for a number that rows can have, and the answer for a number that no row can have
 pub record ReportsBelow {X : Type 0} (number : ℕ) (none : X) (Reports : X → Type 0) (x : X) : Type 0 where
   pub small : number < 2 ^ 63 → Reports x
   pub large : 2 ^ 63 ≤ number → x ≡ none
 
--- the row of the volume of a number, if there is one
+-- the row of the volume with this number, if there is one
 abbrev pub IsRowOf : ℕ → Database → Option Row → Type 0
 IsRowOf number db found = IsFoundBy volume_query (db.trees 1) (number_value number ∷ []) found
 
--- that there is a row
+-- true if there is a row
 abbrev pub HasRow : Option Row → Bool → Type 0
 HasRow found has = has ≡ is_some found
 
@@ -130,14 +130,14 @@ module _ {S : Type 0} (g : Ghosts S) (old new : Held S) where
   abbrev pub ReportsNext : ℕ → Type 0
   ReportsNext n = IsReadOfRows g old new IsNext ShowsNumber n
 
-  -- the volume of a number, and whether there is one
+  -- the volume with a number, and whether there is one
   abbrev pub ReportsNumbered : ℕ → Option Volume → Type 0
   ReportsNumbered number found = IsReadOfRows g old new (IsRowOf number) (IsReadOf ShowsVolume) found
 
   abbrev pub ReportsExistence : ℕ → Bool → Type 0
   ReportsExistence number has = IsReadOfRows g old new (IsRowOf number) HasRow has
 
-  -- the volume of a name
+  -- the volume with a name
   abbrev pub ReportsNamed : texts.Text → Option Volume → Type 0
   ReportsNamed name found = IsReadOfRows g old new (λ db row. IsFoundBy named_query (db.trees 1) (Text name ∷ []) row) (IsReadOf ShowsVolume) found
 
@@ -146,7 +146,7 @@ module _ {S : Type 0} (g : Ghosts S) (old new : Held S) where
   ReportsAttachments number xs =
       IsReadOfRows g old new (λ db rows. IsShownOf nodes_query (db.trees 3) (number_value number ∷ []) rows) (AreReadOf ShowsAttachment) xs
 
-  -- the numbers at a node
+  -- the numbers of the volumes at a node
   abbrev pub ReportsAttached : texts.Text → List ℕ → Type 0
   ReportsAttached node xs = IsReadOfRows g old new (λ db rows. IsShownOf attached_query (db.trees 3) (Text node ∷ []) rows) (AreReadOf ShowsNumber) xs
 
@@ -158,11 +158,11 @@ module _ {S : Type 0} (g : Ghosts S) (old new : Held S) where
   abbrev pub ReportsPage : ℕ → ℕ → List Volume → Type 0
   ReportsPage after count xs = IsReadOfRows g old new (λ db rows. IsPage after count db rows) (AreReadOf ShowsVolume) xs
 
-  -- the capability keys of the volume of a number: of a reported volume, or none
+  -- the capability keys of the volume with a number; none if there is no such volume
   abbrev pub ReportsCaps : ℕ → Option (List CapKey) → Type 0
   ReportsCaps number keys = (found : Option Volume) × ReportsBelow number None (ReportsNumbered number) found × (keys ≡ option_map (λ v. v.caps) found)
 
-  -- how many volumes are attached at a node
+  -- the number of volumes that are attached at a node
   abbrev pub ReportsCount : texts.Text → ℕ → Type 0
   ReportsCount node n = (xs : List ℕ) × ReportsAttached node xs × (n ≡ length xs)
 

@@ -1,4 +1,4 @@
--- Why a call over the tables is refused: want of memory is no reason.
+-- The reasons why a call over the tables is refused. Want of memory is no reason.
 use Rattle.std.specs.Prelude.{◌≡◌, ◌⊎◌, ℕ, ◌≤◌, ◌^◌, ◌+◌, false, [], ◌∷◌, List, IfOk, IsErrOf, IsSome, OnErr, OnOk, Result, map}
 use Rattle.std.specs.FinMap.{entries}
 use Rattle.std.specs.List.{AllByRecursion}
@@ -29,7 +29,7 @@ use Rattle.csi_tables.specs.declared.fault.TablesFault.TheVariants.{Refused}
 
 -- the cause of a refusal
 pub data IsRefusal (Why : Type 0) (old new : sql.State) : Type 0 where
-  -- the disk failed once more
+  -- the disk failed since the call began
   by_disk : MoreFaults old.faults new.faults → IsRefusal Why old new
   -- a fault had shut the connection
   as_shut : old.is_open ≡ false → IsRefusal Why old new
@@ -38,14 +38,14 @@ pub data IsRefusal (Why : Type 0) (old new : sql.State) : Type 0 where
   -- the request is refused
   as_refused : Why → IsRefusal Why old new
 
--- each capability has a known mode, so that its row is read again
+-- each capability has a known mode, so that its row can be read again
 pub record HasKnownModes (s : State) : Type 0 where
   pub volumes : AllByRecursion (λ e. AreKnown e.1.caps) (entries s.volumes)
   pub attachments : AllByRecursion (λ e. AreKnown (e.1.cap ∷ [])) (entries s.attachments)
 
 -- ---- why a change is refused: SQL's rules refuse it, or a row is too big to be stored
 
--- or the totals have no room
+-- the addition of a volume is also refused if the totals have no room
 abbrev pub RefusesAdding : Volume → Totals → sql.State → Type 0
 RefusesAdding v totals s =
     (¬ HasRoom (total_of totals v.pool) v.bytes)
@@ -54,7 +54,7 @@ RefusesAdding v totals s =
 abbrev pub RefusesRemoving : ℕ → sql.State → Type 0
 RefusesRemoving n s = (e : Error) × RefusesRemoval n s e
 
--- or no row has such a number
+-- an attachment is also refused if no row can have its number
 abbrev pub RefusesAttaching : ℕ → Attachment → sql.State → Type 0
 RefusesAttaching n a s = (2 ^ 63 ≤ n) ⊎ ((e : Error) × RefusesAttachment (attachment_row n a.node (caps_bytes (a.cap ∷ [])) a.readonly) s e)
 
@@ -64,7 +64,7 @@ RefusesDetach n node s = (e : Error) × RefusesDetaching n node s e
 abbrev pub RefusesDetachAll : ℕ → sql.State → Type 0
 RefusesDetachAll n s = (e : Error) × RefusesDetachingAll n s e
 
--- with the parameters next to them of the volume whose row exists
+-- the mutable parameters are written together with the parameters of the volume, whose row exists
 abbrev pub RefusesMutable : ℕ → TextMap → sql.State → Type 0
 RefusesMutable n m s = (v : Volume) × Has (map seen_volume (s.now.trees 1)) (volume_entry (n, v)) × (e : Error) × RefusesParams n (params_bytes v.params m) s e
 
@@ -79,20 +79,20 @@ RefusesChange (SetMutable n m) totals s = RefusesMutable n m s
 -- ---- a call that was refused
 
 module _ {S : Type 0} (g : Ghosts S) (old new : Held S) where
-  -- over a connection that has a State whose rows are read again
+  -- the cause of a refusal, over a connection that has a State whose rows can be read again
   abbrev pub ConnRefuses : {X : Type 0} → Type 0 → Result X TablesFault → Type 0
   ConnRefuses Why r = conn_doubt g new ≡ 0 → IsErrOf r Refused → (s : State) → conn_holds g old s → HasKnownModes s → IsRefusal Why (state g old) (state g new)
 
   -- A read: its answer about the State, and that nothing refuses it. The committed state stays, and a stop
-  -- leaves no State that it could not leave before.
+  -- leaves only States that it could leave before.
   pub record ConnReads {X : Type 0} (What : State → X → Type 0) (r : Result X TablesFault) : Type 0 where
     pub value : IfOk r (λ x. ConnReports g old new (λ s. What s x))
     pub refused : ConnRefuses ⊥ r
     pub undone : HasCleanDisk (state g new) → IsUndone (state g old) (state g new)
     pub survives : LeavesNothingNew g old new
 
-  -- A change: it is made, or it fails and may be left by a stop; and why it is refused. The limit on steps
-  -- stays.
+  -- A change: it is made, or it fails and may be left by a stop; the reason if it is refused. The limit on
+  -- steps stays.
   pub record ConnChanges {X : Type 0} (change : Change) (Why : Type 0) (r : Result X TablesFault) : Type 0 where
     pub made : OnOk r (ConnMakes g old new change)
     pub failed : OnErr r (ConnFails g old new change)
@@ -107,7 +107,7 @@ module _ {S : Type 0} (g : Ghosts S) (old new : Held S) where
     pub limit : new.step_limit ≡ old.step_limit
 
 module _ {S : Type 0} (g : Ghosts S) (old new : Store S) where
-  -- and next to it the totals
+  -- as `ConnRefuses`, for a connection with its totals
   abbrev pub StoreRefuses : {X E : Type 0} → E → Type 0 → Result X E → Type 0
   StoreRefuses refused Why r = store_doubt g new ≡ 0 → IsErrOf r refused → (s : State) → store_holds g old s → HasKnownModes s
       → IsRefusal Why (state g old.0) (state g new.0)

@@ -1,4 +1,4 @@
--- What restoring volume after volume makes of a copy.
+-- A copy, after volume after volume is restored.
 use Rattle.std.proofs.Common.{◌≡◌, ◌∙◌, inl, inr, ap, sym, subst, cond, append-nil, arith, length-append, refl, ℕ, zero, suc, ◌+◌, ◌-◌, ◌<◌, ◌≤◌, max, nat_lt, not, ◌==◌, List, [], ◌∷◌, ◌++◌, length, get_or, map, find, take, Bool, true, false, T, Option, Some, None, IsSome, Ordering, eqb-true, eq-eqb}
 use Rattle.std.proofs.Math.Nat.{sub-add-eq-max}
 use Rattle.std.proofs.lemmas.Bool.Decides.{leb_tells}
@@ -30,7 +30,7 @@ below n k h = elim (leb_tells (suc n) k) as (λ _. not (nat_lt n k) ≡ true) [ 
 above : (n k : ℕ) → n < k → not (nat_lt n k) ≡ false
 above n k h = elim (leb_tells (suc n) k) as (λ _. not (nat_lt n k) ≡ false) [ inl x ↦ ap not x.0 | inr x ↦ absurd (omega (arith, x.1, h)) ]
 
--- where a condition says a number to be kept, it is
+-- a number that passes the condition is at most n
 kept : (n k : ℕ) → not (nat_lt n k) ≡ true → k ≤ n
 kept n k e = elim (leb_tells (suc n) k) as (λ _. k ≤ n) [ inl x ↦ absurd (cc (e, ap not x.0)) | inr x ↦ omega (arith, x.1) ]
 
@@ -81,7 +81,7 @@ module _ (config : Config) (s : State) (inv : IsInvariant config s) where
       let places : fin.empty ≡ (up_to s 0).attachments = fin.same_map place_total place_exact _ _ (λ q. fin.get-empty attachment_key_cmp q ∙ no_place q) in
       λ i. record { next = 1; volumes = volumes i; attachments = places i }
 
--- ---- a volume more
+-- ---- one more volume
 
 find_none : (name : Text) (es : List (ℕ × Volume)) → AllByRecursion (λ e. e.1.name ≡ name → ⊥) es → find (λ w. same_text w.name name) (map (λ e. e.1) es) ≡ None
 find_none name [] all = refl
@@ -107,7 +107,7 @@ module _ (config : Config) (s : State) (n : ℕ) (v : Volume) (inv : IsInvariant
     unnamed,
   )
 
-  -- with its attachments still to come
+  -- the State with the volume, and with its attachments still to come
   abbrev half : State
   half = record { next = v.number + 1; volumes = (up_to s v.number).volumes; attachments = (up_to s n).attachments }
 
@@ -151,7 +151,7 @@ module _ {K X : Type 0} {R : K → K → Ordering} (o : IsTotalOrder R) (exact :
   put_each m [] = m
   put_each m (e ∷ es) = put_each (fin.insert m e.0 e.1) es
 
-  -- the head of a list that rises is found nowhere after it
+  -- the head of a rising list does not occur again in it
   head_apart : (e : K × X) (es : List (K × X)) (q : K) (x : X) → T (fin.is_sorted R (e ∷ es)) → fin.find R q es ≡ Some x → eq_by_cmp R q e.0 ≡ false
   head_apart e es q x rises f = less_apart (R q e.0) (R e.0 q) (o.antisymm q e.0) (found_below o exact e.0 q x es (both (below_all R e.0 es) (fin.is_sorted R es) rises).0 f)
 
@@ -167,7 +167,7 @@ module _ {K X : Type 0} {R : K → K → Ordering} (o : IsTotalOrder R) (exact :
       go true t None u = refl
       go true t (Some x) u = absurd (let z : eq_by_cmp R q e.0 ≡ false = head_apart e es q x rises u in cc (t, z))
 
--- attachments whose places are theirs
+-- attachments that are stored at their places
 abbrev ArePlaced : ℕ → List (AttachmentKey × Attachment) → Type 0
 ArePlaced k es = AllByRecursion (λ e. e.0 ≡ (k, e.1.node)) es
 
@@ -249,7 +249,8 @@ module _ (config : Config) (s : State) (n : ℕ) (v : Volume) (inv : IsInvariant
             ap (λ b. cond b (Some a) None) (below n q.0 (omega (arith, x.1))) ∙ sym (ap (λ b. cond b (Some a) None) (below v.number q.0 (omega (arith, x.1, greater))))
       ]
 
-  -- a volume can be restored, then its attachments can be made, and then there is all up to its number
+  -- a volume can be restored and then its attachments can be made; after that the copy is complete up to its
+  -- number
   pub restores : (rows : List Attachment) → rows ≡ attached s v.number
       → CanRestore (up_to s n) v × AllowsEach (restored (up_to s n) v) v.number rows × (attached_each (restored (up_to s n) v) v.number rows ≡ up_to s v.number)
   restores rows is =
@@ -339,7 +340,7 @@ module _ (config : Config) (s : State) (inv : IsInvariant config s) where
         | inr x ↦ absurd (none_some w (sym (ap (λ b. cond b (fin.get s.volumes k) None) x.0) ∙ f))
       ]
 
-  -- a page has the volumes that come next
+  -- a page has the next volumes
   pub page_next : (n count : ℕ) → AreNext s n (page s n count)
   page_next n count = subst (λ (vs : List Volume). AreNext s n (take count vs)) (sym (is_later n)) (are_next n count (fin.entries (later n)) (is_rest n))
 
@@ -352,7 +353,7 @@ module _ (config : Config) (s : State) (inv : IsInvariant config s) where
   no_entry [] e = refl
   no_entry (x ∷ xs) e = absurd (cc (e))
 
-  -- a page without volumes is after the last one
+  -- a page without volumes comes after the last volume
   pub ends : (n count : ℕ) → 1 ≤ count → page s n count ≡ [] → up_to s n ≡ record s { next = n + 1 }
   ends n count some none =
       let volumes : (up_to s n).volumes ≡ s.volumes = fin.same_map nat_cmp_total fin.nat_cmp-IsAntisymmetric _ _ (λ q. kept_volumes s n q ∙ row q (fin.get s.volumes q) refl) in
@@ -381,7 +382,7 @@ module _ (config : Config) (s : State) (inv : IsInvariant config s) where
   last_given n [] low next = low
   last_given n (v ∷ vs) low next = last_given v.number vs (inv.volumes v.number v next.0.stands).given.1 next.1
 
-  -- the numbers that were given are given no more
+  -- the numbers that were given are not given again
   pub whole : (n : ℕ) → n < s.next → from_number (record s { next = n + 1 }) s.next ≡ s
   whole n low =
       let exact : n + 1 - s.next + s.next ≡ s.next = omega (arith, low) in
@@ -396,12 +397,12 @@ stands_at done rest vs v is = subst (λ (ws : List Volume). (length done < lengt
     go [] = (omega arith, refl)
     go (x ∷ xs) = let r = go xs in (let low = r.0 in omega (arith, low), r.1)
 
--- if as many were given as exist, all were given
+-- if as many volumes were restored as exist, all were restored
 pub all_given : (done left vs : List Volume) → done ++ left ≡ vs → length done ≡ length vs → done ≡ vs
 all_given done [] vs is size = sym (append-nil done) ∙ is
 all_given done (v ∷ left) vs is size = absurd (let more = ap length is in omega (arith, length-append done (v ∷ left), more, size))
 
--- ---- one more of a list
+-- ---- one more item of a list
 
 pub next_more : (s : State) (n : ℕ) (vs : List Volume) (v : Volume) → AreNext s n (vs ++ v ∷ []) → AreNext s n vs × IsNext s (last_number n vs) v
 next_more s n [] v next = (tt, next.0)
@@ -434,7 +435,7 @@ no_rows : (rows : List Attachment) → map (λ a. a.node) rows ≡ [] → rows �
 no_rows [] e = refl
 no_rows (a ∷ rows) e = absurd (cc (e))
 
--- it has no attachment
+-- a volume that is published nowhere has no attachment
 pub none_attached : (s : State) (vs : List Volume) (nodes : List (List Text)) (i : ℕ) (v : Volume) → nodes ≡ map (λ w. published s w.number) vs → i < length vs → v ≡ get_or vs i v
     → get_or nodes i [] ≡ [] → attached s v.number ≡ []
 none_attached s vs nodes i v are low is none =

@@ -1,4 +1,4 @@
--- Why there is no copy of what a keeper has.
+-- The reasons why there is no copy of a keeper.
 use Rattle.std.proofs.Common.{◌≡◌, ◌∙◌, ◌↔◌, inl, inr, ap, sym, subst, cond, arith, refl, ℕ, zero, suc, ◌+◌, ◌<◌, ◌≤◌, ◌^◌, nat_lt, List, [], ◌∷◌, length, get_or, take, find, sum, sum_by, min, Bool, true, false, Option, Some, None, IsSome, IsTrue, Result, Ok, Err, IfErr}
 use Rattle.std.proofs.lemmas.Bool.Decides.{leb_tells}
 use Rattle.std.proofs.lemmas.List.Sums.{sum_by-cons}
@@ -75,7 +75,7 @@ bytes_within config s k v inv stands =
     let all = all_within config in
     omega (arith, taken, own, room, one, all)
 
--- a volume of the invariant is within the bounds of a memory
+-- a volume that meets the invariant is within the bounds of a keeper in memory
 pub within : (config : Config) (s : State) (n : ℕ) (v : Volume) → IsInvariant config s → IsNext s n v → IsHeld v
 within config s n v inv next =
     let given = (inv.volumes v.number v next.stands).given.1 in
@@ -130,7 +130,7 @@ of_memory old new fault up same alone = record {
   count = λ d config s held inv p. same ∙ ap (counted old.refusals) (sym (alone config s inv p));
 }
 
--- after reads that were answered
+-- a fault after reads that were answered
 pub reported_later : {P Q : State → Type 0} (a b c : Model State) (fault : StoreFault) → IsQuiet a b → b.doubt ≤ c.doubt → b.refusals ≡ a.refusals
     → (b.doubt ≡ 0 → (config : Config) (s : State) → a.holds s → IsInvariant config s → P s → Q s) → IsReportedFor Q b c fault → IsReportedFor P a c fault
 reported_later a b c fault quiet clean same more reported = record {
@@ -146,7 +146,7 @@ why_read old new r fault is count down = record {
   count = λ d config s held inv. count_of old.refusals new.refusals r fault is count;
 }
 
--- after the first read, which was answered: so the keeper is not down
+-- the keeper is not down, because its first read was answered
 module _ {X : Type 0} (old mid : Model State) (r : Result X StoreFault) (x : X) (is : r ≡ Ok x) (down : (r ≡ Err Down) ↔ IsTrue old.is_down) where
   up : IsTrue old.is_down → ⊥
   up t = absurd (let e = down.1 t in cc (is, e))

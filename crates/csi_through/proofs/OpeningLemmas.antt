@@ -1,4 +1,4 @@
--- What a keeper over a memory and a change store has at first.
+-- The first State of a keeper over a memory and a change store.
 use Rattle.std.proofs.Common.{◌≡◌, ap, arith, sym, subst, false}
 use Rattle.csi_memory.specs.Holding.{Holds, mem_model}
 use Rattle.csi_keeper.specs.Keeper.{IsQuiet}
@@ -10,7 +10,7 @@ use Rattle.csi_through.specs.Through.{Opens, through_model}
 use Rattle.csi_through.specs.declared.change_store.KeeperChanges.{KeeperChanges}
 use Rattle.csi_through.specs.declared.through.Through.{Through}
 
--- over a copy of a keeper, and the keeper
+-- a keeper that is opened over a copy of a keeper, and over the keeper
 pub opens : {K : Type 0} (model : K → Model State) (old keeper : K) (memory : MemKeeper) (t : Through MemKeeper (KeeperChanges K))
     → IsQuiet (model old) (model keeper) → IsCopy (model old) (model keeper) memory
     → t.memory ≡ memory → t.change_store.keeper ≡ keeper → t.health.refusals ≡ 0 → t.health.is_down ≡ false

@@ -1,4 +1,4 @@
--- A change that the change store did not make leaves what the keeper has.
+-- A change that the change store did not make leaves the States of the keeper.
 use Rattle.std.proofs.Common.{◌≡◌, ◌∙◌, inl, sym, subst, arith, Result, Ok, Err}
 use Rattle.csi_keeper.specs.Health.{answered}
 use Rattle.csi_keeper.specs.Keeper.{Changes, Fails, IsQuiet}

@@ -1,4 +1,4 @@
--- What a copy of a keeper has, so far.
+-- A copy of a keeper, as far as it was made.
 use Rattle.std.specs.Prelude.{◌≡◌, ◌↔◌, ℕ, ◌+◌, ◌<◌, ◌≤◌, not, nat_lt, List, [], ◌∷◌, map, Some, ⊤, Err, IsTrue}
 use Rattle.std.specs.FinMap.{get, retain_keys}
 use Rattle.csi_types.specs.declared.limits.TheConstants.{MAX_NUMBER, MAX_POOL_BYTES}
@@ -33,11 +33,11 @@ abbrev pub AllowsEach : State → ℕ → List Attachment → Type 0
 AllowsEach s n [] = ⊤
 AllowsEach s n (a ∷ rest) = Allows s (Attach n a) × AllowsEach (changed s (Attach n a)) n rest
 
--- a memory can have this as its next number
+-- a keeper in memory can have this next number
 abbrev pub IsNumbered : ℕ → Type 0
 IsNumbered next = next ≤ MAX_NUMBER
 
--- and it can hold a volume
+-- a keeper in memory can hold this volume
 pub record IsHeld (v : Volume) : Type 0 where
   pub number : v.number < MAX_NUMBER
   pub bytes : v.bytes ≤ MAX_POOL_BYTES
@@ -48,51 +48,53 @@ pub record IsNext (s : State) (n : ℕ) (v : Volume) : Type 0 where
   pub greater : n < v.number
   pub first : (k : ℕ) (w : Volume) → get s.volumes k ≡ Some w → n < k → v.number ≤ k
 
--- the volumes with a greater number, from the first on
+-- the first volumes with a greater number, in order
 abbrev pub AreNext : State → ℕ → List Volume → Type 0
 AreNext s n [] = ⊤
 AreNext s n (v ∷ vs) = IsNext s n v × AreNext s v.number vs
 
--- the number of the last one
+-- the number of the last volume, or n if there is no volume
 abbrev pub last_number : ℕ → List Volume → ℕ
 last_number n [] = n
 last_number n (v ∷ vs) = last_number v.number vs
 
--- the nodes of each
+-- the nodes that each volume is published at
 abbrev pub AreNodes : State → List Volume → List (List Text) → Type 0
 AreNodes s volumes nodes = nodes ≡ map (λ v. published s v.number) volumes
 
--- Of each State of the invariant that the keeper may have had, the memory had all up to a number, and has all
--- up to the last of the volumes that come next.
+-- For each State that the keeper may have had and that meets the invariant: if `memory` has the State up to
+-- the number `after`, `copy` has it up to the last of the next volumes.
 abbrev pub CopiesTo : Model State → Model State → MemKeeper → MemKeeper → ℕ → List Volume → List (List Text) → ℕ → Type 0
 CopiesTo old new memory copy after volumes nodes last =
     new.doubt ≡ 0 → (config : Config) (s : State) → old.holds s → IsInvariant config s → AreNext s after volumes → AreNodes s volumes nodes
     → Holds memory (up_to s after)
     → (last ≡ last_number after volumes) × Holds copy (up_to s last)
 
--- it had nothing, and has all; the next number is the one after the last
+-- the memory had nothing, and the copy has the whole State; its next number is one more than the last number
+-- that was copied
 abbrev pub CopiesAll : Model State → Model State → MemKeeper → MemKeeper → Type 0
 CopiesAll old new memory copy =
     new.doubt ≡ 0 → (config : Config) (s : State) → old.holds s → IsInvariant config s → Holds memory (up_to s 0)
     → (last : ℕ) × (last < s.next) × Holds copy (record s { next = last + 1 })
 
--- it is a copy
+-- the memory has the State of the keeper
 abbrev pub IsCopy : Model State → Model State → MemKeeper → Type 0
 IsCopy old new copy = new.doubt ≡ 0 → (config : Config) (s : State) → old.holds s → IsInvariant config s → Holds copy s
 
--- no copy leaves out a number that a memory cannot have
+-- a keeper in memory can have the next number of each State of the keeper
 abbrev pub IsWhole : Model State → Model State → Type 0
 IsWhole old new = new.doubt ≡ 0 → (s : State) → old.holds s → IsNumbered s.next
 
--- Why a read of the keeper gave no value, or memory was refused. `Down` is reported only if the keeper is
--- down. For each State of the invariant with P, the keeper counted each refusal, and nothing more.
+-- The fault of a read of the keeper that gave no value, or of a want of memory. `Down` is reported only if
+-- the keeper is down. For each State that meets the invariant and `P`, the keeper counted each refusal, and
+-- nothing more.
 pub record IsReportedFor (P : State → Type 0) (old new : Model State) (fault : StoreFault) : Type 0 where
   pub down : fault ≡ Down → IsTrue old.is_down
   pub count : new.doubt ≡ 0 → (config : Config) (s : State) → old.holds s → IsInvariant config s → P s
       → new.refusals ≡ count_after {X = Unit {0}} old.refusals (Err fault)
 
--- Why there is no copy. `Down` is reported if and only if the keeper is down. For a State of the
--- invariant, the keeper counted each refusal, and nothing more.
+-- The fault because of which there is no copy. `Down` is reported if and only if the keeper is down. For each
+-- State that meets the invariant, the keeper counted each refusal, and nothing more.
 pub record IsWhy (old new : Model State) (fault : StoreFault) : Type 0 where
   pub down : (fault ≡ Down) ↔ IsTrue old.is_down
   pub count : new.doubt ≡ 0 → (config : Config) (s : State) → old.holds s → IsInvariant config s

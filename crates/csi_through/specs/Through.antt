@@ -1,4 +1,4 @@
--- What contracts see of a keeper over a memory and a change store.
+-- The model of a keeper over a memory and a change store.
 use Rattle.std.specs.Prelude.{◌≡◌, ◌+◌, ◌≤◌, true, false, Result, Err}
 use Rattle.csi_config.specs.declared.config.Config.{Config}
 use Rattle.csi_keeper.specs.Invariant.{IsInvariant}
@@ -9,8 +9,8 @@ use Rattle.csi_keeper.specs.declared.change.Change.{Change}
 use Rattle.csi_keeper.specs.declared.change.StoreFault.{StoreFault}
 use Rattle.csi_through.specs.declared.through.Through.{Through}
 
--- The change store has the State, and so has the memory, unless it is out of date. A stop leaves what it
--- leaves of the change store.
+-- The change store has the State, and the memory has it too, unless it is out of date. A stop leaves only
+-- what the change store leaves.
 abbrev pub through_model : {M D : Type 0} → (M → Model State) → (D → Model State) → Through M D → Model State
 through_model memory change_store t = record {
   holds = λ s. (change_store t.change_store).holds s × (t.is_current ≡ true → (memory t.memory).holds s);
@@ -21,7 +21,7 @@ through_model memory change_store t = record {
   is_down = t.health.is_down;
 }
 
--- a read, as of each keeper, that leaves the memory as current as it was
+-- a read, as of any keeper, that does not change whether the memory is current
 pub record ReadsThrough {M D X : Type 0} (memory : M → Model State) (change_store : D → Model State) (old new : Through M D) (result : Result X StoreFault)
     (IsSo : State → X → Type 0) : Type 0 where
   pub reads : Reads (through_model memory change_store old) (through_model memory change_store new) result IsSo
@@ -31,8 +31,8 @@ pub record ReadsThrough {M D X : Type 0} (memory : M → Model State) (change_st
 abbrev pub HasMissed : Model State → Model State → Change → Type 0
 HasMissed old new change = (fault : StoreFault) × Applies {X = Unit {0}} old new change (Err fault)
 
--- opened over a keeper: it has the keeper's States of the invariant, nothing more is left by a stop, and it
--- is not down
+-- a keeper is opened over the keeper `old`: it has the States of `old` that meet the invariant, a stop leaves
+-- nothing more, no refusal is counted, and it is not down
 pub record Opens (old new : Model State) : Type 0 where
   pub clean : old.doubt ≤ new.doubt
   pub state : new.doubt ≡ 0 → (config : Config) (s : State) → old.holds s → IsInvariant config s → new.holds s

@@ -1,4 +1,4 @@
--- Topologies are equal, when their keys are folded, where each entry of one is in the other.
+-- Topologies are equal, when their keys are folded, exactly if each entry of one is in the other.
 use Rattle.std.proofs.Common.{◌≡◌, ℕ, Bool, true, false, cond, ◌&&◌, ◌||◌, List, [], ◌∷◌, Option, Some, None, map, refl, sym, ap, subst, ◌∙◌}
 use Rattle.std.specs.Cmp.Lexicographic.{slice_cmp, nat_list_cmp_total, texts_ties}
 use Rattle.std.specs.FinMap.{FinMap, find, get, entries, from_entries, get-from_entries, same_map as maps_from_gets, same_entries_map, nat_cmp-IsAntisymmetric, slice_cmp-IsAntisymmetric}
@@ -24,7 +24,7 @@ same_entry e f = same_text e.0 f.0 && same_text e.1 f.1
 pub false≢true : false ≡ true → ⊥
 false≢true e = absurd (cc e)
 
--- what two tests say
+-- facts about two tests
 pub and_first : (a b : Bool) → (a && b) ≡ true → a ≡ true
 and_first true b h = refl
 and_first false b h = h
@@ -47,7 +47,7 @@ text_same a b h = (bytes_decides a b).0 h
 pub same_as_itself : (a : Text) → same_text a a ≡ true
 same_as_itself a = (bytes_decides a a).1 refl
 
--- `find` in the words of the tests
+-- `find` by the tests
 found : Text → List Entry → Option Text
 found q es = find (slice_cmp nat_cmp) q es
 
@@ -159,7 +159,7 @@ alike_maps : (es fs : List Entry) → Folded es ≡ Folded fs → (q : Text) →
 unfolding found
 alike_maps es fs is q = sym (get-from_entries nat_list_cmp_total es q) ∙ ap (λ m. get m q) is ∙ get-from_entries nat_list_cmp_total fs q
 
--- of entries whose keys differ: each of the one in the other and back, exactly where the maps are equal
+-- if the keys of each list differ: each entry of one list is in the other exactly if their maps are equal
 lists_same : (es fs : List Entry) → some_two same_key es ≡ false → some_two same_key fs ≡ false → (list_all (λ e. list_any (same_entry e) fs) es && list_all (λ f. list_any (same_entry f) es) fs) ≡ same_map (Folded es) (Folded fs)
 lists_same es fs d d' =
     both_ways _ _
@@ -188,7 +188,7 @@ two_folded (e ∷ es) =
     ap (λ b. b || some_two same_key (map fold_key es)) (any_folded (same_key (fold_key e)) es)
     ∙ ap (λ b. list_any (λ f. alike e.0 f.0) es || b) (two_folded es)
 
--- topologies whose keys differ are equal where each has the other's segments
+-- topologies whose keys differ are equal if each has the other's segments
 pub within_both : (m n : TextMap) → has_alike_keys m ≡ false → has_alike_keys n ≡ false → (is_within m n && is_within n m) ≡ same_topology m n
 unfolding folded
 within_both m n d d' =
@@ -208,7 +208,7 @@ within_then m n o h k =
     sym (all_folded (entries m) (entries o))
     ∙ all_also (map fold_key (entries m)) (map fold_key (entries n)) (map fold_key (entries o)) (all_folded (entries m) (entries n) ∙ h) (all_folded (entries n) (entries o) ∙ k)
 
--- equal topologies have the same ones within them, and are within the same ones
+-- equal topologies contain the same topologies, and are contained in the same ones
 pub equal_inner : (m n o : TextMap) → has_alike_keys m ≡ false → has_alike_keys n ≡ false → same_topology m n ≡ true → is_within o m ≡ is_within o n
 equal_inner m n o d d' same =
     let both = within_both m n d d' ∙ same in

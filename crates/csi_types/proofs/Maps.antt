@@ -63,7 +63,7 @@ tied Less e = absurd cc
 tied Equal e = refl
 tied Greater e = absurd cc
 
--- in sorted entries the last of a key is the first
+-- in sorted entries the last entry of a key is also its first
 pub find_back : (q : Text) (es : List (Text × Text)) → IsStrictlySortedBy text_cmp (keys_of es) → find text_cmp q (reverse es) ≡ find text_cmp q es
 find_back q [] h = refl
 find_back q (e ∷ es) h =
@@ -97,7 +97,7 @@ unfolding IsStrictlySortedBy
 keys_sorted [] h = tt
 keys_sorted (e ∷ es) h = (each_below e.0 es (first_so _ _ h), keys_sorted es (second_so _ _ h))
 
--- a map is what its entries make, in order
+-- the entries of a map, in order, make the map
 pub again : (m : FinMap text_cmp Text) → from_entries {R = text_cmp} (reverse (entries m)) ≡ m
 again m = same_map nat_list_cmp_total exact _ _ (λ q.
     get-from_entries nat_list_cmp_total (reverse (entries m)) q
@@ -119,11 +119,11 @@ both_so : (a b : Bool) → T a → T b → T (a && b)
 both_so true b p q = q
 both_so false b p q = p
 
--- the entries of a map are those that it holds
+-- the entries of a map that was made from rising entries are these entries
 pub entries_of : (es : List (Text × Text)) (m : FinMap text_cmp Text) → IsRising es → from_sorted es ≡ m → entries m ≡ es
 entries_of es m h e = ap entries (sym e) ∙ entries-from_sorted text_cmp es h
 
--- the list has them all where the tree has none
+-- the list has all entries if the tree has none
 pub all_listed : (es fs : List (Text × Text)) (m : FinMap text_cmp Text) → IsRising (es ++ fs) → from_sorted (es ++ fs) ≡ m → length fs ≡ 0 → es ≡ entries m
 all_listed es [] m h e none = sym (entries_of (es ++ []) m h e ∙ append-nil es)
 all_listed es (f ∷ fs) m h e none = absurd (omega arith)
@@ -131,7 +131,7 @@ all_listed es (f ∷ fs) m h e none = absurd (omega arith)
 pub none_held : from_sorted {R = text_cmp} [] ≡ empty {X = Text}
 none_held = same_entries_map _ _ (entries-from_sorted text_cmp [] tt ∙ sym empty_entries)
 
--- what an entry makes of the entries that are held
+-- the entries after an entry is put among them
 pub put_rising : (k v : Text) (es fs : List (Text × Text)) → IsRising es → fs ≡ put text_cmp k v es → IsRising fs
 put_rising k v es fs h e = subst (λ xs. IsRising xs) (sym e) (is_sorted-put text_cmp nat_list_cmp_total k v es h)
 
@@ -143,7 +143,7 @@ put_inserts k v es fs h e =
 greater : (x y : Text) → text_cmp x y ≡ Less → text_cmp y x ≡ Greater
 greater x y h = nat_list_cmp_total.antisymm y x ∙ ap ordering_reverse h
 
--- a key goes after those that are below it
+-- a key goes after the keys that are below it
 pub put_beyond : (k v : Text) (es ts : List (Text × Text)) → AreBelow k es → put text_cmp k v (es ++ ts) ≡ es ++ put text_cmp k v ts
 put_beyond k v [] ts h = refl
 put_beyond k v (e ∷ es) ts h =
@@ -164,7 +164,7 @@ below_last : (k : Text) (xs : List (Text × Text)) (e : Text × Text) → T (bel
 below_last k [] e h = is_less _ (first_so _ _ h)
 below_last k (x ∷ xs) e h = below_last k xs e (second_so _ _ h)
 
--- a key that is beyond the last is beyond all
+-- a key that is above the last key is above all keys
 pub beyond_last : (k : Text) (xs : List (Text × Text)) (e : Text × Text) → IsRising (xs ++ e ∷ []) → text_cmp e.0 k ≡ Less → AreBelow k (xs ++ e ∷ [])
 beyond_last k [] e h l = (l, tt)
 beyond_last k (x ∷ xs) e h l = (nat_list_cmp_total.trans x.0 e.0 k (below_last x.0 xs e (first_so _ _ h)) l, beyond_last k xs e (second_so _ _ h) l)
@@ -192,7 +192,7 @@ last_moves xs e ts h =
     let whole = append_assoc xs (e ∷ []) ts in
     ap (λ r. xs ++ r) (goes_first e ts (back_rises xs (e ∷ ts) (subst (λ es. IsRising es) whole h))) ∙ sym whole
 
--- an entry that a search finds is the one of its key
+-- an entry that a search finds is the entry of its key
 below_at : (k : Text) (es : List (Text × Text)) (i : ℕ) (d : Text × Text) → T (below_all text_cmp k es) → i < length es → text_cmp k (get_or es i d).0 ≡ Less
 below_at k [] i d h l = absurd (omega arith)
 below_at k (e ∷ es) zero d h l = is_less _ (first_so _ _ h)
@@ -233,7 +233,7 @@ find_none k es i h p =
       | false ↦ λ t. apart_above k _ (parts.1 j d (ltb-false j i t) l)
     ] refl)
 
--- what a list and a tree have at a key
+-- the value that a list and a tree have at a key
 pub got_listed : (k : Text) (es ts : List (Text × Text)) (i : ℕ) (d : Text × Text) → IsRising (es ++ ts) → i < length es → text_cmp (get_or es i d).0 k ≡ Equal → get (from_sorted {R = text_cmp} (es ++ ts)) k ≡ Some (get_or es i d).1
 got_listed k es ts i d h l e =
     get-from_sorted text_cmp (es ++ ts) k h ∙ find_app k es ts

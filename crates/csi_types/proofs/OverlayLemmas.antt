@@ -1,4 +1,4 @@
--- Maps laid over one another: what they have at a key.
+-- Maps laid over one another: their value at a key.
 use Rattle.std.proofs.Common.{◌≡◌, cond, true, false, ◌&&◌, List, [], ◌∷◌, ◌++◌, Option, Some, None, reverse, refl, sym, ap, subst, ◌∙◌}
 use Rattle.std.specs.Cmp.Lexicographic.{nat_list_cmp_total, texts_ties}
 use Rattle.std.specs.FinMap.{find, get, entries, entries_sorted, from_entries, get-entries, get-from_entries, same_map}
@@ -11,7 +11,7 @@ use Rattle.csi_types.specs.Overlays.{laid_over, is_text, has_each}
 use Rattle.csi_types.proofs.FoldingLemmas.{and_first, and_second, false≢true, same_as_itself, text_same}
 use Rattle.csi_types.proofs.Maps.{Text, exact, find_app, find_back, keys_sorted, not_found, second_so, text_cmp, tied}
 
--- a given key has the given value, another its own
+-- a given key has the given value, and any other key its own
 pub get_laid : (m given : TextMap) (k : Text) → get (laid_over m given) k ≡ option_or (get given k) (get m k)
 unfolding laid_over
 get_laid m given k =
@@ -23,7 +23,7 @@ get_laid m given k =
 maps_same : (m n : TextMap) → ((k : Text) → get m k ≡ get n k) → m ≡ n
 maps_same = same_map nat_list_cmp_total exact
 
--- a map is what its entries make in any case
+-- the entries of a map make the map
 pub itself : (m : TextMap) → from_entries (entries m) ≡ m
 itself m = maps_same _ m (λ k. get-from_entries nat_list_cmp_total (entries m) k ∙ sym (get-entries m k))
 
@@ -81,7 +81,7 @@ gets_have m given g = each_found m (entries given) (entries_sorted given) (λ k 
 pub included : (m given : TextMap) → (has_each m given ≡ true) ↔ ((k v : Text) → get given k ≡ Some v → get m k ≡ Some v)
 included m given = (has_gets m given, gets_have m given)
 
--- the overlay's entries are there
+-- the overlay's entries are in the result
 
 or_first : (a b : Option Text) (v : Text) → a ≡ Some v → option_or a b ≡ Some v
 or_first a b v e = ap (λ (o : Option Text). option_or o b) e
@@ -89,7 +89,7 @@ or_first a b v e = ap (λ (o : Option Text). option_or o b) e
 pub laid_has : (m given : TextMap) → has_each (laid_over m given) given ≡ true
 laid_has m given = gets_have (laid_over m given) given (λ k v g. get_laid m given k ∙ or_first (get given k) (get m k) v g)
 
--- and where it was there, nothing changes
+-- if the value was there already, nothing changes
 
 or_had : (a b : Option Text) → ((v : Text) → a ≡ Some v → b ≡ Some v) → option_or a b ≡ b
 or_had None b h = refl

@@ -21,7 +21,7 @@ alike_entries e f = alike e.0 f.0
 abbrev pub by_key : Segment → Segment → Ordering
 by_key = on folded_key (slice_cmp nat_cmp)
 
--- keys that differ, by the two words
+-- keys that differ, for both definitions
 none_later : (x : Entry) (es : List Entry) → list_any (alike_entries x) es ≡ false → AllByRecursion (λ e. alike_entries x e ≡ false) es
 none_later x [] h = tt
 none_later x (e ∷ es) h = (or_first_false _ (list_any (alike_entries x) es) h, none_later x es (or_second_false (alike_entries x e) _ h))
@@ -87,7 +87,7 @@ less Less h = refl
 less Equal h = absurd (false≢true (sym h))
 less Greater h = absurd (false≢true (sym h))
 
--- of segments in order some two are alike where two neighbours do not rise
+-- in ordered segments two are alike if two neighbours do not rise
 pub tied_neighbours : (ss : List Segment) (r : Bool) → IsSorted by_key ss → IsAllAdjacentAnswer (λ x y b. b ≡ is_lt (by_key x y)) ss r → not r ≡ some_two alike_entries (map entry_of ss)
 tied_neighbours [] true o a = refl
 tied_neighbours (s ∷ ss) true o a = sym (rising (s ∷ ss) (sorted_from_all_adjacent (on_texts folded_key) (s ∷ ss) s (λ k h. less _ (a k s h))))

@@ -1,5 +1,5 @@
--- The checks of a request's arguments: what each call requires of its fields (CSI specification, the
--- section of each call, and 'Size Limits'). The first line of the table that holds is answered.
+-- The checks of a request's arguments: what each call requires of its fields (CSI specification, the section
+-- of each call, and 'Size Limits'). The answer is the first line of the table that is true.
 use Rattle.std.specs.Prelude.{ℕ, ℤ, pos, negsuc, ◌+◌, ◌==◌, Bool, true, false, not, ◌||◌, ◌&&◌, nat_lt, nat_le, List, [], ◌∷◌, ◌++◌, length, sum_by}
 use Rattle.std.specs.Prelude.{Option, None, Some, option_to_list}
 use Rattle.std.specs.FinMap.{entries, len}
@@ -40,7 +40,8 @@ is_multi_node_writer None = false
 is_multi_node_writer (Some (pos mode)) = mode == 4 || mode == 5
 is_multi_node_writer (Some (negsuc n)) = false
 
--- supported: block with each known mode, mount with each mode that lets no node write next to others
+-- true if the access is supported: block with each known mode, mount with each mode that lets no node write
+-- while others have the volume
 abbrev pub is_supported_access : Access → Option ℤ → Bool
 is_supported_access access.Missing mode = false
 is_supported_access access.Block mode = is_known_mode mode
@@ -63,11 +64,11 @@ is_negative (negsuc n) = true
 abbrev pub is_negative_range : CapacityRange → Bool
 is_negative_range range = is_negative range.required || is_negative range.limit
 
--- the bytes of all keys and values
+-- the number of bytes of all keys and values
 abbrev pub map_bytes : TextMap → ℕ
 map_bytes m = sum_by (λ e. length e.0 + length e.1) (entries m)
 
--- the bytes of all flags of a mount
+-- the number of bytes of all flags of a mount
 abbrev pub flags_bytes : Mount → ℕ
 flags_bytes m = sum_by length m.flags
 
@@ -89,11 +90,11 @@ terms (Some r) = r.requisite ++ r.preferred
 abbrev pub prefers_another : Requirement → Bool
 prefers_another r = not (is_empty r.requisite) && list_any (λ p. not (list_any (same_topology p) r.requisite)) r.preferred
 
--- The parts of a request that the lines speak of.
+-- The parts of a request that the lines of the table look at.
 
 pub record Parts : Type 0 where
   pub names : List (List ℕ)
-  -- the list of capabilities, of the calls that must give one
+  -- the list of capabilities of a call that must give at least one
   pub required_capabilities : List (List Capability)
   pub capabilities : List Capability
   -- the capabilities of a volume that is to be made
@@ -103,11 +104,11 @@ pub record Parts : Type 0 where
   pub topologies : List TextMap
   -- all maps: parameters, mutable parameters, secrets, contexts and topologies
   pub maps : List TextMap
-  -- the mutable parameters, of the call that must give some
+  -- the mutable parameters of a call that must give some
   pub required_maps : List TextMap
   pub volume_ids : List (List ℕ)
   pub node_ids : List (List ℕ)
-  -- the node id, of the call that must give one
+  -- the node id of a call that must give one
   pub required_node_ids : List (List ℕ)
   pub tokens : List (List ℕ)
   pub most_entries : List ℤ
@@ -180,7 +181,7 @@ parts (Modify r) = record no_parts {
   volume_ids = r.volume_id ∷ [];
 }
 
--- The table, in the order of its answers.
+-- The table: the first line that is true is answered.
 
 abbrev pub lines : List (Reason × (Parts → Bool))
 lines =
@@ -209,6 +210,6 @@ lines =
     ∷ (MutableMissing, λ p. list_any (λ m. len m == 0) p.required_maps)
     ∷ []
 
--- what a request is refused for, if for anything
+-- the reason why a request is refused, if it is refused
 unfoldable pub checked : Request → Option Reason
 checked request = first_line lines (parts request)

@@ -11,11 +11,11 @@ use Rattle.std.specs.declared.cmp.Ordering.TheVariants.{Less}
 abbrev pub TextMap : Type 0
 TextMap = FinMap (slice_cmp nat_cmp) (List ℕ)
 
--- the keys of the entries rise
+-- the keys of the entries are in strictly rising order
 abbrev pub IsRising : List (List ℕ × List ℕ) → Type 0
 IsRising es = T (is_sorted (slice_cmp nat_cmp) es)
 
--- the keys of the entries are below a key
+-- all keys of the entries are below this key
 abbrev pub AreBelow : List ℕ → List (List ℕ × List ℕ) → Type 0
 AreBelow key es = AllByRecursion (λ e. slice_cmp nat_cmp e.0 key ≡ Less) es
 

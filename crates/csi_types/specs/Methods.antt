@@ -38,7 +38,7 @@ methods =
     ∷ ControllerModifyVolume
     ∷ []
 
--- the method of a path, where one has it
+-- the method with this path, if there is one
 unfoldable pub method_at : List ℕ → Option Method
 method_at path = find (λ method. bytes_eq path (path_of method)) methods
 
@@ -48,6 +48,6 @@ abbrev pub or_else : Option Method → Option Method → Option Method
 or_else None other = other
 or_else (Some method) other = Some method
 
--- of the controller service, or otherwise of the identity service
+-- the method with this name of the controller service, or otherwise of the identity service
 abbrev pub method_named : List ℕ → Option Method
 method_named name = or_else (method_at (codes "/csi.v1.Controller/" ++ name)) (method_at (codes "/csi.v1.Identity/" ++ name))

@@ -10,7 +10,7 @@ use Rattle.csi_types.specs.Lines.{first_line}
 abbrev pub is_empty : {A : Type 0} → List A → Bool
 is_empty xs = length xs == 0
 
--- the text has more bytes than that
+-- the text has more than `most` bytes
 abbrev pub longer_than : ℕ → List ℕ → Bool
 longer_than most text = nat_lt most (length text)
 
@@ -26,7 +26,7 @@ is_plain byte = nat_le 32 byte && nat_le byte 126
 abbrev pub holds_banned : List ℕ → Bool
 holds_banned text = list_any is_banned (chars text)
 
--- what a name is refused for: the first line that holds of it
+-- the reason why a name is refused, if it is refused: the first line that is true
 abbrev pub refused_name : List ℕ → Option Reason
 refused_name =
     first_line ((NameMissing, is_empty) ∷ (NameTooLong, longer_than MAX_TEXT_BYTES) ∷ (NameBanned, holds_banned) ∷ [])

@@ -1,4 +1,4 @@
--- What each refusal is answered with: a status code and a text.
+-- The answer to each refusal: a status code and a text.
 use Rattle.std.specs.Prelude.{ℕ, List, codes}
 use Rattle.csi_types.specs.declared.code.Code.{Code}
 use Rattle.csi_types.specs.declared.code.Code.TheVariants as code

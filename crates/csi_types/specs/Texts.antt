@@ -1,4 +1,4 @@
--- What a text is, in any place.
+-- The bytes of a text, in each form in which it is kept.
 use Rattle.std.specs.Prelude.{ℕ, List}
 use Rattle.std.specs.String.{string_bytes}
 use Rattle.csi_types.specs.declared.text.TextStorage.{TextStorage}

@@ -10,7 +10,7 @@ use Rattle.csi_types.specs.Maps.{TextMap, same_text, same_map}
 abbrev pub alike : List ℕ → List ℕ → Bool
 alike j k = same_text (str_to_ascii_lowercase j) (str_to_ascii_lowercase k)
 
--- some two of the list meet the test
+-- some two items of the list pass the test
 abbrev pub some_two : {A : Type 0} → (A → A → Bool) → List A → Bool
 some_two test [] = false
 some_two test (x ∷ xs) = list_any (test x) xs || some_two test xs
@@ -27,7 +27,7 @@ folded m = from_entries (map (λ e. (str_to_ascii_lowercase e.0, e.1)) (entries 
 abbrev pub same_topology : TextMap → TextMap → Bool
 same_topology m n = same_map (folded m) (folded n)
 
--- each segment of the inner topology is one of the outer
+-- each segment of the inner topology is a segment of the outer topology
 abbrev pub is_within : TextMap → TextMap → Bool
 is_within inner outer =
     list_all (λ e. list_any (λ f. alike e.0 f.0 && same_text e.1 f.1) (entries outer)) (entries inner)

@@ -32,7 +32,7 @@ spelling_digits digits (bytes, inr spelled) =
     let ok = decode_of-ok digits bytes spelled.1 in
     inr (spelled.0, ok.0, list_all-from_AllPass is_ascii_hexdigit digits (λ k d lt. same_digits (slice_index_or digits k d) ∙ ok.1 k d lt))
 
--- what digits are decoded to is what they encode
+-- the bytes that digits are decoded to are the bytes that they encode
 pub spelled : (digits bytes : List ℕ) → decode_of digits ≡ Ok bytes → IsSpelling digits → Spells digits bytes
 spelled digits bytes e (other, inl dash) = inr ((λ none. (let bad : codes "-" ≡ [] = sym dash.0 ∙ none in absurd cc)), e)
 spelled digits bytes e (other, inr h) = inr (h.0, e)

@@ -1,4 +1,4 @@
--- Faults that are handed on.
+-- Faults that are passed on.
 use Rattle.std.proofs.Common.{◌≡◌, ◌∙◌, Bool, true, false, true≢false, Result, Ok, Err, IsErrAnd, ap, refl, sym}
 use Rattle.csi_vectors.specs.declared.vector.LineFault.{LineFault}
 use Rattle.csi_vectors.specs.declared.vector.LineFault.TheVariants as fault
@@ -16,7 +16,7 @@ is_bad (Err halt.BadLine) = true
 is_bad (Err halt.WriteFailed) = false
 is_bad (Err halt.NoMemory) = false
 
--- a line is no vector only where that was said of it
+-- a line is no vector only if this fault was reported for it
 pub bad_line : (r : Result Bool RunHalt) (x : LineFault) → IsErrAnd r (λ e. e ≡ halt_of x) → r ≡ Err halt.BadLine → x ≡ fault.NotVector
 bad_line r fault.NotVector h b = refl
 bad_line r fault.NoMemory h b = absurd (true≢false (sym (ap is_bad b) ∙ ap is_bad (is_err r halt.NoMemory h)))

@@ -38,7 +38,7 @@ was_run config text given name input output bytes ok run same utf8 line written 
   said = refl;
 }
 
--- the line that was made is the one reported
+-- the line that was made is the line that is reported
 pub appended_as : (a b : Option (List ℕ)) (slice items line : List ℕ) → slice ≡ items → items ≡ line → Appends a b slice → Appends a b line
 appended_as a b slice items line s i h = subst (λ (l : List ℕ). Appends a b l) (s ∙ i) h
 
@@ -47,14 +47,14 @@ cut_as a b slice items line s i h = subst (λ (l : List ℕ). WrotePrefix a b l)
 
 -- ---- lines
 
--- a buffer that holds nothing leaves what its reader leaves
+-- an empty buffer leaves the same bytes as its reader
 pub fresh : {T A : Type 0} (remaining : T → Option (List ℕ)) (r : BufReader T A) (inner : T) → reader_inner r ≡ inner → reader_buffer r ≡ [] → reader_capacity r ≡ 8192
     → reader_remaining remaining r ≡ remaining inner
 fresh remaining r inner i b k =
     ap (λ n. if n == 0 then None else prepend_known (reader_buffer r) (remaining (reader_inner r))) k
     ∙ ap (λ bytes. prepend_known bytes (remaining (reader_inner r))) b ∙ none_before (remaining (reader_inner r)) ∙ ap remaining i
 
--- one line more was run
+-- one more line was run
 pub one_more : (config : Config) (unread held mid left written holds : Option (List ℕ)) (count : ℕ) (already now all : Bool) (line given text lines : List ℕ) → AreRun config unread held count mid written already
     → Takes mid left line → line ≢ [] → given ≡ line → IsTextOf given text → IsDone config text lines now → Appends written holds lines → all ≡ (already || now) → AreRun config unread held (count + 1) left holds all
 one_more config unread held mid left written holds count already now all line given text lines run taken some same is_text done wrote either =

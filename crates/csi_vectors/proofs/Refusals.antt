@@ -37,7 +37,7 @@ not_taken Nothing none r is = absurd is
 not_taken (Frame q size) none r is = none q size refl
 not_taken (Fault f) none r is = absurd is
 
--- nothing more is a reply
+-- no further bytes are a reply
 pub none_more : (bytes : List ℕ) (taken : TakenReply) → ReadsBack → TakesFirstReply bytes taken → ((q : Reply) (size : ℕ) → taken ≡ Frame q size → ⊥) → IsUnrefused bytes
 none_more bytes taken back takes none [] last all e = tt
 none_more bytes taken back takes none (r ∷ rs) last all e = absurd (not_taken taken none r (first_is bytes taken r rs last back takes all.0 e))

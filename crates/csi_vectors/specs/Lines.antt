@@ -17,15 +17,16 @@ head text = before_first is_space text
 abbrev pub tail : List ℕ → List ℕ
 tail text = after_first is_space text
 
--- a dash is no bytes, and otherwise two digits are one
+-- a dash means no bytes; otherwise two digits mean one byte
 abbrev pub Spells : List ℕ → List ℕ → Type 0
 Spells digits bytes = ((digits ≡ codes "-") × (bytes ≡ [])) ⊎ ((digits ≢ []) × (decode_of digits ≡ Ok bytes))
 
--- digits of some bytes
+-- the digits mean some bytes
 abbrev pub IsSpelling : List ℕ → Type 0
 IsSpelling digits = (bytes : List ℕ) × Spells digits bytes
 
--- The name, the input and the output of a vector, with one space between: the name and the input have none.
+-- A line has the name, the input and the output of a vector, with one space between them. The name and the
+-- input have no space.
 pub record IsLineOf (line name input output : List ℕ) : Type 0 where
   pub first : HasSpace line
   pub second : HasSpace (tail line)

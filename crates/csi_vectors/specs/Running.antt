@@ -1,4 +1,4 @@
--- The output for vectors, a line each.
+-- The output for vectors, one line for each vector.
 use Rattle.std.specs.Prelude.{ℕ, zero, suc, ◌≡◌, ◌≢◌, ◌⊎◌, ◌+◌, ◌-◌, ◌^◌, ◌++◌, ◌||◌, Bool, true, false, not, List, [], Option, IfSome, IsUtf8, codes, bytes_eq}
 use Rattle.std.specs.Io.BufRead.{take_through, DropsThrough}
 use Rattle.std.specs.Io.KnownBytes.{Appends, Keeps, IsAtEnd}
@@ -22,7 +22,7 @@ IsTextOf line text = (line ≡ text ++ codes "\n") ⊎ ((line ≡ text) × ((fro
 abbrev pub IsSkipped : List ℕ → Type 0
 IsSkipped text = (text ≡ []) ⊎ ((rest : List ℕ) × (text ≡ codes "#" ++ rest))
 
--- these bytes are not skipped, and are no text, or a text without the form
+-- these bytes are not skipped, and they are not UTF-8 or do not have the form of a vector
 abbrev pub IsNoText : List ℕ → Type 0
 IsNoText text = (¬ IsSkipped text) × ((¬ IsUtf8 text) ⊎ ((name input output : List ℕ) → ¬ IsLineOf text name input output))
 
@@ -35,8 +35,8 @@ abbrev pub reported : Bool → List ℕ → List ℕ
 reported true name = codes "FAIL " ++ name ++ codes "\n"
 reported false name = codes "ok " ++ name ++ codes "\n"
 
--- a vector was run: a new server writes these bytes for its input, and it failed where they are not its
--- output and no call was refused
+-- a vector was run: a new server writes these bytes for its input. The vector failed if they are not its
+-- output; then no call was refused for want of memory.
 pub record IsRun (config : Config) (text lines : List ℕ) (failed : Bool) : Type 0 where
   pub name : List ℕ
   pub input : List ℕ
@@ -49,11 +49,11 @@ pub record IsRun (config : Config) (text lines : List ℕ) (failed : Bool) : Typ
   pub judged : failed ≡ not (bytes_eq bytes output)
   pub said : lines ≡ reported failed name
 
--- a vector was run, and of its line a prefix was written, which may be none or all of it
+-- a vector was run, and a prefix of its line was written, which may be empty or the whole line
 abbrev pub IsCut : Config → List ℕ → Option (List ℕ) → Option (List ℕ) → Type 0
 IsCut config text held holds = (lines : List ℕ) × (failed : Bool) × IsRun config text lines failed × WrotePrefix held holds lines
 
--- of a line that is skipped nothing is written
+-- a line was skipped, and nothing was written for it; or a vector was run
 abbrev pub IsDone : Config → List ℕ → List ℕ → Bool → Type 0
 IsDone config text lines failed = (IsSkipped text × (lines ≡ []) × (failed ≡ false)) ⊎ IsRun config text lines failed
 
@@ -61,7 +61,7 @@ IsDone config text lines failed = (IsSkipped text × (lines ≡ []) × (failed �
 abbrev pub Takes : Option (List ℕ) → Option (List ℕ) → List ℕ → Type 0
 Takes before after line = IfSome before (λ bytes. line ≡ take_through 10 bytes) × DropsThrough before after 10
 
--- One more line: the rest and the held bytes before it, and the result.
+-- One more line was run. `Before` is true of the bytes left, the bytes held and the result before this line.
 pub record LineStep (config : Config) (Before : Option (List ℕ) → Option (List ℕ) → Bool → Type 0) (left holds : Option (List ℕ)) (failed : Bool) : Type 0 where
   pub mid : Option (List ℕ)
   pub held : Option (List ℕ)
@@ -97,12 +97,12 @@ EndsAs config unread held holds WriteFailed = (count : ℕ) × (left : Option (L
     × AreRun config unread held count left before failed × Takes left after line × IsTextOf line text × IsCut config text before holds
 EndsAs config unread held holds NoMemory = (count : ℕ) × (left : Option (List ℕ)) × (failed : Bool) × AreRun config unread held count left holds failed
 
--- why a line ends the run
+-- the reason why a line ends the run
 abbrev pub halt_of : LineFault → RunHalt
 halt_of fault.NotVector = halt.BadLine
 halt_of fault.NoMemory = halt.NoMemory
 
--- and how
+-- the end of the run for this reason, at the line with this number
 abbrev pub end_of : RunHalt → ℕ → VectorsEnd
 end_of halt.BadLine number = BadLine number
 end_of halt.WriteFailed number = WriteFailed

@@ -1,4 +1,4 @@
--- The path of the call for a configuration is one of a call.
+-- The path of the call for a configuration is a path that a call can have.
 use Rattle.std.proofs.Common.{◌≡◌, ◌≤◌, ℕ, List, Bool, true, false, All, length, refl}
 use Rattle.std.specs.Prelude.{nat_le, ◌&&◌}
 use Rattle.std.specs.List.{list_all}

@@ -1,4 +1,4 @@
--- How the program ends for what a field or a body is not had for.
+-- The failure of the program for a fault of a field or of a body.
 use Rattle.pbmessage.specs.declared.message.DecodeFault.{DecodeFault}
 use Rattle.pbmessage.specs.declared.message.DecodeFault.TheVariants as decoding
 use Rattle.csictl.specs.declared.failure.Failure.{Failure}
@@ -10,7 +10,7 @@ abbrev pub failure_of : FieldFault → Failure
 failure_of field.NotPair = failure.NotPair
 failure_of field.NoMemory = failure.NoMemory
 
--- bytes that are no response of their method are no body
+-- bytes that are no response of their method are a bad body
 abbrev pub of_decoder : DecodeFault → Failure
 of_decoder decoding.NoMemory = failure.NoMemory
 of_decoder (decoding.Malformed at) = failure.BadBody

@@ -3,7 +3,7 @@
 -- are 0.
 use Rattle.std.specs.Prelude.{ℕ, ◌==◌, ◌&&◌, Bool, List, length, nat_lt, slice_index}
 
--- whether the first `count` of these bytes are the head of a frame SETTINGS of fewer than 256 bytes
+-- true if the first `count` of these bytes are the head of a frame SETTINGS of fewer than 256 bytes
 abbrev pub begins_http2 : List ℕ → ℕ → Bool
 begins_http2 bytes count =
     nat_lt 3 (length bytes) && nat_lt 3 count && (slice_index bytes 0 == 0) && (slice_index bytes 1 == 0) && (slice_index bytes 3 == 4)

@@ -6,12 +6,12 @@ use Rattle.csictl.specs.declared.failure.Ended.TheVariants.{Done, Refused}
 use Rattle.csictl.specs.declared.failure.Failure.{Failure}
 use Rattle.csictl.specs.declared.failure.Failure.TheVariants as failure
 
--- the exit status where nothing fails
+-- the exit status if nothing fails
 abbrev pub ended_status : Ended → ℕ
 ended_status Done = 0
 ended_status Refused = 1
 
--- the exit status that a failure gives
+-- the exit status of a failure
 abbrev pub failure_status : Failure → ℕ
 failure_status (failure.Arguments fault) = arguments_status fault
 failure_status (failure.NoMethod name) = 2

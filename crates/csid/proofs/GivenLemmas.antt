@@ -14,7 +14,7 @@ use Rattle.csi_sql.specs.Rows.{meta_row, seen_attachment, seen_meta, seen_volume
 use Rattle.csi_sql.specs.declared.formats.TheConstants.{FIRST_FORMAT, LATEST_FORMAT}
 use Rattle.csi_tables.specs.Holding.{IsEitherRows, IsRowsOf}
 
--- what the rows of the items make of tables
+-- the tables after the rows of the items were put into them
 pub record Moved (items : List PageItem) (a b : Database) : Type 0 where
   pub schema : b.schema ≡ a.schema
   pub meta : (format next : ℕ) → map seen_meta (a.trees 0) ≡ meta_row format next ∷ [] → map seen_meta (b.trees 0) ≡ meta_row format (next_in next items) ∷ []

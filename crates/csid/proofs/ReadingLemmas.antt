@@ -89,7 +89,7 @@ module _ {S : Type 0} (g : Ghosts S) (config : Config) (conn : Held S) {P : Type
       (record { refusals = fresh.0; current = fresh.1; up = fresh.2; change_store_up = ap (λ (l : RemoteChangeStore P). l.is_down) over ∙ begun.1 })
 
 module _ (config : Config) {P : Type 0} (exchanged : P → P → List ℕ → Received → Type 0) (old : P) where
-  -- over files in memory, where the database had no table
+  -- a change store was read over files in memory, if the database had no table
   pub read_from : (conn : Held (FileStore Memory memory.ghosts)) (through : Through MemKeeper (RemoteChangeStore P)) → (file_state conn).now.schema ≡ no_schema → IsCopied over_files config conn exchanged old through
       → IsReadFrom config exchanged old through
   read_from conn through none it = record {

@@ -1,4 +1,4 @@
--- Whether a change store leads, and may be answered for from memory.
+-- The conditions under which a change store leads, and calls may be answered from memory.
 use Rattle.std.specs.Prelude.{◌≡◌, ℕ, List, false, true}
 use Rattle.csi_client.specs.declared.receiving.Received.{Received}
 use Rattle.csi_change_store.specs.Asking.{lead_frame}

@@ -36,8 +36,8 @@ module _ {P : Type 0} (exchanged : P → P → List ℕ → Received → Type 0)
   abbrev pub ChecksMeta : PagesRead → Type 0
   ChecksMeta notes = ((notes.format ≡ Some LATEST_FORMAT) × (new ≡ old)) ⊎ ((notes.format ≡ None) × (notes.has_rows ≡ false) × MakesMeta)
 
--- The requests to a change store before calls are served: for all its pages, and then, if it has no row, that
--- it makes its row of meta. The peer is as these exchanges left it.
+-- The requests to a change store before calls are served: for all its pages and then, if it has no row, to
+-- make its row of meta. The peer is in the state after these exchanges.
 pub record AsksAll {P : Type 0} (exchanged : P → P → List ℕ → Received → Type 0) (old new : P) : Type 0 where
   pub pages : List (List PageItem)
   pub notes : PagesRead
@@ -45,7 +45,7 @@ pub record AsksAll {P : Type 0} (exchanged : P → P → List ℕ → Received �
   pub read : AreRead exchanged old mid notes pages
   pub settled : ChecksMeta exchanged mid new notes
 
--- The pages give the rows of one State, and of no other. It meets every constraint, and is among these.
+-- The pages give the rows of exactly one State. The State meets every constraint, and `Has` is true of it.
 pub record GiveOne (config : Config) (pages : List (List PageItem)) (Has : State → Type 0) : Type 0 where
   pub state : State
   pub given : Gives (all_items pages) state
@@ -53,7 +53,7 @@ pub record GiveOne (config : Config) (pages : List (List PageItem)) (Has : State
   pub invariant : IsInvariant config state
   pub has : Has state
 
--- It refused nothing, neither it nor its change store is down, and its memory is not out of date.
+-- The keeper refused nothing, neither it nor its change store is down, and its memory is not out of date.
 pub record IsUnused {P : Type 0} (through : Through MemKeeper (RemoteChangeStore P)) : Type 0 where
   pub refusals : through.health.refusals ≡ 0
   pub current : through.is_current ≡ true
@@ -65,19 +65,20 @@ module _ {S : Type 0} (g : Ghosts S) (config : Config) (conn : Held S) {P : Type
   abbrev pub IsOverNone : Tables S → Type 0
   IsOverNone t = ((tables_model g t).doubt ≡ 0) × ((state g conn).now.schema ≡ no_schema)
 
-  -- all was asked of the change store, and the tables have the State whose rows it gave
+  -- all requests were made to the change store, and the tables have the State whose rows it gave
   pub record AreTaken (new : P) (t : Tables S) : Type 0 where
     pub asked : AsksAll exchanged old new
     pub held : IsOverNone t → GiveOne config asked.pages (tables_model g t).holds
 
-  -- all was asked of the change store, and both the tables and the memory have the State whose rows it gave
+  -- all requests were made to the change store, and both the tables and the memory have the State whose rows
+  -- it gave
   pub record IsCopied (through : Through MemKeeper (RemoteChangeStore P)) : Type 0 where
     pub asked : AsksAll exchanged old through.change_store.peer
     pub tables : Tables S
     pub held : IsOverNone tables → GiveOne config asked.pages (λ s. (tables_model g tables).holds s × Holds through.memory s)
     pub unused : IsUnused through
 
--- all was asked of the change store, and the memory has the State whose rows it gave
+-- all requests were made to the change store, and the memory has the State whose rows it gave
 pub record IsReadFrom {P : Type 0} (config : Config) (exchanged : P → P → List ℕ → Received
     → Type 0) (old : P) (through : Through MemKeeper (RemoteChangeStore P)) : Type 0 where
   pub asked : AsksAll exchanged old through.change_store.peer

@@ -15,7 +15,7 @@ module _ (idle : Option Duration) (left : ℕ) (now : Instant) where
   pub turns_off : (old rest new : List Pending) (one : Pending) → old ≡ one ∷ rest → is_ready one ≡ false → new ≡ rest → TurnsOver idle left now old new
   turns_off old rest new one e none n = subst (λ (l : List Pending). TurnsOver idle left now l new) (sym e) (inr (none, n))
 
-  -- those that are not looked at yet come first, and then those that go on
+  -- the connections that are not looked at yet come first, and then the connections that go on
   abbrev pub Turning : (first pending : List Pending) (turn : ℕ) → Type 0
   Turning first pending turn = (rest : List Pending) × (kept : List Pending) × (pending ≡ rest ++ kept) × (length rest + turn ≡ length first)
       × ((more : List Pending) → LooksAt idle left now rest more → LooksAt idle left now first (kept ++ more))

@@ -11,7 +11,7 @@ use Rattle.csid_connections.specs.declared.clock.Since.TheVariants.{Never, Now, 
 use Rattle.csid_connections.specs.declared.clock.CallClock.{CallClock}
 use Rattle.csid_connections.specs.declared.limits.TheConstants.{CALL_SECONDS, SHORTEST_MILLIS, WANTED_SECONDS}
 
--- nothing has begun
+-- true if nothing has begun
 abbrev pub is_never : Since → Bool
 is_never Never = true
 is_never Now = false
@@ -23,7 +23,7 @@ waited now Never = Never
 waited now Now = Then now
 waited now (Then begun) = Then begun
 
--- since when it is waited for, if it has begun
+-- the time at which the wait began, if it has begun
 abbrev pub begin_of : Instant → Since → Option Instant
 begin_of now Never = None
 begin_of now Now = Some now
@@ -35,7 +35,7 @@ after_bytes Never = Now
 after_bytes Now = Now
 after_bytes (Then begun) = Then begun
 
--- it is asked at a time since when something is waited for
+-- the begin of a wait is asked for at the time `now`, which may begin the wait
 abbrev pub SharesTime : Instant → Since → Since → Option Instant → Type 0
 SharesTime now old new result = (new ≡ waited now old) × (result ≡ begin_of now old)
 
@@ -43,7 +43,7 @@ SharesTime now old new result = (new ≡ waited now old) × (result ≡ begin_of
 abbrev pub NotesBytes : CallClock → CallClock → Type 0
 NotesBytes old new = new ≡ record old { active = Now; begun = after_bytes old.begun }
 
--- a call or a reply has begun, or none has, with its whole time
+-- a call or a reply has begun, or neither has, with its whole time
 pub record IsBegun (begun : Since) (clock : CallClock) : Type 0 where
   pub begins : clock.begun ≡ begun
   pub active : clock.active ≡ Now
@@ -68,41 +68,41 @@ Leaves allowed (Some begun) now (Ok None) ending = ⊥
 Leaves allowed (Some begun) now (Ok (Some left)) ending = LeftOf allowed begun now (Some left)
 Leaves allowed (Some begun) now (Err e) ending = (e ≡ ending) × LeftOf allowed begun now None
 
--- how long the call or the reply that is under way may still take: its time counts since the first wait for
--- it, and is not begun again
+-- the time that the call or the reply under way may still take: it counts from the first wait, and does not
+-- begin again
 abbrev pub IsTimed : Instant → CallClock → CallClock → Result (Option Duration) Ending → Type 0
 IsTimed now old new result = (new ≡ record old { begun = waited now old.begun })
     × Leaves (as_nanos old.allowed) (begin_of now old.begun) now result Slow
 
--- how long the peer may still do nothing, if that has an end
+-- the time for which the peer may still do nothing, if it is limited
 abbrev pub IdleLeft : Option Duration → Duration → Instant → Instant → Result (Option Duration) Ending → Type 0
 IdleLeft None blocked active now result = result ≡ Ok None
 IdleLeft (Some idle) blocked active now result = Leaves (as_nanos idle - as_nanos blocked) (Some active) now result Idle
 
--- since when the peer has done nothing
+-- the time since which the peer has done nothing
 abbrev pub idle_since : Instant → Since → Instant
 idle_since now Never = now
 idle_since now Now = now
 idle_since now (Then active) = active
 
--- how long the peer may still do nothing; the call or the reply that is under way stays as it is
+-- the time for which the peer may still do nothing; the call or the reply under way is unchanged
 abbrev pub LeavesCall : Option Duration → Duration → Instant → CallClock → CallClock → Result (Option Duration) Ending → Type 0
 LeavesCall idle blocked now old new result = (new ≡ record old { active = waited now old.active })
     × IdleLeft idle blocked (idle_since now old.active) now result
 
--- one of the two times that are given, and no shorter than either
+-- the longer of the times that are given
 abbrev pub IsLonger : Option Duration → Option Duration → Option Duration → Type 0
 IsLonger one other None = (one ≡ None) × (other ≡ None)
 IsLonger one other (Some longer) = ((one ≡ Some longer) ⊎ (other ≡ Some longer))
     × IfSome one (λ it. as_nanos it ≤ as_nanos longer) × IfSome other (λ it. as_nanos it ≤ as_nanos longer)
 
--- when the peer delayed another connection first, in this call or reply
+-- the time at which the peer first delayed another connection, in this call or reply
 abbrev pub delayed_at : Instant → Option Instant → Instant
 delayed_at now None = now
 delayed_at now (Some delayed) = delayed
 
--- How long the peer may still delay others: the longer of the rest of their second, and of a tenth of a
--- second of its own.
+-- The time for which the peer may still delay other connections: the longer of the rest of their second, and
+-- the rest of a tenth of a second of its own.
 abbrev pub DelayLeft : Instant → Instant → Instant → Result Duration Ending → Type 0
 DelayLeft since delayed now (Ok left) = (shared : Option Duration) × (own : Option Duration) × LeftOf (seconds WANTED_SECONDS) since now shared
     × LeftOf (SHORTEST_MILLIS * 1_000_000) delayed now own × IsLonger shared own (Some left)
@@ -122,7 +122,7 @@ GoesOnSince Never new = new ≡ Never
 GoesOnSince Now new = is_never new ≡ false
 GoesOnSince (Then begun) new = new ≡ Then begun
 
--- the same call or reply is under way, or none, and it has as much time in all
+-- the same call or reply is under way, or none, and its whole time is the same
 pub record GoesOnCall (old new : CallClock) : Type 0 where
   pub begun : GoesOnSince old.begun new.begun
   pub allowed : new.allowed ≡ old.allowed

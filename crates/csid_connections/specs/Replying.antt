@@ -1,4 +1,4 @@
--- What has become of the reply that is written.
+-- The state of the reply that is being written.
 use Rattle.std.specs.Prelude.{Bool, true, false}
 use Rattle.csid_connections.specs.declared.peer.Reply.{Reply}
 use Rattle.csid_connections.specs.declared.peer.Reply.TheVariants.{Between, Open, Cut}
@@ -8,7 +8,7 @@ abbrev pub begun : Bool → Reply
 begun true = Open
 begun false = Cut
 
--- a reply has begun that holds
+-- a reply that holds has begun
 abbrev pub is_open : Reply → Bool
 is_open Between = false
 is_open Open = true
@@ -20,7 +20,7 @@ is_cut Between = false
 is_cut Open = false
 is_cut Cut = true
 
--- after a reply: the next one is asked for again, unless one did not hold
+-- the state after a reply: it is asked again whether the next reply holds, unless one did not hold
 abbrev pub after_reply : Reply → Reply
 after_reply Between = Between
 after_reply Open = Between

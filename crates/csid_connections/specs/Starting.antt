@@ -1,4 +1,4 @@
--- What the first bytes of a connection begin.
+-- The first bytes of a connection, and whether they begin a call.
 use Rattle.std.specs.Prelude.{◌≡◌, ◌≢◌, ◌⊎◌, ◌≤◌, ◌<◌, ◌==◌, ◌++◌, ◌+◌, Bool, true, false, ℕ, ⊤, List, [], length, take}
 use Rattle.std.specs.Prelude.{Option, None, Some, IfSome, IsSomeAnd, Result, Ok, Err}
 use Rattle.std.specs.Duration.{as_nanos}
@@ -20,29 +20,29 @@ use Rattle.csid_connections.specs.declared.pending.Start.{Start}
 use Rattle.csid_connections.specs.declared.pending.Start.TheVariants.{Call, NoCall, Open}
 use Rattle.csid_connections.specs.declared.pending.TheConstants.{ENOUGH}
 
--- a whole frame comes first
+-- the bytes begin with a whole frame
 abbrev pub BeginsCall : List ℕ → Type 0
 BeginsCall bytes = (call : CallBytes) × (size : ℕ) × IsCall call × (size ≤ length bytes) × (take size bytes ≡ frame call)
 
--- as the whole of a stream, they are refused at their first frame, or are none
+-- as the whole of a stream, the bytes are refused at their first frame, or are empty
 abbrev pub BeginsNoCall : List ℕ → Type 0
 BeginsNoCall bytes = (bytes ≡ []) ⊎ ((why : FrameWhy) × (at : ℕ) × FaultAt bytes why at)
 
--- their first frame is malformed, and no further bytes can change that
+-- the first frame of the bytes is malformed, and no further bytes can change that
 abbrev pub BeginsFault : List ℕ → Type 0
 BeginsFault bytes = (why : FrameWhy) × (at : ℕ) × FaultAt bytes why at × (why ≢ EndOfInput)
 
--- nothing is wrong with them but that they end
+-- the only fault of the bytes is that they end
 abbrev pub MayBeginCall : List ℕ → Type 0
 MayBeginCall bytes = (bytes ≡ []) ⊎ ((at : ℕ) × FaultAt bytes EndOfInput at)
 
--- what the bytes begin that a connection has sent, up to its end or so far
+-- the start of the bytes that a connection has sent, up to its end or so far
 abbrev pub Begins : List ℕ → Bool → Start → Type 0
 Begins sent has_ended Call = BeginsCall sent ⊎ ((has_ended ≡ false) × (ENOUGH ≤ length sent) × MayBeginCall sent)
 Begins sent has_ended NoCall = BeginsFault sent ⊎ ((has_ended ≡ true) × BeginsNoCall sent)
 Begins sent has_ended Open = (has_ended ≡ false) × (length sent < ENOUGH) × MayBeginCall sent
 
--- whether it is known what a connection begins
+-- true if it is known whether a connection begins a call
 abbrev pub is_known : Option Start → Bool
 is_known None = false
 is_known (Some Call) = true
@@ -54,8 +54,8 @@ abbrev pub begun_by : Option Instant → Instant → Option Instant
 begun_by None now = Some now
 begun_by (Some begun) now = Some begun
 
--- A piece came at a time, the empty piece at the end: it is kept, and what all bytes begin is noted, with the
--- time of the first byte and of the last piece.
+-- A piece came at a time; the empty piece is the end. The piece is kept, and the start of all bytes is noted,
+-- with the time of the first byte and of the last piece.
 pub record Notes (piece : List ℕ) (now : Instant) (old new : FirstBytes) : Type 0 where
   pub sent : new.sent.items ≡ old.sent.items ++ piece
   pub start : IsSomeAnd new.start (Begins new.sent.items (length piece == 0))
@@ -69,14 +69,14 @@ Accepts piece now old new Something = Notes piece now old new
 Accepts piece now old new Lost = ⊤
 
 -- A read, by the unread bytes before and after it: no bytes came, and the times stay, or bytes came and are
--- noted. Nothing is said of a connection that is lost.
+-- noted. Nothing is stated for a connection that is lost.
 abbrev pub Finds : (unread left : Option (List ℕ)) → Instant → FirstBytes → FirstBytes → PeerInput → Type 0
 Finds unread left now old new Nothing = Keeps unread left × (new.sent.items ≡ old.sent.items) × (new.start ≡ Some Open)
     × (new.since ≡ old.since) × (new.begun ≡ old.begun)
 Finds unread left now old new Something = (piece : List ℕ) × Consumes unread left piece × (piece ≡ [] → IsAtEnd left) × Notes piece now old new
 Finds unread left now old new Lost = ⊤
 
--- the nanoseconds from the first byte to a later time, and none before the first byte
+-- the nanoseconds from the first byte to a later time; 0 before the first byte
 abbrev pub passed_from : Option Instant → Instant → ℕ
 passed_from None now = 0
 passed_from (Some begun) now = passed begun now
@@ -99,8 +99,9 @@ pub record IsInTime (idle : Option Duration) (now : Instant) (first : FirstBytes
   pub call : IfSome first.begun (λ begun. as_nanos left + passed begun now ≤ seconds CALL_SECONDS)
   pub some : 0 < as_nanos left
 
--- How long a connection may go on without a complete call: its peer is neither idle nor slow before that time
--- is over. It is for ever if no time is given and no call has begun. Or why the connection ends.
+-- The time for which a connection may go on without a complete call: its peer is neither idle nor slow before
+-- this time is over. `None` means for ever: no time is given and no call has begun. Or the reason why the
+-- connection ends.
 abbrev pub WaitsFor : Option Duration → Instant → FirstBytes → Result (Option Duration) Ending → Type 0
 WaitsFor idle now first (Ok None) = (idle ≡ None) × (first.begun ≡ None)
 WaitsFor idle now first (Ok (Some left)) = IsInTime idle now first left

@@ -1,11 +1,11 @@
--- How long a peer is waited for.
+-- The time for which a peer is waited for.
 use Rattle.std.specs.Prelude.{◌≡◌, ◌+◌, ◌-◌, ◌*◌, ◌<◌, ◌≤◌, ◌⊎◌, ℕ, Option, None, Some, IfSome}
 use Rattle.std.specs.Duration.{as_nanos}
 use Rattle.std.specs.Time.{instant_nanos}
 use Rattle.std.specs.declared.time.Duration.{Duration}
 use Rattle.std.specs.declared.time.Instant.{Instant}
 
--- nanoseconds of seconds
+-- the nanoseconds of a number of seconds
 abbrev pub seconds : ℕ → ℕ
 seconds n = n * 1_000_000_000
 
@@ -18,7 +18,7 @@ abbrev pub LeftOf : ℕ → Instant → Instant → Option Duration → Type 0
 LeftOf longest begun now None = longest ≤ passed begun now
 LeftOf longest begun now (Some left) = (as_nanos left + passed begun now ≡ longest) × (0 < as_nanos left)
 
--- one of the two times that are given, and no longer than either
+-- the shorter of the times that are given
 abbrev pub IsLeast : Option Duration → Option Duration → Option Duration → Type 0
 IsLeast one other None = (one ≡ None) × (other ≡ None)
 IsLeast one other (Some least) = ((one ≡ Some least) ⊎ (other ≡ Some least))

@@ -1,4 +1,4 @@
--- Which connections wait, and which of them is served next.
+-- The queue of connections that wait, and the connection that is served next.
 use Rattle.std.specs.Prelude.{◌≡◌, ◌≤◌, ◌⊎◌, ◌&&◌, ◌+◌, ◌*◌, ◌++◌, Bool, true, false, ℕ, zero, suc, ⊤, nat_le, if◌then◌else◌}
 use Rattle.std.specs.Prelude.{List, [], ◌∷◌, length, remove, slice_index_or, Option, None, Some, IfSome, is_none}
 use Rattle.std.specs.Duration.{as_nanos}
@@ -17,7 +17,7 @@ use Rattle.csid_connections.specs.declared.pending.Start.{Start}
 use Rattle.csid_connections.specs.declared.pending.Start.TheVariants.{Call, NoCall, Open}
 use Rattle.csid_connections.specs.declared.waiting.TheConstants.{MOST}
 
--- it is known what the connection begins
+-- it is known whether the connection begins a call
 abbrev pub is_ready : Pending → Bool
 is_ready one = is_known one.first.start
 
@@ -31,26 +31,26 @@ is_open (Some Open) = true
 abbrev pub has_no_call : Pending → Bool
 has_no_call one = is_open one.first.start
 
--- those that wait, without the one at a place
+-- the queue without the connection at a place
 abbrev pub without : Option ℕ → List Pending → List Pending
 without None pending = pending
 without (Some place) pending = remove pending place
 
--- no further one can wait, not instead of another either
+-- no further connection can wait, not even instead of another
 abbrev pub is_full : List Pending → Bool
 is_full pending = nat_le MOST (length pending) && is_none (position has_no_call pending)
 
--- the one at a place is taken out
+-- the connection at a place is taken out of the queue
 abbrev pub TakesOut : Option ℕ → List Pending → List Pending → Option Pending → Type 0
 TakesOut None old new one = (one ≡ None) × (new ≡ old)
 TakesOut (Some place) old new one = ((d : Pending) → one ≡ Some (slice_index_or old place d)) × (new ≡ remove old place)
 
--- there are still few enough
+-- a queue with at most `MOST` connections still has at most `MOST`
 abbrev pub StayFew : List Pending → List Pending → Type 0
 StayFew old new = length old ≤ MOST → length new ≤ MOST
 
--- How long a connection in the queue may send nothing: for the given time, and for ten seconds once no
--- further connection is accepted.
+-- The time for which a connection in the queue may send nothing: the given time, but at most ten seconds
+-- after no further connection is accepted.
 abbrev pub IsSilence : Option Duration → ℕ → Option Duration → Type 0
 IsSilence idle left None = (idle ≡ None) × (left ≡ 0 → ⊥)
 IsSilence idle left (Some longest) = ((idle ≡ Some longest) ⊎ ((left ≡ 0) × (as_nanos longest ≡ seconds CALL_SECONDS)))
@@ -68,8 +68,8 @@ module _ (idle : Option Duration) (left : ℕ) (now : Instant) where
   abbrev pub IsSilent : FirstBytes → Type 0
   IsSilent first = IsIdle idle now first ⊎ ((left ≡ 0) × (seconds CALL_SECONDS ≤ passed first.since now))
 
-  -- Why a connection without a call ends at a look: its peer was silent or slow for too long, or the
-  -- connection failed.
+  -- The reason why a connection without a call ends at a look: its peer was silent or slow for too long, or
+  -- the connection failed.
   abbrev pub Ends : FirstBytes → Ending → Type 0
   Ends first Idle = IsSilent first
   Ends first Slow = IsSlow now first
@@ -79,8 +79,8 @@ module _ (idle : Option Duration) (left : ℕ) (now : Instant) where
   Ends first Preempted = ⊥
   Ends first Failed = ⊤
 
-  -- A connection goes on after a look: as it was, where it was known what it begins; otherwise something
-  -- came, or nothing, and its time is not over.
+  -- A connection goes on after a look. If it was ready, it is unchanged. Otherwise bytes came, or no bytes
+  -- came and its time is not over.
   pub record GoesOn (one later : Pending) : Type 0 where
     pub stream : later.stream ≡ one.stream
     pub known : is_ready one ≡ true → later.first ≡ one.first
@@ -94,8 +94,7 @@ module _ (idle : Option Duration) (left : ℕ) (now : Instant) where
   LooksAt (one ∷ rest) new = ((later : Pending) × (more : List Pending) × (new ≡ later ∷ more) × GoesOn one later × LooksAt rest more)
       ⊎ ((is_ready one ≡ false) × LooksAt rest new)
 
-  -- a look at the first connection: it goes on, and is the last one then, or it had sent no call, and has
-  -- ended
+  -- a look at the first connection: it goes on and is then the last one, or it had sent no call and has ended
   abbrev pub TurnsOver : List Pending → List Pending → Type 0
   TurnsOver [] new = new ≡ []
   TurnsOver (one ∷ rest) new = ((later : Pending) × GoesOn one later × (new ≡ rest ++ later ∷ [])) ⊎ ((is_ready one ≡ false) × (new ≡ rest))
@@ -110,8 +109,8 @@ closed zero pending = pending
 closed (suc n) pending = without (position has_no_call (closed n pending)) (closed n pending)
 
 module _ (now : Instant) where
-  -- A connection comes in, and waits last, or it cannot be waited for. Where no further one can wait, the
-  -- oldest makes room that has sent no call.
+  -- A connection comes in and is the last in the queue, or it cannot be kept. If no further connection can
+  -- wait, the oldest one that has sent no call makes room.
   abbrev pub ComesIn : List Pending → List Pending → Type 0
   ComesIn old new = (new ≡ with_room old) ⊎ ((one : Pending) × IsNew now one × (new ≡ with_room old ++ one ∷ []))
 
@@ -120,8 +119,8 @@ module _ (now : Instant) where
   ComeIn zero old new = new ≡ old
   ComeIn (suc n) old new = (mid : List Pending) × ComeIn n old mid × (is_full mid ≡ false) × ComesIn mid new
 
-  -- Connections come in, each counted. Where the system gives none, the oldest of those make room that have
-  -- sent no call, at most half of all.
+  -- Connections come in, and each is counted. If the system gives no connection, the oldest connections that
+  -- have sent no call make room, at most half of all.
   pub record TakesIn (old new : List Pending) (left still : ℕ) : Type 0 where
     pub taken : ℕ
     pub came : List Pending
@@ -130,7 +129,7 @@ module _ (now : Instant) where
     pub room : (new ≡ came) ⊎ ((n : ℕ) × (n * 2 ≤ length came + 1) × (new ≡ closed n came))
 
 module _ (idle : Option Duration) where
-  -- a look: connections come in, and then each that waits is looked at
+  -- a look: connections come in, and then each connection in the queue is looked at
   pub record Looks (now : Instant) (old new : List Pending) (left still : ℕ) : Type 0 where
     pub among : List Pending
     pub takes : TakesIn now old among left still

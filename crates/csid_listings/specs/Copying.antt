@@ -1,4 +1,5 @@
--- What makes a copy of a database file and its WAL one of a single moment, while another process writes both.
+-- The conditions for a copy of a database file and its WAL of a single moment, while another process writes
+-- both.
 use Rattle.std.specs.Prelude.{◌≡◌, ℕ, List, length, min, take}
 
 -- The header of a WAL, 32 bytes, or the whole of a shorter file. Its salts are new each time the WAL begins

@@ -8,13 +8,13 @@ use Rattle.csid_settings.specs.declared.failure.Resource.TheVariants.{Configurat
 use Rattle.csid_settings.specs.declared.failure.Failure.{Failure}
 use Rattle.csid_settings.specs.declared.failure.Failure.TheVariants as failure
 
--- the exit status without this
+-- the exit status if this resource is unusable
 abbrev pub resource_status : Resource → ℕ
 resource_status Configuration = 3
 resource_status Tables = 4
 resource_status Socket = 7
 
--- the exit status that a failure gives
+-- the exit status of a failure
 abbrev pub failure_status : Failure → ℕ
 failure_status (failure.Malformed fault) = 1
 failure_status (failure.Arguments fault) = arguments_status fault
@@ -30,7 +30,7 @@ failure_status failure.NoSocketPath = 7
 abbrev pub IsOrNoMemory : ℕ → Failure → Type 0
 IsOrNoMemory wanted failure = (failure_status failure ≡ wanted) ⊎ (failure_status failure ≡ 6)
 
--- the exit status that the end of a run gives
+-- the exit status for the end of a run
 abbrev pub status_of : RunEnd → ℕ
 status_of end.Done = 0
 status_of (end.Malformed fault) = 1

@@ -1,4 +1,4 @@
--- A frame is read in one way: what begins with it begins with no other.
+-- A frame is read in only one way: bytes that begin with it begin with no other frame.
 use Rattle.std.proofs.Common.{◌≡◌, ℕ, ◌≤◌, List, [], ◌∷◌, ◌++◌, length, take, drop, refl, sym, ap, subst, ◌∙◌, length-append, arith}
 use Rattle.std.proofs.lemmas.List.{take_at, drop_at, take-append-drop, length-take}
 use Rattle.std.specs.Int.{w16, w32, to_be_bytes}

@@ -9,7 +9,7 @@ use Rattle.envelope.specs.facts.Breaking.{BreaksFirst-longer}
 use Rattle.envelope.specs.facts.Frames.{broken_rest}
 use Rattle.envelope.proofs.Reading.{frame_cancel, one_end, end_no_frame}
 
--- the calls come first in every other reading, and what follows them reads the rest
+-- the calls come first in every other reading, and the later calls are a reading of the rest
 record Follows (calls others : List CallBytes) (rest end : List ℕ) : Type 0 where
   later : List CallBytes
   whole : others ≡ calls ++ later

@@ -58,7 +58,7 @@ text_checked kind bytes n end to within unbroken is later k two inside lt =
       | inr le ↦ later k le two (omega arith) lt
     ]
 
--- where all before the break is right, the break is the first
+-- if all bytes before the break are right, the break is the first
 pub broken_prefix : (kind : FrameKind) (bytes : List ℕ) (why : Part) (at n : ℕ) (f : Flaw) → f ≡ record { part = why; at = at } → 0 < n → n ≤ length bytes → seen kind why at ≤ n → CheckedTo kind bytes (n - 1) → Breaks kind bytes why at → BrokenPrefix kind bytes f n
 broken_prefix kind bytes why at n f is some within s c h =
     let len : length (take n bytes) ≡ n = omega (arith, length-take n bytes) in

@@ -6,7 +6,7 @@ use Rattle.envelope.specs.declared.call.Call.{Call}
 use Rattle.envelope.specs.declared.reply.Reply.{Reply}
 use Rattle.envelope.specs.declared.limits.TheConstants.{MAX_PATH_BYTES, MAX_MESSAGE_BYTES, MAX_TEXT_BYTES, MAX_BODY_BYTES}
 
--- a call without where it lies in memory
+-- the bytes of a call, wherever they are in memory
 pub record CallBytes : Type 0 where
   pub path : List ℕ
   pub message : List ℕ
@@ -28,7 +28,7 @@ pub record IsCall (call : CallBytes) : Type 0 where
 unfoldable pub frame : CallBytes → List ℕ
 frame call = to_be_bytes w16 (length call.path) ++ (call.path ++ (0 ∷ (to_be_bytes w32 (length call.message) ++ call.message)))
 
--- a reply without where it lies in memory
+-- the bytes of a reply, wherever they are in memory
 pub record ReplyBytes : Type 0 where
   pub status : ℕ
   pub text : List ℕ
@@ -40,7 +40,7 @@ reply_bytes_of r = record { status = r.status; text = r.text.now; body = r.body.
 abbrev pub IsTextByte : ℕ → Type 0
 IsTextByte byte = (32 ≤ byte) × (byte ≤ 126)
 
--- the status codes of gRPC that a reply has: OK, INVALID_ARGUMENT, NOT_FOUND, ALREADY_EXISTS,
+-- the status codes of gRPC that a reply may have: OK, INVALID_ARGUMENT, NOT_FOUND, ALREADY_EXISTS,
 -- RESOURCE_EXHAUSTED, FAILED_PRECONDITION, ABORTED, OUT_OF_RANGE, UNIMPLEMENTED, INTERNAL
 abbrev pub statuses : List ℕ
 statuses = 0 ∷ 3 ∷ 5 ∷ 6 ∷ 8 ∷ 9 ∷ 10 ∷ 11 ∷ 12 ∷ 13 ∷ []

@@ -8,7 +8,7 @@ use Rattle.envelope.specs.declared.kind.Part.{Part}
 use Rattle.envelope.specs.Stream.{part_of}
 use Rattle.envelope.specs.Replies.{reply_part_of}
 
--- ---- of calls
+-- ---- faults of calls
 
 abbrev pub part : FrameFault → Part
 part f = part_of f.why
@@ -16,11 +16,11 @@ part f = part_of f.why
 abbrev pub place : FrameFault → ℕ
 place f = f.at
 
--- the fault of an input that ends there inside a frame
+-- the fault of an input that ends at this place, inside a frame
 abbrev pub call_cut_at : ℕ → FrameFault
 call_cut_at at = record { why = CallMissing; at = at }
 
--- ---- of replies
+-- ---- faults of replies
 
 abbrev pub reply_part : ReplyFault → Part
 reply_part f = reply_part_of f.why

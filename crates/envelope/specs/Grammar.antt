@@ -1,6 +1,6 @@
--- How a frame is read, be it of a call or of a reply: docs/PROTOCOL.md, "Envelope" and "Streams" (own). Both
--- are a text after its length, a flag, and a body after its length. The text of a call is its path, its
--- body the message; before the text of a reply comes its status.
+-- How a frame of a call or of a reply is read: docs/PROTOCOL.md, "Envelope" and "Streams" (own). Both have a
+-- text after its length, a flag, and a body after its length. The text of a call is its path, and the body is
+-- its message. The text of a reply comes after the status.
 use Rattle.std.specs.Prelude.{ℕ, zero, suc, false, ◌≡◌, ◌≢◌, ◌+◌, ◌*◌, ◌<◌, ◌≤◌, List, [], ◌++◌, length, slice_index, ◌⊎◌}
 use Rattle.envelope.specs.declared.kind.FrameKind.{FrameKind}
 use Rattle.envelope.specs.declared.kind.FrameKind.TheVariants.{Calls, Replies}
@@ -9,12 +9,12 @@ use Rattle.envelope.specs.declared.kind.Part.TheVariants.{Status, TextLength, Te
 use Rattle.envelope.specs.declared.limits.TheConstants.{MAX_PATH_BYTES, MAX_MESSAGE_BYTES, MAX_TEXT_BYTES, MAX_BODY_BYTES}
 use Rattle.envelope.specs.Envelope.{CallBytes, ReplyBytes, IsCall, IsReply, frame, reply, is_status}
 
--- what frames of a kind say
+-- the contents of a frame of each kind: a call or a reply
 abbrev pub Item : FrameKind → Type 0
 Item Calls = CallBytes
 Item Replies = ReplyBytes
 
--- what has a frame
+-- the call or the reply has a frame
 abbrev pub IsItem : (kind : FrameKind) → Item kind → Type 0
 IsItem Calls call = IsCall call
 IsItem Replies r = IsReply r
@@ -23,7 +23,7 @@ abbrev pub spelling : (kind : FrameKind) → Item kind → List ℕ
 spelling Calls call = frame call
 spelling Replies r = reply r
 
--- ---- what the table of each kind allows
+-- ---- the limits of the table of each kind
 
 -- how many bytes come before the length of the text
 abbrev pub lead : FrameKind → ℕ
@@ -54,7 +54,7 @@ least_byte Replies = 32
 abbrev pub IsGoodByte : FrameKind → ℕ → Type 0
 IsGoodByte kind byte = (least_byte kind ≤ byte) × (byte ≤ 126)
 
--- ---- what the bytes give
+-- ---- the values that the bytes give
 
 -- the length that the two bytes before the text give
 unfoldable pub text_length : FrameKind → List ℕ → ℕ
@@ -66,7 +66,7 @@ body_length kind bytes =
     let at = lead kind + 3 + text_length kind bytes in
     16777216 * slice_index bytes at + 65536 * slice_index bytes (at + 1) + 256 * slice_index bytes (at + 2) + slice_index bytes (at + 3)
 
--- the first byte should be a status, and is none
+-- the first byte should be a status, and is not
 abbrev pub HasBadStatus : FrameKind → List ℕ → Type 0
 HasBadStatus kind bytes = (0 < lead kind) × (0 < length bytes) × (is_status (slice_index bytes 0) ≡ false)
 
@@ -91,29 +91,29 @@ Breaks kind bytes Missing at = ⊥
 unfoldable pub IsUnbroken : FrameKind → List ℕ → Type 0
 IsUnbroken kind bytes = (part : Part) (at : ℕ) → ¬ Breaks kind bytes part at
 
--- it breaks it first at this place
+-- the rest breaks the table first at this place
 pub record BreaksFirst (kind : FrameKind) (bytes : List ℕ) (part : Part) (at : ℕ) : Type 0 where
   pub breaks : Breaks kind bytes part at
   pub least : (other : Part) (place : ℕ) → Breaks kind bytes other place → at ≤ place
 
--- a prefix of it is a frame
+-- a prefix of the rest is a frame
 abbrev pub BeginsFrame : FrameKind → List ℕ → Type 0
 BeginsFrame kind bytes = (item : Item kind) × (more : List ℕ) × IsItem kind item × (bytes ≡ spelling kind item ++ more)
 
--- it may yet become a frame
+-- the rest may yet become a frame
 pub record IsUnfinished (kind : FrameKind) (bytes : List ℕ) : Type 0 where
   pub unbroken : IsUnbroken kind bytes
   pub frameless : ¬ BeginsFrame kind bytes
 
--- something of a frame has come, and it may yet become one
+-- the rest is not empty, and may yet become a frame
 abbrev pub IsOpen : FrameKind → List ℕ → Type 0
 IsOpen kind bytes = (bytes ≢ []) × IsUnfinished kind bytes
 
--- The fault of a stream's rest once the input ends with it: in an open rest the end of a frame is missing.
+-- The fault of the rest of a stream if the input ends with it: an open rest lacks the end of a frame.
 abbrev pub FaultAt : FrameKind → List ℕ → Part → ℕ → Type 0
 FaultAt kind rest Missing at = (at ≡ length rest) × IsOpen kind rest
 FaultAt kind rest part at = BreaksFirst kind rest part at
 
--- the whole is a frame
+-- the bytes are exactly one frame
 abbrev pub IsFrame : FrameKind → List ℕ → Type 0
 IsFrame kind bytes = (item : Item kind) × IsItem kind item × (bytes ≡ spelling kind item)

@@ -19,7 +19,7 @@ abbrev pub most_frame : FrameKind → ℕ
 most_frame Calls = MAX_FRAME_BYTES
 most_frame Replies = MAX_REPLY_BYTES
 
--- where the body begins and how long it is, by the bytes before it, which are all there
+-- the place and the length of the body, from the bytes before the body, which have all come
 pub record IsHead (kind : FrameKind) (bytes : List ℕ) (h : Head) : Type 0 where
   pub there : lead kind + 7 + text_length kind bytes ≤ length bytes
   pub body_at : h.body_at ≡ lead kind + 7 + text_length kind bytes
@@ -30,16 +30,16 @@ pub record IsHead (kind : FrameKind) (bytes : List ℕ) (h : Head) : Type 0 wher
 unfoldable pub IsWhole : FrameKind → List ℕ → Type 0
 IsWhole kind bytes = (lead kind + 7 + text_length kind bytes ≤ length bytes) × (length bytes ≡ lead kind + 7 + text_length kind bytes + body_length kind bytes)
 
--- what a frame says, by its status, its text and its body
+-- the contents of a frame with this status, this text and this body
 abbrev pub item : (kind : FrameKind) → ℕ → List ℕ → List ℕ → Item kind
 item Calls status text body = record { path = text; message = body }
 item Replies status text body = record { status = status; text = text; body = body }
 
--- the bytes are the frame of this
+-- the bytes are the frame with these contents
 abbrev pub Says : (kind : FrameKind) → List ℕ → Item kind → Type 0
 Says kind bytes said = IsItem kind said × (bytes ≡ spelling kind said)
 
--- what a frame that is whole says
+-- the contents of a whole frame
 abbrev pub item_in : (kind : FrameKind) → List ℕ → Item kind
 item_in kind bytes = item kind (slice_index bytes 0) (take (text_length kind bytes) (drop (lead kind + 2) bytes))
     (drop (lead kind + 7 + text_length kind bytes) bytes)
@@ -61,13 +61,13 @@ pub record BrokenPrefix (kind : FrameKind) (bytes : List ℕ) (f : Flaw) (size :
   pub before : IsUnbroken kind (take (size - 1) bytes)
   pub breaks : BreaksFirst kind (take size bytes) f.part f.at
 
--- what a look at the bytes found
+-- the result of a look at the bytes is true of them
 abbrev pub Looks : FrameKind → List ℕ → Look → Type 0
 Looks kind bytes Short = IsUnbroken kind bytes × IsShort kind bytes
 Looks kind bytes (Whole size) = WholePrefix kind bytes size
 Looks kind bytes (Broken f size) = BrokenPrefix kind bytes f size
 
--- each byte of the text from here on, up to that place
+-- the bytes of the text from `from` to before `to` are good
 abbrev pub AreGoodBytes : FrameKind → List ℕ → ℕ → ℕ → ℕ → Type 0
 AreGoodBytes kind bytes from end to = (k : ℕ) → from ≤ k → lead kind + 2 ≤ k → k < end → k < to → IsGoodByte kind (slice_index bytes k)
 

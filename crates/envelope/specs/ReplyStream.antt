@@ -9,22 +9,22 @@ use Rattle.envelope.specs.Replies.{reply_part_of}
 abbrev pub IsUnbroken : List ℕ → Type 0
 IsUnbroken bytes = grammar.IsUnbroken Replies bytes
 
--- it breaks it first at this place, for this reason
+-- the rest breaks the table first at this place, for this reason
 abbrev pub BreaksFirst : List ℕ → ReplyWhy → ℕ → Type 0
 BreaksFirst bytes why at = grammar.BreaksFirst Replies bytes (reply_part_of why) at
 
--- a prefix of it is the frame of a reply
+-- a prefix of the rest is the frame of a reply
 abbrev pub BeginsReply : List ℕ → Type 0
 BeginsReply bytes = grammar.BeginsFrame Replies bytes
 
--- it may yet become one
+-- the rest may yet become the frame of a reply
 abbrev pub IsUnfinished : List ℕ → Type 0
 IsUnfinished bytes = grammar.IsUnfinished Replies bytes
 
--- something of one has come, and it may yet become one
+-- the rest is not empty, and may yet become the frame of a reply
 abbrev pub IsOpen : List ℕ → Type 0
 IsOpen bytes = grammar.IsOpen Replies bytes
 
--- the fault of a rest that the input ends with
+-- the fault of the rest if the input ends with it
 abbrev pub FaultAt : List ℕ → ReplyWhy → ℕ → Type 0
 FaultAt rest why at = grammar.FaultAt Replies rest (reply_part_of why) at

@@ -25,19 +25,19 @@ Breaks bytes why at = grammar.Breaks Calls bytes (part_of why) at
 abbrev pub IsUnbroken : List ℕ → Type 0
 IsUnbroken bytes = grammar.IsUnbroken Calls bytes
 
--- it breaks it first at this place
+-- the rest breaks the table first at this place, for this reason
 abbrev pub BreaksFirst : List ℕ → FrameWhy → ℕ → Type 0
 BreaksFirst bytes why at = grammar.BreaksFirst Calls bytes (part_of why) at
 
--- a prefix of it is a frame
+-- a prefix of the rest is a frame
 abbrev pub BeginsFrame : List ℕ → Type 0
 BeginsFrame bytes = grammar.BeginsFrame Calls bytes
 
--- it may yet become a frame
+-- the rest may yet become a frame
 abbrev pub IsUnfinished : List ℕ → Type 0
 IsUnfinished bytes = grammar.IsUnfinished Calls bytes
 
--- something of a frame has come, and it may yet become one
+-- the rest is not empty, and may yet become a frame
 abbrev pub IsOpen : List ℕ → Type 0
 IsOpen bytes = grammar.IsOpen Calls bytes
 
@@ -47,7 +47,7 @@ pub data End : Type 0 where
   Fault : FrameWhy → ℕ → End
   Open : End
 
--- the rest, which begins at this place of the stream, ends it so
+-- the rest, which begins at this place of the stream, gives the stream this end
 abbrev pub Ends : ℕ → List ℕ → End → Type 0
 Ends from rest Clean = rest ≡ []
 Ends from rest (Fault why place) = (at : ℕ) × BreaksFirst rest why at × (place ≡ from + at)
@@ -56,14 +56,14 @@ Ends from rest Open = IsOpen rest
 abbrev pub frames : List CallBytes → List ℕ
 frames calls = flat_map frame calls
 
--- The bytes are the frames of the calls, and then a rest that ends them so.
+-- The bytes are the frames of the calls, and then a rest that gives the stream this end.
 pub record Stream (bytes : List ℕ) (calls : List CallBytes) (end : End) : Type 0 where
   pub rest : List ℕ
   pub whole : bytes ≡ frames calls ++ rest
   pub each : All IsCall calls
   pub ends : Ends (length (frames calls)) rest end
 
--- The fault of a stream's rest once the input ends with it: an open rest ends too early.
+-- The fault of the rest of a stream if the input ends with it: an open rest ends too early.
 abbrev pub FaultAt : List ℕ → FrameWhy → ℕ → Type 0
 FaultAt rest why at = grammar.FaultAt Calls rest (part_of why) at
 
@@ -71,7 +71,7 @@ FaultAt rest why at = grammar.FaultAt Calls rest (part_of why) at
 abbrev pub HasReading : List ℕ → Type 0
 HasReading bytes = (calls : List CallBytes) × (end : End) × Stream bytes calls end
 
--- two readings of the bytes are one
+-- any two readings of the bytes are the same
 abbrev pub HasOneReading : List ℕ → Type 0
 HasOneReading bytes = (calls others : List CallBytes) (end other : End) → Stream bytes calls end → Stream bytes others other → (calls ≡ others) × (end ≡ other)
 
@@ -81,8 +81,7 @@ KeepsEnd calls others Clean other = Unit {0}
 KeepsEnd calls others (Fault why place) other = (others ≡ calls) × (other ≡ Fault why place)
 KeepsEnd calls others Open other = Unit {0}
 
--- however the bytes and longer bytes are read, the longer ones have the calls of the bytes first, and keep a
--- fault
+-- any reading of longer bytes begins with the calls of the bytes, and keeps their fault
 abbrev pub KeepsReading : List ℕ → List ℕ → Type 0
 KeepsReading bytes more =
     (calls others : List CallBytes) (end other : End) → Stream bytes calls end → Stream (bytes ++ more) others other

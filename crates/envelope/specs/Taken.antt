@@ -1,4 +1,4 @@
--- What the first bytes of a rest are.
+-- The first frame of the rest of a stream.
 use Rattle.std.specs.Prelude.{◌≡◌, ◌≤◌, List, [], length, take, ℕ, Option, Some, None, Result, Ok, Err}
 use Rattle.envelope.specs.declared.taken.Taken.{Taken}
 use Rattle.envelope.specs.declared.taken.Taken.TheVariants.{Nothing, Frame, Fault}
@@ -9,14 +9,14 @@ use Rattle.envelope.specs.Grammar.{FaultAt as FaultAtPart}
 use Rattle.envelope.specs.Head.{WholePrefix}
 use Rattle.envelope.specs.Stream.{FaultAt}
 
--- the first frame and its length, nothing, or the fault that is there, whose part and place two functions
--- give
+-- the result for the rest: the length of its first frame, nothing if it is empty, or its fault; two functions
+-- give the part and the place of the fault
 abbrev pub BeginsWith : {F : Type 0} → FrameKind → (F → Part) → (F → ℕ) → List ℕ → Result (Option ℕ) F → Type 0
 BeginsWith kind part place bytes (Ok None) = bytes ≡ []
 BeginsWith kind part place bytes (Ok (Some size)) = WholePrefix kind bytes size
 BeginsWith kind part place bytes (Err f) = FaultAtPart kind bytes (part f) (place f)
 
--- it is exactly this call
+-- the result is exactly this call
 abbrev pub IsTaken : CallBytes → Taken → Type 0
 IsTaken call Nothing = ⊥
 IsTaken call (Frame c size) = (bytes_of c ≡ call) × (size ≡ length (frame call))

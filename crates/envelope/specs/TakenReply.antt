@@ -1,4 +1,4 @@
--- What the first bytes of a rest of replies are.
+-- The first frame of the rest of a stream of replies.
 use Rattle.std.specs.Prelude.{◌≡◌, ◌≤◌, List, [], length, take, ℕ}
 use Rattle.envelope.specs.declared.kind.FrameKind.TheVariants.{Replies}
 use Rattle.envelope.specs.declared.taken_reply.TakenReply.{TakenReply}
@@ -7,7 +7,7 @@ use Rattle.envelope.specs.Envelope.{ReplyBytes, IsReply, reply_bytes_of, reply}
 use Rattle.envelope.specs.Grammar.{FaultAt}
 use Rattle.envelope.specs.Replies.{reply_part_of}
 
--- it is exactly this reply
+-- the result is exactly this reply
 abbrev pub IsTakenReply : ReplyBytes → TakenReply → Type 0
 IsTakenReply r Nothing = ⊥
 IsTakenReply r (Frame q size) = (reply_bytes_of q ≡ r) × (size ≡ length (reply r))

@@ -1,4 +1,4 @@
--- What a framer's invariant says.
+-- The consequences of a framer's invariant.
 use Rattle.std.proofs.Common.{◌-◌, ◌++◌, ◌≡◌, ℕ, ◌+◌, ◌<◌, ◌^◌, List, [], length, take, Option, Some, None, refl, sym, ap, subst, ◌∙◌, arith, length-append, inl, inr, ◌⊎◌}
 use Rattle.std.specs.Prelude.{Bool, IsTrue, false}
 use Rattle.std.proofs.lemmas.List.{length-take}
@@ -49,7 +49,7 @@ known_break kind past held part place at h is =
 
 -- ---- whether a whole frame is held
 
--- where the mark is false, no frame begins
+-- if the mark is false, no frame begins
 pub unmarked : {F : Type 0} (kind : FrameKind) (part : F → Part) (at : F → ℕ) (past : ℕ) (held : List ℕ) (known : Option F)
     (mark : Bool) → Holds kind part at past held known → Marks kind held known mark → mark ≡ false
     → BeginsFrame kind held → ⊥
@@ -58,7 +58,7 @@ unmarked kind part at past held None mark h m off b =
 unmarked kind part at past held (Some f) mark h m off b =
     fault_no_frame kind held (part f) (at f - past) h.faults.1 b
 
--- where it is true, the bytes are a frame
+-- if the mark is true, the bytes are a frame
 pub marked : {F : Type 0} (kind : FrameKind) (part : F → Part) (at : F → ℕ) (past : ℕ) (held : List ℕ) (known : Option F)
     (mark : Bool) → Holds kind part at past held known → Marks kind held known mark → IsTrue mark
     → IsBytes held → IsFrame kind held
@@ -76,7 +76,7 @@ fault_unmarked kind held flaw f g mark is m = record {
   short = λ off none. absurd cc;
 }
 
--- nor does the end of an input, before which the bytes were short of one
+-- an early end of the input leaves no whole frame, because the bytes were short of one
 pub cut_unmarked : {F : Type 0} (kind : FrameKind) (held : List ℕ) (known : Option F) (g : F) (mark : Bool)
     → IsShort kind held → Marks kind held known mark → Marks kind held (Some g) mark
 unfolding IsShort IsWhole
@@ -85,7 +85,7 @@ cut_unmarked kind held known g mark short m = record {
   short = λ off none. absurd cc;
 }
 
--- the fault of an input that ends there
+-- the fault of an input that ends at this place
 pub holds_cut : {F : Type 0} (kind : FrameKind) (part : F → Part) (at : F → ℕ) (past : ℕ) (held : List ℕ) (f : F)
     → past + length held < 2 ^ 63 → (held ≡ [] → ⊥) → IsUnbroken kind held → IsShort kind held
     → part f ≡ Missing → at f ≡ past + length held → Holds kind part at past held (Some f)
@@ -98,7 +98,7 @@ holds_cut kind part at past held f few some unbroken short missing is = record {
   );
 }
 
--- what may yet become a frame has fewer bytes than the longest one
+-- bytes that may yet become a frame are fewer than the bytes of the longest frame
 pub open_few : (kind : FrameKind) (held : List ℕ) → IsBytes held → IsUnbroken kind held × (IsShort kind held ⊎ IsWhole kind held) → IsUnfinished kind held → length held < most_frame kind
 open_few kind held fits stands open_ = elim stands.1 [
   | inl short ↦ short_room kind held stands.0 short
@@ -107,14 +107,14 @@ open_few kind held fits stands open_ = elim stands.1 [
 
 -- ---- bytes taken from a piece
 
--- how many bytes there are then
+-- the number of bytes after the piece was taken
 pub few_then : (kind : FrameKind) (past : ℕ) (old piece new : List ℕ) (prefix : Prefix) → past + length old + length piece < 2 ^ 63 → TakesPrefix kind old piece new prefix → past + length new < 2 ^ 63
 few_then kind past old piece new prefix room t = omega (arith, ap length t.held, length-append old (take prefix.count piece), length-take prefix.count piece)
 
 pub breaks_then : (kind : FrameKind) (old piece new : List ℕ) (prefix : Prefix) (f : Flaw) → TakesPrefix kind old piece new prefix → prefix.flaw ≡ Some f → BreaksFirst kind new f.part f.at
 breaks_then kind old piece new prefix f t e = let P : Option Flaw → Type 0 = λ o. Stands kind new o in subst P e t.stands
 
--- what the last byte that was taken breaks, for one kind under two names
+-- the break of the last byte that was taken, for one kind under two names
 pub record Broke (kind : FrameKind) (past : ℕ) (new : List ℕ) (f : Flaw) : Type 0 where
   pub few : past + length new < 2 ^ 63
   pub breaks : BreaksFirst kind new f.part f.at

@@ -1,4 +1,4 @@
--- What a framer takes of a piece.
+-- The bytes of a piece that a framer takes.
 use Rattle.std.proofs.Common.{◌≡◌, ℕ, ◌+◌, ◌-◌, ◌<◌, ◌≤◌, List, [], ◌++◌, length, take, drop, get_or, Some, None, refl, sym, ap, subst, ◌∙◌, arith, length-append, append_assoc, inl, inr, ◌⊎◌}
 use Rattle.std.specs.Prelude.{Bool, IsTrue, false, min, true, ◌≢◌}
 use Rattle.std.proofs.lemmas.List.{take-append-drop, length-take, length-drop, take-take, take_at, append-nil}
@@ -61,7 +61,7 @@ broken_later kind old all f n prefix fits unbroken b =
           absurd (unbroken f.part f.at (subst (λ (x : List ℕ). Breaks kind x f.part f.at) (take-append-drop n old) (Breaks-longer kind (take n old) (drop n old) f.part f.at h)))
     ]
 
--- nor is a whole frame within a prefix that is short of one
+-- a whole frame is not within a prefix that is short of one
 pub whole_later : (kind : FrameKind) (old all : List ℕ) (n : ℕ) → take (length old) all ≡ old → IsShort kind old → WholePrefix kind all n → length old < n
 unfolding IsShort IsWhole
 whole_later kind old all n prefix short w =
@@ -123,7 +123,7 @@ takes_whole kind old piece all new h n count is short w new-is count-is =
       idle = λ none. refl;
     }
 
--- after a whole head anything may follow
+-- after a whole head any bytes may follow
 unbroken_longer : (kind : FrameKind) (bytes more : List ℕ) → IsUnbroken kind bytes → lead kind + 7 + text_length kind bytes ≤ length bytes → IsUnbroken kind (bytes ++ more)
 unfolding IsUnbroken Breaks
 unbroken_longer kind bytes more unbroken all Status at h = unbroken Status at (Breaks-shorter kind bytes more Status at h (omega arith))
@@ -157,7 +157,7 @@ pub record Longer (kind : FrameKind) (new : List ℕ) (last less : Type 0) : Typ
   pub whole : last → IsWhole kind new
   pub short : less → IsShort kind new
 
--- where the head is there and the frame is not whole, some of the body is missing
+-- if the head is whole and the frame is not, some of the body is missing
 some_missing : (kind : FrameKind) (bytes : List ℕ) (miss : ℕ) → lead kind + 7 + text_length kind bytes ≤ length bytes
     → IsShort kind bytes → Misses kind bytes miss → 0 < miss
 unfolding IsShort

@@ -1,4 +1,4 @@
--- What a writer holds after one write and another.
+-- The bytes that a writer holds after two writes.
 use Rattle.std.proofs.Common.{ℕ, ◌+◌, List, take, drop, Option, sym, subst}
 use Rattle.std.proofs.lemmas.List.{take-append-drop}
 use Rattle.std.proofs.Math.Seq.{take-add}

@@ -1,4 +1,4 @@
--- What one feed of a framer leaves: of a framer of calls, and of one of replies.
+-- One feed of a framer of calls or of a framer of replies.
 use Rattle.std.specs.Prelude.{ℕ, ◌≡◌, ◌≤◌, ◌<◌, List, ◌++◌, length, take, None, IfSome}
 use Rattle.envelope.specs.declared.kind.FrameKind.{FrameKind}
 use Rattle.envelope.specs.declared.kind.FrameKind.TheVariants.{Calls, Replies}
@@ -7,7 +7,7 @@ use Rattle.envelope.specs.Faults.{part, place, reply_part, reply_place}
 use Rattle.frames_core.specs.Framer.{CutterState, FramerState, ReplyFramerState, IsSettledAs}
 use Rattle.frames_core.specs.Holding.{IsBreakIn}
 
--- It took this many of these bytes: what the clauses of a feed say together.
+-- A feed took `n` of the bytes `rest`: all clauses of a feed together.
 pub record FedAs {F : Type 0} (kind : FrameKind) (wrong : F → Part) (at : F → ℕ) (old new : CutterState F) (rest : List ℕ) (n : ℕ) : Type 0 where
   pub within : n ≤ length rest
   pub past : new.past ≡ old.past

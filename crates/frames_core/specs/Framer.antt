@@ -1,4 +1,4 @@
--- What a framer has taken, as its contracts see it: a framer of calls, and one of replies.
+-- The model of a framer of calls and of a framer of replies.
 use Rattle.std.specs.Prelude.{ℕ, ◌+◌, List, [], length, Option, Some, None, IsSome, IsNone, ◌≢◌, ◌⊎◌}
 use Rattle.envelope.specs.declared.fault.FrameFault.{FrameFault}
 use Rattle.envelope.specs.declared.reply_fault.ReplyFault.{ReplyFault}
@@ -8,28 +8,29 @@ use Rattle.envelope.specs.Grammar as grammar
 use Rattle.envelope.specs.Faults.{part, place, call_cut_at, reply_part, reply_place, reply_cut_at}
 use Rattle.frames_core.specs.Holding.{IsFaultIn, IsBreakIn}
 
--- how many bytes the frames that were given up have, the bytes since then, and the fault that is known
+-- the number of bytes of all frames that were passed on, the bytes held since then, and the fault, if one is
+-- known
 pub record CutterState (F : Type 0) : Type 0 where
   pub past : ℕ
   pub held : List ℕ
   pub fault : Option F
 
--- nothing was taken
+-- a framer that has taken nothing
 abbrev pub begun : {F : Type 0} → CutterState F
 begun = record { past = 0; held = []; fault = None }
 
--- nothing more is taken
+-- the framer takes no more bytes: it holds a whole frame, or a fault is known
 abbrev pub IsSettledAs : {F : Type 0} → FrameKind → CutterState F → Type 0
 IsSettledAs kind s = grammar.IsFrame kind s.held ⊎ IsSome s.fault
 
--- the input ends: what has begun and isn't whole is a fault at the end
+-- the end of the input is a fault: a frame was begun and is not whole
 abbrev pub IsCutShortAs : {F : Type 0} → FrameKind → CutterState F → Type 0
 IsCutShortAs kind s = IsNone s.fault × (s.held ≢ []) × ¬ grammar.IsFrame kind s.held
 
 abbrev pub cut_with : {F : Type 0} → (ℕ → F) → CutterState F → CutterState F
 cut_with cut_at s = record { past = s.past; held = s.held; fault = Some (cut_at (s.past + length s.held)) }
 
--- ---- of calls
+-- ---- framers of calls
 
 abbrev pub FramerState : Type 0
 FramerState = CutterState FrameFault
@@ -57,7 +58,7 @@ IsCutShort s = IsCutShortAs Calls s
 abbrev pub cut_short : FramerState → FramerState
 cut_short s = cut_with call_cut_at s
 
--- ---- of replies
+-- ---- framers of replies
 
 abbrev pub ReplyFramerState : Type 0
 ReplyFramerState = CutterState ReplyFault

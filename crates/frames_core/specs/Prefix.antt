@@ -1,4 +1,4 @@
--- What a framer takes of a piece.
+-- The prefix of a piece that a framer takes.
 use Rattle.std.specs.Prelude.{◌≡◌, ℕ, ◌+◌, ◌≤◌, ◌<◌, List, ◌++◌, length, take, Option, None, Some, IsSome, ◌⊎◌}
 use Rattle.envelope.specs.declared.kind.FrameKind.{FrameKind}
 use Rattle.frames_core.specs.declared.prefix.Prefix.{Prefix}
@@ -7,7 +7,8 @@ use Rattle.envelope.specs.Grammar.{lead, text_length, body_length, IsUnbroken, I
 use Rattle.envelope.specs.Head.{IsShort, IsWhole}
 use Rattle.frames_core.specs.Holding.{Marks}
 
--- what the bytes are with those that were taken
+-- the bytes with the prefix that was taken: without a flaw they are short or whole, with a flaw they break
+-- first there
 abbrev pub Stands : FrameKind → List ℕ → Option Flaw → Type 0
 Stands kind bytes None = IsUnbroken kind bytes × (IsShort kind bytes ⊎ IsWhole kind bytes)
 Stands kind bytes (Some f) = BreaksFirst kind bytes f.part f.at
@@ -21,7 +22,7 @@ pub record TakesPrefix (kind : FrameKind) (old piece new : List ℕ) (prefix : P
   pub marks : Marks kind new prefix.flaw prefix.whole
   pub idle : prefix.count ≡ 0 → prefix.flaw ≡ None
 
--- nothing is missing while the body's length isn't known
+-- `n` bytes of the frame are missing; 0 while the body's length is not known
 pub record Misses (kind : FrameKind) (bytes : List ℕ) (n : ℕ) : Type 0 where
   pub head : length bytes < lead kind + 7 + text_length kind bytes → n ≡ 0
   pub body : lead kind + 7 + text_length kind bytes ≤ length bytes → length bytes + n ≡ lead kind + 7 + text_length kind bytes + body_length kind bytes

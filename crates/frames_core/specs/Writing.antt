@@ -1,4 +1,4 @@
--- What a writer holds of bytes that were written to it.
+-- The bytes that a writer holds after bytes were written to it.
 use Rattle.std.specs.Prelude.{ℕ, ◌≡◌, ◌++◌, List, Option}
 use Rattle.std.specs.Io.KnownBytes.{Appends}
 

@@ -91,7 +91,7 @@ merging_starts l good value bytes start g = record {
   merged = λ seen e. e ∙ ap value (sym (append-nil seen));
 }
 
--- the next field is the next of those that are left
+-- the next field is the first of the fields that are left
 pub record Next {V : Type 0} (good : WireField → Type 0) (value : List WireField → V) (bytes rest : List ℕ) (start now : V) (e : WireField) : Type 0 where
   pub is_good : good e
   pub goes_on : (after : V) → ((seen : List WireField) → now ≡ value seen → after ≡ value (seen ++ e ∷ [])) → Merging good value bytes rest start after

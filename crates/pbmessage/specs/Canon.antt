@@ -44,17 +44,17 @@ abbrev pub row_number : Row → ℕ
 row_number (Numbers k xs) = k
 row_number (Strings k ps) = k
 
--- the number is above every row's
+-- the number is above the number of every row
 abbrev pub above : Rows → ℕ → Bool
 above Start k = true
 above (rs ▸ r) k = above rs k && nat_lt (row_number r) k
 
--- the numbers rise, from 1 to 2^29 - 1
+-- the numbers of the rows are in strictly rising order, from 1 to 2^29 - 1
 abbrev pub rises : Rows → Bool
 rises Start = true
 rises (rs ▸ r) = rises rs && (above rs (row_number r) && (nat_lt 0 (row_number r) && nat_lt (row_number r) (2 ^ 29)))
 
--- ---- what a part is written as
+-- ---- how a part is written
 
 -- an empty text is left out
 abbrev pub present : List ℕ → Payloads
@@ -110,8 +110,8 @@ map_row k m = Strings k (spelled canon_map_entry (entries m))
 abbrev pub presence_row : ℕ → Bool → Row
 presence_row k b = Strings k (presence b)
 
--- ---- what has an encoding: texts in UTF-8, numbers in the range of their type, and payloads whose length is
--- a varint
+-- ---- values that have an encoding: texts in UTF-8, numbers in the range of their type, and payloads whose
+-- length is a varint
 
 abbrev pub FitsText : List ℕ → Type 0
 FitsText t = IsUtf8 t × (length t < 2 ^ 64)

@@ -20,11 +20,12 @@ pub record IsFaultOffset (good : WireField → Type 0) (bytes : List ℕ) (at : 
   pub prefix : AreGood good (take at bytes)
   pub longest : (n : ℕ) → at < n → n ≤ length bytes → AreGood good (take n bytes) → ⊥
 
--- the bytes mean no value, and this is the offset
+-- the bytes mean no value, and this is the offset of the fault
 abbrev pub IsRefusedAt : (WireField → Type 0) → List ℕ → ℕ → Type 0
 IsRefusedAt good bytes at = IsFaultOffset good bytes at × (AreGood good bytes → ⊥)
 
--- what a fault says of the bytes: they mean no value, and this is the offset; or they mean one
+-- the fault is true of the bytes: they mean no value and this is the offset, or memory ran out for a value
+-- that they mean
 abbrev pub Refuses : (WireField → Type 0) → List ℕ → DecodeFault → Type 0
 Refuses good bytes (fault.Malformed at) = IsRefusedAt good bytes at
 Refuses good bytes fault.NoMemory = AreGood good bytes
@@ -36,7 +37,7 @@ pub record Means {V : Type 0} (good : WireField → Type 0) (value : List WireFi
   pub each : AllByRecursion good fields
   pub is : v ≡ value fields
 
--- a field, and the fields of the rest
+-- the first field, and the fields of the rest
 abbrev pub first_and : (List ℕ → List WireField) → Result (WireField × List ℕ) WireWhy → List WireField
 first_and others (Ok x) = x.0 ∷ others x.1
 first_and others (Err e) = []

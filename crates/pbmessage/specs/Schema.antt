@@ -6,14 +6,14 @@ use Rattle.pbwire.specs.Wire.{WireField}
 use Rattle.pbmessage.specs.Fields.{AreGood}
 use Rattle.pbmessage.specs.Views.{payload}
 
--- the numbers of a message's texts and embedded messages, and the schemas of these; any payload is good
--- under another number
+-- the field numbers of a message's texts and embedded messages, and the schemas of the embedded messages; in
+-- a field with another number any payload is good
 pub data Schema : Type 0 where
   AnyPayload : Schema
   TextAt : ℕ → Schema → Schema
   MessageAt : ℕ → Schema → Schema → Schema
 
--- a field is good where its payload is good under its number; without a payload it is always good
+-- a field is good if its payload is good for its number; a field without a payload is always good
 abbrev pub GoodField : (ℕ → List ℕ → Type 0) → WireField → Type 0
 GoodField good e = IfSome (payload e.part) (good e.number)
 
@@ -21,7 +21,7 @@ GoodField good e = IfSome (payload e.part) (good e.number)
 abbrev pub IsGoodMessage : (ℕ → List ℕ → Type 0) → List ℕ → Type 0
 IsGoodMessage good p = AreGood (GoodField good) p
 
--- the payload is good under the number
+-- the payload is good in a field with this number
 abbrev pub Good : Schema → ℕ → List ℕ → Type 0
 Good AnyPayload k p = Unit {0}
 Good (TextAt n others) k p = MatchBool (k == n) (IsUtf8 p) (Good others k p)

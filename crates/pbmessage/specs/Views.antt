@@ -1,4 +1,4 @@
--- What a list of fields gives under a number. A field counts only with the wire type of its kind.
+-- The contents of a list of fields, by field number. A field counts only with the wire type of its kind.
 use Rattle.std.specs.Prelude.{ℕ, ℤ, Bool, true, false, not, ◌%◌, ◌^◌, List, [], ◌∷◌, ◌++◌, map, reverse, Option, Some, None, ◌==◌, if◌then◌else◌}
 use Rattle.std.specs.Int.{cast_signed, w32, w64}
 use Rattle.std.specs.List.{filter_map, flat_map}
@@ -28,7 +28,7 @@ payload_of n e = if e.number == n then payload e.part else None
 abbrev pub number_of : ℕ → WireField → Option ℕ
 number_of n e = if e.number == n then number e.part else None
 
--- a payload next to the number of its field
+-- a payload with the number of its field
 abbrev pub beside : ℕ → Option (List ℕ) → Option (ℕ × List ℕ)
 beside n None = None
 beside n (Some p) = Some (n, p)
@@ -46,13 +46,13 @@ pub record Views : Type 0 where
 unfoldable pub views : List WireField → Views
 views fs = record { payloads = λ n. filter_map (payload_of n) fs; numbers = λ n. filter_map (number_of n) fs; members = λ test. filter_map (member_of test) fs }
 
--- the value of a list of fields, where it is said by views
+-- the value of a list of fields, from a function over its views
 abbrev pub value_of : {V : Type 0} → (Views → V) → List WireField → V
 value_of of fs = of (views fs)
 
 -- ---- scalars (Protocol Buffers encoding guide, 'Last One Wins')
 
--- the last, or the default
+-- the last item, or the default
 abbrev pub last_or : {A : Type 0} → A → List A → A
 last_or d [] = d
 last_or d (x ∷ xs) = last_or x xs
@@ -83,7 +83,7 @@ abbrev pub inner : {V : Type 0} → (List WireField → V) → Payloads → Opti
 inner value [] = None
 inner value (p ∷ ps) = Some (value (joined (p ∷ ps)))
 
--- whether a message without kept fields is present
+-- true if a message without kept fields is present
 abbrev pub is_present : Payloads → Bool
 is_present [] = false
 is_present (p ∷ ps) = true
@@ -103,27 +103,27 @@ map_entry_in v = (text (v.payloads 1), text (v.payloads 2))
 abbrev pub map_entry : List WireField → List ℕ × List ℕ
 map_entry fs = map_entry_in (views fs)
 
--- of equal keys the last entry counts
+-- if keys are equal, the last entry counts
 abbrev pub text_map : Payloads → TextMap
 text_map ps = from_entries (reverse (messages map_entry ps))
 
 -- ---- oneofs (encoding guide, 'Oneofs')
 
--- the prefix of payloads that are of this number
+-- the payloads at the beginning that have this number
 abbrev pub run_at : ℕ → List (ℕ × List ℕ) → Payloads
 run_at k [] = []
 run_at k (m ∷ ms) = if m.0 == k then m.1 ∷ run_at k ms else []
 
--- of members from the last to the first: the number of the last one, and its payloads since another member
+-- from members in reverse order: the number of the last member, and its payloads since another member
 abbrev pub last_run : List (ℕ × List ℕ) → Option (ℕ × Payloads)
 last_run [] = None
 last_run (m ∷ ms) = Some (m.0, reverse (run_at m.0 (m ∷ ms)))
 
--- the number of the last member, and its payloads that are there after the last field of another member
+-- the number of the last member, and its payloads after the last field of another member
 abbrev pub one_of : List (ℕ × List ℕ) → Option (ℕ × Payloads)
 one_of ms = last_run (reverse ms)
 
--- ---- what one more field adds
+-- ---- the views with one more field
 
 abbrev pub no_views : Views
 no_views = record { payloads = λ n. []; numbers = λ n. []; members = λ test. [] }

@@ -7,7 +7,7 @@ use Rattle.pbwire.specs.declared.field.WireWhy.TheVariants as why
 use Rattle.pbwire.specs.Wire.{WireField, Part, Number, Eight, Payload, Four}
 use Rattle.pbwire.specs.Reading.{◌>>=◌, with_group, groups_at, varint_at, tag_at, bytes_at, part_at, field_at, Cursor, moved, next_of}
 
--- rest is what a reader left
+-- rest are the bytes that a reader left
 abbrev pub Leaves : List ℕ → List ℕ → Type 0
 Leaves bytes rest = (first : List ℕ) × (bytes ≡ first ++ rest)
 

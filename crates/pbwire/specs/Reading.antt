@@ -1,6 +1,6 @@
--- The field at the start of the bytes, or the first fault that a reader meets from the left
--- (encoding guide, "Base 128 Varints" and "Message Structure"). `laws` ties `field_at` to what bytes
--- encode (`Wire`) and to the table of faults (`Faults`); `next_of` is what a list of fields gives.
+-- The field at the start of the bytes, or the first fault that a reader meets from the left (encoding guide,
+-- "Base 128 Varints" and "Message Structure"). `laws` ties `field_at` to the encodings of `Wire` and to the
+-- table of faults (`Faults`); `next_of` gives the next item of a list of fields.
 use Rattle.std.specs.Prelude.{ℕ, zero, suc, ◌+◌, ◌-◌, ◌*◌, ◌/◌, ◌%◌, ◌^◌, List, [], ◌∷◌, length, take, drop, Option, Some, None, Result, Ok, Err}
 use Rattle.std.specs.Prelude.{nat_lt, nat_le, ◌==◌, ◌||◌, if◌then◌else◌, Bool, true, false}
 use Rattle.pbwire.specs.declared.field.WireWhy.{WireWhy}
@@ -16,7 +16,7 @@ abbrev pub ◌>>=◌ : {A B : Type 0} → Result A WireWhy → (A → Result B W
 (Ok x) >>= f = f x
 (Err e) >>= f = Err e
 
--- a value and a field as contracts see them, without where they lie in memory
+-- the models of a value and of a field, wherever they are in memory
 abbrev pub part_of : Value → Part
 part_of (Varint n) = Number n
 part_of (Fixed64 bytes) = Eight bytes
@@ -26,16 +26,17 @@ part_of (Fixed32 bytes) = Four bytes
 abbrev pub wire_field_of : Field → WireField
 wire_field_of f = record { number = f.number; part = part_of f.value }
 
--- what a function returned, seen by view
+-- the result of a function, with `view` applied to its value
 abbrev pub seen : {X Y : Type 0} → (X → Y) → Result X WireWhy → Result Y WireWhy
 seen view (Ok x) = Ok (view x)
 seen view (Err e) = Err e
 
--- seven bits, and above them the groups that follow
+-- the number with these seven bits and, above them, the groups that follow
 abbrev pub with_group : ℕ → Result (ℕ × List ℕ) WireWhy → Result (ℕ × List ℕ) WireWhy
 with_group b read = read >>= λ x. Ok (b % 128 + 128 * x.0, x.1)
 
--- at most as many groups as the first argument says are left, and the last of them is at most 1
+-- the groups of a varint; the first argument is the number of groups that may still come, and the last of
+-- these is at most 1
 unfoldable pub groups_at : ℕ → List ℕ → Result (ℕ × List ℕ) WireWhy
 groups_at zero bytes = Err why.Varint
 groups_at (suc zero) [] = Err why.CutShort
@@ -46,7 +47,7 @@ groups_at (suc (suc left)) (b ∷ bs) = if nat_lt b 128 then Ok (b, bs) else wit
 unfoldable pub varint_at : List ℕ → Result (ℕ × List ℕ) WireWhy
 varint_at bytes = groups_at 10 bytes
 
--- a number of at least 1, and a wire type, in 32 bits
+-- a tag: a field number of at least 1 and a wire type, in 32 bits
 unfoldable pub tag_at : List ℕ → Result (ℕ × List ℕ) WireWhy
 tag_at bytes = do
   tag ← varint_at bytes
@@ -56,7 +57,7 @@ tag_at bytes = do
 abbrev pub bytes_at : ℕ → List ℕ → Result (List ℕ × List ℕ) WireWhy
 bytes_at n bytes = if nat_lt (length bytes) n then Err why.CutShort else Ok (take n bytes, drop n bytes)
 
--- what a field of that wire type holds
+-- the contents of a field with this wire type, and the rest
 unfoldable pub part_at : ℕ → List ℕ → Result (Part × List ℕ) WireWhy
 part_at wire_type bytes =
     if wire_type == 0 then (varint_at bytes >>= λ n. Ok (Number n.0, n.1))
@@ -65,25 +66,26 @@ part_at wire_type bytes =
     else if wire_type == 5 then (bytes_at 4 bytes >>= λ p. Ok (Four p.0, p.1))
     else Err why.WireType
 
--- one field, and what follows it
+-- one field, and the bytes after it
 unfoldable pub field_at : List ℕ → Result (WireField × List ℕ) WireWhy
 field_at bytes = do
   tag ← tag_at bytes
   part ← part_at (tag.0 % 8) tag.1
   Ok (record { number = tag.0 / 8; part = part.0 }, part.1)
 
--- how far a message is read, how many bytes that is, and whether a fault was met
+-- the position of a reader in a message: the number of bytes that were read, the rest, and whether a fault
+-- was met
 pub record Cursor : Type 0 where
   pub at : ℕ
   pub rest : List ℕ
   pub failed : Bool
 
--- where a field, or a fault at its place, leaves the cursor
+-- the item and the cursor after a field, or after a fault in its place
 abbrev pub moved : Cursor → Result (WireField × List ℕ) WireWhy → Option (Result WireField WireFault) × Cursor
 moved c (Ok x) = (Some (Ok x.0), record { at = c.at + (length c.rest - length x.1); rest = x.1; failed = false })
 moved c (Err e) = (Some (Err (record { why = e; at = c.at })), record { at = c.at; rest = c.rest; failed = true })
 
--- what comes next: nothing at the end of the message and after a fault
+-- the next item and the cursor after it; no item at the end of the message and after a fault
 abbrev pub next_of : Cursor → Option (Result WireField WireFault) × Cursor
 next_of c = if c.failed || (length c.rest == 0) then (None, c) else moved c (field_at c.rest)
 

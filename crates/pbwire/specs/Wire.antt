@@ -23,14 +23,14 @@ pub record IsVarint (bytes : List ℕ) (n : ℕ) : Type 0 where
 
 -- ---- "Message Structure"
 
--- what a field holds, by its wire type: VARINT, I64, LEN, I32
+-- the contents of a field, by its wire type: VARINT, I64, LEN, I32
 pub data Part : Type 0 where
   Number : ℕ → Part
   Eight : List ℕ → Part
   Payload : List ℕ → Part
   Four : List ℕ → Part
 
--- one field: its number, and what it holds
+-- one field: its number and its contents
 pub record WireField : Type 0 where
   pub number : ℕ
   pub part : Part
@@ -49,8 +49,8 @@ SpellsPart (Eight p) bytes = (length p ≡ 8) × (bytes ≡ p)
 SpellsPart (Payload p) bytes = (len : List ℕ) × IsVarint len (length p) × (bytes ≡ len ++ p)
 SpellsPart (Four p) bytes = (length p ≡ 4) × (bytes ≡ p)
 
--- The bytes encode the field: a tag, which is a varint of eight times the number plus the wire type,
--- and then what it holds. Numbers begin at 1, and a tag is below 2 ^ 32.
+-- The bytes encode the field: a tag, which is a varint of eight times the number plus the wire type, and then
+-- the contents. Numbers begin at 1, and a tag is below 2 ^ 32.
 pub record Spells (e : WireField) (bytes : List ℕ) : Type 0 where
   pub tag : List ℕ
   pub payload : List ℕ

@@ -1,11 +1,11 @@
--- The shortest encoding of a field: each varint in as few bytes as it takes (encoding guide, "Base
--- 128 Varints"). `laws::written` says that no other is shorter.
+-- The shortest encoding of a field: each varint in as few bytes as possible (encoding guide, "Base 128
+-- Varints"). `laws::written` says that no other encoding is shorter.
 use Rattle.std.specs.Prelude.{ℕ, zero, suc, ◌+◌, ◌*◌, ◌/◌, ◌%◌, List, [], ◌∷◌, ◌++◌, length, map, nat_lt, if◌then◌else◌}
 use Rattle.std.specs.List.{flat_map}
 use denote.Ref.{Bor}
 use Rattle.pbwire.specs.Wire.{WireField, Part, Number, Eight, Payload, Four, kind_of}
 
--- a number in as few groups of seven bits as it takes, of at most so many and one more
+-- a number in as few groups of seven bits as possible, at most one more than the first argument
 unfoldable pub minimal : ℕ → ℕ → List ℕ
 minimal zero n = n ∷ []
 minimal (suc k) n = if nat_lt n 128 then n ∷ [] else (n % 128 + 128) ∷ minimal k (n / 128)

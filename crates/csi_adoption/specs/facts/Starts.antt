@@ -1,4 +1,4 @@
--- Over no row the folds stay what they are.
+-- A fold over no rows changes nothing.
 use Rattle.std.specs.Prelude.{[]}
 use Rattle.csi_constraints.specs.Folds.{SumsText}
 use Rattle.csi_constraints.specs.facts.Starts.{counts_none, each_itself, finds_none, rises_over_none, sums_none}

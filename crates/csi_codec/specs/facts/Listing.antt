@@ -21,7 +21,7 @@ in_parts : (es : List Entry) (token : List ℕ) → response_bytes (response.Lis
 unfolding response_bytes row_fields
 in_parts es token = flat_map-append spelling (entry_fields es) (token_fields token)
 
--- entries, and no token
+-- a listing with entries and no token
 pub entries_only : (es : List Entry) → response_bytes (response.List es []) ≡ spellings (entry_fields es)
 entries_only es = in_parts es [] ∙ append-nil (spellings (entry_fields es))
 
@@ -32,7 +32,7 @@ more_fields (f ∷ es) e = ap (λ (fs : List WireField). record { number = 1; pa
 pub listing_none : response_bytes (response.List [] []) ≡ []
 listing_none = entries_only []
 
--- one more entry
+-- a listing with one more entry
 pub listing_more : (es : List Entry) (e : Entry)
     → response_bytes (response.List (es ++ e ∷ []) []) ≡ response_bytes (response.List es []) ++ response_bytes (response.List (e ∷ []) [])
 listing_more es e =

@@ -1,5 +1,5 @@
--- `VolumeCapability` and its `MountVolume` (CSI specification, csi.proto): what the fields mean, under which
--- numbers are of texts and embedded messages, and how a value is written.
+-- `VolumeCapability` and its `MountVolume` (CSI specification, csi.proto): what the fields mean, which field
+-- numbers have texts and embedded messages, and how a value is written.
 use Rattle.std.specs.Prelude.{ℕ, Bool, List, [], ◌∷◌, Option, Some, None, ◌==◌, ◌||◌, if◌then◌else◌}
 use Rattle.csi_types.specs.declared.capability.Mount.{Mount}
 use Rattle.csi_types.specs.declared.capability.Access.{Access}
@@ -27,11 +27,11 @@ FitsMount m = FitsText m.fs_type × FitsTexts m.flags × FitsText m.group
 
 -- ---- VolumeCapability { oneof access_type { block 1, mount 2 }, access_mode 3 }
 
--- the members of the oneof
+-- the field numbers of the oneof
 abbrev pub is_access : ℕ → Bool
 is_access n = n == 1 || n == 2
 
--- by the last member and its payloads: 1 is block, and 2 mount
+-- the access, from the last member of the oneof and its payloads: 1 is block, and 2 is mount
 abbrev pub access : Option (ℕ × Payloads) → Access
 access None = variants.Missing
 access (Some run) = if run.0 == 1 then variants.Block else if run.0 == 2 then variants.Mount (value_of mount_in (joined run.1)) else variants.Missing

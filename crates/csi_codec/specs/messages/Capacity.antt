@@ -1,5 +1,5 @@
--- `CapacityRange` (CSI specification, csi.proto): what the fields mean, under which
--- numbers are of texts and embedded messages, and how a value is written.
+-- `CapacityRange` (CSI specification, csi.proto): what the fields mean, which field numbers have texts and
+-- embedded messages, and how a value is written.
 use Rattle.csi_types.specs.declared.capacity.CapacityRange.{CapacityRange}
 use Rattle.pbmessage.specs.Views.{Views, i64}
 use Rattle.pbmessage.specs.Canon.{Rows, Start, ◌▸◌, signed_row, FitsI64}

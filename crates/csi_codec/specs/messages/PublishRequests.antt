@@ -1,5 +1,5 @@
 -- `ControllerPublishVolumeRequest` and `ControllerUnpublishVolumeRequest` (CSI specification, csi.proto):
--- what the fields mean, which numbers are of texts and embedded messages, and how a value is written.
+-- what the fields mean, which field numbers have texts and embedded messages, and how a value is written.
 use Rattle.pbmessage.specs.Views.{Views, text, flag, inner, text_map, value_of}
 use Rattle.pbmessage.specs.Schema.{Schema, AnyPayload, TextAt, MessageAt, map_entry_schema}
 use Rattle.pbmessage.specs.Canon.{Rows, Start, ◌▸◌, text_row, flag_row, option_row, map_row, FitsText, FitsOption, FitsMap}

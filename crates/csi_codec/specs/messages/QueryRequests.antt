@@ -1,5 +1,5 @@
 -- `ValidateVolumeCapabilitiesRequest`, `ListVolumesRequest` and `GetCapacityRequest` (CSI specification,
--- csi.proto): what the fields mean, which numbers are of texts and embedded messages, and how a value is
+-- csi.proto): what the fields mean, which field numbers have texts and embedded messages, and how a value is
 -- written.
 use Rattle.pbmessage.specs.Views.{Views, text, i32, inner, messages, text_map, value_of}
 use Rattle.pbmessage.specs.Schema.{Schema, AnyPayload, TextAt, MessageAt, map_entry_schema}

@@ -1,5 +1,5 @@
--- Responses of several fields (CSI specification, csi.proto): what the fields mean, under which
--- numbers are of texts and embedded messages, and how a value is written.
+-- Responses of several fields (CSI specification, csi.proto): what the fields mean, which field numbers have
+-- texts and embedded messages, and how a value is written.
 use Rattle.pbmessage.specs.Views.{Views, text, i64, inner, messages, value_of}
 use Rattle.pbmessage.specs.Schema.{Schema, AnyPayload, TextAt, MessageAt}
 use Rattle.pbmessage.specs.Canon.{Rows, Start, ◌▸◌, text_row, signed_row, option_row, messages_row, FitsText, FitsI64, FitsOption, FitsMessages}

@@ -1,5 +1,5 @@
--- Messages of one field, or of none (CSI specification, csi.proto): what the fields mean, under which
--- numbers are of texts and embedded messages, and how a value is written.
+-- Messages of one field or of none (CSI specification, csi.proto): what the fields mean, which field numbers
+-- have texts and embedded messages, and how a value is written.
 use Rattle.std.specs.Prelude.{ℤ, Bool, List, Option}
 use Rattle.csi_codec.specs.declared.messages.values.NoFields.{NoFields}
 use Rattle.pbmessage.specs.Views.{Views, i64, i32, flag, inner, messages, value_of}

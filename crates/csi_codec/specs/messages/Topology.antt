@@ -1,5 +1,5 @@
--- `Topology` and `TopologyRequirement` (CSI specification, csi.proto): what the fields mean, under which
--- numbers are of texts and embedded messages, and how a value is written.
+-- `Topology` and `TopologyRequirement` (CSI specification, csi.proto): what the fields mean, which field
+-- numbers have texts and embedded messages, and how a value is written.
 use Rattle.std.specs.Prelude.{List}
 use Rattle.csi_types.specs.declared.topology.Requirement.{Requirement}
 use Rattle.csi_types.specs.Maps.{TextMap}

@@ -1,5 +1,5 @@
--- `Volume`, and what responses say of volumes (CSI specification, csi.proto): what the fields mean, under
--- which numbers are of texts and embedded messages, and how a value is written.
+-- `Volume`, and the messages about volumes in responses (CSI specification, csi.proto): what the fields mean,
+-- which field numbers have texts and embedded messages, and how a value is written.
 use Rattle.std.specs.Prelude.{ℕ, List, [], ◌∷◌}
 use Rattle.csi_types.specs.declared.volume.VolumeInfo.{VolumeInfo}
 use Rattle.csi_types.specs.declared.volume.Entry.{Entry}
@@ -31,11 +31,11 @@ canon_volume v = Start ▸ signed_row 1 v.bytes ▸ text_row 2 v.id ▸ map_row 
 abbrev pub FitsVolume : VolumeInfo → Type 0
 FitsVolume v = FitsI64 v.bytes × FitsText v.id × FitsMap v.context × FitsTerms v.topology
 
--- the fields that the pool gives
+-- the fields of a volume that come from its pool
 abbrev pub placement_bytes : TextMap → List TextMap → List ℕ
 placement_bytes context topology = bytes_of (Start ▸ map_row 3 context ▸ messages_row canon_map 5 topology)
 
--- the status, field 2 of an entry, of a volume that is published nowhere
+-- the status (field 2 of an entry) of a volume that is published nowhere
 abbrev pub no_nodes : List ℕ
 no_nodes = 18 ∷ 0 ∷ []
 

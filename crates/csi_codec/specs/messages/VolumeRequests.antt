@@ -1,5 +1,5 @@
 -- `CreateVolumeRequest`, `DeleteVolumeRequest` and `ControllerModifyVolumeRequest` (CSI specification,
--- csi.proto): what the fields mean, which numbers are of texts and embedded messages, and how a value is
+-- csi.proto): what the fields mean, which field numbers have texts and embedded messages, and how a value is
 -- written.
 use Rattle.pbmessage.specs.Views.{Views, text, inner, messages, text_map, value_of, is_present}
 use Rattle.pbmessage.specs.Schema.{Schema, AnyPayload, TextAt, MessageAt, map_entry_schema}

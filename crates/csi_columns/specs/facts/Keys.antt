@@ -1,4 +1,4 @@
--- The key of a capability that was made of one.
+-- The key of a capability that was made from a key.
 use Rattle.std.proofs.Common.{◌≡◌, ◌∙◌, refl, sym, Bool, true, false, cond, Some, None}
 use Rattle.csi_keeper.specs.Capability.{access_of, key_with}
 use Rattle.csi_keeper.specs.declared.capability.CapKey.{CapKey}

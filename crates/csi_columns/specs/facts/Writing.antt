@@ -39,7 +39,7 @@ no_map_fits =
 no_text_fits : FitsText []
 no_text_fits = (IsUtf8-nil, omega arith)
 
--- ---- the fields of a request of capabilities and parameters alone
+-- ---- the fields of a request that has only capabilities and parameters
 
 fields_alone : (xs a b c : List WireField) → b ≡ [] → ((((xs ++ a) ++ b) ++ []) ++ []) ++ c ≡ (xs ++ a) ++ c
 fields_alone xs a b c none =
@@ -66,7 +66,7 @@ create_fits cs p m caps params mutable = (no_text_fits, tt, caps, params, no_map
 
 -- ---- keys
 
--- the mount of a file system's type alone
+-- a mount that has only the type of its file system
 pub mount_alone : (t : List ℕ)
     → bytes_of (canon_mount (record { fs_type = t; flags = []; group = [] }))
     ≡ spellings (row_fields (text_row 1 t))
@@ -101,7 +101,7 @@ params_fitting p m params mutable = create_fits [] p m tt params mutable
 
 pub ruleset params_written = (params_spelled, params_fitting)
 
--- no byte says no parameter
+-- no bytes mean no parameters
 pub none_read : ReadsBack → (bytes : List ℕ) → bytes ≡ [] → read_request CreateVolume bytes ≡ Ok (with_params empty empty)
 unfolding params_bytes FitParams
 none_read back bytes none =

@@ -1,4 +1,4 @@
--- No row is apart from one before it exactly where no two rows are apart.
+-- No row is apart from a row before it exactly if no two rows are apart.
 use Rattle.std.proofs.Common.{◌≡◌, refl, ap, Bool, true, false, true≢false, cond, ◌||◌, List, [], ◌∷◌, ◌++◌, Option, Some, None}
 use Rattle.std.specs.List.{AllByRecursion, list_any}
 use Rattle.std.specs.Option.{option_map}

@@ -25,7 +25,7 @@ has_flat f [] x y h k = absurd h
 has_flat f (z ∷ xs) x y (inl e) k = has_left (f z) (flat_map f xs) y (subst (λ u. Has (f u) y) e k)
 has_flat f (z ∷ xs) x y (inr h) k = has_right (f z) (flat_map f xs) y (has_flat f xs x y h k)
 
--- where all pass, and a row with no volume does not, each attachment has a volume with which it passes
+-- if all rows pass, and a row without a volume does not, each attachment has a volume with which it passes
 pub each_owned : (test : Row → Bool) → ((r : Row) → test (with_owner r []) ≡ false) → (attachments volumes rows : List Row)
     → IsPermutation (owners attachments volumes) rows → list_all test rows ≡ true
     → (r : Row) → Has attachments r → (v : Row) × Has volumes v × (owns r v ≡ true) × (test (with_owner r v) ≡ true)
@@ -45,7 +45,7 @@ each_owned test none attachments volumes rows same all r has = go (filter (owns 
         let f = has_filtered (owns r) volumes v (subst (λ xs. Has xs v) (sym e) (inl refl)) in
         (v, f.0, f.1, at (v ∷ vs) (ap or_nulls e) v (inl refl))
 
--- where one does not pass, some attachment does not with its volume, or has none
+-- if a row does not pass, some attachment does not pass with its volume, or has no volume
 pub some_unowned : (test : Row → Bool) (attachments volumes rows : List Row) → IsPermutation (owners attachments volumes) rows → list_all test rows ≡ false
     → (r : Row) × Has attachments r × ((v : Row) × Has (or_nulls (filter (owns r) volumes)) v × (test (with_owner r v) ≡ false))
 some_unowned test attachments volumes rows same fails =

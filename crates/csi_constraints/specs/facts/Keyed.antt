@@ -1,4 +1,4 @@
--- A scan whose rowids rise says that no two rows share one.
+-- If the rowids of a scan rise, no two rows share a rowid.
 use Rattle.std.proofs.Common.{◌≡◌, inl, inr, ◌∙◌, sym, ap, subst, ℕ, true, true≢false, List, [], ◌∷◌, map, drop, None, IsPermutation}
 use Rattle.std.specs.List.{AllByRecursion}
 use Rattle.std.specs.declared.cmp.Ordering.TheVariants.{Less}
@@ -21,7 +21,7 @@ use Rattle.csi_constraints.specs.Scans.{IsInOrder, keyed_attachment}
 has_permuted : {X : Type 0} (xs ys : List X) (x : X) → IsPermutation xs ys → Has ys x → Has xs x
 has_permuted xs ys x same = all_has (Has xs) ys x (all-permutation (Has xs) xs ys same (all_from (Has xs) xs (λ e h. h)))
 
--- a value is below each that comes later
+-- each value is below every later value
 abbrev Rise : ℕ → List Row → Type 0
 Rise at rows = IsAscending (λ a b. value_cmp a b ≡ Less) (map (λ r. column r at) rows)
 
@@ -35,7 +35,7 @@ not_tied a b less tied = true≢false (sym tied ∙ ap is_eq less)
 not_tied_back : (a b : Value) → value_cmp b a ≡ Less → is_eq (value_cmp a b) ≡ true → ⊥
 not_tied_back a b less tied = true≢false (sym tied ∙ ap is_eq (value_cmp_total.antisymm a b ∙ ap ordering_reverse less))
 
--- of rows that rise two with one value are one
+-- in rows that rise, two rows with the same value are the same row
 same_row : (at : ℕ) (rows : List Row) (x y : Row) → Rise at rows → Has rows x → Has rows y → is_eq (value_cmp (column x at) (column y at)) ≡ true → x ≡ y
 same_row at [] x y up p q tied = absurd p
 same_row at (z ∷ rows) x y up (inl p) (inl q) tied = p ∙ sym q

@@ -12,7 +12,7 @@ use Rattle.sqlite_value.proofs.OrderLemmas.{value_cmp_total}
 use Rattle.csi_constraints.specs.Folds.{IsRising}
 use Rattle.csi_constraints.specs.Scans.{first_cmp}
 
--- no row has the first value of the one after it
+-- no row has the same first value as the next row
 abbrev pub HasNoTies : List Row → Type 0
 HasNoTies rows = (k : ℕ) (d : Row) → k + 1 < length rows → first_cmp (slice_index_or rows k d) (slice_index_or rows (k + 1) d) ≢ Equal
 

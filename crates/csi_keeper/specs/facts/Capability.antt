@@ -27,7 +27,7 @@ supported_known access.Missing m e = absurd (cc (e))
 supported_known access.Block m e = e
 supported_known (access.Mount t) m e = (both (is_known_mode m) (not (is_multi_node_writer m)) e).0
 
--- one of supported keys is supported
+-- a key that is one of some supported keys is supported
 same_supported : (ks : List CapKey) (k : CapKey) → has_same ks (Some k) ≡ true → list_all is_supported_key ks ≡ true → is_supported_key k ≡ true
 same_supported [] k has all = absurd (cc (has))
 same_supported (j ∷ ks) k has all = go (both (is_supported_key j) (list_all is_supported_key ks) all) (same_supported ks k) (same_key k j) refl has
@@ -59,7 +59,7 @@ wide_supported k j e = go (k.mode == 6) refl (k.mode == 7) refl e
     go false s true t h = in_mode k 7 (eqb-true _ _ t) (in_seven k.kind)
     go false s false t h = absurd (none_some j h)
 
--- what supported keys have is supported
+-- a key that supported keys have is supported
 pub had_supported : (ks : List CapKey) (k : CapKey) → has_key ks (Some k) ≡ true → list_all is_supported_key ks ≡ true → is_supported_key k ≡ true
 had_supported ks k has all = go (has_same ks (Some k)) refl (wider_key k) refl has
   where

@@ -3,7 +3,7 @@ use Rattle.std.proofs.Common.{◌≡◌, ◌∙◌, ap, sym, refl, ◌==◌, ◌
 use Rattle.csi_keeper.specs.Coexistence.{coexist, is_shared}
 use Rattle.csi_keeper.specs.declared.volume.Attachment.{Attachment}
 
--- where one order passes, so does the other
+-- attachments that coexist also coexist in the other order
 one_way : (a b : Attachment) → coexist a b ≡ true → coexist b a ≡ true
 one_way a b h = go (a.cap.mode == b.cap.mode) refl h
   where

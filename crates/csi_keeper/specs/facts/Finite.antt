@@ -32,7 +32,7 @@ module _ {K X : Type 0} {R : K → K → Ordering} (o : IsTotalOrder R) (exact :
         | false ↦ λ t h. inr h
       ] refl (sym (fin.get-insert o m k x q) ∙ e)
 
-  -- another key keeps what it has
+  -- another key keeps its value
   pub insert_other : (m : fin.FinMap R X) (k : K) (x : X) (q : K) → (q ≡ k → ⊥) → fin.get (fin.insert m k x) q ≡ fin.get m q
   insert_other m k x q far = fin.get-insert o m k x q ∙ elim (eq_by_cmp R q k) as (λ b. eq_by_cmp R q k ≡ b → cond b (Some x) (fin.get m q) ≡ fin.get m q) [
     | true ↦ λ t. absurd (far (exact q k (tied _ t)))
@@ -52,7 +52,7 @@ module _ {K X : Type 0} {R : K → K → Ordering} (o : IsTotalOrder R) (exact :
     )
   ] refl (sym (fin.get-remove o m k q) ∙ e)
 
-  -- a key that has a value is put back where it was
+  -- if a key is removed and put back with its value, the map is the same
   pub put_back : (m : fin.FinMap R X) (k : K) (v : X) → fin.get m k ≡ Some v → fin.insert (fin.remove m k) k v ≡ m
   put_back m k v e = fin.same_map o exact _ _ (λ q.
       fin.get-insert o (fin.remove m k) k v q
@@ -62,7 +62,7 @@ module _ {K X : Type 0} {R : K → K → Ordering} (o : IsTotalOrder R) (exact :
         | false ↦ λ t. refl
       ] refl)
 
-  -- a key that is set again is taken away and put
+  -- setting a key is the same as removing it and then putting it
   pub set_anew : (m : fin.FinMap R X) (k : K) (x : X) → fin.insert m k x ≡ fin.insert (fin.remove m k) k x
   set_anew m k x = fin.same_map o exact _ _ (λ q.
       fin.get-insert o m k x q
@@ -102,7 +102,7 @@ module _ {K X : Type 0} {R : K → K → Ordering} (o : IsTotalOrder R) (exact :
           ∙ sym (ap (λ d. cond d (Some e.1) None) (ap p (exact q e.0 (tied _ u)) ∙ t))
       go false t false u more = more
 
--- the entries of maps that keep some
+-- the entries of a map that keeps only some of them
 module _ {K X : Type 0} {R : K → K → Ordering} (o : IsTotalOrder R) (exact : fin.IsAntisymmetric R) where
   -- a map that keeps the entries whose keys pass
   pub entries_kept : (m n : fin.FinMap R X) (p : K → Bool) → ((q : K) → fin.get n q ≡ cond (p q) (fin.get m q) None)
@@ -161,6 +161,6 @@ no_entries : {A : Type 0} (xs : List A) → length xs ≡ 0 → xs ≡ []
 no_entries [] h = refl
 no_entries (x ∷ xs) h = absurd (omega arith)
 
--- no map of entries
+-- the empty map has no entries
 pub none_listed : {K X : Type 0} (R : K → K → Ordering) → fin.entries (fin.empty {X = X} {R = R}) ≡ []
 none_listed {X = X} R = no_entries _ (sym (fin.len-entries (fin.empty {X = X} {R = R})) ∙ fin.len-empty R X)

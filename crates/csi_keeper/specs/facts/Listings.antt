@@ -1,4 +1,4 @@
--- What a listing says of a page with its nodes.
+-- The listing of a page with the nodes of its volumes.
 use Rattle.std.proofs.Common.{◌≡◌, ◌∙◌, ap, ap₂, refl, ℕ, List, [], ◌∷◌, map}
 use Rattle.csi_keeper.specs.Listing.{IsPageWithNodes, listed_each, listed_of, listing}
 use Rattle.csi_keeper.specs.State.{State, page, published}

@@ -1,4 +1,4 @@
--- The State after a volume got other mutable parameters: the same volumes, but for these.
+-- The State after a volume got other mutable parameters: the volumes are the same except for these.
 use Rattle.std.proofs.Common.{◌≡◌, ◌∙◌, ◌⊎◌, inl, inr, ap, ap₂, sym, cond, refl, ℕ, ◌+◌, length, sum, Bool, true, false, is_some, Option, Some, None}
 use Rattle.std.specs.Cmp.{nat_cmp_total}
 use Rattle.std.specs.Ordering.{nat_cmp, eq_by_cmp}
@@ -16,7 +16,7 @@ use Rattle.csi_keeper.specs.facts.Sums.{in_order, count_cons, total_cons, measur
 abbrev Volumes : Type 0
 Volumes = fin.FinMap nat_cmp Volume
 
--- the volume of a number after the change, and the same volume before it
+-- a volume after the change, and the volume with this number before the change
 pub stood : (vs : Volumes) (n : ℕ) (m : TextMap) (q : ℕ) (w : Volume) → fin.get (mutable_set vs n m (fin.get vs n)) q ≡ Some w
     → (v : Volume) × (fin.get vs q ≡ Some v) × ((w ≡ v) ⊎ ((q ≡ n) × (w ≡ with_mutable m v)))
 stood vs n m q w e = go (fin.get vs n) refl e
@@ -30,7 +30,7 @@ stood vs n m q w e = go (fin.get vs n) refl e
           | inr b ↦ (w, b, inl refl)
         ]
 
--- a volume that existed exists, as it was or with the map
+-- a volume that existed still exists, unchanged or with the new parameters
 pub stands : (vs : Volumes) (n : ℕ) (m : TextMap) (q : ℕ) (v : Volume) → fin.get vs q ≡ Some v
     → (w : Volume) × (fin.get (mutable_set vs n m (fin.get vs n)) q ≡ Some w) × ((w ≡ v) ⊎ ((q ≡ n) × (w ≡ with_mutable m v)))
 stands vs n m q v e = go (fin.get vs n) refl
@@ -51,7 +51,7 @@ stands vs n m q v e = go (fin.get vs n) refl
             )
         at false t = (v, fin.get-insert nat_cmp_total vs n (with_mutable m u) q ∙ ap (λ b. cond b (Some (with_mutable m u)) (fin.get vs q)) t ∙ e, inl refl)
 
--- there are as many
+-- the number of volumes is the same
 pub as_many : (vs : Volumes) (n : ℕ) (m : TextMap) → fin.len (mutable_set vs n m (fin.get vs n)) ≡ fin.len vs
 as_many vs n m = go (fin.get vs n) refl
   where
@@ -59,7 +59,7 @@ as_many vs n m = go (fin.get vs n) refl
     go None h = refl
     go (Some v) h = fin.len-insert nat_cmp_total vs n (with_mutable m v) ∙ ap (λ (o : Option Volume). cond (is_some o) (fin.len vs) (fin.len vs + 1)) h
 
--- the bytes, and the number, of a pool's volumes
+-- the bytes and the number of a pool's volumes are the same
 pub same_sum : (s : State) (n : ℕ) (m : TextMap) (pool : Text) → sum (sizes (changed s (SetMutable n m)) pool) ≡ sum (sizes s pool)
 same_sum s n m pool = go (fin.get s.volumes n) refl
   where
@@ -80,6 +80,6 @@ same_count s n m pool = go (fin.get s.volumes n) refl
         measure_set (λ es. length (in_order es pool)) (λ v. cond (same_text v.pool pool) 1 0) (λ e es. count_cons e es pool)
         s.volumes n v (with_mutable m v) h refl
 
--- kept totals stay
+-- kept totals stay true
 pub totals_kept : (pools : Totals) (s : State) (n : ℕ) (m : TextMap) → AreTotals pools s → AreTotals pools (changed s (SetMutable n m))
 totals_kept pools s n m totals pool = totals pool ∙ sym (ap₂ the_total (same_count s n m pool) (same_sum s n m pool))

@@ -1,4 +1,4 @@
--- No volume has a name that none was found for.
+-- If no volume is found by a name, no volume has the name.
 use Rattle.std.proofs.Common.{◌≡◌, ◌∙◌, ap, sym, cond, ℕ, List, [], ◌∷◌, map, find, Bool, true, false, Some, None, refl}
 use Rattle.std.specs.Ordering.{nat_cmp, eq_by_cmp}
 use Rattle.std.specs.FinMap as fin
@@ -25,6 +25,6 @@ no_name (e ∷ es) name n v none some is = go (λ h k. no_name es name n v h k i
         absurd (cc (t, y))
     go more false t false h k = more h k
 
--- no volume has a name that none was found for
+-- if no volume is found by a name, no volume has the name
 pub nobody : (s : State) (name : Text) (n : ℕ) (v : Volume) → named s name ≡ None → fin.get s.volumes n ≡ Some v → v.name ≡ name → ⊥
 nobody s name n v none some is = no_name (fin.entries s.volumes) name n v none (sym (fin.get-entries s.volumes n) ∙ some) is

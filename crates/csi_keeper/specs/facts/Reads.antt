@@ -1,4 +1,4 @@
--- What reads leave of a keeper, in order.
+-- A keeper after one read or several.
 use Rattle.std.proofs.Common.{◌≡◌, ◌≤◌, ◌∙◌, arith, refl, false, Result, Ok, Err, IfOk}
 use Rattle.csi_keeper.specs.State.{State}
 use Rattle.csi_keeper.specs.Keeper.{IsQuiet, Reads, Reports}
@@ -19,7 +19,7 @@ quiet_then {a} {b} {c} p q =
       down = q.down ∙ p.down;
     }
 
--- a read that leaves a keeper that is not down as it is
+-- a read that changes nothing in a keeper that is not down
 pub read_same : {X : Type 0} (a : Model State) (x : X) {IsSo : State → X → Type 0} → a.is_down ≡ false → Reports a a (λ s. IsSo s x) → Reads a a (Ok x) IsSo
 read_same a x up reported = record { value = reported; quiet = quiet_same a; count = refl; down = (λ e. absurd (cc (e)), λ is. absurd (cc (is, up))) }
 

@@ -34,7 +34,7 @@ count_cons e es pool = elim (same_text e.1.pool pool) as
       | false ↦ omega arith
     ]
 
--- a measure of each list that one more entry raises by its part
+-- a measure of lists that grows with each entry by a part that depends on the entry's volume
 module _ (measure : List (ℕ × Volume) → ℕ) (part : Volume → ℕ) (more : (e : ℕ × Volume) (es : List (ℕ × Volume))
     → measure (e ∷ es) ≡ part e.1 + measure es) where
   measure_put : (k : ℕ) (v : Volume) (es : List (ℕ × Volume)) → fin.find nat_cmp k es ≡ None → measure (fin.put nat_cmp k v es) ≡ part v + measure es
@@ -58,7 +58,7 @@ module _ (measure : List (ℕ × Volume) → ℕ) (part : Volume → ℕ) (more 
       ap (λ (x : fin.FinMap nat_cmp Volume). measure (fin.entries x)) (sym (put_back nat_cmp_total fin.nat_cmp-IsAntisymmetric m k v some))
       ∙ measure_added (fin.remove m k) k v (gone nat_cmp_total fin.nat_cmp-IsAntisymmetric m k)
 
-  -- a value of the same part in another's place
+  -- if a volume is replaced by a volume with the same part, the measure is the same
   pub measure_set : (m : fin.FinMap nat_cmp Volume) (k : ℕ) (v w : Volume) → fin.get m k ≡ Some v → part w ≡ part v
       → measure (fin.entries (fin.insert m k w)) ≡ measure (fin.entries m)
   measure_set m k v w some same =
@@ -67,7 +67,7 @@ module _ (measure : List (ℕ × Volume) → ℕ) (part : Volume → ℕ) (more 
       ∙ ap (λ n. n + measure (fin.entries (fin.remove m k))) same
       ∙ sym (measure_removed m k v some)
 
--- the bytes, and the number, of a pool's volumes after one more, and after one less
+-- the bytes and the number of a pool's volumes, after a volume is added and after one is removed
 pub added_sum : (s : State) (v : Volume) (pool : Text) → fin.get s.volumes v.number ≡ None
     → sum (sizes (changed s (AddVolume v)) pool) ≡ cond (same_text v.pool pool) v.bytes 0 + sum (sizes s pool)
 added_sum s v pool none = measure_added (λ es. sum (in_order es pool)) (λ v. cond (same_text v.pool pool) v.bytes 0)

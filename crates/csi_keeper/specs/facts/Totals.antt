@@ -1,4 +1,4 @@
--- Kept totals, after a volume more and after one less.
+-- Kept totals, after a volume is added and after one is removed.
 use Rattle.std.proofs.Common.{◌≡◌, ◌∙◌, refl, ap, ap₂, sym, subst, cond, arith, ℕ, ◌+◌, length, sum, Bool, true, false, Some, None}
 use Rattle.std.specs.FinMap as fin
 use lib.Pointwise.{bytes_decides}

@@ -19,10 +19,10 @@ use Rattle.csi_rules.specs.Size.{size, has_size}
 use Rattle.csi_keeper.specs.State.{State, named}
 use Rattle.csi_rules.specs.Topology.{is_reachable, terms}
 
--- a volume of the name exists
+-- a volume with the name exists
 
--- the volume, whose pool has these segments, is as the request asks; a mutable parameter that is given must
--- be as it is now
+-- the existing volume, whose pool has these segments, fits the request; a mutable parameter that is given
+-- must be as it is now
 abbrev pub is_compatible : TextMap → Volume → CreateVolume → Bool
 is_compatible segments v r =
     is_reachable segments r.topology && has_size v.bytes r.range && have_keys v.caps r.capabilities && same_map v.params r.parameters
@@ -35,7 +35,7 @@ again_at segments r v =
 abbrev pub again : Config → CreateVolume → Volume → Plan
 again config r v = again_at (segments_at config v.pool) r v
 
--- no volume of the name exists
+-- no volume with the name exists
 
 abbrev pub made : CreateVolume → ℕ → ℕ → Pool → Volume
 made r number bytes pool = record {

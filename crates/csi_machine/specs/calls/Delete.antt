@@ -17,7 +17,7 @@ abbrev pub delete_volume : ℕ → List Attachment → Plan
 delete_volume n [] = make response.Delete (RemoveVolume n)
 delete_volume n (a ∷ attachments) = refuse VolumeInUse
 
--- an unknown volume is done with
+-- the delete of an unknown volume succeeds
 abbrev pub delete_found : State → Option (ℕ × Volume) → Plan
 delete_found s None = respond response.Delete
 delete_found s (Some found) = delete_volume found.0 (attached s found.0)

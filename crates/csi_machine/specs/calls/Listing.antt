@@ -17,7 +17,7 @@ use Rattle.csi_rules.specs.Size.{whole}
 use Rattle.csi_keeper.specs.State.{State, published, beyond, page}
 use Rattle.csi_keeper.specs.Texts.{Text}
 
--- a number that a volume was given
+-- the number, if it was given to a volume
 abbrev pub given : ℕ → Option ℕ → Option ℕ
 given next None = None
 given next (Some n) = if nat_le 1 n && nat_lt n next then Some n else None
@@ -27,7 +27,7 @@ given next (Some n) = if nat_le 1 n && nat_lt n next then Some n else None
 abbrev pub start_of : ℕ → Text → Option ℕ
 start_of next token = if is_empty token then Some 0 else given next (number_of token)
 
--- as many entries as are asked for, up to the limit; 0 does not ask
+-- the number of entries that are asked for, up to the limit; 0 asks for no certain number
 abbrev pub entries_for : ℕ → ℕ
 entries_for most = if most == 0 then MAX_PAGE_ENTRIES else min most MAX_PAGE_ENTRIES
 
@@ -35,7 +35,7 @@ entries_for most = if most == 0 then MAX_PAGE_ENTRIES else min most MAX_PAGE_ENT
 abbrev pub listed : State → ℕ → ℕ → List Volume
 listed s after most = page s after (entries_for most)
 
--- the last number of a page, or the one after which it began
+-- the number of the last volume, or `after` if there are no volumes
 abbrev pub last_of : ℕ → List Volume → ℕ
 last_of after [] = after
 last_of after (v ∷ vs) = last_of v.number vs

@@ -36,8 +36,8 @@ abbrev pub publish_again : CapKey → Bool → Attachment → Plan
 publish_again key readonly a =
     if same_key a.cap key && same_flag a.readonly readonly then respond (response.Publish (publication readonly)) else refuse PublishedOtherwise
 
--- a volume that exists, what it may be used as, where it is published, and a node with the count of the
--- volumes that are there
+-- an existing volume with its capability keys and its attachments, and a node with the number of volumes that
+-- are attached there
 pub record Target : Type 0 where
   pub number : ℕ
   pub caps : List CapKey

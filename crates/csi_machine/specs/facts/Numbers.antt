@@ -1,4 +1,4 @@
--- Numbers from State to State.
+-- The numbers of volumes from State to State.
 use Rattle.std.proofs.Common.{◌≡◌, ◌∙◌, ℕ, Option, Some, None, ap, refl, subst, sym, arith}
 use Rattle.std.specs.FinMap.{get}
 use Rattle.csi_config.specs.declared.config.Config.{Config}
@@ -8,15 +8,15 @@ use Rattle.csi_keeper.specs.declared.volume.Volume.{Volume}
 use Rattle.csi_keeper.specs.facts.Finite.{none_some, same_some}
 use Rattle.csi_machine.specs.Numbers.{NumbersRise}
 
--- a number that has a volume has one
+-- a number has at most one volume
 pub same_there : (s : State) (n : ℕ) (v w : Volume) → get s.volumes n ≡ Some v → get s.volumes n ≡ Some w → w ≡ with_mutable w.mutable v
 same_there s n v w old new = subst (λ (x : Volume). x ≡ with_mutable x.mutable v) (same_some v w (sym old ∙ new)) refl
 
--- where the State stays
+-- the numbers, if the State stays
 pub numbers_stay : (s : State) → NumbersRise s s
 numbers_stay s = record { next = omega arith; gone = λ n before none. none; same = same_there s }
 
--- through a State between, from one of the invariant
+-- the numbers over two steps, from a State that meets the invariant
 pub numbers_go_on : (config : Config) (s t u : State) → IsInvariant config s → NumbersRise s t → NumbersRise t u → NumbersRise s u
 numbers_go_on config s t u inv first then_ = record {
   next = omega (arith, first.next, then_.next);

@@ -1,4 +1,4 @@
--- What a part of the rows shows of a State.
+-- A page of a listing, made from a part of the rows.
 use Rattle.std.proofs.Common.{◌≡◌, ◌∙◌, ap, ap₂, sym, cond, arith, refl, ℕ, ◌+◌, ◌-◌, ◌≤◌, ◌^◌, ◌==◌, nat_lt, List, [], ◌∷◌, ◌++◌, map, filter, take}
 use Rattle.std.proofs.Common.{length, Bool, true, false, ◌&&◌, not, Ordering, Less, Equal, Greater}
 use Rattle.std.specs.BTreeMap.Range.{entries_between, range_contains, is_past_end}
@@ -19,7 +19,7 @@ use Rattle.csi_keeper.specs.facts.Finite.{none_listed}
 use Rattle.csi_keeper.specs.facts.Orders.{place_total}
 use Rattle.csi_keeper.specs.Texts.{Text, text_cmp}
 
--- a list of as many as are asked for
+-- the first part of a list, if as many items are taken as the part has
 take_first : {A : Type 0} (xs ys : List A) → take (length xs) (xs ++ ys) ≡ xs
 take_first [] [] = refl
 take_first [] (y ∷ ys) = refl
@@ -36,7 +36,7 @@ page_full f all some rest copies count e is most least =
     sym (take_first copies (map f rest)) ∙ ap (λ n. take n (copies ++ map f rest)) (sym same)
     ∙ ap (λ xs. take count (xs ++ map f rest)) is ∙ ap (take count) (sym (map_append f some rest)) ∙ ap (λ xs. take count (map f xs)) (sym e)
 
--- the first of a page, where there are as many as are asked for
+-- the items found are the page, if there are as many as were asked for
 pub page_first : {Y A B : Type 0} (d : Y → A) (f : A → B) (all : List A) (some : List Y) (rest : List A) (count : ℕ) → all ≡ map d some ++ rest
     → length some ≡ count → map f (map d some) ≡ take count (map f all)
 page_first d f all some rest count e few =
@@ -44,7 +44,7 @@ page_first d f all some rest count e few =
     let each = length-map some d in
     page_full f all (map d some) rest (map f (map d some)) count e refl (omega (arith, many, each, few)) (omega (arith, many, each, few))
 
--- one more of a page
+-- a page with one more item
 pub page_more : {Y A B : Type 0} (d : Y → A) (f : A → B) (some : List Y) (y : Y) → map f (map d some) ++ f (d y) ∷ [] ≡ map f (map d (some ++ y ∷ []))
 page_more d f some y = sym (map_append f (map d some) (map d (y ∷ []))) ∙ ap (map f) (sym (map_append d some (y ∷ [])))
 
@@ -53,7 +53,7 @@ pub filter_same : {A : Type 0} (p q : A → Bool) → ((x : A) → p x ≡ q x) 
 filter_same p q h [] = refl
 filter_same p q h (x ∷ xs) = ap (λ b. cond b (x ∷ filter p xs) (filter p xs)) (h x) ∙ ap (λ ys. cond (q x) (x ∷ ys) ys) (filter_same p q h xs)
 
--- a later test that passes only what an earlier one does
+-- a second filter whose test passes only items that the first test passes
 pub filter_after : {A : Type 0} (p q : A → Bool) → ((x : A) → p x ≡ true → q x ≡ true) → (xs : List A) → filter p (filter q xs) ≡ filter p xs
 filter_after p q h [] = refl
 filter_after p q h (x ∷ xs) = go (filter_after p q h xs) (q x) refl (p x) refl

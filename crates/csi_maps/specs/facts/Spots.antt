@@ -35,7 +35,7 @@ Row = AttachmentKey × Attachment
 
 -- Changes
 
--- a place and a spot are of the same volume and node
+-- an attachment key and a spot are equal if they have the same node and number
 spot_place : (p : AttachmentKey) (q : Spot) → is_at (spot_cmp (p.1, p.0)) q ≡ eq_by_cmp attachment_key_cmp (q.1, q.0) p
 spot_place p q = go (is_at (spot_cmp (p.1, p.0)) q) refl (eq_by_cmp attachment_key_cmp (q.1, q.0) p) refl
   where
@@ -53,7 +53,7 @@ spot_place p q = go (is_at (spot_cmp (p.1, p.0)) q) refl (eq_by_cmp attachment_k
         subst (λ (x : AttachmentKey). is_at (spot_cmp (x.1, x.0)) q ≡ true) same (ap is_eq (tied_itself spot_total q)) in
         absurd (cc (here, s))
 
--- one attachment less, and its spot
+-- the index after an attachment and its spot are removed
 pub spotted_less : (es fs : List Row) (spots ts : Nodes) (place : AttachmentKey) → places_of fs ≡ fin.remove (places_of es) place
     → IsSpotSet (place.1, place.0) false spots ts → (HasNoEmpty spots → HasNoEmpty ts) → AreSpotted es spots → AreSpotted fs ts
 spotted_less es fs spots ts place less gone full old = record {
@@ -71,7 +71,7 @@ spotted_less es fs spots ts place less gone full old = record {
     by true o = refl
     by false o = refl
 
--- one attachment more, and its spot
+-- the index after an attachment and its spot are added
 pub spotted_more : (es fs : List Row) (spots ts : Nodes) (place : AttachmentKey) (v : Attachment) → places_of fs ≡ fin.insert (places_of es) place v
     → IsSpotSet (place.1, place.0) true spots ts → (HasNoEmpty spots → HasNoEmpty ts) → AreSpotted es spots → AreSpotted fs ts
 spotted_more es fs spots ts place v more here full old = record {
@@ -106,14 +106,14 @@ spotted_again es spots ts us place none here gone full old = record {
     by q true t = sym (subst (λ (x : Spot). is_some (fin.get (places_of es) (x.1, x.0)) ≡ false) (spot_exact (place.1, place.0) q (tied _ t)) (ap is_some none))
     by q false t = old.found q
 
--- an index that has the same spots, where one was not put
+-- the index with the same spots, if a spot could not be put
 pub spotted_same : (es : List Row) (spots ts : Nodes) → ((q : Spot) → has_spot ts q ≡ has_spot spots q) → (HasNoEmpty spots → HasNoEmpty ts)
     → AreSpotted es spots → AreSpotted es ts
 spotted_same es spots ts same full old = record { found = λ q. same q ∙ old.found q; no_empty = full old.no_empty }
 
 -- The numbers at a node: both lists rise, and the same numbers are found in them
 
--- that something is there
+-- a mark that the option has a value
 abbrev mark : {X : Type 0} → Option X → Option (Unit {0})
 mark None = None
 mark (Some x) = Some tt
@@ -156,7 +156,7 @@ module _ {K X : Type 0} (R : K → K → Ordering) (p : K × X → Bool) (f : K 
         by here more true u = with_both _ _ (below_up e es u here) more
         by here more false u = more
 
-  -- a number is found where its key is
+  -- a number is found exactly if its key is found
   found_number : (n : ℕ) (k : K) → ((e : K × X) → p e ≡ true → eq_by_cmp nat_cmp n (f e.0) ≡ eq_by_cmp R k e.0)
       → ((e : K × X) → eq_by_cmp R k e.0 ≡ true → p e ≡ true) → (es : List (K × X)) → fin.find nat_cmp n (numbered p f es) ≡ mark (fin.find R k es)
   found_number n k tie key [] = refl
@@ -169,7 +169,7 @@ module _ {K X : Type 0} (R : K → K → Ordering) (p : K × X → Bool) (f : K 
       by false t true u more = let passes = key e u in absurd (cc (passes, t))
       by false t false u more = more
 
--- rising lists with equal look-ups
+-- rising lists with equal look-ups are equal
 same_list : (us vs : List (ℕ × Unit {0})) → T (fin.is_sorted nat_cmp us) → T (fin.is_sorted nat_cmp vs)
     → ((n : ℕ) → fin.find nat_cmp n us ≡ fin.find nat_cmp n vs) → us ≡ vs
 same_list us vs a b h =
@@ -189,7 +189,7 @@ alone_keys : (ns : List ℕ) → keys_of (map alone ns) ≡ ns
 alone_keys [] = refl
 alone_keys (n ∷ ns) = ap (λ ks. n ∷ ks) (alone_keys ns)
 
--- a number is found where the list has it
+-- a number is found exactly if the list has it
 alone_found : (n : ℕ) (ns : List ℕ) → fin.find nat_cmp n (map alone ns) ≡ as_mark (list_any (is_at (nat_cmp n)) ns)
 alone_found n [] = refl
 alone_found n (m ∷ ns) = by (is_at (nat_cmp n) m) (alone_found n ns)

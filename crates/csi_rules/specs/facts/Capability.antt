@@ -57,7 +57,7 @@ keys_put k (e ∷ es) = go (key_cmp k e.0) (keys_put k es)
 insert_is : (m : fin.FinMap key_cmp Bool) (k : CapKey) → fin.keys (fin.insert m k true) ≡ insert_key key_cmp (fin.keys m) k
 insert_is m k = ap (map (λ (e : Entry). e.0)) (fin.entries-insert key_total m k true) ∙ keys_put k (fin.entries m)
 
--- one more key
+-- the ordered keys after one more key
 ordered_push : (ks : List CapKey) (k : CapKey) → ordered (ks ++ k ∷ []) ≡ insert_key key_cmp (ordered ks) k
 ordered_push ks k = ap fin.keys (set_push ks k) ∙ insert_is (set_of ks) k
 
@@ -198,7 +198,7 @@ has_some ks k = sym (any_tied k ks)
 pub has_no_wider : (ks : List CapKey) → false ≡ has_same ks None
 has_no_wider ks = sym (has_same_none ks)
 
--- a key that is one of some is had by them
+-- if a key is one of these keys, they have it
 pub has_one : (ks : List CapKey) (k : CapKey) → has_same ks (Some k) ≡ true → has_key ks (Some k) ≡ true
 has_one ks k e = ap (λ b. b || has_same ks (wider_key k)) e
 

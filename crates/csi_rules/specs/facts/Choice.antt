@@ -1,4 +1,4 @@
--- The first pair that fits, piece by piece.
+-- The first pair that fits, term by term.
 use Rattle.std.proofs.Common.{◌≡◌, ◌∙◌, ap, sym, cond, arith, refl, ℕ, ◌+◌, ◌<◌, suc, nat_le, add-one, List, [], ◌∷◌, ◌++◌, map, find, length, drop}
 use Rattle.std.proofs.Common.{get_or, Bool, true, false, ◌&&◌, Option, Some, None, option_map}
 use Rattle.std.specs.FinMap.{empty}
@@ -81,7 +81,7 @@ ends-there : {A : Type 0} (o : Option A) → or_else o None ≡ o
 ends-there None = refl
 ends-there (Some x) = refl
 
--- the term at a place is tried, and then those after it
+-- the term at this position is tried, and then the terms after it
 pub choice_at : (rooms : List Room) (ts : List TextMap) (i n : ℕ) (d : TextMap) → i < length ts
     → choice rooms (drop i ts) n ≡ or_else (choice rooms (get_or ts i d ∷ []) n) (choice rooms (drop (i + 1) ts) n)
 choice_at rooms ts i n d h =

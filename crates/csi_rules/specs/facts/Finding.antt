@@ -1,4 +1,4 @@
--- Results of reads, in order.
+-- The results of one read or several.
 use Rattle.std.proofs.Common.{◌≡◌, ◌∙◌, sym, arith, subst, refl, ap, ℕ, List, Bool, true, false, is_some, Option, None, Some, Result, Ok}
 use Rattle.csi_keeper.specs.Keeper.{Reads, count_after}
 use Rattle.csi_keeper.specs.Model.{Model}
@@ -10,7 +10,7 @@ use Rattle.csi_keeper.specs.declared.capability.CapKey.{CapKey}
 use Rattle.csi_keeper.specs.declared.volume.Volume.{Volume}
 use Rattle.csi_rules.specs.Finding.{Finds, keys_found, number_found, numbered}
 
--- the answer of a keeper that is down, if the answer carries more
+-- a consequence of the answer of a keeper that is down
 reported_more : {X : Type 0} {P Q : X → Type 0} {is_down : Bool} (result : Result X StoreFault) → ((x : X) → P x → Q x) → ReportsDown is_down P result
     → ReportsDown is_down Q result
 reported_more result f reported = record { down = reported.down; refused = reported.refused; unasked = λ is. if_ok f result (reported.unasked is) }
@@ -66,7 +66,7 @@ pub none_found : (o : Option (ℕ × Volume)) → keys_found o ≡ None → o �
 none_found None none = refl
 none_found (Some found) none = absurd (cc)
 
--- a fact of the keys found for a volume
+-- a fact about a volume, from its number and the keys found for it
 pub keys_so : {Y : Type 0} (f : Option (ℕ × Volume) → Y) (g : ℕ → List CapKey → Y) (o : Option (ℕ × Volume)) (n : ℕ) (keys : List CapKey)
     → ((m : ℕ) (v : Volume) → f (Some (m, v)) ≡ g m v.caps) → Some (n, keys) ≡ keys_found o → g n keys ≡ f o
 keys_so f g None n keys so is = absurd (cc)
@@ -89,7 +89,7 @@ pub none_numbered : (o : Option (ℕ × Volume)) → number_found o ≡ None →
 none_numbered None none = refl
 none_numbered (Some found) none = absurd (cc)
 
--- a fact of the number found for a volume
+-- a fact about a volume, from the number found for it
 pub number_so : {Y : Type 0} (f : Option (ℕ × Volume) → Y) (g : ℕ → Y) (o : Option (ℕ × Volume)) (n : ℕ)
     → ((m : ℕ) (v : Volume) → f (Some (m, v)) ≡ g m) → Some n ≡ number_found o → g n ≡ f o
 number_so f g None n so is = absurd (cc)

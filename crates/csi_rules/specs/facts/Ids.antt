@@ -25,7 +25,7 @@ number_of_decimal n h =
 pub is_decimal : (n : ℕ) (text : List ℕ) → n < 2 ^ 64 → same_text (decimal n) text ≡ true → Some n ≡ number_of text
 is_decimal n text h e = subst (λ (t : List ℕ). Some n ≡ number_of t) ((bytes_decides (decimal n) text).0 e) (sym (number_of_decimal n h))
 
--- what a number is read of, is its decimal
+-- a text that is read as a number is the number's decimal
 number_is : (text : List ℕ) (n : ℕ) → number_of text ≡ Some n → (n < 2 ^ 64) × (decimal n ≡ text)
 number_is text n e = go (nat_lt (digits_value 10 text) (2 ^ 64)) refl (same_text (decimal (digits_value 10 text)) text) refl e
   where
@@ -59,7 +59,7 @@ no_decimal text r parses none = go (number_of text) refl
 pub id_named : (n : ℕ) → n < 2 ^ 64 → number_of_id (id n) ≡ Some n
 id_named n h = number_of_decimal n h
 
--- what a number is read of, as an id, is its id
+-- a text that is read as the id of a number is the number's id
 pub named_id : (t : List ℕ) (n : ℕ) → number_of_id t ≡ Some n → t ≡ id n
 named_id t n e = go (same_text (take 4 t) (codes "vol-")) refl e
   where

@@ -1,4 +1,4 @@
--- What the connection's clauses say of an error, in the words of `Failing`.
+-- The connection's clauses about an error, as the definitions of `Failing`.
 use Rattle.std.proofs.Common.{◌≡◌, ◌∙◌, ◌⊎◌, inl, inr, refl, sym, ap, subst, subst₂, ℕ, ◌≤◌, List, length, true, false, true≢false, [], append-nil}
 use Rattle.std.proofs.Common.{IsTrue, IsSome, Option, Ok, Err, Result, IfErr, IsErrAnd, OnErr, OnOk, arith}
 use Rattle.sqlite.specs.Calls.{IsWrite}
@@ -41,7 +41,7 @@ fails_weaker P Q old new e f (as_shut is shut) = as_shut is shut
 fails_weaker P Q old new e f (at_limit is some) = at_limit is some
 fails_weaker P Q old new e f (as_refused why) = as_refused (f why)
 
--- later steps forget no fault of the error
+-- an error of earlier steps is still an error after later steps
 pub fails_before : (P : Error → Type 0) (old mid new : State) (e : Error) → mid.faults ≤ new.faults → FailsFor P old mid e → FailsFor P old new e
 fails_before P old mid new e up (for_memory is) = for_memory is
 fails_before P old mid new e up (by_disk is more) = by_disk is (omega (arith, up, more))
@@ -58,7 +58,7 @@ fails_after P Q old mid new e up is_open limit f (as_shut is shut) = absurd (tru
 fails_after P Q old mid new e up is_open limit f (at_limit is some) = at_limit is (subst IsSome limit some)
 fails_after P Q old mid new e up is_open limit f (as_refused why) = as_refused (f why)
 
--- ---- an error that is handed on
+-- ---- an error that is passed on
 
 pub handed : {X E : Type 0} (r : Result X E) (e : E) (P : E → Type 0) → IsErrAnd r (λ x. x ≡ e) → P e → IfErr r P
 handed (Ok x) e P is h = tt
@@ -72,7 +72,7 @@ on_err : {X E : Type 0} (r : Result X E) (P : Type 0) → P → OnErr r P
 on_err (Ok x) P h = tt
 on_err (Err x) P h = h
 
--- ---- what the store reported
+-- ---- errors that the store reported
 
 caused : (P : Error → Type 0) (old new : State) (big : Type 0) (e : Error) (cause : StoreError) → (big → e ≡ SqliteFailure code.TooBig → P e)
     → e ≡ store_error cause → HasCause old new big cause → FailsFor P old new e
@@ -152,7 +152,7 @@ module _ (text : List ℕ) (params : Row) (old new : State) (e : Error) (alone :
     | inr (name, inr is, held) ↦ subst IsWrite is it.3
   ])
 
--- what such a text does inside a transaction, by the clauses of the call that ran it
+-- the effect of such a text inside a transaction, from the clauses of the call that ran it
 ran_step : (before : Schema) (Effect : Database → Database → Type 0) (text : List ℕ) (params : Row) (old new : State) (r : Result ℕ Error)
     → ((count : ℕ) → old.now.schema ≡ before → Executes text params old new (Ok count) → Effect old.now new.now)
     → ExecutesInside 0 text params old new r → OnOk r (StepsFrom before Effect old new)
@@ -202,7 +202,7 @@ IsNeverRefused schema params q = (limit : Option ℕ) (db : Trees) (e : Error) �
   trees = db;
 }) (record { lets = []; body = q }) params e → (e ≡ SqliteFailure code.OperationInterrupted) × IsSome limit
 
--- what computes of a SELECT of a fixed text under a schema
+-- the facts about a SELECT of a fixed text that are computed under a schema
 pub record IsSure (schema : Schema) (text : List ℕ) (params : Row) : Type 0 where
   pub query : Query
   pub names : List (List ℕ)
@@ -231,7 +231,7 @@ sure_of params it alone unrefused = record {
   unrefused = unrefused;
 }
 
--- what refuses a query whose types are right and that adds up nothing is the limit
+-- a query whose types are right and that adds up nothing is refused only for the limit
 pub only_limit : {A B Over Limited : Type 0} → (A × (true ≡ false)) ⊎ ((B × (⊥ ⊎ Over)) ⊎ Limited) → (Over → ⊥) → Limited
 only_limit (inl typed) within = absurd (true≢false typed.1)
 only_limit (inr (inl (is, inl none))) within = absurd none
@@ -264,7 +264,7 @@ module _ (schema : Schema) (text : List ℕ) (params : Row) (sure : IsSure schem
 abbrev CommitsIn : State → State → Type 0
 CommitsIn old new = IsTrue old.in_transaction × Shows old new old.now old.now false × KeepsCounts old new × (new.marks ≡ [])
 
--- it begins with what the connection was
+-- a transaction begins with the state of the connection
 pub fails_begun : {S : Type 0} (g : Ghosts S) (old : Held S) (P : Error → Type 0) (new : State) (e : Error)
     → FailsFor P (state g (record old { in_transaction = true })) new e → FailsFor P (state g old) new e
 fails_begun g old P new e (for_memory is) = for_memory is
@@ -277,7 +277,7 @@ module _ {S : Type 0} (g : Ghosts S) (before : Schema) (old : Held S) where
   abbrev begun : State
   begun = state g (record old { in_transaction = true })
 
-  -- a later part of it failed, after a statement that was answered Ok
+  -- a later part of the transaction failed, after a statement that succeeded
   pub later_fails : (P Q : Error → Type 0) (Effect : Database → Database → Type 0) (mid : State) (new : State) (e : Error)
       → Survives begun mid (λ _. ⊥) → StepsFrom before Effect begun mid
       → (P e → Q e) → FailsFor P mid new e → FailsFor Q (state g old) new e
@@ -329,7 +329,7 @@ module _ {S : Type 0} (g : Ghosts S) (before : Schema) (old : Held S) where
     survives : LeavesNothingNew g mid end;
   }
 
-  -- the transaction whose first statement failed, once it was undone
+  -- the transaction whose first statement failed, after it was undone
   pub undoes : {X Y : Type 0} {First Effect : Database → Database → Type 0} {Why Refuses : State → Error
       → Type 0} {mid new : Held S} (r : Result Y Error) (e : Error) → (Why begun e → Refuses (state g old) e)
       → RunsOver g (record old { in_transaction = true }) mid {X = X} before First Why (Err e) → (end : Held S) → Dropped mid end → end ≡ new
@@ -347,7 +347,7 @@ module _ {S : Type 0} (g : Ghosts S) (before : Schema) (old : Held S) where
             (survives_begin g old (state g mid) _ ran.survives) left;
       })
 
-  -- the transaction whose one statement was answered Ok, once it was committed
+  -- the transaction whose one statement succeeded, after it was committed
   pub commits : {X : Type 0} {Effect : Database → Database → Type 0} {Why Refuses : State → Error
       → Type 0} {mid new : Held S} {x : X} (r : Result (Unit {0}) Error)
       → RunsOver g (record old { in_transaction = true }) mid before Effect Why (Ok x) → (end : Held S) → Committed mid end r → end ≡ new

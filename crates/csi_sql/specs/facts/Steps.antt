@@ -1,4 +1,4 @@
--- What the connection's clauses say of a statement, and of a commit, in the words of `Transactions`.
+-- The connection's clauses about a statement and a commit, as the definitions of `Transactions`.
 use Rattle.std.proofs.Common.{◌≡◌, ◌⊎◌, inl, inr, refl, ℤ, Bool, true, false, cond, Ok, Err, Result, arith}
 use Rattle.sqlite.specs.declared.types.Value.{Value}
 use Rattle.sqlite.specs.declared.types.Value.TheVariants.{Null, Int}
@@ -35,7 +35,7 @@ pub cast_int : (n : ℤ) → cast Integer (Int n) ≡ Int n
 unfolding unary
 cast_int n = either _ (Int n)
 
--- a transaction leaves what it could leave before, or what its commit makes
+-- after a transaction a stop leaves what it could leave before, or the result of the commit
 pub survives_commit : {S : Type 0} (g : store.Ghosts S) (before : Schema) (old : Held S) (mid new : State) (Effect : Database → Database → Type 0)
     → Survives (state g (record old { in_transaction = true })) mid (λ _. ⊥)
     → (HasCleanDisk mid → StepsFrom before Effect (state g (record old { in_transaction = true })) mid)

@@ -1,4 +1,4 @@
--- What INSERT, UPDATE and DELETE of a fixed text made of one table, where they were answered Ok.
+-- One table after an INSERT, an UPDATE or a DELETE of a fixed text that succeeded.
 use Rattle.std.proofs.Common.{◌≡◌, ◌∙◌, refl, sym, ap, subst, ℕ, false, List, [], None, Some, Ok, slice_get}
 use Rattle.sqlite.specs.Command.{Command}
 use Rattle.sqlite.specs.Command.TheVariants.{Insert, Update, Delete}
@@ -92,7 +92,7 @@ module _ (text : List ℕ) (params : Row) (old new : State) (count : ℕ) (has :
       (λ rows. taken_by old.now.trees (edit_of old.now.trees table (ids_of rows) Given 0 [])) w.tally (λ rows. refl) w.sound
       (placed command (w.tally, new.now) (changed command w.tally w.changed))
 
-  -- the rows that are asked for are those that the row becomes, each after the rowid that it had
+  -- the rows that the query gives are the new rows, each after the rowid that the old row had
   pub updated : (q : Query) → IsCommand text (Update at (record { lets = []; body = q })) → Executes text params old new (Ok count)
       → (shown : List Row) × IsAnswer q (overlay old.now.trees []) params shown × Makes old new (edit_of old.now.trees table (ids_of shown) Given 1 shown)
   unfolding task

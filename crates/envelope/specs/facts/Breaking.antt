@@ -1,4 +1,4 @@
--- What breaks a prefix of a stream breaks the longer stream, and the other way round once it is seen.
+-- A break of a prefix of a stream is a break of the longer stream, and the other way round once it is seen.
 use Rattle.std.proofs.Common.{◌≡◌, ℕ, ◌+◌, ◌-◌, ◌<◌, ◌≤◌, List, [], ◌++◌, length, take, drop, get_or, refl, sym, ap, ◌∙◌, arith, length-append, inl}
 use Rattle.std.proofs.Common.{inr, true, false}
 use Rattle.std.proofs.lemmas.List.{get_or_append_left, take-append-drop, length-take}
@@ -111,7 +111,7 @@ Breaks_last kind bytes part at some prefix h =
       | inr within ↦ absurd (prefix part at (Breaks-shorter kind (take cut bytes) (drop cut bytes) part at (rw whole h) (omega arith)))
     ]
 
--- of two breaks that are seen with the same byte, neither has the lesser place
+-- two breaks that are seen with the same byte have the same place
 seen_alike : (kind : FrameKind) (bytes : List ℕ) (part : Part) (at : ℕ) (other : Part) (place : ℕ) → Breaks kind bytes part at
     → Breaks kind bytes other place → seen kind part at ≡ length bytes → seen kind other place ≡ length bytes → at ≤ place
 unfolding Breaks
@@ -155,7 +155,7 @@ pub record LastIsRight (kind : FrameKind) (bytes : List ℕ) : Type 0 where
   pub flag_right : length bytes ≡ lead kind + 3 + text_length kind bytes → get_or bytes (length bytes - 1) 0 ≡ 0
   pub body_length_right : length bytes ≡ lead kind + 7 + text_length kind bytes → body_length kind bytes ≤ most_body kind (get_or bytes 0 0)
 
--- nothing is true and false
+-- no test of a status is both true and false
 pub true_not_false : (number : ℕ) → is_status number ≡ true → is_status number ≡ false → ⊥
 true_not_false number yes_ no_ = let e : true ≡ false = sym yes_ ∙ no_ in cc
 

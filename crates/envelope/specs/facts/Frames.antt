@@ -1,4 +1,4 @@
--- A frame is what breaks nothing and has all of its bytes.
+-- Bytes are a frame if they break nothing and none of them is missing.
 use Rattle.std.proofs.Common.{◌≡◌, ◌≢◌, ℕ, zero, suc, ◌+◌, ◌-◌, ◌*◌, ◌<◌, ◌≤◌, ◌^◌, Bool, true, false, List, [], ◌∷◌, ◌++◌, length, take, drop}
 use Rattle.std.proofs.Common.{get_or, refl, sym, ap, subst, ◌∙◌, arith, length-append, append_assoc, inl, inr, All, add-zero}
 use Rattle.std.proofs.lemmas.List.{get_or_append_left, get_or-append-add, get_or-take, get_or-drop, get_or_past, get_or_default, take-append-drop}
@@ -63,7 +63,7 @@ pub head_within : (kind : FrameKind) → (lead kind + 9 ≤ most_head kind) × (
 head_within Calls = (omega arith, omega arith)
 head_within Replies = (omega arith, omega arith)
 
--- ---- what breaks nothing has these parts
+-- ---- the parts of bytes that break nothing
 
 pub record Parts (kind : FrameKind) (bytes : List ℕ) : Type 0 where
   pub status_good : 0 < lead kind → is_status (get_or bytes 0 0) ≡ true
@@ -132,7 +132,7 @@ cut_in_five bytes n all zero-flag =
     ∙ (ap (λ (x : List ℕ). take 2 bytes ++ (take n (drop 2 bytes) ++ x)) rest-2
     ∙ (ap (λ (x : List ℕ). take 2 bytes ++ x) rest-1 ∙ take-append-drop 2 bytes))
 
--- a frame after its status, by the bytes that its lengths are
+-- a frame after its status, from the bytes of its two lengths
 spelled_by : (text body : List ℕ) (n m : ℕ) (first third : List ℕ) → length text ≡ n → length body ≡ m → to_be_bytes w16 n ≡ first
     → to_be_bytes w32 m ≡ third → spell (to_be_bytes w16 (length text)) text (to_be_bytes w32 (length body)) body ≡ spell first text third body
 spelled_by text body n m first third tl bl f t =
@@ -258,7 +258,7 @@ whole_is_frame kind bytes fits unbroken whole =
 pub whole_frame : (kind : FrameKind) (bytes : List ℕ) → IsBytes bytes → IsUnbroken kind bytes → IsWhole kind bytes → IsFrame kind bytes
 whole_frame kind bytes fits unbroken whole = let w = whole_is_frame kind bytes fits unbroken whole in (item_in kind bytes, w.0, w.1)
 
--- the text and the body that a whole frame has are what it says
+-- the contents of a whole frame are its text and its body
 pub said_by : (kind : FrameKind) (bytes text body : List ℕ) → IsBytes bytes → IsUnbroken kind bytes → IsWhole kind bytes
     → text ≡ take (text_length kind bytes) (drop (lead kind + 2) bytes) → body ≡ drop (lead kind + 7 + text_length kind bytes) bytes
     → Says kind bytes (item kind (get_or bytes 0 0) text body)
@@ -267,7 +267,7 @@ said_by kind bytes text body fits unbroken whole text_is body_is =
     (subst (λ (x : List ℕ). Says kind bytes (item kind (get_or bytes 0 0) (take (text_length kind bytes) (drop (lead kind + 2) bytes)) x))
     (sym body_is) (whole_is_frame kind bytes fits unbroken whole))
 
--- ---- what a frame is, as a prefix of a stream
+-- ---- a frame as a prefix of a stream
 
 abbrev pub status_of : (kind : FrameKind) → Item kind → ℕ
 status_of Calls call = 0
@@ -281,7 +281,7 @@ abbrev pub body_of : (kind : FrameKind) → Item kind → List ℕ
 body_of Calls call = call.message
 body_of Replies r = r.body
 
--- the text and the body with their lengths, and what follows them
+-- the text and the body with their lengths, and the bytes after them
 unfoldable pub block : List ℕ → List ℕ → List ℕ → List ℕ
 block text body more = to_be_bytes w16 (length text) ++ (text ++ (0 ∷ (to_be_bytes w32 (length body) ++ (body ++ more))))
 
@@ -386,7 +386,7 @@ first_is : (kind : FrameKind) (i : Item kind) (more : List ℕ) → 0 < lead kin
 first_is Calls call more some = absurd (omega arith)
 first_is Replies r more some = ap (λ (x : List ℕ). get_or x 0 0) (spelling-append Replies r more)
 
--- what has a frame fits the table
+-- a call or a reply that has a frame fits the table
 record Fits (kind : FrameKind) (i : Item kind) : Type 0 where
   pub status_good : 0 < lead kind → is_status (status_of kind i) ≡ true
   pub text_least : least_text kind ≤ length (text_of kind i)
@@ -453,7 +453,7 @@ broken_no_frame kind bytes i Flag at good begins h =
 broken_no_frame kind bytes i BodyLength at good begins h = omega (arith, h.2, begins.body_is, (fits kind i good).body_short (get_or bytes 0 0) begins.status_is)
 broken_no_frame kind bytes i Missing at good begins h = h
 
--- where bytes are short of a frame, no prefix of them is one
+-- if bytes are short of a frame, no prefix of them is a frame
 pub short_no_frame : (kind : FrameKind) (bytes : List ℕ) (i : Item kind) (more : List ℕ)
     → IsShort kind bytes → IsItem kind i → bytes ≡ spelling kind i ++ more → ⊥
 unfolding IsShort

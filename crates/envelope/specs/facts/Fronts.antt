@@ -1,4 +1,4 @@
--- What a front of a rest is, where the rest is unbroken, unfinished, whole or broken.
+-- A prefix of a rest that is unbroken, unfinished, whole or broken.
 use Rattle.std.proofs.Common.{◌≡◌, ℕ, ◌<◌, List, ◌++◌, length, ap, ◌∙◌, arith, length-append, append_assoc}
 use Rattle.envelope.specs.declared.kind.FrameKind.{FrameKind}
 use Rattle.envelope.specs.declared.kind.Part.{Part}

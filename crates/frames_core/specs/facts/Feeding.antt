@@ -1,4 +1,4 @@
--- What one feed of a framer makes of the bytes that were read.
+-- The bytes that were read, after one feed of a framer.
 use Rattle.std.proofs.Common.{◌≡◌, ℕ, ◌+◌, ◌-◌, ◌<◌, List, [], ◌++◌, length, take, drop, Option, Some, None, sym, ap, subst, ◌∙◌, append_assoc}
 use Rattle.std.proofs.Common.{length-append, arith, inl, inr}
 use Rattle.std.specs.Prelude.{IfSome, IsSome}
@@ -20,7 +20,7 @@ pub none_some : {X : Type 0} (o : Option X) → o ≡ None → IsSome o → ⊥
 none_some None none some = absurd cc
 none_some (Some x) none some = absurd cc
 
--- what may yet become a frame is not settled
+-- a framer is not settled if its bytes may yet become a frame
 pub not_settled : {F : Type 0} (kind : FrameKind) (s : CutterState F) → s.fault ≡ None → IsUnfinished kind s.held → IsSettledAs kind s → ⊥
 not_settled kind s none open_ (inl f) = open_.frameless (frame_begins kind s.held f.0 f.1 f.2)
 not_settled kind s none open_ (inr some) = none_some s.fault none some
@@ -35,7 +35,7 @@ some_fed kind wrong at old new rest n none open_ f some =
           absurd (not_settled kind old none open_ (subst (IsSettledAs kind) (f.idle zero_) (f.all (omega arith))))
     ]
 
--- a framer that is not settled took all
+-- a framer that is not settled took all bytes
 pub took_all : {F : Type 0} (kind : FrameKind) (wrong : F → Part) (at : F → ℕ) (old new : CutterState F) (rest : List ℕ) (n : ℕ) → new.fault ≡ None
     → IsUnfinished kind new.held → FedAs kind wrong at old new rest n → n ≡ length rest
 took_all kind wrong at old new rest n none open_ f =
@@ -48,7 +48,7 @@ pub fed_count : {F : Type 0} (kind : FrameKind) (wrong : F → Part) (at : F →
     → FedAs kind wrong at old new rest n → new.past + length new.held ≡ old.past + length old.held + n
 fed_count kind wrong at old new rest n f = omega (arith, f.within, f.past, ap length f.held, length-append old.held (take n rest), length-take n rest)
 
--- ---- the bytes read: given up, held, and not fed yet
+-- ---- the bytes read: passed on, held, and not fed yet
 
 pub all_of : {F : Type 0} (kind : FrameKind) (wrong : F → Part) (at : F → ℕ) (read given : List ℕ) (old new : CutterState F) (rest : List ℕ) (n : ℕ)
     → read ≡ given ++ old.held → FedAs kind wrong at old new rest n → read ++ rest ≡ given ++ (new.held ++ drop n rest)
@@ -63,14 +63,14 @@ pub taken_of : {F : Type 0} (kind : FrameKind) (wrong : F → Part) (at : F → 
 taken_of kind wrong at read given old new rest n e f =
     ap (λ (x : List ℕ). x ++ take n rest) e ∙ (append_assoc given old.held (take n rest) ∙ ap (λ (x : List ℕ). given ++ x) (sym f.held))
 
--- ---- the fault that is known then
+-- ---- the fault that is known after a feed
 
 pub known_break : {F : Type 0} (kind : FrameKind) (wrong : F → Part) (at : F → ℕ) (old new : CutterState F) (rest : List ℕ) (n : ℕ) (f : F)
     → old.fault ≡ None → FedAs kind wrong at old new rest n → new.fault ≡ Some f → IsBreakIn kind new.past new.held (wrong f) (at f)
 known_break {F} kind wrong at old new rest n f none fed is = subst
     (λ (o : Option F). IfSome o (λ g. IsBreakIn kind new.past new.held (wrong g) (at g))) is (fed.known none)
 
--- it is one of any longer bytes
+-- it is a fault of any longer bytes
 pub fault_of : (kind : FrameKind) (past : ℕ) (held more : List ℕ) (part : Part) (at : ℕ) → IsBreakIn kind past held part at
     → IsFaultIn kind past (held ++ more) part at
 fault_of kind past held more part at k = (k.0, fault_of_break kind (held ++ more) part (at - past) (k.1 more))
@@ -79,7 +79,7 @@ nothing_breaks : (kind : FrameKind) (bytes : List ℕ) (at : ℕ) → Breaks kin
 unfolding Breaks
 nothing_breaks kind bytes at h = h
 
--- and not of their end
+-- and it is not an early end of the input
 pub not_at_end : (kind : FrameKind) (past : ℕ) (held : List ℕ) (part : Part) (at : ℕ) → IsBreakIn kind past held part at → part ≡ Missing → ⊥
 not_at_end kind past held part at k e = nothing_breaks kind (held ++ []) (at - past)
     (subst (λ (p : Part). Breaks kind (held ++ []) p (at - past)) e (k.1 []).breaks)

@@ -20,7 +20,7 @@ pub nothing_read : (bytes : List ℕ) (x : WireField × List ℕ) → bytes ≡ 
 unfolding groups_at varint_at tag_at field_at
 nothing_read bytes x none e = absurd (let w : Err why.CutShort ≡ read_ok x = sym (ap field_at none) ∙ e in cc)
 
--- these fields are a prefix, and then the rest
+-- the bytes are these fields, and then the rest
 abbrev pub Reads : List WireField → List ℕ → List ℕ → Type 0
 Reads [] bytes rest = bytes ≡ rest
 Reads (e ∷ es) bytes rest = (mid : List ℕ) × (field_at bytes ≡ Ok (e, mid)) × Reads es mid rest
@@ -57,7 +57,7 @@ fields_read l fs bytes h = prefix_all l (length bytes) fs bytes h (omega arith)
 pub fields_are : FieldLaws → (fs : List WireField) (bytes : List ℕ) → AreFields fs bytes → fields_of bytes ≡ fs
 fields_are l fs bytes h = fields_read l fs bytes (are_read l fs bytes h)
 
--- bytes mean one value
+-- bytes mean at most one value
 pub one_value : {V : Type 0} {good : WireField → Type 0} {value : List WireField → V} {bytes : List ℕ} {v w : V} → FieldLaws
     → Means good value bytes v → Means good value bytes w → v ≡ w
 one_value {value = value} {bytes = bytes} l m n = m.is ∙ ap value (sym (fields_are l m.fields bytes m.whole) ∙ fields_are l n.fields bytes n.whole) ∙ sym n.is

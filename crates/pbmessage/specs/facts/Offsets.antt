@@ -1,4 +1,4 @@
--- Where reading stops is the end of the longest good prefix.
+-- Reading stops at the end of the longest good prefix.
 use Rattle.std.proofs.Common.{true, false, ltb, ◌≡◌, ◌≢◌, ℕ, ◌+◌, ◌-◌, ◌<◌, ◌≤◌, List, [], ◌∷◌, ◌++◌, length, take, drop, Ok, refl, sym, ap, subst}
 use Rattle.std.proofs.Common.{◌∙◌, append_assoc, length-append, arith}
 use Rattle.std.specs.List.{AllByRecursion}
@@ -82,7 +82,7 @@ is_offset l good bytes at s =
     not_nil : (n : ℕ) (l : List ℕ) → length l ≡ n → 0 < n → l ≡ [] → ⊥
     not_nil n l len lt e = let z : length l ≡ 0 = ap length e in omega arith
 
--- bytes that stop aren't good
+-- bytes in which reading stops are not good
 pub not_both : FieldLaws → (good : WireField → Type 0) (bytes : List ℕ) (at : ℕ) → Stops good bytes at → AreGood good bytes → ⊥
 not_both l good bytes at s g = from s.fields bytes s.prefix g.fields (are_read l g.fields bytes g.whole) g.each
   where
@@ -96,7 +96,7 @@ not_both l good bytes at s g = from s.fields bytes s.prefix g.fields (are_read l
 pub refused : FieldLaws → (good : WireField → Type 0) (bytes : List ℕ) (at : ℕ) → Stops good bytes at → IsRefusedAt good bytes at
 refused l good bytes at s = (is_offset l good bytes at s, not_both l good bytes at s)
 
--- there is one offset
+-- there is only one offset
 pub same_offset : {good : WireField → Type 0} {bytes : List ℕ} {a b : ℕ} → IsFaultOffset good bytes a → IsFaultOffset good bytes b → a ≡ b
 same_offset {a = a} {b = b} p q = elim (ltb a b) as (λ t. ltb a b ≡ t → a ≡ b) [
   | true ↦ λ e. absurd (p.longest b (ltb-true a b e) q.within q.prefix)

@@ -1,4 +1,4 @@
--- What each kind of row gives back: the part that was written.
+-- Each kind of row is read back as the part that was written.
 use Rattle.std.proofs.Common.{◌≡◌, ℕ, ℤ, suc, ◌-◌, ◌%◌, ◌^◌, ◌<◌, Bool, true, false, cond, eqb, List, [], ◌∷◌, ◌++◌, reverse, length, Option, None}
 use Rattle.std.proofs.Common.{Some, refl, sym, ap, ◌∙◌, arith, of_z, pos, negsuc}
 use Rattle.std.specs.Prelude.{IsUtf8, option_to_list, FitsSigned}

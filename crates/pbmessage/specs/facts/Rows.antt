@@ -1,4 +1,4 @@
--- A table of rows with rising numbers, written and read again: each number has what its row says.
+-- A table of rows with rising numbers, written and read again: each number has the contents of its row.
 use Rattle.std.proofs.Common.{◌≡◌, ℕ, ◌^◌, ◌<◌, Bool, true, false, cond, eqb, ltb, List, [], ◌∷◌, ◌++◌, map, length, Option, None, Some, refl, sym}
 use Rattle.std.proofs.Common.{ap, subst, ◌∙◌, arith}
 use Rattle.std.specs.Prelude.{nat_lt, ◌&&◌, ◌==◌, if◌then◌else◌}
@@ -97,7 +97,7 @@ no_numbers_below Start k e = refl
 no_numbers_below (rs ▸ Strings j ps) k e = no_numbers_below rs k (both_so _ _ e).0
 no_numbers_below (rs ▸ Numbers j xs) k e = skipped j k xs (numbers_at k rs) (both_so _ _ e).1 (no_numbers_below rs k (both_so _ _ e).0) (eqb j k) refl
 
--- the row's number has the row, and another one what it had
+-- the number of the row has the row, and any other number keeps its contents
 placed : {A : Type 0} (b : Bool) (old new : List A) → (b ≡ true → old ≡ []) → old ++ cond b new [] ≡ cond b new old
 placed {A} true old new none = ap (λ (xs : List A). xs ++ new) (none refl)
 placed false old new none = append-nil old

@@ -1,4 +1,4 @@
--- What one more field changes in the views.
+-- The views after one more field.
 use Rattle.std.proofs.Common.{◌≡◌, ℕ, Bool, true, false, cond, eqb, List, [], ◌∷◌, ◌++◌, reverse, ℤ, of_z, to_z, ◌<◌, ◌^◌, Option, None, Some, refl}
 use Rattle.std.proofs.Common.{sym, ap, ◌∙◌, Result, Ok, Err, OnOk}
 use Rattle.std.specs.List.{filter_map, cons_option}
@@ -58,7 +58,7 @@ views-push fs k (Four p) = λ i. record {
   members = λ test. unchanged (member_of test) fs (record { number = k; part = Four p }) (none_either (test k)) i;
 }
 
--- the same for a field of the program
+-- as `views-push`, for a field of the program
 pub after_field : {V : Type 0} (of : Views → V) (fs : List WireField) (f : Field) (value : Value) → f.value ≡ value
     → of (with_part f.number (part_of value) (views fs)) ≡ of (views (fs ++ wire_field_of f ∷ []))
 after_field of fs f value v = sym (ap (λ (e : WireField). of (views (fs ++ e ∷ []))) (λ i. record {
@@ -83,7 +83,7 @@ no_entries = refl
 
 -- ---- a oneof
 
--- the payloads of the last run, if it is of k
+-- the payloads of the last run, if its number is k
 abbrev pub run_before : ℕ → Option (ℕ × Payloads) → Payloads
 run_before k None = []
 run_before k (Some run) = cond (eqb run.0 k) run.1 []
@@ -107,7 +107,7 @@ before k (m ∷ ms) =
       | false ↦ λ e. ap (λ (b : Bool). reverse (cond b (m.1 ∷ run_at k ms) [])) e
     ] refl
 
--- one more member
+-- the last run after one more member
 pub one_of_push : (k : ℕ) (p : List ℕ) (ms : List Run) → one_of (ms ++ (k, p) ∷ []) ≡ Some (k, run_before k (one_of ms) ++ p ∷ [])
 one_of_push k p ms =
     ap last_run (reverse-append ms ((k, p) ∷ []))

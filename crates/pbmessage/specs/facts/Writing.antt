@@ -1,4 +1,4 @@
--- One piece after the other.
+-- Pieces that are written one after the other.
 use Rattle.std.proofs.Common.{◌≡◌, ℕ, ℤ, List, [], ◌∷◌, ◌++◌, ◌≤◌, ◌==◌, true, false, eqb-true, arith, length, refl, Result, Ok, Err, OnOk, OnErr}
 use Rattle.std.proofs.Common.{sym, ap, subst, ◌∙◌, append_assoc, of_z, to_z}
 use Rattle.std.specs.Int.{w64}
@@ -17,28 +17,28 @@ wrote_two old es fs = append_assoc old (spellings es) (spellings fs) ∙ ap (λ 
 pub keeps_on : (old mid new : List ℕ) → Keeps mid new → Keeps old mid → Keeps old new
 keeps_on old mid new b a = record { tail = a.tail ++ b.tail; is = b.is ∙ ap (λ (l : List ℕ). l ++ b.tail) a.is ∙ append_assoc old a.tail b.tail }
 
--- what a closed field keeps, whether or not it could be closed
+-- the old bytes are kept, whether or not a field could be closed
 pub closed_keeps : {A E : Type 0} (r : Result A E) (old mid new closed tail : List ℕ) → closed ≡ old ++ tail → Keeps old mid → OnOk r (new ≡ closed)
     → OnErr r (new ≡ mid) → Keeps old new
 closed_keeps (Ok x) old mid new closed tail is kept done undone = record { tail = tail; is = done ∙ is }
 closed_keeps (Err e) old mid new closed tail is kept done undone = subst (λ (bs : List ℕ). Keeps old bs) (sym undone) kept
 
--- the next row after those that are there
+-- the next row after the rows that were written
 pub wrote_next : (old mid new : List ℕ) (es fs : List WireField) → mid ≡ old ++ spellings es → new ≡ mid ++ spellings fs → new ≡ old ++ spellings (es ++ fs)
 wrote_next old mid new es fs one two = two ∙ ap (λ (bs : List ℕ). bs ++ spellings fs) one ∙ wrote_two old es fs
 
--- a signed number after the bytes there, by its 64 bits
+-- a signed number, from its 64 bits, after the bytes that were written
 pub wrote_signed : (old new : List ℕ) (k : ℕ) (z : ℤ) → FitsI64 z → new ≡ old ++ spellings (row_fields (signed_row k (to_z w64 (of_z w64 z))))
     → new ≡ old ++ spellings (row_fields (signed_row k z))
 wrote_signed old new k z fits is = is ∙ ap (λ (x : ℤ). old ++ spellings (row_fields (signed_row k x))) (to_z-of_z w64 z fits)
 
--- the bytes after the kept ones, whether or not there was room for them
+-- the kept bytes stay, whether or not there was room for more bytes
 pub extended_keeps : {A E : Type 0} (r : Result A E) (old mid new tail : List ℕ) → Keeps old mid → OnOk r (new ≡ mid ++ tail) → OnErr r (new ≡ mid)
     → Keeps old new
 extended_keeps (Ok x) old mid new tail kept done undone = keeps_on old mid new (record { tail = tail; is = done }) kept
 extended_keeps (Err e) old mid new tail kept done undone = subst (λ (bs : List ℕ). Keeps old bs) (sym undone) kept
 
--- two rows together after those that are there
+-- two rows together after the rows that were written
 pub wrote_placed : {A E : Type 0} (r : Result A E) (old mid new : List ℕ) (es fs gs : List WireField) → mid ≡ old ++ spellings es
     → OnOk r (new ≡ mid ++ spellings (fs ++ gs)) → OnOk r (new ≡ old ++ spellings ((es ++ fs) ++ gs))
 wrote_placed (Ok x) old mid new es fs gs one two = wrote_next old mid new es (fs ++ gs) one two

@@ -5,7 +5,7 @@ use Rattle.csi_adoption.specs.Faults.{full_node}
 use Rattle.csi_adoption.specs.Seen.{sums_of}
 use Rattle.csi_adoption.proofs.attachment_faults.full_node.Given as goal
 
--- the first of all is the first of those that are left
+-- the first full node of all nodes is the first full one of the nodes that are left
 abbrev pub invariant-loop-node : goal.invariant-loop-node
 invariant-loop-node l =
     (goal.iterator-loop-node).can_next l.node-iterator

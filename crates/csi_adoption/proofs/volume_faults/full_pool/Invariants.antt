@@ -5,7 +5,7 @@ use Rattle.csi_adoption.specs.Faults.{full_pool}
 use Rattle.csi_adoption.specs.Seen.{sums_of}
 use Rattle.csi_adoption.proofs.volume_faults.full_pool.Given as goal
 
--- the first of all is the first of those that are left
+-- the first full pool of all pools is the first full one of the pools that are left
 abbrev pub invariant-loop-pool : goal.invariant-loop-pool
 invariant-loop-pool l =
     (goal.iterator-loop-pool).can_next l.pool-iterator

@@ -2,7 +2,7 @@ use Rattle.std.proofs.Common.{rules, ◌≡◌, true, suc, arith, ap}
 use Rattle.csi_client.specs.Again.{is_unanswered, one_if, unanswered_count}
 use Rattle.csi_client.proofs.again.call_again.Goals as goal
 
--- one exchange more, which is unanswered
+-- one more exchange, which is unanswered
 pub loop-tried-preserved : goal.loop-tried-preserved
 loop-tried-preserved g c =
     let i = c.loop-tried.invariant in

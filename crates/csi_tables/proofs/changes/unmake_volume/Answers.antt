@@ -26,7 +26,7 @@ one_shared : (o : Option Volume) (p : Text × ℕ) → option_map share o ≡ So
 one_shared None p is = absurd cc
 one_shared (Some v) p is = (v, refl, cc)
 
--- the totals after a volume's share is taken off
+-- the totals after a volume's share is subtracted
 taken_as : (pools kept : Totals) (v : Volume) (p : Text × ℕ) → share v ≡ p → ((q : Text) → total_of kept q ≡ cond (same_text p.0 q) (less (total_of pools p.0) p.1) (total_of pools q))
     → (q : Text) → total_of kept q ≡ cond (same_text v.pool q) (less (total_of pools v.pool) v.bytes) (total_of pools q)
 taken_as pools kept v p is taken = subst (λ (x : Text × ℕ). (q : Text) → total_of kept q ≡ cond (same_text x.0 q) (less (total_of pools x.0) x.1) (total_of pools q)) (sym is) taken

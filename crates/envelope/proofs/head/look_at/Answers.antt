@@ -8,7 +8,7 @@ use Rattle.envelope.proofs.Looking.{CheckedTo, unbroken_all, text_checked, broke
 use Rattle.envelope.proofs.head.look_at.Goals.{then-text_length-least_text-via-then-text_length-least_text, then-text_length-least_text-via-else-text_length-least_text+then-text_length-most_text}
 use Rattle.envelope.proofs.head.look_at.Goals as goal
 
--- the first n bytes are right, where n ends before the length of the text
+-- the first n bytes are right, if n ends before the length of the text
 in_status : (kind : FrameKind) (bytes : List ℕ) (n : ℕ) → n ≤ length bytes → (HasBadStatus kind bytes → ⊥) → n < lead kind + 2 → CheckedTo kind bytes n
 in_status kind bytes n within status few = record {
   status_right = λ some began. good_status kind bytes status some (omega arith);
@@ -18,7 +18,7 @@ in_status kind bytes n within status few = record {
   body_length_right = λ e. absurd (omega arith);
 }
 
--- where their text is and n ends before the flag
+-- the first n bytes are right, if the length of the text is known and n ends before the flag
 in_text : (kind : FrameKind) (bytes : List ℕ) (seen p n : ℕ) → seen ≤ length bytes → n ≤ length bytes → IsUnbroken kind (take seen bytes) → (HasBadStatus kind bytes → ⊥) → p ≡ text_length kind bytes → least_text kind ≤ p → p ≤ most_text kind (get_or bytes 0 0) → n ≤ lead kind + 2 + p → AreGoodBytes kind bytes seen (lead kind + 2 + p) n → CheckedTo kind bytes n
 in_text kind bytes seen p n within there prefix status is some few short text = record {
   status_right = λ some began. good_status kind bytes status some (omega arith);
@@ -28,7 +28,7 @@ in_text kind bytes seen p n within there prefix status is some few short text = 
   body_length_right = λ e. absurd (omega arith);
 }
 
--- where n ends after the flag
+-- the first n bytes are right, if n ends after the flag
 in_head : (kind : FrameKind) (bytes : List ℕ) (seen p n : ℕ) → seen ≤ length bytes → n ≤ length bytes → IsUnbroken kind (take seen bytes) → (HasBadStatus kind bytes → ⊥) → p ≡ text_length kind bytes → least_text kind ≤ p → p ≤ most_text kind (get_or bytes 0 0) → AreGoodBytes kind bytes seen (lead kind + 2 + p) (length bytes) → get_or bytes (lead kind + 2 + p) 0 ≡ 0 → (lead kind + 7 + p ≤ n → body_length kind bytes ≤ most_body kind (get_or bytes 0 0)) → CheckedTo kind bytes n
 in_head kind bytes seen p n within there prefix status is some few text flag long = record {
   status_right = λ some began. good_status kind bytes status some (omega arith);
