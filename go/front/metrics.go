@@ -51,7 +51,7 @@ func newMetrics() *metrics {
 		}),
 		refusals: prometheus.NewCounterVec(prometheus.CounterOpts{
 			Namespace: namespace, Name: "internal_refusals_total",
-			Help: "Calls that csid refused for want of memory or for its store, by reason.",
+			Help: "Calls that csid refused for lack of memory or for its store, by reason.",
 		}, []string{"reason"}),
 	}
 	m.begin(methods)

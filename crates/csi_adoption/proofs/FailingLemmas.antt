@@ -109,7 +109,7 @@ module _ {S : Type 0} (g : Ghosts S) where
   pub scan_failed : {X : Type 0} (a b : Held S) (r : Result X Error) (e : Error) → (HasCleanDisk (state g b) → fails.FailsFor (HasTooMany g a) (state g a) (state g b) e) → IsErrAnd r (λ x. x ≡ e) → ScanFails g a b r
   scan_failed a b r e failed is = if_err (HasCause g a b) r e is (λ clean. refused_as a b e too_many (failed clean))
 
-  -- an error for want of memory has a cause
+  -- an error for lack of memory has a cause
   pub scan_short : {X : Type 0} (a b : Held S) (r : Result X Error) → IsErrAnd r (λ x. x ≡ SqliteFailure OutOfMemory) → ScanFails g a b r
   scan_short a b r is = if_err (HasCause g a b) r (SqliteFailure OutOfMemory) is (λ clean. fails.for_memory refl)
 

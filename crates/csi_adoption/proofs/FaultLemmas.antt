@@ -19,7 +19,7 @@ pub is_err : {X E : Type 0} (r : Result X E) (x : E) → IsErrAnd r (λ e. e ≡
 is_err (Ok y) x h = absurd h
 is_err (Err e) x h = ap Err h
 
--- a result that is no failure is never reported as want of memory
+-- a result that is no failure is never reported as lack of memory
 pub not_memory : (e : AdoptFault) → is_failure e ≡ false → is_no_memory e ≡ false
 not_memory (Foreign what) known = refl
 not_memory (Newer format) known = refl

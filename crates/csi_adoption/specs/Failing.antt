@@ -41,7 +41,7 @@ pub data Refuses {S : Type 0} (g : Ghosts S) (old : Held S) (e : Error) : Type 0
   -- the INSERT of the row of meta into new tables
   tables : (state g old).now.schema ≡ no_schema → RefusesTables (state g old) e → Refuses g old e
 
--- if the fault is an error of the database, `P` is true of the error, and it is no want of memory
+-- if the fault is an error of the database, `P` is true of the error, and it is no lack of memory
 abbrev pub OfStore : (Error → Type 0) → AdoptFault → Type 0
 OfStore P (Store e) = (wants_memory e ≡ false) × P e
 OfStore P _ = ⊤

@@ -118,7 +118,7 @@ abbrev pub is_store : AdoptFault → Bool
 is_store (Store error) = true
 is_store _ = false
 
--- an error of the database that is want of memory
+-- an error of the database that is lack of memory
 abbrev pub wants_memory : Error → Bool
 wants_memory (SqliteFailure OutOfMemory) = true
 wants_memory _ = false

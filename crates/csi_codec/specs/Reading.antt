@@ -74,7 +74,7 @@ IsRead m bytes r = MatchResult r (MeansRequest m bytes) (IsNoRequest m bytes)
 abbrev pub IsReadResponse : Method → List ℕ → Result Response ℕ → Type 0
 IsReadResponse m bytes r = MatchResult r (MeansResponse m bytes) (IsNoResponse m bytes)
 
--- The result of decoding, from the meaning of the bytes: want of memory is reported only for bytes that
+-- The result of decoding, from the meaning of the bytes: lack of memory is reported only for bytes that
 -- mean a value.
 abbrev pub Decodes : {V : Type 0} → Result V ℕ → Result V DecodeFault → Type 0
 Decodes read (Ok v) = read ≡ Ok v

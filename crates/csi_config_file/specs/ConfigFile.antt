@@ -30,7 +30,7 @@ abbrev pub IsOfParsed : Option Members → Result Config ConfigError → Type 0
 IsOfParsed None r = ⊥
 IsOfParsed (Some ms) r = IsOfDocument ms r
 
--- the bytes are a document in UTF-8 that gives this result, or they are no such document; want of memory says
+-- the bytes are a document in UTF-8 that gives this result, or they are no such document; lack of memory says
 -- nothing about them
 abbrev pub IsOfText : List ℕ → Result Config ConfigError → Type 0
 IsOfText bytes (Ok config) = IsUtf8 bytes × IsOfParsed (parse_document bytes) (Ok config)

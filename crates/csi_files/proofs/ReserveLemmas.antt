@@ -1,4 +1,4 @@
--- A change that is refused for want of memory, and not made; and blocks that are kept.
+-- A change that is refused for lack of memory, and not made; and blocks that are kept.
 use Rattle.std.proofs.Common.{◌≡◌, ◌≤◌, ◌∙◌, ◌++◌, ◌∷◌, [], List, ℕ, false, true≢false, Result, Err, refl, sym, subst, inl, arith, vec_capacity}
 use Rattle.std.specs.Global.{Vec}
 use Rattle.std.proofs.lemmas.List.Elements.{All-nil, All-push}

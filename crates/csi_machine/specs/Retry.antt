@@ -8,7 +8,7 @@ use Rattle.csi_keeper.specs.State.{State}
 use Rattle.csi_machine.specs.Step.{is_read, step}
 use Rattle.csi_machine.specs.Verdicts.{Report}
 
--- how a try ends: marked, that is refused inside for want of memory or by the store; refused because the
+-- how a try ends: marked, that is refused inside for lack of memory or by the store; refused because the
 -- store is down, which does nothing; or done, and the client hears the answer or does not
 pub data Ending : Type 0 where
   Marked : Ending

@@ -79,7 +79,7 @@ module _ (config : Config) (s : State) (call : CallBytes) (r : Request) where
   unfolding state_after
   after = refl
 
-  -- a stop may leave the State that a call would have made that was refused for want of memory or by the
+  -- a stop may leave the State that a call would have made that was refused for lack of memory or by the
   -- store
   pub pending : (mark : Mark) → Asks call r → may_leave mark ≡ true → IsPending config s (record { call = call; mark = mark } ∷ []) (done (volumes config) s call)
   unfolding state_after

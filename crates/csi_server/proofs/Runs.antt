@@ -116,7 +116,7 @@ left_stays : {S : Type 0} (m : Machine S) (s : S) (es : List Event) (e : Event) 
 left_stays m s es e t (inl is) keeps = inl (is ∙ (sym keeps ∙ sym (state_after-push m s es e)))
 left_stays m s es e t (inr due) keeps = inr (due_kept m s es e t due keeps)
 
--- a call that was refused for want of memory or by the store adds the state that it would have made
+-- a call that was refused for lack of memory or by the store adds the state that it would have made
 left_marked : {S : Type 0} (m : Machine S) (s : S) (es : List Event) (e : Event) (t : S) (Old : Type 0) → may_leave e.mark ≡ true → (Old → Left m s es t) → Old ⊎ (t ≡ done m (state_after m s es) e.call) → Left m s (es ++ e ∷ []) t
 left_marked m s es e t Old marked u (inl old) = left_stays m s es e t (u old) (marked_keeps m (state_after m s es) e.call e.mark (left_marks e.mark marked))
 left_marked m s es e t Old marked u (inr is) = inr (record { before = es; refused = e; after = []; whole = refl; is_left = marked; still = tt; is = is })

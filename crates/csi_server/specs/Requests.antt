@@ -44,7 +44,7 @@ IsUnread m message r =
     ⊎ ((q : Request) × (why : Reason) × (read_request m message ≡ Ok q) × (checked q ≡ Some why) × (r ≡ refused why))
     ⊎ ((q : Request) × (read_request m message ≡ Ok q) × (r ≡ refused reason.OutOfMemory))
 
--- any request may be refused for want of memory, and a request that needs the store may be refused by it
+-- any request may be refused for lack of memory, and a request that needs the store may be refused by it
 abbrev pub MayBe : Bool → Mark → Type 0
 MayBe asks Unmarked = Unit {0}
 MayBe asks OutOfMemory = Unit {0}

@@ -101,7 +101,7 @@ heard_of config s (x ∷ xs) =
 -- ---- over stops
 
 -- a session may leave this State by the law `pending`: the State after its calls, or the State that a call
--- would have made that was refused for want of memory or by the store
+-- would have made that was refused for lack of memory or by the store
 abbrev pub IsLeft : Config → State → List Event → State → Type 0
 IsLeft config s events t = (t ≡ state_after (volumes config) s events) ⊎ IsPending config s events t
 

@@ -42,7 +42,7 @@ RepliesTo out r (Err fault.NoMemory) = r ≡ refused reason.OutOfMemory
 RepliesTo out r (Err fault.Refused) = r ≡ refused reason.StoreRefused
 RepliesTo out r (Err fault.Down) = r ≡ refused reason.StoreDown
 
--- A State that a stop may leave instead of the last State: a call was refused for want of memory or by the
+-- A State that a stop may leave instead of the last State: a call was refused for lack of memory or by the
 -- store, its request was read and passed the checks, t is the State that it would have made, and no later
 -- call changed the State.
 pub record IsPending (config : Config) (s : State) (events : List Event) (t : State) : Type 0 where

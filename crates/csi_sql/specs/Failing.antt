@@ -14,7 +14,7 @@ use Rattle.sqlite.specs.declared.error.ErrorCode.TheVariants.{Closed, OperationI
 use Rattle.sqlite_disk.specs.Disk.{MoreFaults}
 use Rattle.sqlite_resolve.specs.declared.compiled.Compiled.{Compiled}
 
--- The error and its cause. A store may report want of memory at any time; each other error has a cause that
+-- The error and its cause. A store may report lack of memory at any time; each other error has a cause that
 -- can be seen.
 pub data FailsFor (Refuses : Error → Type 0) (old new : State) (e : Error) : Type 0 where
   for_memory : e ≡ SqliteFailure OutOfMemory → FailsFor Refuses old new e

@@ -11,7 +11,7 @@ use Rattle.sqlite.specs.declared.error.ErrorCode.TheVariants.{OperationInterrupt
 use Rattle.csi_sql.specs.Failing.{SqlRefusesToRead, FailsFor}
 use Rattle.csi_sql.specs.Transactions.{LeavesNothingNew}
 
--- the call fails only for want of memory
+-- the call fails only for lack of memory
 abbrev pub FailsForMemory : {X : Type 0} → Result X Error → Type 0
 FailsForMemory (Ok x) = Unit {0}
 FailsForMemory (Err error) = error ≡ SqliteFailure OutOfMemory

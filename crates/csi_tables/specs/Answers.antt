@@ -10,7 +10,7 @@ use Rattle.csi_keeper.specs.declared.change.StoreFault.TheVariants as store
 use Rattle.csi_tables.specs.declared.fault.TablesFault.{TablesFault}
 use Rattle.csi_tables.specs.declared.fault.TablesFault.TheVariants.{NoMemory, Refused}
 
--- want of memory in the database is want of memory, and any other error of the database is a refusal
+-- lack of memory in the database is lack of memory, and any other error of the database is a refusal
 abbrev pub of_database : Error → TablesFault
 of_database (SqliteFailure OutOfMemory) = NoMemory
 of_database _ = Refused

@@ -30,7 +30,7 @@ module _ {S : Type 0} (g : Ghosts S) where
   abbrev pub tables_model : Tables S → Model State
   tables_model t = model_with g (store_of t) t.health
 
-  -- a call that is refused has its cause, which is not want of memory
+  -- a call that is refused has its cause, which is not lack of memory
   abbrev pub TablesRefuses : {X : Type 0} → Tables S → Tables S → Type 0 → Result X StoreFault → Type 0
   TablesRefuses old new Why result = StoreRefuses g (store_of old) (store_of new) Refused Why result
 

@@ -85,7 +85,7 @@ IsCopy old new copy = new.doubt ≡ 0 → (config : Config) (s : State) → old.
 abbrev pub IsWhole : Model State → Model State → Type 0
 IsWhole old new = new.doubt ≡ 0 → (s : State) → old.holds s → IsNumbered s.next
 
--- The fault of a read of the keeper that gave no value, or of a want of memory. `Down` is reported only if
+-- The fault of a read of the keeper that gave no value, or of a lack of memory. `Down` is reported only if
 -- the keeper is down. For each State that meets the invariant and `P`, the keeper counted each refusal, and
 -- nothing more.
 pub record IsReportedFor (P : State → Type 0) (old new : Model State) (fault : StoreFault) : Type 0 where

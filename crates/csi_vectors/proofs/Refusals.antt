@@ -1,4 +1,4 @@
--- Replies among which no call is refused for want of memory.
+-- Replies among which no call is refused for lack of memory.
 use Rattle.std.proofs.Common.{◌≡◌, ◌≢◌, ◌∙◌, ℕ, true, false, List, [], ◌∷◌, ◌++◌, length, drop, inl, inr, refl, ap, subst, append_assoc}
 use Rattle.std.specs.List.{AllByRecursion, flat_map}
 use Rattle.std.proofs.Math.Seq.{drop-append_seam}

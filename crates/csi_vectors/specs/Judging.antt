@@ -30,7 +30,7 @@ IsEnd read left calls last =
     ((left ≡ []) × Stream read calls Clean × (last ≡ []))
     ⊎ ((f : FrameFault) × HasFault read calls f.why f.at × (f.why ≡ EndOfInput → left ≡ []) × (last ≡ fault_frame f))
 
--- a call was answered, or refused for want of memory, if it may be refused so
+-- a call was answered, or refused for lack of memory, if it may be refused so
 abbrev pub IsAnswered : Config → Event → Type 0
 IsAnswered config e = (e.mark ≡ Unmarked) ⊎ ((e.mark ≡ OutOfMemory) × (volumes config).may_fail e.call OutOfMemory)
 
@@ -40,7 +40,7 @@ MayCome config false e = IsAnswered config e
 MayCome config true e = e.mark ≡ Unmarked
 
 -- The replies of the volume machine, which starts without volumes, to the calls of the input were written.
--- Calls may have been refused for want of memory, unless the vector failed.
+-- Calls may have been refused for lack of memory, unless the vector failed.
 pub record IsWritten (config : Config) (failed : Bool) (input written : List ℕ) : Type 0 where
   pub events : List Event
   pub answered : AllByRecursion (MayCome config failed) events
@@ -52,7 +52,7 @@ pub record IsWritten (config : Config) (failed : Bool) (input written : List ℕ
   pub ended : IsEnd read left (calls_of events) last
   pub all : written ≡ replies (volumes config) (first_state 1) events ++ last
 
--- none of the replies at the beginning of these bytes refuses its call for want of memory
+-- none of the replies at the beginning of these bytes refuses its call for lack of memory
 abbrev pub IsUnrefused : List ℕ → Type 0
 IsUnrefused bytes = (rs : List ReplyBytes) (last : List ℕ) → AllByRecursion IsReply rs → bytes ≡ flat_map reply rs ++ last
     → AllByRecursion (λ r. r ≢ refused reason.OutOfMemory) rs

@@ -36,7 +36,7 @@ reported true name = codes "FAIL " ++ name ++ codes "\n"
 reported false name = codes "ok " ++ name ++ codes "\n"
 
 -- a vector was run: a new server writes these bytes for its input. The vector failed if they are not its
--- output; then no call was refused for want of memory.
+-- output; then no call was refused for lack of memory.
 pub record IsRun (config : Config) (text lines : List ℕ) (failed : Bool) : Type 0 where
   pub name : List ℕ
   pub input : List ℕ

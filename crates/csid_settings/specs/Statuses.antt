@@ -26,7 +26,7 @@ failure_status failure.TurnsSpent = 5
 failure_status failure.NoMemory = 6
 failure_status failure.NoSocketPath = 7
 
--- a failure of this status, or want of memory
+-- a failure of this status, or lack of memory
 abbrev pub IsOrNoMemory : ℕ → Failure → Type 0
 IsOrNoMemory wanted failure = (failure_status failure ≡ wanted) ⊎ (failure_status failure ≡ 6)
 
