@@ -99,7 +99,7 @@ class ShowTest(CsictlTest):
         self.assertEqual(no_response, ("0 OK 0a\n", Line("csictl: "), 3))
 
     @each([("for a reply", []), ("for words", ["x" * 100_000] * 8)])
-    def test_want_of_memory_is_reported(self, name, words):
+    def test_lack_of_memory_is_reported(self, name, words):
         came = self.show(*words, input=READY, preexec_fn=small_memory)
         self.assertEqual(came, ("", "csictl: out of memory\n", 6))
 

@@ -93,7 +93,7 @@ class CheckTablesTest(CsidTest):
         with open("/dev/full", "wb") as full:
             self.assertEqual(self.check_kept(self.tables, stdout=full), (b"", WRITE_FAILED, 5))
 
-    def test_want_of_memory_is_reported(self):
+    def test_lack_of_memory_is_reported(self):
         self.fill()
         self.assertEqual(self.check_kept(self.tables, preexec_fn=small_memory), (b"", NO_MEMORY, 6))
 

@@ -39,7 +39,7 @@ class ConfigTest(CsidTest):
     def test_configuration_is_refused(self, name, content, line):
         self.assertEqual(self.run_pipe(content), (b"", self.line(line), 3))
 
-    def test_want_of_memory_is_reported(self):
+    def test_lack_of_memory_is_reported(self):
         """The file can be read, but there is no memory for its values."""
         came = self.run_pipe(SAMPLE + nodes(40_000), preexec_fn=little_memory)
         self.assertEqual(came, (b"", NO_MEMORY, 6))

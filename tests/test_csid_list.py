@@ -221,7 +221,7 @@ class RefusedListTest(ListedTest):
         write(self.tables.path + "-journal", b"\x01")
         self.check_refused(NO_FILE)
 
-    def test_want_of_memory_for_a_volume_is_reported(self):
+    def test_lack_of_memory_for_a_volume_is_reported(self):
         """Both files can be opened. The first has capabilities that need memory, and the second as many bytes
         that are not capabilities."""
         for name, caps, wanted in [
@@ -232,7 +232,7 @@ class RefusedListTest(ListedTest):
                 self.tables.new().script(volume(1, caps=caps) + next_is(2))
                 self.assertEqual(self.listed(self.tables, preexec_fn=memory_of_20_mib), wanted)
 
-    def test_want_of_memory_at_the_start_is_reported(self):
+    def test_lack_of_memory_at_the_start_is_reported(self):
         self.tables.new().script(A)
         self.assertEqual(self.listed(self.tables, preexec_fn=small_memory), (b"", NO_MEMORY, 6))
 

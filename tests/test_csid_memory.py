@@ -66,7 +66,7 @@ class LowMemoryTest(CsidTest):
 
 
 class MemoryTest(CsidTest):
-    def test_want_of_memory_for_a_copy_is_no_failed_disk(self):
+    def test_lack_of_memory_for_a_copy_is_no_failed_disk(self):
         """The copy of the tables has its own files."""
         tables = self.tables.new()
         tables.script(volume(1, "printf('%.*c', 200000, 'x')") + next_is(2))

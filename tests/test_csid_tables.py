@@ -99,7 +99,7 @@ class DurabilityTest(CsidTest):
         self.assertEqual(came, (b"", WRITE_FAILED, 5))
         self.assertEqual(self.tables.ask("SELECT number, name FROM volumes"), [(1, "b")])
 
-    def test_want_of_memory_is_reported(self):
+    def test_lack_of_memory_is_reported(self):
         self.tables.run(CREATE)
         came = self.tables.run(frame(PROBE), preexec_fn=small_memory)
         self.assertEqual(came, (b"", NO_MEMORY, 6))
