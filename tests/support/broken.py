@@ -47,7 +47,8 @@ class Breaker:
                 + text[to:])
 
     def nested(self, message):
-        """Returns three nested messages."""
+        """Returns the message inside an embedded message, that inside a further one, and so on: up to 200,000
+        levels or 1 MiB."""
         number, heads, length = self.source.randrange(1, 10), [], len(message)
         for _ in range(self.one_of(2, 10, 100, 1000, self.source.choice((5000, 5000, 5000, 200000)))):
             heads.append(v.tag(number, 2) + v.varint(length))

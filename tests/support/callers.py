@@ -97,7 +97,7 @@ class Plugin(Fronts):
 
 
 def acts(method, words, model):
-    """Returns a function that calls a method of a model, and returns the model's reply."""
+    """Calls a method of a model with these words. Returns the model's reply."""
     return getattr(model, method)(*words)[0]
 
 
@@ -139,8 +139,8 @@ class Caller:
         self.peer = None
 
     def tries(self, call):
-        """Makes a call once. Returns its reply, or None if no reply comes, or if its status counts as no
-        reply."""
+        """Makes a call once. Returns its reply. Returns None if no reply comes, if the reply's status counts
+        as no reply, and for one reply in ten, which counts as lost."""
         try:
             self.peer.sendall(call)
             reply = self.reply()

@@ -185,5 +185,5 @@ class KeptChangeStore(ChangeStore):
 
 
 def own(params):
-    """Returns the parameters of a column without the mutable parameters, which are its fields 4."""
+    """Returns the parameters (fields 4) in a column `params`, without the mutable parameters."""
     return b"".join(v.msg(4, value) for number, value in fields(params) if number == 4)

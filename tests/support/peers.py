@@ -41,7 +41,8 @@ class PlayedServer:
         raise NotImplementedError
 
     def end(self):
-        """Returns the calls, and the calls of any connection after the last part."""
+        """Waits for the end of the script. Returns the calls, with 'one more' after them if a further
+        connection has come."""
         self.thread.join()
         self.listener.setblocking(False)
         try:

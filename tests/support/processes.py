@@ -178,7 +178,8 @@ def free_ports(count):
 
 
 def has_ended(peer, within):
-    """Returns True if csid closes a connection in time."""
+    """Returns True if csid closes a connection without a further byte, after `within[0]` to `within[1]`
+    seconds."""
     begin = time.monotonic()
     try:
         last = peer.recv(1)
