@@ -9,7 +9,7 @@ WORD = re.compile(r"([A-Z]\w*) = (.*)")
 
 
 def numbered(file):
-    """Yields the rows of a file, each after the number of its first line."""
+    """Returns the rows of a file as lists of the number of the first line and the text."""
     rows = []
     for number, line in enumerate(file, 1):
         if line.startswith("    "):

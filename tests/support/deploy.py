@@ -86,7 +86,8 @@ class Unit:
         return dict(word.split("=", 1) for word in words)
 
     def words(self):
-        """Returns the words of the command. A variable that is a whole word is split at spaces."""
+        """Returns the words of ExecStart. A variable that is a whole word is replaced by the words in its
+        value."""
         given, words = self.variables(), []
         for word in shlex.split(self.all("ExecStart")[0]):
             words += given[word[1:]].split() if word.startswith("$") else [word]

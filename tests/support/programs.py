@@ -136,7 +136,8 @@ class Program:
         return [line.decode(errors="replace") for line in self.said.read().split(b"\n")[:-1]]
 
     def is_well(self, most, shown):
-        """Returns True if the program runs, and used at most `most` MiB."""
+        """Checks that the program runs and has used at most `most` MiB, and starts it again if it does not.
+        `shown` is the input for a finding."""
         if not self.run.check("%s ended, and said %r" % (self.words[0], self.lines()[-1:]),
                               not self.has_ended(), shown):
             return self.start()

@@ -53,7 +53,7 @@ class Text(io.StringIO):
 
 
 def reports(result, found):
-    """Replaces the tests in pairs of a test and a text by reports."""
+    """Yields pairs of a report and a text for pairs of a test and a text."""
     for test, text in found:
         case = getattr(test, "test_case", test)
         name = case.id() if isinstance(case, unittest.TestCase) else None
@@ -70,7 +70,7 @@ def run_suite(suite, verbosity, settings):
 
 
 def send_outcome(sender, names, filters, *how):
-    """Runs the tests with these names in another process."""
+    """Runs the tests with these names, and sends their outcome to the process that started this one."""
     if filters:
         warnings.simplefilter(filters)
     sender.send(run_suite(unittest.defaultTestLoader.loadTestsFromNames(names), *how))

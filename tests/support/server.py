@@ -115,7 +115,8 @@ KILLED = -signal.SIGKILL
 
 
 def ended(lines, line):
-    """Returns the number of connections that ended as a line says, or as the counts say."""
+    """Counts ended connections by their way of ending: the lines that equal `line` under "of a line", and the
+    numbers in lines with counts under the words of these lines."""
     counts = collections.Counter({"of a line": lines.count(line)})
     for told in re.findall(r"(?m)^csid: \d+ more connections ended: (.*)$", lines):
         for part in told.split(", "):

@@ -143,7 +143,7 @@ class Tables:
         return found
 
     def rows(self):
-        """Returns the statements that make all rows of the database, even if a text is not UTF-8."""
+        """Returns the SQL statements that would make this database. A text may be invalid UTF-8."""
         connection = sqlite3.connect(self.path)
         connection.text_factory = lambda text: text.decode(errors="surrogateescape")
         rows = list(connection.iterdump())
@@ -151,6 +151,6 @@ class Tables:
         return rows
 
     def says(self, line):
-        """Returns the reply, the lines and the status of csid if the tables are unusable. Without a line they
-        are usable, and a call is answered."""
+        """Returns the expected result of a Probe: no reply, this line and status 4 if the tables are
+        unusable; without a line, the reply and status 0."""
         return (READY, "", 0) if line is None else (b"", "csid: %s: %s\n" % (self.path, line), 4)
