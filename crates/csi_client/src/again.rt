@@ -7,7 +7,7 @@ ghost use Rattle.csi_client.specs.Again.{is_unanswered, unanswered_count, answer
 use crate::receiving::Received;
 use envelope::ReplyWhy;
 
-/// A client's line to a server: it makes a new connection for each exchange.
+/// A client's line to a server. In each exchange, the line sends one frame and waits for its reply.
 pub trait Line {
     // The number of exchanges made so far.
     ghost exchanges: { Self → ℕ };
@@ -19,8 +19,8 @@ pub trait Line {
     // Only this relation mentions the frame, so a line for which it holds has sent the frame.
     ghost exchanged: { Self → Self → List ℕ → Received → Type 0 };
 
-    /// Sends a call's frame on a new connection and waits for the reply. Returns [`Received::Failed`] if it
-    /// cannot connect or send.
+    /// Sends a call's frame and waits for the reply. The line may use a new connection, or a connection on
+    /// which the last exchange got a reply. Returns [`Received::Failed`] if it cannot connect or send.
     ///
     /// The line counts its exchanges, and the exchanges that got no answer.
     fn exchange(&mut self, frame: &[u8]) -> Received
@@ -78,7 +78,7 @@ impl Exchanges {
     }
 }
 
-/// Sends a call's frame until an exchange gets an answer, each time on a new connection. `tries` is the
+/// Sends a call's frame until an exchange gets an answer ([`is_unanswered`] returns false). `tries` is the
 /// greatest number of exchanges, 1 to 10. Returns the outcome of the last exchange.
 ///
 /// Each call of the Container Storage Interface may be sent again: the server executes it only once (CSI

@@ -100,12 +100,12 @@ pub fn made_later(config: &Config)
 
 /// A history of several clients is linearizable if no two of them work on one object at once.
 ///
-/// The history starts in a State that meets the invariant. Each client tries its requests in order, and tries
-/// each request until it is answered. All requests pass the checks of their arguments. A try may be refused
-/// for memory or by the store, or because the store is down. An answer may be lost. Between any two tries a
-/// stop may end the session, and leaves the State after its tries, or the State with the change of a refused
-/// try. A client may be gone after any try, because its process ends or because it gives up. At any time,
-/// requests may be made that change nothing.
+/// The history starts in a State that meets the invariant. Each client tries its requests one after the
+/// other, and tries each request until it is answered. All requests pass the checks of their arguments. A try
+/// may be refused for memory or by the store, or because the store is down. An answer may be lost. Between
+/// any two tries a stop may end the session, and leaves the State after its tries, or the State with the
+/// change of a refused try. A client may be gone after any try, because its process ends or because it gives
+/// up. At any time, requests may be made that change nothing.
 ///
 /// The tries are *separate*. A request is unsettled from its first try until it is answered or its client is
 /// gone. If it was refused for memory or by the store, it stays unsettled until it is done or the session

@@ -28,9 +28,9 @@ pub enum VectorsEnd {
     /// A read of the vectors failed for a reason other than lack of memory.
     ReadFailed,
     /// A write or a flush failed, or a write was interrupted. The results of all lines before the last line
-    /// were written. Of the result of the last line, a part was written.
+    /// were written. Of the result of the last line, a part was written, which may be empty or complete.
     WriteFailed,
-    /// Memory for a line, a vector or a server was refused.
+    /// Memory for the configuration, the buffer of the input, a line, a vector or a server was refused.
     NoMemory,
 }
 

@@ -111,7 +111,7 @@ pub(crate) fn give_none(arguments: &ArgMatches<'_>) -> Result<(), Failure> {
     Ok(())
 }
 
-// Makes a list of the item, or an empty list for `None`.
+// Makes a list with one item, or an empty list for `None`.
 fn list_of<T: Drop>(alloc: Global, item: Option<T>) -> Result<Items<T>, FieldFault> {
     let mut list = Vec::new(alloc);
     if let Some(item) = item {

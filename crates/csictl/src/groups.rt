@@ -174,8 +174,9 @@ impl Group {
         Ok(Value::Array(array))
     }
 
-    // Makes a JSON object with the members that nodes and pools share: the id or name, under the key `name`,
-    // the number of volumes, and the sum of their bytes.
+    // Makes a JSON object with the members that nodes and pools share: the id of the node or the name of the
+    // pool, the number of volumes, and the sum of their bytes. The argument `name` is the key of the first
+    // member.
     fn sums(&self, alloc: Global, name: &str) -> Result<Map<String, Value>, AllocError> {
         let mut object = Map::new(alloc);
         let text = Value::try_from_str(alloc, self.name.as_str())?;
@@ -224,8 +225,8 @@ impl Taker for Groups {
 }
 
 impl Groups {
-    /// Makes a group without volumes for each pool or node of the configuration. Without a configuration,
-    /// there are no groups yet.
+    /// Makes a group without volumes for each node of the configuration, or for each pool if `by` is
+    /// [`GroupedBy::Pool`]. Without a configuration, there are no groups yet.
     ///
     /// # Errors
     ///

@@ -223,7 +223,8 @@ pub(crate) fn response(alloc: Global, response: &Response) -> Json {
     }
 }
 
-/// Writes a refusal as `google.rpc.Status`. Its text has only ASCII characters.
+/// Writes a refusal as `google.rpc.Status`, with the status of the reply as `code` and its text as `message`.
+/// The text of a reply has only ASCII characters.
 pub(crate) fn refusal(alloc: Global, reply: &Reply<'_>) -> Json {
     let message = str::from_utf8(reply.text).unwrap_or("");
     json!(in alloc; {"code": reply.status, "message": message})

@@ -11,9 +11,9 @@ use csi_rules::number_of_id;
 use csi_types::{Entry, Method, Text};
 use std::alloc::{AllocError, Global};
 
-// Returns the token of the page that begins with this volume: the volume's number minus 1, in decimal. For
-// volume 1, and for a text that is not an id, returns the empty token, whose page begins with the first
-// volume.
+// Returns the token of the page that begins with this volume if it exists: the volume's number minus 1, in
+// decimal. For volume 1, and for a text that is not an id, returns the empty token, whose page begins with
+// the first volume.
 fn token_before(alloc: Global, id: &str) -> Result<Text, AllocError> {
     let before = number_of_id(id).unwrap_or(0).saturating_sub(1);
     if before == 0 {
@@ -45,7 +45,7 @@ pub(crate) fn entry_of<'e>(entries: &'e [Entry], id: &str) -> Option<&'e Entry> 
     None
 }
 
-/// Returns true if the volume has this id.
+/// Returns true if the entry's volume has this id, and false if the entry has no volume.
 pub(crate) fn has_id(entry: &Entry, id: &str) -> bool {
     match &entry.volume {
         Some(volume) => volume.id.as_str() == id,
@@ -118,7 +118,8 @@ fn check(
 
 /// Checks that there is something to remove. DeleteVolume needs the volume. ControllerUnpublishVolume also
 /// needs its attachment to the node, or any attachment if no node is given. The check asks for a page of one
-/// entry. If the server refuses the page, returns the refusal.
+/// entry, and returns `None` if there is something to remove. If the server refuses the page for another
+/// reason than its token, returns the refusal. A refused token means that there is no such volume.
 ///
 /// # Errors
 ///

@@ -70,8 +70,8 @@ pub(crate) fn show_lines(
     Ok(Ended::with(reply.status != 0))
 }
 
-// Writes the response in a body as a line of JSON. The response is borrowed, so its owner makes only one call
-// that can fail.
+// Writes the response in a body as a line of JSON. `response_line` borrows the response, so this function
+// makes only one call that can fail while it owns the response.
 fn body_line(alloc: Global, method: Method, body: &[u8]) -> Result<String, Failure> {
     match decode_response(alloc, method, body) {
         Ok(response) => response_line(alloc, &response),
@@ -137,7 +137,8 @@ pub(crate) fn entry_line(alloc: Global, entry: &Entry) -> Result<String, AllocEr
 #[derive(Drop)]
 pub(crate) struct Listing {
     entries: Vec<Value>,
-    /// The token of the next page. It is empty after the last page.
+    /// The token of the next page. It is empty after the last page, and for a first page that begins with the
+    /// first volume.
     pub(crate) token: Text,
 }
 

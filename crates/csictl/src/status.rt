@@ -201,8 +201,8 @@ fn ask_server(
     Ok(None)
 }
 
-// Makes all calls of `csictl status` over one connection. A refused call for the configuration is no refusal
-// of the command.
+// Makes all calls of `csictl status` over one connection. If the call for the configuration is refused, the
+// command goes on without the use of pools and nodes.
 fn ask(alloc: Global, line: &mut SocketLine<'_>) -> Result<Outcome, Failure> {
     let mut status = Status::new(alloc);
     if let Some((method, reply)) = ask_server(alloc, &mut status, line)? {

@@ -71,7 +71,7 @@ pub(crate) fn id_word(alloc: Global, volume: Option<&VolumeInfo>) -> Result<Stri
     }
 }
 
-/// Writes the size of a volume in the greatest unit that shows it exactly, or `-` without a volume.
+/// Writes the size of a volume with a unit, such as `1.5 GiB` ([`size_text`]), or `-` without a volume.
 ///
 /// # Errors
 ///

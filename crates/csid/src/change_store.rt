@@ -118,7 +118,8 @@ fn is_agreed(received: Received) -> bool
     matches!(received, Received::Reply(reply) if reply.status == 0)
 }
 
-// Returns true if a change store answers that it leads.
+// Returns true if a change store answers that it leads, and false if it does not or memory for the request is
+// refused.
 fn is_leading<P: Peer>(alloc: Global, change_store: &mut P) -> bool
     ensures { IsTrue result → Leads P.exchanged change_store.old change_store.new }
 {
@@ -146,9 +147,9 @@ pub(crate) struct ChangeStoreLeadership<'a> {
 }
 
 impl Leadership for ChangeStoreLeadership<'_> {
-    // A change store makes a change only while it leads, so its answer to a change since the last reply shows
-    // that it leads. Without such an answer, the change store is asked: another change store may have led
-    // since, and made changes that the copy lacks.
+    // A change store makes a change only while it leads, so the change store is not asked again after a frame
+    // of a change. If no frame was sent since the last reply, the change store is asked: another change store
+    // may have led since, and made changes that the copy lacks.
     fn holds(&mut self) -> bool {
         self.is_asked.replace(false) || leads(self.alloc, self.stream)
     }
@@ -259,7 +260,7 @@ fn check_or_make_meta<P: Peer>(
     }
 }
 
-// Returns the fault for rows whose format is neither 1 nor 2, or unknown (`None`).
+// Returns the fault for rows whose format is neither 1 nor 2. `None` means that there is no row of `meta`.
 fn format_fault(format: Option<u64>) -> AdoptFault {
     match format {
         Some(format) if format != 0 => AdoptFault::Newer {

@@ -19,8 +19,8 @@ const CELLS_AT: usize = 103;
 
 const LEAF: u8 = 13;
 
-// The greatest number of bytes of memory that an opening takes for one byte of a row in the file, with the
-// page that is kept.
+// The greatest number of bytes of memory that an opening takes for one byte of the file: six for the row, and
+// one for the page that the opening keeps.
 const OPENING_FACTOR: u64 = 7;
 
 // The least number of pages that an opening may keep in memory.
@@ -170,7 +170,7 @@ fn cache_pages(rt: &HostRuntime, count: u64, page_bytes: u64) -> u64
 }
 
 /// Returns the limits of memory for opening the file of tables. They depend on the size of the file and of
-/// its WAL.
+/// its WAL. For a file that does not exist, `bytes` is 0 and `cache_pages` is 2,000.
 pub(crate) fn opening_limits(rt: &HostRuntime, path: &str) -> OpeningLimits
     ensures least { 2000 ≤ result.cache_pages }
 {

@@ -69,7 +69,8 @@ fn bind(rt: &HostRuntime, path: &str, group: Option<u32>) -> io::Result<UnixList
     }
 }
 
-// Binds a socket at the path, to which the owner and this group may connect.
+// Binds a socket at the path, to which the owner and this group may connect, or the owner alone without a
+// group.
 fn listen(rt: &HostRuntime, path: &str, group: Option<&str>) -> Result<UnixListener, Failure>
     ensures { IfErr result (λ failure. IsOrNoMemory 7 failure) }
 {
@@ -95,7 +96,7 @@ fn report_outcome(console: &Console<'_>, ending: Ending, now: Instant, end: RunE
 }
 
 // Reports how a connection ended. `ending` is the reason if the server ended the turn of the connection.
-// `is_cut` is true if a reply was held back.
+// `is_cut` is true if a reply was held back. Nothing is reported if the calls ended without a fault.
 fn report_end(console: &Console<'_>, ending: Option<Ending>, is_cut: bool, end: RunEnd) {
     let Ok(now) = Instant::now(console.rt) else {
         return;
@@ -353,7 +354,8 @@ fn report_gone(console: &Console<'_>, peer: &Pending) {
 }
 
 // Opens the tables of a server and serves the calls of a connection: first the calls in `sent`, then the
-// calls from the reader. Reports errors that no reply shows.
+// calls from the reader. Reports errors that no reply shows. Does nothing if the volumes are in a change
+// store.
 fn serve_tables<R: Read, W: Write>(
     service: &Service<'_>,
     sent: &[u8],
@@ -433,8 +435,8 @@ fn first_change_store(service: &Service<'_>) -> KnownChangeStore {
     change_store
 }
 
-// Binds the socket of a server, and then opens and checks its tables once. The socket is bound first, so that
-// a second server at the same socket does not open the file of the first.
+// Binds the socket of a server, and then opens and checks its tables once. A change store is not opened here.
+// The socket is bound first, so that a second server at the same socket does not open the file of the first.
 fn listen_over<'a>(
     console: &'a Console<'a>,
     config: &'a Config,

@@ -53,7 +53,8 @@ impl Deadline {
         })
     }
 
-    /// Begins an exchange, whose deadline is 30 seconds from now.
+    /// Begins an exchange, whose deadline is 30 seconds from now. If the clock cannot be read, the reads and
+    /// writes of the exchange fail.
     pub(crate) fn begin_exchange(&self) {
         self.exchange.set(after(&self.rt, EXCHANGE_SECONDS).ok());
     }
@@ -82,7 +83,8 @@ impl Deadline {
     }
 }
 
-/// A connection whose reads and writes fail after its deadline has passed.
+/// A connection whose reads and writes fail after its deadline has passed, and before its first exchange
+/// begins.
 pub(crate) struct TimedStream {
     stream: UnixStream,
     deadline: Rc<Deadline>,

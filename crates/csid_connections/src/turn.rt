@@ -1,8 +1,8 @@
 //! The turn of a connection: its calls are read and its replies written. While the connection blocks, the
 //! queue is polled.
 //!
-//! If another connection is ready, the connection that is served is closed as soon as all its calls are
-//! answered. Until then it may delay a call or a reply only for a short time.
+//! If another connection is ready, the connection that is served is closed as soon as all calls that have
+//! come from it are answered. Until then, its peer may delay a call or a reply only for a short time.
 
 ghost use Rattle.std.specs.Prelude.{◌≡◌, Bool, true, false, Some, ⊤, OnOk};
 ghost use Rattle.std.specs.Io.{ReadsAtMost, WritesAtMost};
@@ -167,8 +167,8 @@ impl<S: Stream> Steps<'_, S> {
         Ok(())
     }
 
-    // Ends the turn during a call if the time of the call is over. Otherwise polls the queue, at most once a
-    // second.
+    // Ends the turn during a call if the time of the call is over. Otherwise polls the queue if reads may
+    // block, at most once a second.
     fn go_on_in_call(&mut self, now: Instant) -> io::Result<()>
         ensures call { GoesOnCall self.old.clock self.new.clock }
         ensures stream { self.new.stream ≡ self.old.stream }

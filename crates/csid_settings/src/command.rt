@@ -95,9 +95,10 @@ pub struct Serving<'a> {
     pub config: Option<&'a str>,
     /// The name or number of the group that may connect, or `None` if only the owner may connect.
     pub group: Option<&'a str>,
-    /// The number of seconds for which a connection may send nothing, or `None` for no limit.
+    /// The number of seconds for which the peer of a connection may send or take nothing, or `None` for no
+    /// limit.
     pub idle: Option<u32>,
-    /// The number of connections that are served before the program ends.
+    /// The number of connections that are accepted before the program ends.
     pub connections: u32,
 }
 

@@ -48,8 +48,9 @@ impl Reply {
         )
     }
 
-    /// Writes the status number, and after it the body in hexadecimal digits if the call succeeded. If the
-    /// call was refused, writes the text of the refusal instead of the body.
+    /// Writes the status number, and after it the body as [`bytes_text`] writes it if the call succeeded. If
+    /// the message was malformed or the request was refused, writes the text of the fault or of the refusal
+    /// instead of the body.
     ///
     /// # Errors
     ///
