@@ -202,7 +202,7 @@ fn ask_server(
 }
 
 // Makes all calls of `csictl status` over one connection. If the call for the configuration is refused, the
-// command goes on without the use of pools and nodes.
+// status has no pools and no nodes, and the command is not refused.
 fn ask(alloc: Global, line: &mut SocketLine<'_>) -> Result<Outcome, Failure> {
     let mut status = Status::new(alloc);
     if let Some((method, reply)) = ask_server(alloc, &mut status, line)? {

@@ -147,9 +147,10 @@ pub(crate) struct ChangeStoreLeadership<'a> {
 }
 
 impl Leadership for ChangeStoreLeadership<'_> {
-    // A change store makes a change only while it leads, so the change store is not asked again after a frame
-    // of a change. If no frame was sent since the last reply, the change store is asked: another change store
-    // may have led since, and made changes that the copy lacks.
+    // A change store makes a change only while it leads, so the change store is not asked again after the
+    // frame of a change: if it did not make the change, the reply is a refusal. If no frame was sent since
+    // the last reply, the change store is asked: another change store may have led since, and made changes
+    // that the copy lacks.
     fn holds(&mut self) -> bool {
         self.is_asked.replace(false) || leads(self.alloc, self.stream)
     }

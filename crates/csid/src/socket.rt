@@ -69,8 +69,8 @@ fn bind(rt: &HostRuntime, path: &str, group: Option<u32>) -> io::Result<UnixList
     }
 }
 
-// Binds a socket at the path, to which the owner and this group may connect, or the owner alone without a
-// group.
+// Binds a socket at the path, to which the owner and this group may connect. If `group` is `None`, only the
+// owner may connect.
 fn listen(rt: &HostRuntime, path: &str, group: Option<&str>) -> Result<UnixListener, Failure>
     ensures { IfErr result (λ failure. IsOrNoMemory 7 failure) }
 {

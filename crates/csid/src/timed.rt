@@ -16,7 +16,8 @@ const ROWS_SECONDS: u64 = 300;
 /// The deadlines of a connection to a change store: for the current exchange, and for the opening.
 pub(crate) struct Deadline {
     rt: HostRuntime,
-    // The deadline of the current exchange, or `None` if no exchange has begun.
+    // The deadline of the current exchange. `None` if no exchange has begun, or the clock could not be read
+    // when it began.
     exchange: Cell<Option<Instant>>,
     // The deadline of the opening, or `None` after all rows were read.
     rows: Cell<Option<Instant>>,

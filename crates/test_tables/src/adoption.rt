@@ -41,8 +41,8 @@ fn begin<S: Alter>(conn: &mut Connection<S>, start: &str, statements: &str) -> R
     Ok(())
 }
 
-// Adopts the tables, gives the connection back and adopts the tables again. Returns the answers of both
-// adoptions.
+// Adopts the tables, gives the connection back and adopts the tables again. Returns the answer of the first
+// adoption, and also the answer of the second if it differs.
 fn adopt_twice<S: Alter + Drop>(
     alloc: Global,
     mut conn: Connection<S>,
@@ -82,7 +82,8 @@ fn format_of<S: Alter>(
     Ok(format!(in alloc; ", in format {format}")?)
 }
 
-// Adopts the tables. Returns their State or the fault as a text, and the connection.
+// Adopts the tables. Returns their State or the fault as a text, and the connection. If a transaction is open
+// on the connection, the result is the fault `refused`.
 fn reported<S: Alter>(
     alloc: Global,
     conn: Connection<S>,

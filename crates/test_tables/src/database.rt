@@ -1,4 +1,4 @@
-//! Makes databases in memory for rows, and runs SQL statements over them.
+//! Makes databases in memory for test rows, and runs SQL statements over them.
 
 ghost use Rattle.std.specs.Prelude.{◌≡◌, false, IfOk};
 
@@ -7,8 +7,8 @@ use sqlite::{Alter, Connection, Error as SqlError, ErrorCode, MemStore};
 use std::alloc::Global;
 use test_kit::RowFault;
 
-/// Converts an error of the database to the fault of a row: [`RowFault::NoMemory`] if memory was refused,
-/// otherwise [`RowFault::Refused`].
+/// Converts an error of the database to the fault of a test row: [`RowFault::NoMemory`] if memory was
+/// refused, otherwise [`RowFault::Refused`].
 pub(crate) fn refused(error: SqlError) -> RowFault {
     match error {
         SqlError::SqliteFailure(ErrorCode::OutOfMemory) => RowFault::NoMemory,

@@ -62,7 +62,8 @@ fn refusal_text(alloc: Global, refusal: &Refusal) -> Result<String, AllocError> 
     }
 }
 
-// Writes the reason why files were not closed after calls as a text.
+// Writes the failure of a run as a text: the reason why no call was served, or the report of the calls if the
+// files were not closed after them.
 fn failure_text<D: Disk + Drop>(
     alloc: Global,
     failure: &RunFailure<D>,
