@@ -30,9 +30,9 @@ pub trait Line {
         ensures sent { exchanged self.old self.new frame.now result };
 }
 
-/// Returns true if it is unknown to the client whether the server executed the call: the connection failed,
-/// or it ended before the complete reply. A complete reply is an answer, even if it is malformed.
-/// [`Received::NoMemory`] counts as an answer too, since sending the call again would not help.
+/// Returns true if the client cannot know if the server executed the call: the connection failed, or it ended
+/// before the complete reply. A complete reply is an answer, even if it is malformed. [`Received::NoMemory`]
+/// counts as an answer too, since sending the call again would not help.
 pub fn is_unanswered(received: &Received) -> bool
     ensures { result ≡ is_unanswered received.now }
 {
@@ -81,8 +81,8 @@ impl Exchanges {
 /// Sends a call's frame until an exchange gets an answer ([`is_unanswered`] returns false). `tries` is the
 /// greatest number of exchanges, 1 to 10. Returns the outcome of the last exchange.
 ///
-/// Each call of the Container Storage Interface may be sent again: the server executes it only once (CSI
-/// specification, 'Timeouts').
+/// Each call of the Container Storage Interface may be sent again: a server that has made the change of the
+/// call does not make it a second time (CSI specification, 'Timeouts').
 pub fn call_again<L: Line>(line: &mut L, frame: &[u8], tries: u32) -> Received
     requires few { L.exchanges line.old < 2 ^ 63 }
     requires least { 1 ≤ tries }

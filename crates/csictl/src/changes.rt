@@ -103,8 +103,8 @@ fn line_of_body(
     }
 }
 
-/// Makes the call of a change, and shows a line that says what was done, or the refusal. With `--json`, shows
-/// the reply as a line of JSON. Tries the call again while it has no reply and tries are left. For a removal,
+/// Makes the call of a change. Shows a line that says what was done, or the refusal. With `--json`, shows the
+/// reply as a line of JSON. Tries the call again while it has no reply and tries are left. For a removal,
 /// first checks that there is something to remove.
 ///
 /// # Errors

@@ -113,7 +113,7 @@ impl Group {
         }
     }
 
-    // Writes the kept ids of the volumes with commas between them, or `-` if there are none.
+    // Returns the kept ids of the volumes with commas between them, or `-` if there are none.
     fn ids_word(&self, alloc: Global) -> Result<String, AllocError> {
         let mut out = String::new(alloc);
         for id in &self.ids {
@@ -123,7 +123,7 @@ impl Group {
         or_dash(out)
     }
 
-    // Writes the greatest number of volumes of a node, or `-` if it is not known.
+    // Returns the greatest number of volumes of a node, or `-` if it is not known.
     fn most_word(&self, alloc: Global) -> Result<String, AllocError> {
         match self.most {
             Some(most) => format!(in alloc; "{most}"),
@@ -348,7 +348,7 @@ impl Groups {
         }
     }
 
-    /// Writes a table with a line of headings and a line for each group.
+    /// Returns a table as a text, with a line of headings and a line for each group.
     ///
     /// # Errors
     ///
@@ -361,7 +361,7 @@ impl Groups {
         table.text(alloc)
     }
 
-    /// Writes the groups as a JSON array.
+    /// Returns the groups as a JSON array.
     ///
     /// # Errors
     ///
@@ -377,7 +377,7 @@ impl Groups {
         Ok(Value::Array(array))
     }
 
-    /// Writes a JSON object with one member, the array of the groups. Its key is `nodes` or `pools`.
+    /// Returns a JSON object with one member, the array of the groups. Its key is `nodes` or `pools`.
     ///
     /// # Errors
     ///

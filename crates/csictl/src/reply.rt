@@ -37,7 +37,7 @@ pub(crate) fn write(rt: &HostRuntime, shown: &[u8]) -> Result<(), Failure> {
     }
 }
 
-/// Writes the value as one line of JSON.
+/// Returns the value as one line of JSON.
 ///
 /// # Errors
 ///
@@ -70,7 +70,7 @@ pub(crate) fn show_lines(
     Ok(Ended::with(reply.status != 0))
 }
 
-// Writes the response in a body as a line of JSON. `response_line` borrows the response, so this function
+// Returns the response in a body as a line of JSON. `response_line` borrows the response, so this function
 // makes only one call that can fail while it owns the response.
 fn body_line(alloc: Global, method: Method, body: &[u8]) -> Result<String, Failure> {
     match decode_response(alloc, method, body) {
@@ -109,7 +109,7 @@ pub(crate) fn show_json(
     Ok(Ended::with(is_refused))
 }
 
-/// Writes all entries of a listing as a line of JSON.
+/// Returns all entries of a listing as a line of JSON.
 ///
 /// # Errors
 ///
@@ -123,7 +123,7 @@ pub(crate) fn entries_line(alloc: Global, entries: &[Entry]) -> Result<String, A
     line(alloc, &value)
 }
 
-/// Writes one entry of a listing as a line of JSON.
+/// Returns one entry of a listing as a line of JSON.
 ///
 /// # Errors
 ///
@@ -183,7 +183,8 @@ impl Listing {
         Ok(())
     }
 
-    /// Ends the listing. If `is_json` is true, shows all entries as one line of JSON.
+    /// Ends the listing. If `is_json` is true, shows all entries as one line of JSON. Otherwise shows
+    /// nothing, since each page was shown when it came.
     ///
     /// # Errors
     ///

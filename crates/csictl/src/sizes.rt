@@ -131,8 +131,8 @@ pub(crate) fn bytes_of(text: &str) -> Option<i64> {
     }
 }
 
-/// Writes a size in the greatest binary unit that shows it exactly with at most one decimal, such as `1.5
-/// GiB`. Writes a negative size in bytes.
+/// Returns a size as a text in the greatest binary unit that shows it exactly with at most one decimal, such
+/// as `1.5 GiB`. A negative size is in bytes.
 pub(crate) fn size_text(alloc: Global, bytes: i64) -> Result<String, AllocError> {
     match u64::try_from(bytes) {
         Ok(count) => command_line::size_text(alloc, count),

@@ -21,7 +21,7 @@ use csi_types::{Entry, Method, Response, Text};
 use serde_json::{Map, Value};
 use std::alloc::{AllocError, Global};
 
-// The calls that return the name of the server and whether it is ready.
+// The calls that return the name and the version of the server, and if it is ready.
 const SERVER_CALLS: [Method; 2] = [Method::GetPluginInfo, Method::Probe];
 
 // What `csictl status` shows.
@@ -71,7 +71,8 @@ impl Places {
         self.nodes.count(alloc, entry)
     }
 
-    // Writes a table of the pools and a table of the nodes, each after an empty line.
+    // Returns a table of the pools and a table of the nodes as one text. Each table comes after an empty
+    // line.
     fn text(&self, alloc: Global) -> Result<String, AllocError> {
         let pools = self.pools.text(alloc)?;
         let nodes = self.nodes.text(alloc)?;
@@ -134,7 +135,8 @@ impl Status {
         }
     }
 
-    // Writes the lines about the server itself, and the lines with the sums over all volumes.
+    // Returns the lines with the server's name, version and readiness, and the lines with the sums over all
+    // volumes.
     fn sums_text(&self, alloc: Global) -> Result<String, AllocError> {
         let name = word(alloc, self.name.as_str())?;
         let version = word(alloc, self.version.as_str())?;

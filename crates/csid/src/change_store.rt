@@ -75,7 +75,7 @@ pub(crate) type Remote = Through<MemKeeper, RemoteChangeStore<ChangeStorePeer>>;
 pub(crate) struct OpenChangeStore {
     /// The keeper over which calls are answered.
     pub(crate) keeper: Remote,
-    /// A handle of the connection to the change store. It serves to ask whether the change store leads.
+    /// A handle of the connection to the change store. It serves to ask the change store if it leads.
     /// `keeper` has other handles of the same connection.
     pub(crate) stream: TimedStream,
     /// True if a frame was sent to the change store since the last reply to a client.
@@ -296,7 +296,7 @@ fn read_tables<P: Peer, S: Alter + Drop>(
 }
 
 // Reads all rows of a change store into a new database, checks them, copies the volumes into memory, and
-// reports their number. The database is dropped afterwards.
+// reports the numbers of volumes and attachments. The database is dropped afterwards.
 fn read_change_store<P: Peer + Drop, S: Alter + Drop>(
     console: &Console<'_>,
     config: &Config,
@@ -357,7 +357,8 @@ fn reach(
     Ok((stream, peer))
 }
 
-/// Connects to a change store, reads and checks its rows, and reports the number of its volumes.
+/// Connects to a change store, reads and checks its rows, and reports the numbers of its volumes and
+/// attachments.
 ///
 /// # Errors
 ///

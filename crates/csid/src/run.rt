@@ -97,8 +97,8 @@ fn refused_number(alloc: Global, option: &str, number: &str) -> Failure
     Failure::Arguments(ArgumentsFault::refused(line))
 }
 
-// Returns the failure for two options that exclude each other, or for a server without an option for its
-// volumes.
+// Returns the failure for options that exclude each other, or for a missing option. `why` is the line about
+// them.
 fn refused_options(alloc: Global, why: &str) -> Failure
     ensures { IsOrNoMemory 2 result }
 {

@@ -104,8 +104,8 @@ impl<S: Stream> Steps<'_, S> {
         io::Error::from(ErrorKind::TimedOut)
     }
 
-    // Returns how long the peer may still delay a read or a write, or the reason why the turn ends. If reads
-    // block, the peer has already been silent for a second in the read itself.
+    // Returns how long the peer may still delay a read or a write, where `None` means any time, or the reason
+    // why the turn ends. If reads block, the peer has already been silent for a second in the read itself.
     fn patience(&mut self, now: Instant) -> Result<Option<Duration>, Ending>
         ensures call { GoesOnCall self.old.clock self.new.clock }
         ensures stream { self.new.stream ≡ self.old.stream }
@@ -306,7 +306,7 @@ impl<'a> Turn<'a> {
     }
 }
 
-/// Reads the calls of a connection. Returns the bytes of the stream in order, also after a wait.
+/// Reads the calls of a connection. Returns the bytes of the stream without a gap, also after a wait.
 #[derive(Drop)]
 pub struct TurnReader<'t, 'a, R> {
     turn: &'t Turn<'a>,
@@ -326,8 +326,8 @@ impl<R: Read> Read for TurnReader<'_, '_, R> {
     }
 }
 
-/// Writes the replies of a connection to its stream, in order. A write may wait until the stream takes more
-/// bytes, and then continues with the bytes that are left. A flush ends a reply.
+/// Writes the replies of a connection to its stream. A write may wait until the stream takes more bytes, and
+/// then continues with the bytes that are left. A flush ends a reply.
 #[derive(Drop)]
 pub struct TurnWriter<'t, 'a, W> {
     turn: &'t Turn<'a>,

@@ -71,7 +71,8 @@ pub struct TablesFile<'a> {
     /// True if the file must exist and have tables. If false, a missing file is made, and tables are made in
     /// a file without tables.
     pub is_existing: bool,
-    /// True if reads are answered from the file. If false, they are answered from a copy in memory.
+    /// True if reads are answered from the file. If false, they are answered from a copy in memory, or from
+    /// the file if memory for the copy is refused.
     pub is_low_memory: bool,
 }
 

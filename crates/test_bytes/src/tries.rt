@@ -132,8 +132,8 @@ fn word_of(received: &Received) -> &'static str {
     }
 }
 
-// A scripted line. The words name the outcomes of its exchanges in order, and the last word counts for all
-// later exchanges.
+// A scripted line. The words name the outcomes of its first exchanges, one word for each. Each later exchange
+// has the outcome of the last word.
 #[derive(Drop)]
 struct Script<'w> {
     alloc: Global,
@@ -189,7 +189,7 @@ fn call_answer(alloc: Global, words: &[&str]) -> Result<String, RowFault> {
     reported(alloc, &line, word)
 }
 
-// Writes the word for the last outcome, and the counts of the line.
+// Returns the word for the last outcome, and the counts of the line.
 fn reported(alloc: Global, line: &Script<'_>, word: &str) -> Result<String, RowFault> {
     let Exchanges {
         made,

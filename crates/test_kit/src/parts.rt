@@ -69,8 +69,8 @@ pub fn put_part(out: &mut String, part: &str) -> Result<(), RowFault> {
     Ok(())
 }
 
-/// Writes bytes in hexadecimal digits. Writes `-` for no bytes, and only the number, as `N bytes`, for more
-/// than 64 bytes.
+/// Returns bytes in hexadecimal digits. The text is `-` for no bytes. For more than 64 bytes it is only their
+/// number, as `N bytes`.
 ///
 /// # Errors
 ///

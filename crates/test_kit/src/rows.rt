@@ -21,7 +21,7 @@ pub enum RowAnswer {
     Lines(Vec<u8>),
 }
 
-/// A section, which answers its rows in order.
+/// A section, which answers its rows in the order of the input.
 pub trait AnswerRow {
     /// Returns the answer to a row of the input.
     ///
@@ -31,7 +31,7 @@ pub trait AnswerRow {
     fn answer_row(&mut self, rt: &HostRuntime, row: &str) -> Result<RowAnswer, RowFault>;
 }
 
-/// A test program, which answers its sections in order.
+/// A test program, which answers its sections in the order of the input.
 pub trait AnswerSection {
     /// Answers the rows of the section with this name, by calling [`Rows::answer`].
     ///

@@ -17,7 +17,7 @@ pub fn text_at(alloc: Global, words: &[&str], place: usize) -> Result<Text, RowF
     text_of(alloc, word_at(words, place)?)
 }
 
-/// Parses each word as a text, and returns the texts in order.
+/// Parses each word as a text, and returns the texts in the order of the words.
 ///
 /// # Errors
 ///

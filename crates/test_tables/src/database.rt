@@ -39,7 +39,8 @@ pub(crate) fn idle<S: Alter + Drop>(conn: Connection<S>) -> Result<IdleConnectio
     Ok(IdleConnection::new(conn))
 }
 
-/// Runs SQL statements in order.
+/// Runs SQL statements one after the other. A failed statement ends the run with [`RowFault::Refused`], or
+/// with [`RowFault::NoMemory`] if memory was refused.
 pub(crate) fn run<S: Alter>(conn: &mut Connection<S>, statements: &str) -> Result<(), RowFault> {
     conn.execute_batch(statements).map_err(refused)
 }

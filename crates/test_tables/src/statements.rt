@@ -229,7 +229,7 @@ fn rows_text(alloc: Global, rows: &[Row]) -> Result<String, RowFault> {
     Ok(or_none(text)?)
 }
 
-// Writes the numbers of the volumes as a text.
+// Returns the numbers of the volumes as a text.
 fn numbers_text(alloc: Global, volumes: &[Row]) -> Result<String, RowFault> {
     let mut text = String::new(alloc);
     for row in volumes {
@@ -244,7 +244,7 @@ fn both(alloc: Global, volumes: &[Row], places: &[Row]) -> Result<String, RowFau
     Ok(format!(in alloc; "{numbers}; {places}")?)
 }
 
-// Writes the attachments as a text: the node, the capability, and `true` if the attachment is read-only,
+// Returns the attachments as a text: the node, the capability, and `true` if the attachment is read-only,
 // otherwise `false`.
 fn attachments(alloc: Global, rows: Result<Vec<Row>, SqlError>) -> Result<String, RowFault> {
     let mut text = String::new(alloc);

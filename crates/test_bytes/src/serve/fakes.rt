@@ -219,7 +219,7 @@ impl<'a> Writer<'a> {
         }
     }
 
-    /// Returns all bytes that the writer took, in order.
+    /// Returns all bytes that the writer took, in the order in which it took them.
     pub(crate) fn into_bytes(self) -> Vec<u8> {
         self.bytes
     }

@@ -22,7 +22,7 @@ pub(crate) struct Trials<'a> {
     pub(crate) kept: &'a [String],
 }
 
-/// Returns the State before the first call of a stream, and the State after each call, in order.
+/// Returns the State before the first call of a stream, and then the State after each call.
 pub(crate) fn kept_after_each(
     alloc: Global,
     server: Server<'_>,
