@@ -74,7 +74,7 @@ fn deleted(alloc: Global, arguments: &ArgMatches<'_>) -> Result<String, AllocErr
 }
 
 // Returns the line that says what was done, such as `deleted vol-1`. Fails if the response is not a response
-// of a change, or has no created volume.
+// of a change, or is a response of CreateVolume without a volume.
 fn line_of(
     alloc: Global,
     arguments: &ArgMatches<'_>,

@@ -108,7 +108,7 @@ pub(crate) struct Connection<'a> {
     stream: UnixStream,
     poll: Poll,
     events: Events,
-    // True if any byte was read.
+    // True after the first read that did not fail.
     has_begun: bool,
     /// True if the first bytes that were read are the bytes of an HTTP/2 server.
     pub(crate) is_http2: bool,

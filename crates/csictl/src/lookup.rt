@@ -82,7 +82,7 @@ fn is_published(entry: &Entry) -> bool {
     }
 }
 
-// Checks that a volume is published to the node, or to any node if `node` is `None`.
+// Checks that a volume is published to the node, or to at least one node if `node` is `None`.
 fn check_published(
     alloc: Global,
     entry: &Entry,
@@ -116,10 +116,10 @@ fn check(
     Ok(())
 }
 
-/// Checks that there is something to remove. DeleteVolume needs the volume. ControllerUnpublishVolume also
-/// needs its attachment to the node, or any attachment if no node is given. The check asks for a page of one
-/// entry, and returns `None` if there is something to remove. If the server refuses the page for another
-/// reason than its token, returns the refusal. A refused token means that there is no such volume.
+/// Checks by a page of one entry that there is something to remove, and returns `None`. DeleteVolume needs
+/// the volume. ControllerUnpublishVolume also needs an attachment of the volume: to the node in the
+/// arguments, or to any node if they name none. If the server refuses the page for another reason than its
+/// token, returns the refusal.
 ///
 /// # Errors
 ///

@@ -254,8 +254,8 @@ fn page_request(alloc: Global, max_entries: i32, token: &Text) -> Result<Request
     Ok(Request::List(Boxed::new(alloc, request)?))
 }
 
-/// Makes the frame of the call for the page after a token, with at most `max_entries` entries. If
-/// `max_entries` is 0, the server chooses the number.
+/// Makes the frame of the call for the page after a token, or for the first page if the token is empty, with
+/// at most `max_entries` entries. If `max_entries` is 0, the server chooses the number.
 ///
 /// # Errors
 ///

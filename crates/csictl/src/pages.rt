@@ -131,8 +131,9 @@ fn walk_once<T: Taker>(
     Err(Failure::NoEnd)
 }
 
-/// Asks for all pages of ListVolumes, and begins again with the first page if a token is no longer valid. The
-/// fifth time, returns [`Walked::Outdated`]. The taker has all entries if the outcome is [`Walked::All`].
+/// Asks for all pages of ListVolumes, and begins again with the first page if a token is no longer valid. If
+/// this happens five times, returns [`Walked::Outdated`]. The taker has all entries if the outcome is
+/// [`Walked::All`].
 ///
 /// # Errors
 ///

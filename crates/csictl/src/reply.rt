@@ -48,7 +48,7 @@ pub(crate) fn line(alloc: Global, value: &Value) -> Result<String, AllocError> {
     Ok(line)
 }
 
-/// Shows a reply as lines: its status and body, and the fields of the body.
+/// Shows a reply as lines: first its status with its body or its text, then the fields of the body.
 ///
 /// # Errors
 ///

@@ -12,7 +12,8 @@ struct Unit {
     bytes: u64,
 }
 
-// The units of a size, with the names that kubectl uses. No unit in the list ends with an earlier unit.
+// The units of a size, with the names that kubectl uses. No unit in the list ends with an earlier unit, so
+// the first unit at the end of a text is the unit of the text.
 const UNITS: [Unit; 13] = [
     Unit {
         name: "Ki",

@@ -24,7 +24,7 @@ use std::alloc::{AllocError, Global};
 // The calls that return the name and the version of the server, and if it is ready.
 const SERVER_CALLS: [Method; 2] = [Method::GetPluginInfo, Method::Probe];
 
-// What `csictl status` shows.
+// The server's name, version and readiness, the sums over its volumes, and the use of its pools and nodes.
 #[derive(Drop)]
 struct Status {
     // The name and the version of the plugin, from GetPluginInfo.

@@ -34,7 +34,8 @@ pub enum Ending {
     Slow,
     /// The peer had closed the connection before it was served.
     Gone,
-    /// The connection had sent no call, and too many connections were waiting.
+    /// The connection had not sent a complete call, and was closed to make room: too many connections were
+    /// waiting, or the system refused a further one.
     Crowded,
     /// The connection sent a malformed frame.
     Malformed,

@@ -344,7 +344,7 @@ pub fn odd_store<'a>(matches: &ArgMatches<'a>) -> Option<&'static str> {
     }
 }
 
-// Returns the file of tables at a path, with the options of a command.
+// Returns the file of tables at `path`, with the values of `--existing` and `--low-memory`.
 fn tables_file<'a>(arguments: &ArgMatches<'a>, path: &'a str) -> TablesFile<'a> {
     TablesFile {
         path,

@@ -65,7 +65,7 @@ impl Reply {
     }
 
     /// Returns the reply to ListVolumes as a text. If the call succeeded, the text has the number of entries,
-    /// the token, and for each entry the id and the nodes. Otherwise the text is that of [`Reply::text`].
+    /// the token, and for each entry the id and the nodes. Otherwise returns the text of [`Reply::text`].
     ///
     /// # Errors
     ///
