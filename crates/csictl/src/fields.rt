@@ -120,7 +120,8 @@ fn list_of<T: Drop>(alloc: Global, item: Option<T>) -> Result<Items<T>, FieldFau
     Ok(Items::from_vec(list))
 }
 
-// Returns the range of sizes, in which a bound that is not given is 0. Returns `None` if neither bound is given.
+// Returns the range of sizes in bytes, in which a bound that is not given is 0. Returns `None` if neither bound
+// is given.
 fn range_of(required: Option<i64>, limit: Option<i64>) -> Option<CapacityRange> {
     if required.is_none() && limit.is_none() {
         return None;
@@ -237,8 +238,8 @@ impl<'m, 'a> Fields<'m, 'a> {
         self.arguments.get_one::<i32>("max").unwrap_or(0)
     }
 
-    /// Returns the range of sizes in bytes, in which a bound that is not given is 0. Returns `None` if neither
-    /// bound is given.
+    /// Returns the range of sizes in bytes, in which a bound that is not given is 0. Returns `None` if
+    /// neither bound is given.
     pub(crate) fn range(&self) -> Option<CapacityRange> {
         self.range
     }

@@ -100,7 +100,7 @@ impl OpenChangeStore {
     /// Returns true if calls may be answered from the copy in memory. These conditions must hold:
     ///
     /// - the copy has each change
-    /// - no change was refused
+    /// - no change failed
     /// - no reply was held back
     /// - the change store answers that it leads
     pub(crate) fn is_usable(&self, alloc: Global) -> bool
@@ -179,7 +179,8 @@ fn rows_failure(alloc: Global, path: &str, fault: &RowsFault) -> Failure
     }
 }
 
-// Returns the program's failure for a reply that refuses a request.
+// Returns the program's failure for a reply that refuses a request. The line has the text of the reply, or a
+// fixed text if the text of the reply is not UTF-8.
 fn refusal_failure(alloc: Global, path: &str, reply: &ReceivedReply) -> Failure
     ensures { IsOrNoMemory 4 result }
 {

@@ -62,7 +62,8 @@ impl Limit {
     }
 }
 
-// The memory that the process uses, in bytes.
+// The memory that the process uses, in bytes: its address space, and the part of it that is in physical
+// memory.
 #[derive(Clone, Copy)]
 struct Usage {
     address_space: u64,

@@ -53,7 +53,7 @@ fn refusal_failure(alloc: Global, path: &str, refusal: &Refusal) -> Failure
 }
 
 // Converts the result of a run over the files at a path: to its report, or to a failure with a text and a
-// status.
+// status. If the store refused a call, the result is the report too.
 fn outcome_of<D: Disk + Drop>(
     alloc: Global,
     path: &str,

@@ -277,7 +277,8 @@ fn report_unavailable(console: &Console<'_>, reported: &mut String, failure: &Fa
     }
 }
 
-// Returns the open change store if calls may be answered over it. Otherwise opens it again.
+// Returns the open change store if calls may be answered over it. Otherwise connects to the change store and
+// reads its rows.
 fn existing_change_store(
     console: &Console<'_>,
     config: &Config,
@@ -304,8 +305,8 @@ fn serve_open(
 ) -> OpenChangeStore
     requires { IsUsable store }
 {
-    // A reply requires that the change store has answered a frame of this connection, and not of an earlier
-    // one.
+    // Frames that were sent for earlier clients do not count: before the first reply to this client, a frame
+    // must be sent to the change store.
     store.is_asked.set(false);
     let leading = ChangeStoreLeadership {
         stream: &store.stream,

@@ -38,7 +38,7 @@ pub struct Waiting {
     pending: VecDeque<Pending>,
     // The number of connections that will still be accepted.
     left: u32,
-    // The time for which a connection may send nothing, or `None` for any time.
+    // The time for which a peer may send or take nothing, or `None` for any time.
     idle: Option<Duration>,
     // True if a connection or bytes came at the last look.
     is_stirring: bool,
@@ -207,7 +207,7 @@ impl Waiting {
         }
     }
 
-    // Returns true if the queue is full and no connection in it can be replaced.
+    // Returns true if the queue is full and has no connection that can be closed for a new one.
     fn is_full(&self) -> bool
         ensures { result ≡ is_full self.now.pending.items }
     {
@@ -215,7 +215,8 @@ impl Waiting {
     }
 
     // Adds a connection to the queue. If 256 connections wait, first closes the oldest connection that was
-    // read and is not ready.
+    // read and is not ready. If the system refuses to watch the new connection, reports the error and closes
+    // the new connection.
     fn admit(&mut self, console: &Console<'_>, stream: UnixStream, now: Instant)
         ensures bounded { is_full self.old.pending.items ≡ false
             → StayFew self.old.pending.items self.new.pending.items }

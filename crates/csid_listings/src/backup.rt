@@ -59,7 +59,7 @@ fn judged(
     adopted(console, path, conn, config)
 }
 
-// Writes a new file, and waits until its bytes are on the disk.
+// Writes a new file, and waits until its bytes are on the disk. Fails if a file exists at `path`.
 fn write_new(rt: &HostRuntime, path: &str, bytes: &[u8]) -> io::Result<()> {
     let mut file = OpenOptions::new()
         .write(true)

@@ -9,7 +9,7 @@
 //!   to 3). Each digit is a byte with the value of the digit. `#0` is the same number as a decimal text.
 //! - Spaces are skipped, and `-` alone is no bytes.
 //!
-//! Digits are in lower case, and parentheses and brackets nest up to 11 deep.
+//! Hexadecimal digits are in lower case, and parentheses and brackets nest up to 11 deep.
 ghost use Rattle.std.specs.Prelude.{◌≡◌, ◌<◌, ◌++◌, [], IfOk, IfSome, codes, length};
 
 use std::alloc::{AllocError, AllocFailed, Global};

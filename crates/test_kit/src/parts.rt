@@ -7,7 +7,7 @@ use std::str::FromStr;
 // The greatest number of bytes that an answer shows. Of more bytes, it shows only the number.
 const SHOWN_BYTES: usize = 64;
 
-/// Splits a row into words at each space. Two spaces in a row have an empty word between them.
+/// Splits a row into words at each space. Between two spaces side by side there is an empty word.
 ///
 /// # Errors
 ///

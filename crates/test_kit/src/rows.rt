@@ -98,7 +98,8 @@ fn answer_line<W: Write, R: AnswerRow>(
     write_answer(out, line, section.answer_row(rt, line))
 }
 
-// Answers one section. The first line of the text has the name of the section.
+// Answers one section. The first line of `section` is the name of the section, and its other lines are the
+// lines of the section.
 fn answer_lines<W: Write, S: AnswerSection>(
     rt: &HostRuntime,
     sections: &S,

@@ -1,4 +1,5 @@
-//! Answers rows that adopt tables in memory, read them, give the connection back and adopt them again.
+//! Answers test rows. For each, adopts tables in memory, reads them, gives the connection back and adopts
+//! them again.
 
 ghost use Rattle.std.specs.Prelude.{◌≡◌, false};
 
@@ -13,8 +14,8 @@ use sqlite::{Alter, Connection};
 use std::alloc::Global;
 use test_kit::RowFault;
 
-/// Answers a row: begins the database that the row names, runs the statements of the row, and adopts the
-/// tables twice under the configuration of the row.
+/// Answers a test row: begins the database that the test row names, runs its statements, and adopts the
+/// tables twice under its configuration.
 pub(crate) fn answer(alloc: Global, row: &str) -> Result<String, RowFault> {
     let (how, statements) = row.split_once(" |").ok_or(RowFault::NotRow)?;
     let (start, config) = how.split_once(' ').ok_or(RowFault::NotRow)?;

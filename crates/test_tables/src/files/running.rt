@@ -24,7 +24,7 @@ impl Observer for Unheard {
 
     fn refused(&self, _cause: &Error) {}
 
-    // Rows refuse memory in another way, so there is always room.
+    // The test rows refuse memory in another way, so there is always room.
     fn has_room(&self, _opening: usize) -> bool {
         true
     }
