@@ -108,10 +108,10 @@ pub fn made_later(config: &Config)
 /// up. At any time, requests may be made that change nothing.
 ///
 /// The tries are *separate*. A request is unsettled from its first try until it is answered or its client is
-/// gone. If it was refused for memory or by the store, it stays unsettled until it is done or the session
-/// ends. While a request is unsettled, it leaves alone the object of each request that another client tries,
-/// and each such request leaves alone the object of the unsettled request. The object of a request that
-/// changes nothing need not be left alone.
+/// gone. If it was refused for memory or by the store, it stays unsettled until the machine executes a later
+/// try of it, or the session ends. While a request is unsettled, it leaves alone the object of each request
+/// that another client tries, and each such request leaves alone the object of the unsettled request. The
+/// object of a request that changes nothing need not be left alone.
 ///
 /// Then there is an order of requests with these properties:
 ///

@@ -98,7 +98,7 @@ pub(crate) enum Failure {
         path: String,
         line: u64,
     },
-    /// The server sent a malformed reply.
+    /// A reply of the server, or on standard input, is malformed.
     #[error("{0}")]
     Malformed(ReplyFault),
     /// The server at the socket with this path speaks HTTP/2.
@@ -133,8 +133,8 @@ pub(crate) enum Failure {
     /// The volume is not published to any node.
     #[error("{0}: not published to any node")]
     NotPublished(String),
-    /// The system refused an operation on a file, standard output or the socket. The value has the name and
-    /// the reason.
+    /// An operation on a file, standard output or the socket failed, or a call got no reply. The value has
+    /// the name of the file or the socket, and the reason.
     #[error("{0}")]
     System(Cause),
     /// Standard input could not be read.

@@ -79,7 +79,7 @@ fn fields_of(method: Method) -> &'static [&'static str] {
     }
 }
 
-// Returns true if the option is given.
+// Returns true if the option is given: `--readonly` as a flag, or any other option with a value.
 fn is_given(arguments: &ArgMatches<'_>, name: &str) -> bool {
     if name == "readonly" {
         arguments.get_flag(name)
@@ -120,8 +120,8 @@ fn list_of<T: Drop>(alloc: Global, item: Option<T>) -> Result<Items<T>, FieldFau
     Ok(Items::from_vec(list))
 }
 
-// Returns the range of sizes in bytes, in which a bound that is not given is 0. Returns `None` if neither bound
-// is given.
+// Returns the range of sizes in bytes, in which a bound that is not given is 0. Returns `None` if neither
+// bound is given.
 fn range_of(required: Option<i64>, limit: Option<i64>) -> Option<CapacityRange> {
     if required.is_none() && limit.is_none() {
         return None;

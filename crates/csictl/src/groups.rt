@@ -21,7 +21,7 @@ pub(crate) enum GroupedBy {
 // does not have has one group for each topology of its volumes.
 #[derive(Drop)]
 struct Group {
-    // The id of the node or the name of the pool; empty if a volume does not say its pool.
+    // The id of the node or the name of the pool. It is empty for volumes whose context names no pool.
     name: Text,
     // The topologies of the pool, as one word and as a JSON array. For a node, the word is `-` and the array
     // is empty.

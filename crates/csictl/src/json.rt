@@ -51,7 +51,7 @@ fn int64(alloc: Global, number: i64) -> Json {
     Ok(Value::from(format!(in alloc; "{number}")?))
 }
 
-/// Adds a member to an object.
+/// Adds a member with this key and value to a JSON object.
 ///
 /// # Errors
 ///

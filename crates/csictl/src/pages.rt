@@ -24,7 +24,7 @@ pub(crate) trait Taker {
     /// walk gives all entries.
     fn restart(&mut self);
 
-    /// Takes the next entry.
+    /// Takes the next entry, in the order of the listing.
     ///
     /// # Errors
     ///
@@ -157,7 +157,8 @@ pub(crate) fn walk<T: Taker>(
 ///
 /// # Errors
 ///
-/// If the call has no reply, the reply is malformed or not a page, or memory is refused.
+/// If the call has no reply, the reply is malformed or not a page, the next page has the token of this page,
+/// or memory is refused.
 pub(crate) fn first_entry<T: Taker>(
     alloc: Global,
     token: Text,

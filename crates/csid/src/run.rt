@@ -23,7 +23,7 @@ use sqlite::Unknown;
 use std::alloc::Global;
 use std::mem::forget;
 
-/// The number that the first volume gets.
+/// The number that the first volume gets if the volumes are in memory.
 pub(crate) const FIRST_NUMBER: u64 = 1;
 
 // Answers the calls on standard input over volumes in memory.

@@ -129,7 +129,7 @@ impl TimedStream {
         })
     }
 
-    /// Returns the deadline of the connection.
+    /// Returns the deadlines of the connection, which all of its handles share.
     pub(crate) fn deadline(&self) -> &Deadline {
         &self.deadline
     }

@@ -289,7 +289,7 @@ impl<'a> Turn<'a> {
         })
     }
 
-    /// Returns the reader of the connection's calls.
+    /// Returns a reader of the connection's calls. This turn bounds how long its reads wait.
     pub fn reader(&self) -> TurnReader<'_, 'a, &'a UnixStream> {
         TurnReader {
             turn: self,
@@ -297,7 +297,7 @@ impl<'a> Turn<'a> {
         }
     }
 
-    /// Returns the writer of the connection's replies.
+    /// Returns a writer of the connection's replies. This turn bounds how long its writes wait.
     pub fn writer(&self) -> TurnWriter<'_, 'a, &'a UnixStream> {
         TurnWriter {
             turn: self,
