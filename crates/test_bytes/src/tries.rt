@@ -139,7 +139,7 @@ struct Script<'w> {
     alloc: Global,
     words: &'w [&'w str],
     exchanges: Exchanges,
-    // True if each exchange was given the same frame.
+    // True if each exchange was given the bytes of `FRAME`.
     is_same: bool,
 }
 

@@ -1,4 +1,4 @@
-//! Writes each line of the input, with its answer.
+//! Writes the lines of the input, and the answer to each row.
 
 use crate::fault::RowFault;
 use std::io::{self, Read, Write};
@@ -58,8 +58,8 @@ pub struct Rows<'a, W> {
 }
 
 impl<W: Write> Rows<'_, W> {
-    /// Answers the rows of the section, and writes each row with its answer. Nothing is written after a
-    /// failed write.
+    /// Answers the rows of the section, and writes each row with its answer. A row with the answer
+    /// [`RowAnswer::Nothing`] is not written. After a failed write, no more rows are answered.
     pub fn answer<R: AnswerRow>(&mut self, rt: &HostRuntime, section: &mut R) {
         self.end = writeln!(self.out, "{HEAD}{}", self.name);
         for line in self.lines.split('\n') {

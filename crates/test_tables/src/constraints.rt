@@ -196,7 +196,8 @@ enum Words {
     Attachment(AttachmentConstraint),
 }
 
-// Returns `holds` if the rows meet a constraint. Otherwise describes the first row that breaks it.
+// Returns `holds` if no row was found that breaks a constraint. Otherwise describes the row, which is the
+// first such row of the scan.
 fn reported(alloc: Global, found: &Option<RowName>, words: Words) -> Result<String, RowFault> {
     match found {
         Some(row) => broken_text(alloc, row, words),

@@ -95,7 +95,8 @@ impl<'a> Pieces<'a> {
 }
 
 /// A reader that returns pieces to a server. A read fails if its buffer does not have [`GREATEST_PIECE`]
-/// bytes, or if the server has written bytes and not flushed them.
+/// bytes, if the server has written bytes and not flushed them, or if the pieces have a failing read at this
+/// place.
 #[derive(Drop)]
 pub(crate) struct Reader<'a> {
     pieces: Pieces<'a>,
@@ -103,8 +104,8 @@ pub(crate) struct Reader<'a> {
 }
 
 impl<'a> Reader<'a> {
-    /// Makes a reader that returns these pieces. If the server reads after the end of a run, the reader notes
-    /// this in `watch`.
+    /// Makes a reader that returns these pieces. If the server reads after a fault is known or a write has
+    /// failed, the reader notes this in `watch`.
     pub(crate) fn new(pieces: Pieces<'a>, watch: &'a Watch) -> Reader<'a> {
         Reader { pieces, watch }
     }
