@@ -163,7 +163,8 @@ impl<'a> SocketLine<'a> {
         }
     }
 
-    // Reports why the last try was not answered, and waits before the next try.
+    // Reports why the last try was not answered, and waits before the next try, for 50 ms to 2 s
+    // ([`pause_millis`]).
     fn report_and_wait(&self, why: &Unanswered) {
         let rt = self.wire.rt;
         let tried = u32::try_from(self.exchanges.made).unwrap_or(u32::MAX);
