@@ -80,8 +80,8 @@ pub(crate) struct OpenChangeStore {
     pub(crate) stream: TimedStream,
     /// True if a frame was sent to the change store since the last reply to a client.
     pub(crate) is_asked: Rc<Cell<bool>>,
-    /// True if a reply to a client was held back because the change store did not lead. The next connection
-    /// then reads the volumes again.
+    /// True if a reply to a client was held back because the change store did not answer that it leads. The
+    /// volumes are then read again for the next client.
     pub(crate) is_cut: bool,
 }
 
@@ -129,8 +129,10 @@ fn is_leading<P: Peer>(alloc: Global, change_store: &mut P) -> bool
     is_agreed(change_store.exchange(alloc, frame.as_slice()))
 }
 
-/// Asks the change store at the other end of a connection if it leads, and returns true if it answers yes.
-/// Then no other change store has made a change, and a copy that has each change of this program is current.
+/// Asks the change store at the other end of a connection if it leads, and returns true if it answers yes. If
+/// it answers yes, no other change store has made a change since the rows were read over this connection: a
+/// change store that stops leading closes its connections. A copy that has each change of this program is
+/// then current.
 pub(crate) fn leads(alloc: Global, stream: &TimedStream) -> bool {
     stream.deadline().begin_exchange();
     is_leading(alloc, &mut Channel::new(stream, stream))

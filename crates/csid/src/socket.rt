@@ -136,8 +136,8 @@ fn turn_of<'a>(
     }
 }
 
-// Answers the calls of one connection over a keeper. Returns true if the connection ended because the change
-// store no longer leads.
+// Answers the calls of one connection over a keeper. Returns true if a reply was held back because the change
+// store did not answer that it leads.
 fn serve_one<K: Keeper, L: Leadership + Drop>(
     service: &Service<'_>,
     waiting: &mut Waiting,
