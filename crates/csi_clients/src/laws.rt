@@ -189,9 +189,9 @@ pub fn retry_alone(config: &Config)
 ///
 /// # Not promised
 ///
-/// A call may never be answered. The law does not say what two clients hear that work on the same object at
-/// once. It assumes that the calls of a front, a sidecar or a person are separate (docs/DEPLOY.md, "Clients
-/// that share a front").
+/// The law does not promise that each call is answered at some time. It does not say what two clients hear
+/// that work on the same object at once. It assumes that the calls of a front, a sidecar or a person are
+/// separate (docs/DEPLOY.md, "Clients that share a front").
 pub fn linearizable_calls<K: Keeper>(config: &Config)
     ensures begun { (s t : State) (todo : ℕ → List Request) (sessions : List (List ClientExchange))
         (heard : ℕ → List ReplyBytes) → IsInvariant config.now s

@@ -169,8 +169,8 @@ fn validated(alloc: Global, found: Option<&Confirmed>, message: &Text) -> Json {
     json!(in alloc; {"confirmed": found, "message": message.as_str()})
 }
 
-// Returns capabilities as a JSON object. Each is a message with one field, which has the name in `field`,
-// whose `type` is a number of an enumeration.
+// Returns capabilities as a JSON object. Each capability is an object with the key `field`. Its value is
+// `null`, or an object whose `type` is a name in `names` or, for a number without a name, the number.
 fn capabilities(alloc: Global, field: &str, names: &[&str], types: &Items<Option<i32>>) -> Json {
     let mut array = Vec::new(alloc);
     for number in types {

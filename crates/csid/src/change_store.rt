@@ -129,10 +129,10 @@ fn is_leading<P: Peer>(alloc: Global, change_store: &mut P) -> bool
     is_agreed(change_store.exchange(alloc, frame.as_slice()))
 }
 
-/// Asks the change store at the other end of a connection if it leads, and returns true if it answers yes. If
-/// it answers yes, no other change store has made a change since the rows were read over this connection: a
-/// change store that stops leading closes its connections. A copy that has each change of this program is
-/// then current.
+/// Asks the change store at the other end of a connection if it leads, and returns true if it answers yes.
+/// After this answer, no other change store has made a change since the rows were read over this connection,
+/// since a change store that stops leading closes its connections. A copy that has each change of this
+/// program is then current.
 pub(crate) fn leads(alloc: Global, stream: &TimedStream) -> bool {
     stream.deadline().begin_exchange();
     is_leading(alloc, &mut Channel::new(stream, stream))

@@ -225,7 +225,8 @@ impl<'a> Writer<'a> {
         self.bytes
     }
 
-    // Returns true if the trouble comes at this call. If not, counts down the calls before the trouble.
+    // Returns true if the writer has this trouble at this call. If this trouble comes later, counts down the
+    // calls before it.
     fn is_due(&mut self, trouble: Trouble) -> bool {
         if self.takes.trouble != trouble {
             return false;
