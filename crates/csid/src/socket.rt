@@ -161,7 +161,8 @@ fn serve_one<K: Keeper, L: Leadership + Drop>(
     writer.is_cut()
 }
 
-// Refuses a connection whose first frame is malformed, without opening the tables.
+// Answers a connection that has sent no call: its first frame is malformed, or its stream has ended before a
+// complete frame. The tables are not opened.
 fn refuse_peer(service: &Service<'_>, waiting: &mut Waiting, peer: &Pending) {
     match MemKeeper::new(service.console.rt.alloc(), FIRST_NUMBER) {
         Ok(mut keeper) => {
